@@ -1,0 +1,191 @@
+-- From one record to the next.
+use Rattle.std.proofs.Common.{◌≡◌, ◌≢◌, ℕ, ◌+◌, ◌-◌, ◌≤◌, ◌<◌, ◌^◌, List, [], ◌∷◌, ◌++◌, length, take, drop, arith, refl, sym, ap, ◌∙◌, subst, zero, suc, append_assoc, append-nil, length-append, take_all, le_refl, Option, Some, None, inl, inr, flat_map}
+use Rattle.std.proofs.Math.Seq.{take-append_seam, take-append-add}
+use Rattle.std.specs.Io.{StartsWith}
+use Rattle.std.specs.Io.KnownBytes.{Consumes, Appends, IsAtEnd}
+use Rattle.std.proofs.KnownBytes.{Consumes-nil, Appends-nil, Consumes-trans, Appends-trans}
+use Rattle.mv_machine.specs.Ledger.{LedgerState}
+use Rattle.mv_machine.specs.Lines.{Refused, numbered, reply_lines, reply_text}
+use Rattle.moveledger.specs.Records.{Record, Whole, Cut, IsText, NoWhole, Begins, AreRecords, AreWhole}
+use Rattle.moveledger.specs.Report.{Step, Reports}
+use Rattle.moveledger.specs.Outcome.{Tells, left_of, Answers, Stops, StopsReading}
+use Rattle.moveledger.specs.Progress.{Progress}
+use Rattle.moveledger.proofs.Taken.{Tells-taken}
+
+-- one more record behind others
+
+AreRecords-push : (rs : List Record) (xs rest more : List ℕ) (r : Record) → AreRecords xs rs rest → Begins rest r more → AreRecords xs (rs ++ r ∷ []) more
+AreRecords-push [] xs rest more r e b = (more, subst (λ z. Begins z r more) (sym e) b, refl)
+AreRecords-push (r1 ∷ rs) xs rest more r h b = (h.0, h.1, AreRecords-push rs h.0 rest more r h.2 b)
+
+Reports-push : (rs : List Record) (n : ℕ) (old mid new : LedgerState) (r : Record) (text : List ℕ) (lines : List (List ℕ)) → Reports n old rs text mid → Step mid r lines new
+    → Reports n old (rs ++ r ∷ []) (text ++ flat_map (numbered (n + length rs)) lines) new
+Reports-push [] n old mid new r text lines h step =
+    let same : n + 0 ≡ n = omega arith in
+    let P : LedgerState → Type 0 = λ s. Step s r lines new in
+    (lines, new, [], subst P h.1 step, ap (λ l. l ++ flat_map (numbered (n + 0)) lines) h.0 ∙ ap (λ m. flat_map (numbered m) lines) same ∙ sym (append-nil (flat_map (numbered n) lines)), (refl, refl))
+Reports-push (r1 ∷ rs) n old mid new r text lines h step =
+    let same : n + length (r1 ∷ rs) ≡ (n + 1) + length rs = omega arith in
+    let tail : List ℕ = flat_map (numbered ((n + 1) + length rs)) lines in
+    let first : List ℕ = flat_map (numbered n) h.0 in
+    (h.0, h.1, h.2 ++ tail, h.3, ap (λ m. text ++ flat_map (numbered m) lines) same ∙ ap (λ l. l ++ tail) h.4 ∙ append_assoc first h.2 tail, Reports-push rs (n + 1) h.1 mid new r h.2 lines h.5 step)
+
+length-push : (rs : List Record) (r : Record) → length (rs ++ r ∷ []) ≡ length rs + 1
+length-push rs r = length-append rs (r ∷ [])
+
+-- what is told
+
+Tells-trans : (a b : Option (List ℕ)) (took tail : List ℕ) → Consumes a b took → Tells b tail → Tells a (took ++ tail)
+Tells-trans None b took tail p q = tt
+Tells-trans (Some xs) None took tail p q = absurd p
+Tells-trans (Some xs) (Some ys) took tail p q = p ∙ ap (λ l. took ++ l) q
+
+Tells-left : (a : Option (List ℕ)) → Tells a (left_of a)
+Tells-left None = tt
+Tells-left (Some xs) = refl
+
+nonempty : (xs ys : List ℕ) → (xs ≢ []) → xs ++ ys ≢ []
+nonempty [] ys h e = h refl
+nonempty (x ∷ xs) ys h e = cc
+
+-- the run
+
+pub Progress-start : (a w : Option (List ℕ)) (s : LedgerState) → Progress a a w w s s 0
+Progress-start a w s = record {
+  whole = [];
+  records = [];
+  text = [];
+  taken = Consumes-nil a;
+  read = λ more. refl;
+  count = refl;
+  written = Appends-nil w;
+  report = (refl, refl);
+}
+
+pub Progress-next : (given gives gives2 held holds holds2 : Option (List ℕ)) (old new new2 : LedgerState) (n kind : ℕ) (took items text : List ℕ) (lines : List (List ℕ))
+    → Progress given gives held holds old new n → Consumes gives gives2 took → IsText took kind items
+    → Step new (Whole kind items) lines new2 → text ≡ flat_map (numbered (n + 1)) lines → Appends holds holds2 text
+    → Progress given gives2 held holds2 old new2 (n + 1)
+Progress-next given gives gives2 held holds holds2 old new new2 n kind took items text lines p taken is step said written =
+    let r : Record = Whole kind items in
+    let number : n + 1 ≡ 1 + length p.records = omega (arith, p.count) in
+    let line : text ≡ flat_map (numbered (1 + length p.records)) lines = said ∙ ap (λ m. flat_map (numbered m) lines) number in
+    record {
+      whole = p.whole ++ took;
+      records = p.records ++ r ∷ [];
+      text = p.text ++ flat_map (numbered (1 + length p.records)) lines;
+      taken = Consumes-trans given gives gives2 p.whole took p.taken taken;
+      read = λ more. subst (λ z. AreRecords z (p.records ++ r ∷ []) more) (sym (append_assoc p.whole took more)) (AreRecords-push p.records (p.whole ++ (took ++ more)) (took ++ more) more r (p.read (took ++ more)) (took, is, refl));
+      count = omega (arith, p.count, length-push p.records r);
+      written = subst (Appends held holds2) (ap (λ l. p.text ++ l) line) (Appends-trans held holds holds2 p.text text p.written written);
+      report = Reports-push p.records 1 old new new2 r p.text lines p.report step;
+    }
+
+-- nothing was written since the last record, and the ledger stayed
+pub Progress-stops : (given gives held holds : Option (List ℕ)) (old new : LedgerState) (n : ℕ) → Progress given gives held holds old new n → Stops given held holds old new
+Progress-stops given gives held holds old new n p = record {
+  input = p.whole ++ left_of gives;
+  records = p.records;
+  tail = left_of gives;
+  text = p.text;
+  part = [];
+  mid = new;
+  told = Tells-taken given gives p.whole p.taken;
+  read = p.read (left_of gives);
+  report = p.report;
+  last = inl (refl, refl);
+  written = subst (Appends held holds) (sym (append-nil p.text)) p.written;
+}
+
+-- one record more came, and a part of its lines was written
+pub Stops-next : (given gives held holds holds2 : Option (List ℕ)) (old new new2 : LedgerState) (n : ℕ) (r : Record) (tail rest part : List ℕ) (lines : List (List ℕ))
+    → Progress given gives held holds old new n → Tells gives tail → Begins tail r rest → Step new r lines new2
+    → StartsWith (flat_map (numbered (n + 1)) lines) part → Appends holds holds2 part → Stops given held holds2 old new2
+Stops-next given gives held holds holds2 old new new2 n r tail rest part lines p told begins step front written =
+    let number : n + 1 ≡ 1 + length p.records = omega (arith, p.count) in
+    let P : ℕ → Type 0 = λ m. StartsWith (flat_map (numbered m) lines) part in
+    record {
+      input = p.whole ++ tail;
+      records = p.records;
+      tail = tail;
+      text = p.text;
+      part = part;
+      mid = new;
+      told = Tells-trans given gives p.whole tail p.taken told;
+      read = p.read tail;
+      report = p.report;
+      last = inr (r, rest, lines, begins, step, subst P number front);
+      written = Appends-trans held holds holds2 p.text part p.written written;
+    }
+
+-- a read failed in a record
+pub Progress-stops_reading : (given gives gives2 held holds : Option (List ℕ)) (old new : LedgerState) (n : ℕ) (took : List ℕ)
+    → Progress given gives held holds old new n → Consumes gives gives2 took → NoWhole took → StopsReading given gives2 held holds old new
+Progress-stops_reading given gives gives2 held holds old new n took p taken none = record {
+  whole = p.whole;
+  part = took;
+  records = p.records;
+  text = p.text;
+  taken = Consumes-trans given gives gives2 p.whole took p.taken taken;
+  read = p.read;
+  cut = none;
+  written = p.written;
+  report = p.report;
+}
+
+-- the input ended
+pub Progress-ends : (given gives gives2 held holds : Option (List ℕ)) (old new : LedgerState) (n : ℕ) (took : List ℕ)
+    → Progress given gives held holds old new n → Consumes gives gives2 took → took ≡ [] → left_of gives2 ≡ [] → Answers given held holds old new n
+Progress-ends given gives gives2 held holds old new n took p taken none end = record {
+  input = p.whole ++ (took ++ left_of gives2);
+  records = p.records;
+  rest = took ++ left_of gives2;
+  text = p.text;
+  told = Tells-trans given gives p.whole (took ++ left_of gives2) p.taken (Tells-taken gives gives2 took taken);
+  read = p.read (took ++ left_of gives2);
+  all = inl (ap (λ l. l ++ left_of gives2) none ∙ end);
+  count = p.count;
+  written = p.written;
+  report = p.report;
+}
+
+-- the numbers ended
+pub Progress-full : (given gives held holds : Option (List ℕ)) (old new : LedgerState) (n m : ℕ)
+    → Progress given gives held holds old new n → m ≡ n → m ≡ 2 ^ 64 - 1 → Answers given held holds old new m
+Progress-full given gives held holds old new n m p same full = record {
+  input = p.whole ++ left_of gives;
+  records = p.records;
+  rest = left_of gives;
+  text = p.text;
+  told = Tells-taken given gives p.whole p.taken;
+  read = p.read (left_of gives);
+  all = inr full;
+  count = same ∙ p.count;
+  written = p.written;
+  report = p.report;
+}
+
+-- the last record was cut
+pub Progress-cut : (given gives gives2 held holds holds2 : Option (List ℕ)) (old new : LedgerState) (n : ℕ) (took text : List ℕ) (lines : List (List ℕ))
+    → Progress given gives held holds old new n → Consumes gives gives2 took → (took ≢ []) → NoWhole (took ++ left_of gives2)
+    → Step new Cut lines new → text ≡ flat_map (numbered (n + 1)) lines → Appends holds holds2 text → Answers given held holds2 old new (n + 1)
+Progress-cut given gives gives2 held holds holds2 old new n took text lines p taken some none step said written =
+    let r : Record = Cut in
+    let tail : List ℕ = took ++ left_of gives2 in
+    let number : n + 1 ≡ 1 + length p.records = omega (arith, p.count) in
+    let line : text ≡ flat_map (numbered (1 + length p.records)) lines = said ∙ ap (λ m. flat_map (numbered m) lines) number in
+    record {
+      input = p.whole ++ tail;
+      records = p.records ++ r ∷ [];
+      rest = [];
+      text = p.text ++ flat_map (numbered (1 + length p.records)) lines;
+      told = Tells-trans given gives p.whole tail p.taken (Tells-taken gives gives2 took taken);
+      read = AreRecords-push p.records (p.whole ++ tail) tail [] r (p.read tail) (nonempty took (left_of gives2) some, none, refl);
+      all = inl refl;
+      count = omega (arith, p.count, length-push p.records r);
+      written = subst (Appends held holds2) (ap (λ l. p.text ++ l) line) (Appends-trans held holds holds2 p.text text p.written written);
+      report = Reports-push p.records 1 old new new r p.text lines p.report step;
+    }
+
+pub tail_of_cut : (took left : List ℕ) → (took ≢ []) → NoWhole (took ++ left) → Begins (took ++ left) Cut []
+tail_of_cut took left some none = (nonempty took left some, none, refl)

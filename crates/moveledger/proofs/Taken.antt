@@ -1,0 +1,36 @@
+-- What several reads took, and what several writes gave, one after the other.
+use Rattle.std.proofs.Common.{◌≡◌, ℕ, ◌+◌, ◌-◌, ◌≤◌, ◌<◌, List, [], ◌∷◌, ◌++◌, length, take, drop, arith, refl, sym, ap, ◌∙◌, subst, length-take-le, append_assoc, append-nil, Option, Some, None, take_all, length-drop}
+use Rattle.std.specs.Io.KnownBytes.{Consumes, Keeps, Appends, IsAtEnd}
+use Rattle.std.proofs.KnownBytes.{Consumes-trans, Consumes-kept, Appends-trans}
+use Rattle.std.proofs.Math.Seq.{take-append-add, take-append-le, take-add}
+use Rattle.moveledger.specs.Outcome.{left_of, Tells}
+use borrow.Rule.Slice.PartMut.{put_mid, post_of}
+
+-- what a buffer begins with after a read behind its first bytes
+pub take-put_mid_more : (a k n : ℕ) (xs ys : List ℕ) → a ≤ length xs → n ≤ length ys → take (a + n) (put_mid a k xs ys) ≡ take a xs ++ take n ys
+take-put_mid_more a k n xs ys within fits =
+    let same : length (take a xs) ≡ a = length-take-le a xs within in
+    ap (λ m. take (m + n) (take a xs ++ (ys ++ post_of a k xs))) (sym same)
+    ∙ take-append-add (take a xs) (ys ++ post_of a k xs) n
+    ∙ ap (λ l. take a xs ++ l) (take-append-le n ys (post_of a k xs) fits)
+
+-- what was taken, and what is left, is what was there
+pub Tells-taken : (a b : Option (List ℕ)) (took : List ℕ) → Consumes a b took → Tells a (took ++ left_of b)
+Tells-taken None b took p = tt
+Tells-taken (Some xs) None took p = absurd p
+Tells-taken (Some xs) (Some ys) took p = p
+
+pub left_of-end : (a : Option (List ℕ)) → IsAtEnd a → left_of a ≡ []
+left_of-end None p = refl
+left_of-end (Some xs) p = p
+
+-- a read that took nothing
+pub Consumes-none : (a b c : Option (List ℕ)) (bs : List ℕ) → Consumes a b bs → Consumes b c [] → Consumes a c bs
+Consumes-none a b c bs p q = subst (Consumes a c) (append-nil bs) (Consumes-trans a b c bs [] p q)
+
+-- what is written of a text goes on
+pub Appends-more : (a b c : Option (List ℕ)) (text : List ℕ) (i n : ℕ) → Appends a b (take i text) → Appends b c (take n (take (length text - i) (drop i text))) → Appends a c (take (i + n) text)
+Appends-more a b c text i n p q =
+    let rest : take (length text - i) (drop i text) ≡ drop i text = take_all (length text - i) (drop i text) (omega (arith, length-drop i text)) in
+    let w : Appends b c (take n (drop i text)) = subst (λ l. Appends b c (take n l)) rest q in
+    subst (Appends a c) (sym (take-add i n text)) (Appends-trans a b c (take i text) (take n (drop i text)) p w)

@@ -1,0 +1,68 @@
+-- How a run of the engine ends.
+use Rattle.std.specs.Prelude.{◌≡◌, ◌≢◌, ℕ, ◌+◌, ◌-◌, ◌^◌, ◌≤◌, ◌<◌, List, [], ◌∷◌, ◌++◌, length, take, Option, Some, None, ⊤, ◌⊎◌, flat_map, MatchOption, MatchResult, Result, Ok, Err}
+use Rattle.std.specs.Io.{StartsWith}
+use Rattle.std.specs.Io.KnownBytes.{Appends, Consumes, IsAtEnd}
+use Rattle.mv_machine.specs.Ledger.{LedgerState}
+use Rattle.moveledger.specs.Records.{Record, Whole, Cut, AreRecords, AreWhole, NoWhole, Begins}
+use Rattle.mv_machine.specs.Lines.{numbered}
+use Rattle.moveledger.specs.Report.{Step, Reports}
+
+-- where the bytes are known, they are these
+abbrev pub Tells : Option (List ℕ) → List ℕ → Type 0
+Tells None input = ⊤
+Tells (Some xs) input = xs ≡ input
+
+-- the bytes that are known to be left
+abbrev pub left_of : Option (List ℕ) → List ℕ
+left_of None = []
+left_of (Some xs) = xs
+
+-- All records that the input begins with are answered: up to its end, or to the last number.
+pub record Answers (given : Option (List ℕ)) (held holds : Option (List ℕ)) (old new : LedgerState) (n : ℕ) : Type 0 where
+  pub input : List ℕ
+  pub records : List Record
+  pub rest : List ℕ
+  pub text : List ℕ
+  pub told : Tells given input
+  pub read : AreRecords input records rest
+  pub all : (rest ≡ []) ⊎ (n ≡ 2 ^ 64 - 1)
+  pub count : n ≡ length records
+  pub written : Appends held holds text
+  pub report : Reports 1 old records text new
+
+-- nothing more happened
+abbrev pub Stays : LedgerState → List ℕ → LedgerState → List ℕ → Type 0
+Stays old tail new part = (new ≡ old) × (part ≡ [])
+
+-- one more record, which has this number, was answered, and a beginning of its lines was written
+abbrev pub Begun : ℕ → LedgerState → List ℕ → LedgerState → List ℕ → Type 0
+Begun n old tail new part = (r : Record) × (rest : List ℕ) × (lines : List (List ℕ)) × Begins tail r rest × Step old r lines new
+    × StartsWith (flat_map (numbered n) lines) part
+
+-- All lines of some records of the input were written, and a beginning of those of at most one more. The
+-- ledger is as these records left it.
+pub record Stops (given : Option (List ℕ)) (held holds : Option (List ℕ)) (old new : LedgerState) : Type 0 where
+  pub input : List ℕ
+  pub records : List Record
+  pub tail : List ℕ
+  pub text : List ℕ
+  pub part : List ℕ
+  pub mid : LedgerState
+  pub told : Tells given input
+  pub read : AreRecords input records tail
+  pub report : Reports 1 old records text mid
+  pub last : Stays mid tail new part ⊎ Begun (1 + length records) mid tail new part
+  pub written : Appends held holds (text ++ part)
+
+-- What was read is whole records and a part of one. The ledger is as the whole ones left it, and what was
+-- written is exactly their report.
+pub record StopsReading (given gives : Option (List ℕ)) (held holds : Option (List ℕ)) (old new : LedgerState) : Type 0 where
+  pub whole : List ℕ
+  pub part : List ℕ
+  pub records : List Record
+  pub text : List ℕ
+  pub taken : Consumes given gives (whole ++ part)
+  pub read : AreWhole whole records
+  pub cut : NoWhole part
+  pub written : Appends held holds text
+  pub report : Reports 1 old records text new

@@ -1,0 +1,35 @@
+-- Which records an input is, apart from any reader.
+use Rattle.std.specs.Prelude.{◌≡◌, ◌≢◌, ℕ, ◌≤◌, List, [], ◌∷◌, ◌++◌, length}
+use Rattle.mv_uleb.specs.Uleb.{IsUleb}
+
+pub data Record : Type 0 where
+  -- its kind and its payload
+  Whole : ℕ → List ℕ → Record
+  -- what is no whole record, however much of it there is
+  Cut : Record
+
+-- the most bytes that a payload may have
+abbrev pub payload_limit : ℕ
+payload_limit = 33554432
+
+-- the bytes are this whole record: its kind, the length of its payload, its payload
+abbrev pub IsText : List ℕ → ℕ → List ℕ → Type 0
+IsText bytes kind payload = (len : List ℕ) × IsUleb len (length payload) × (length payload ≤ payload_limit) × (bytes ≡ kind ∷ (len ++ payload))
+
+-- no whole record stands at the front
+abbrev pub NoWhole : List ℕ → Type 0
+NoWhole bytes = (kind : ℕ) (payload front more : List ℕ) → IsText front kind payload → bytes ≡ front ++ more → ⊥
+
+-- The input begins with this record, and more follows. A cut one takes all there is.
+abbrev pub Begins : List ℕ → Record → List ℕ → Type 0
+Begins input (Whole kind payload) more = (front : List ℕ) × IsText front kind payload × (input ≡ front ++ more)
+Begins input Cut more = (input ≢ []) × NoWhole input × (more ≡ [])
+
+-- the input is these records, one after the other, and then a rest
+abbrev pub AreRecords : List ℕ → List Record → List ℕ → Type 0
+AreRecords input [] rest = input ≡ rest
+AreRecords input (record1 ∷ records) rest = (more : List ℕ) × Begins input record1 more × AreRecords more records rest
+
+-- the bytes are these records, each of them whole, whatever follows them
+abbrev pub AreWhole : List ℕ → List Record → Type 0
+AreWhole bytes records = (more : List ℕ) → AreRecords (bytes ++ more) records more

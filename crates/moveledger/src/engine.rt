@@ -1,0 +1,65 @@
+// The engine: records in, lines out.
+ghost use Rattle.std.specs.Prelude.{◌≡◌, ℕ, List, [], IfOk, IfErr, Err};
+ghost use Rattle.mv_ledger.specs.View.{state_of};
+ghost use Rattle.moveledger.specs.Records.{Record, AreRecords};
+ghost use Rattle.moveledger.specs.Outcome.{Answers, Stops, StopsReading};
+
+use crate::answering::{answer, line_text, write_text};
+use crate::reading::{Next, next_record};
+use mv_ledger::{Ledger, Reply};
+use std::alloc::Global;
+use std::io::{Read, Write};
+use thiserror::Error;
+
+/// What ends the engine before the input does.
+#[derive(Clone, Copy, Debug, PartialEq, Eq, Error)]
+pub enum EngineError {
+    /// A read failed, for whatever reason.
+    #[error("fault: read")]
+    Read,
+    /// A write failed, or took nothing before a line was whole.
+    #[error("fault: write")]
+    Write,
+    /// A growth was refused.
+    #[error("fault: memory")]
+    Memory,
+}
+
+/// Answers the records of an input, each before the next is read, and says how many they were.
+pub fn engine<R: Read, W: Write>(
+    alloc: Global,
+    reader: &mut R,
+    writer: &mut W,
+    ledger: &mut Ledger,
+) -> Result<u64, EngineError>
+    // All records that the input begins with are answered.
+    ensures ok { IfOk result (λ n. Answers (R.remaining reader.old)
+        (W.contents writer.old) (W.contents writer.new) (state_of ledger.old) (state_of ledger.new) n) }
+    // Whatever the error: a beginning of the report, and the ledger as some records left it.
+    ensures err { IfErr result (λ _. Stops (R.remaining reader.old)
+        (W.contents writer.old) (W.contents writer.new) (state_of ledger.old) (state_of ledger.new)) }
+    // A failed read: exactly the lines of the records that were read whole.
+    ensures read { result ≡ Err EngineError.Read → StopsReading (R.remaining reader.old)
+        (R.remaining reader.new) (W.contents writer.old) (W.contents writer.new) (state_of ledger.old) (state_of ledger.new) }
+{
+    for n in 0..u64::MAX {
+        match next_record(alloc, reader)? {
+            Next::End => return Ok(n),
+            Next::Broken => {
+                let line = line_text(alloc, n + 1, Reply::Refused(1))?;
+                write_text(writer, line.as_bytes())?;
+                return Ok(n + 1);
+            }
+            Next::Record(kind, payload) => {
+                let text = answer(alloc, ledger, n + 1, kind, &payload)?;
+                write_text(writer, text.as_bytes())?;
+            }
+        }
+    }
+    Ok(u64::MAX)
+}
+
+/// An input is one list of records.
+pub fn one_reading()
+    ensures { (input : List ℕ) (a b : List Record) → AreRecords input a [] → AreRecords input b [] → a ≡ b }
+{}

@@ -1,0 +1,2 @@
+pub mod ModuleText
+pub mod Parsing

@@ -1,0 +1,139 @@
+// A module as its tables.
+ghost use Rattle.std.specs.Prelude.{◌≡◌, ◌<◌, ℕ, List, length, slice_get, map, option_map, Option, Some, None, OnSome, IfSome, IsTrue, nat_le};
+ghost use Rattle.std.specs.List.{list_all};
+ghost use Rattle.mv_module_text.specs.Fits.{signature_fits, struct_definition_fits, function_definition_fits};
+
+use super::{Cursor, FunctionDefinition, StructDefinition};
+use mv_move_types::{FunctionHandle, ModuleHandle, StructHandle, Token};
+use std::marker::Model;
+
+/// A module as `decode` answered it. Names and code are slices of its bytes; its model is the record of its tables.
+#[derive(Drop)]
+pub struct Module<'a> {
+    module_handles: Vec<ModuleHandle>,
+    struct_handles: Vec<StructHandle>,
+    function_handles: Vec<FunctionHandle>,
+    signatures: Vec<Vec<Token>>,
+    identifiers: Vec<&'a [u8]>,
+    addresses: Vec<u128>,
+    structs: Vec<StructDefinition>,
+    functions: Vec<FunctionDefinition<'a>>,
+    own: u16,
+}
+
+impl<'a> Model for Module<'a> {
+    ghost use Rattle.std.specs.Prelude.{map, length, IsTrue, nat_le};
+    ghost use Rattle.std.specs.List.{list_all};
+    ghost use Rattle.mv_module_text.specs.Fits.{signature_fits, struct_definition_fits, function_definition_fits};
+    ghost use Rattle.mv_move_types.specs.Module.{Module as Tables};
+
+    ghost Value = { Tables };
+
+    ghost view = { λ m. record {
+        module_handles = m.module_handles.items;
+        struct_handles = m.struct_handles.items;
+        function_handles = m.function_handles.items;
+        signatures = map (λ s. s.items) m.signatures.items;
+        identifiers = map (λ name. name.now) m.identifiers.items;
+        addresses = m.addresses.items;
+        structs = m.structs.items;
+        functions = m.functions.items;
+        own = m.own;
+    } };
+
+    ghost invariant = { λ m. IsTrue (list_all struct_definition_fits m.structs.items)
+        × IsTrue (list_all function_definition_fits m.functions.items)
+        × IsTrue (nat_le (length m.functions.items) 256)
+        × IsTrue (list_all signature_fits (map (λ s. s.items) m.signatures.items)) };
+}
+
+impl<'a> Module<'a> {
+    /// The modules that it names, itself among them.
+    pub fn module_handles(&self) -> &[ModuleHandle]
+        ensures { result.now ≡ self.now.module_handles }
+    {
+        &self.module_handles
+    }
+
+    /// The structs that it names.
+    pub fn struct_handles(&self) -> &[StructHandle]
+        ensures { result.now ≡ self.now.struct_handles }
+    {
+        &self.struct_handles
+    }
+
+    /// The functions that it names.
+    pub fn function_handles(&self) -> &[FunctionHandle]
+        ensures { result.now ≡ self.now.function_handles }
+    {
+        &self.function_handles
+    }
+
+    /// How many signatures it has.
+    pub fn signature_count(&self) -> usize
+        ensures { result ≡ length self.now.signatures }
+    {
+        self.signatures.len()
+    }
+
+    /// The types of a signature, if it is there.
+    pub fn signature(&self, index: usize) -> Option<&[Token]>
+        ensures value { option_map (λ s. s.now) result ≡ slice_get self.now.signatures index }
+        ensures fits { IsTrue (list_all signature_fits self.now.signatures) }
+    {
+        self.signatures.get(index).map(|s| s.as_slice())
+    }
+
+    /// How many identifiers it has.
+    pub fn identifier_count(&self) -> usize
+        ensures { result ≡ length self.now.identifiers }
+    {
+        self.identifiers.len()
+    }
+
+    /// An identifier, if it is there.
+    pub fn identifier(&self, index: usize) -> Option<&'a [u8]>
+        ensures { option_map (λ name. name.now) result ≡ slice_get self.now.identifiers index }
+    {
+        self.identifiers.get(index).copied()
+    }
+
+    /// The addresses that it names, each as the number that its 16 bytes are, the highest first.
+    pub fn addresses(&self) -> &[u128]
+        ensures { result.now ≡ self.now.addresses }
+    {
+        &self.addresses
+    }
+
+    /// The structs that it defines.
+    pub fn structs(&self) -> &[StructDefinition]
+        ensures value { result.now ≡ self.now.structs }
+        ensures fits { IsTrue (list_all struct_definition_fits self.now.structs) }
+    {
+        &self.structs
+    }
+
+    /// The functions that it defines.
+    pub fn functions(&self) -> &[FunctionDefinition<'a>]
+        ensures value { result.now ≡ self.now.functions }
+        ensures fits { IsTrue (list_all function_definition_fits self.now.functions) }
+        ensures few { IsTrue (nat_le (length self.now.functions) 256) }
+    {
+        &self.functions
+    }
+
+    /// The index of its own module handle.
+    pub fn own(&self) -> u16
+        ensures { result ≡ self.now.own }
+    {
+        self.own
+    }
+}
+
+/// The instructions of a function, in order.
+pub fn code<'a>(m: &Module<'a>, f: usize) -> Cursor<'a>
+    requires { f < length m.now.functions }
+    ensures { IfSome (slice_get m.now.functions f) (λ d. result ≡ d.code) }
+{
+    m.functions[f].code()
+}

@@ -1,0 +1,17 @@
+-- Which phase refuses a module.
+use Rattle.std.specs.Prelude.{◌≡◌, ⊤, ℕ}
+use Rattle.mv_move_types.specs.declared.refusal.Refusal.{Refusal}
+use Rattle.mv_move_types.specs.declared.refusal.Refusal.TheVariants.{Phase, Memory}
+use Rattle.mv_move_types.specs.Module.{Module}
+use Rattle.mv_bounds.specs.Bounds.{InBounds}
+use Rattle.mv_bounds.specs.Definitions.{WellDefined}
+
+-- the phase is the first of 3 and 4 whose rules the module fails
+pub data FailsBounds (m : Module) : ℕ → Type 0 where
+  out_of_bounds : (InBounds m → ⊥) → FailsBounds m 3
+  ill_defined : InBounds m → (WellDefined m → ⊥) → FailsBounds m 4
+
+-- the module fails the phase that is answered, or memory ran out
+abbrev pub IsRefusedByBounds : Module → Refusal → Type 0
+IsRefusedByBounds m (Phase p) = FailsBounds m p
+IsRefusedByBounds m Memory = ⊤

@@ -1,0 +1,4 @@
+pub mod Certificate
+pub mod Shape
+pub mod CertificateText
+pub mod Answers

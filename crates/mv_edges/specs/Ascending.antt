@@ -1,0 +1,37 @@
+-- The order in which edges are listed.
+use Rattle.std.specs.Prelude.{ℕ, Bool, true, false, ◌&&◌, ◌||◌, ◌==◌, nat_lt, List, [], ◌∷◌, ◌+◌, ◌++◌, not}
+use Rattle.std.specs.Str.{bytes_eq}
+use Rattle.mv_move_types.specs.declared.borrow.Node.{Node}
+use Rattle.mv_move_types.specs.declared.borrow.Node.TheVariants.{Slot, Own, Glob, Temp}
+use Rattle.mv_edges.specs.Edges.{Edge}
+
+-- whether a list comes before another: position by position, and a beginning before its extension
+abbrev pub list_before : List ℕ → List ℕ → Bool
+list_before xs [] = false
+list_before [] (y ∷ ys) = true
+list_before (x ∷ xs) (y ∷ ys) = nat_lt x y || (x == y) && list_before xs ys
+
+-- a node as two numbers, by which nodes are ordered
+abbrev pub node_code : Node → List ℕ
+node_code (Slot l) = 0 ∷ l ∷ []
+node_code (Own l) = 1 ∷ l ∷ []
+node_code (Glob t) = 2 ∷ t ∷ []
+node_code (Temp k) = 3 ∷ k ∷ []
+
+-- an edge's nodes as four numbers
+abbrev pub nodes_code : Edge → List ℕ
+nodes_code e = node_code e.from ++ node_code e.to
+
+-- edges ascend by their nodes, then by their lists, then exact before open
+abbrev pub edge_before : Edge → Edge → Bool
+edge_before a b =
+    list_before (nodes_code a) (nodes_code b)
+    || bytes_eq (nodes_code a) (nodes_code b)
+    && (list_before a.label.path b.label.path
+    || bytes_eq a.label.path b.label.path && not a.label.is_open && b.label.is_open)
+
+-- whether the edges ascend strictly
+abbrev pub are_ascending : List Edge → Bool
+are_ascending [] = true
+are_ascending (a ∷ []) = true
+are_ascending (a ∷ b ∷ es) = edge_before a b && are_ascending (b ∷ es)

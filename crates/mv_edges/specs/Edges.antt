@@ -1,0 +1,63 @@
+-- Labels, edges and their order.
+use Rattle.std.specs.Prelude.{ℕ, Bool, List, false, ◌==◌, [], ◌&&◌, ◌||◌, filter, not, if◌then◌else◌, map, true, ◌∷◌}
+use Rattle.std.specs.Bool.{beq}
+use Rattle.std.specs.Str.{bytes_eq}
+use Rattle.std.specs.List.{list_all, list_any}
+use Rattle.mv_move_types.specs.declared.borrow.Node.{Node}
+use Rattle.mv_move_types.specs.declared.borrow.Node.TheVariants.{Slot, Own, Glob, Temp}
+use Rattle.mv_move_types.specs.Paths.{begins}
+
+-- a list of field positions: exactly these, or these and any more
+pub record Label : Type 0 where
+  pub path : List ℕ
+  pub is_open : Bool
+
+-- what the second node refers to lies at the label from what the first one is or refers to
+pub record Edge : Type 0 where
+  pub from : Node
+  pub label : Label
+  pub to : Node
+
+-- whether two nodes are one
+abbrev pub same_node : Node → Node → Bool
+same_node (Slot i) (Slot j) = i == j
+same_node (Own i) (Own j) = i == j
+same_node (Glob i) (Glob j) = i == j
+same_node (Temp i) (Temp j) = i == j
+same_node _ _ = false
+
+-- the label of the place itself
+abbrev pub here : Label
+here = record { path = []; is_open = false }
+
+-- a label is below itself, and below an open one whose list begins its own
+abbrev pub label_leq : Label → Label → Bool
+label_leq a b = (bytes_eq a.path b.path && beq a.is_open b.is_open) || b.is_open && begins b.path a.path
+
+-- an edge is below one with the same nodes and a label above its own
+abbrev pub edge_leq : Edge → Edge → Bool
+edge_leq a b = same_node a.from b.from && same_node a.to b.to && label_leq a.label b.label
+
+-- each edge on the left is below one on the right
+abbrev pub edges_leq : List Edge → List Edge → Bool
+edges_leq as' bs = list_all (λ a. list_any (edge_leq a) bs) as'
+
+-- the edges that lead out of a node
+abbrev pub out_of : Node → List Edge → List Edge
+out_of n edges = filter (λ e. same_node e.from n) edges
+
+-- the edges without those at a node
+abbrev pub without : Node → List Edge → List Edge
+without n edges = filter (λ e. not (same_node e.from n) && not (same_node e.to n)) edges
+
+-- the new node in place of the old one
+abbrev pub renamed_node : Node → Node → Node → Node
+renamed_node old new n = if same_node n old then new else n
+
+-- the edges with one node in place of another
+abbrev pub renamed : Node → Node → List Edge → List Edge
+renamed old new edges = map (λ e. record { from = renamed_node old new e.from; label = e.label; to = renamed_node old new e.to }) edges
+
+-- an edge between two nodes
+abbrev pub an_edge : Node → Label → Node → Edge
+an_edge from label to = record { from = from; label = label; to = to }

@@ -1,0 +1,44 @@
+-- What a turn of the loops over a flow adds.
+use Rattle.std.proofs.Common.{◌≡◌, ℕ, suc, ◌+◌, ◌-◌, ◌<◌, ◌≤◌, List, length, get_or, Option, Some, None, refl, subst, arith, slice_get, ◌≢◌, ⊎_elim}
+use Rattle.std.proofs.lemmas.Bool.{cases_eq}
+use Rattle.std.proofs.lemmas.Option.{slice_get_read, slice_get_within}
+use Rattle.mv_lattice.specs.Flow.{carried}
+
+module _ {S : Type 0} (step : ℕ → S → Option S) where
+  -- one instruction more
+  pub carried_some : (at last : ℕ) (s t : S) → at ≤ last → step at s ≡ Some t → carried step (at + 1) (last + 1 - (at + 1)) t ≡ carried step at (last + 1 - at) s
+  carried_some at last s t h e =
+      let n : last + 1 - at ≡ suc (last + 1 - (at + 1)) = omega arith in
+      let a : at + 1 ≡ suc at = omega arith in
+      rw (n, e, a) refl
+
+-- what a read of a list gives
+pub block_read : {B : Type 0} (xs ys : List B) (k : ℕ) (r : B) → xs ≡ ys → k < length xs → r ≡ get_or xs k r → slice_get ys k ≡ Some r
+block_read xs ys k r same h e = subst (λ zs. slice_get zs k ≡ Some r) same (slice_get_read xs (length xs) k r refl h e)
+
+pub state_read : {S : Type 0} (flow : List (Option S)) (k : ℕ) (r o : Option S) → k < length flow → r ≡ get_or flow k r → r ≡ o → slice_get flow k ≡ Some o
+state_read flow k r o h e is = let read : slice_get flow k ≡ Some r = slice_get_read flow (length flow) k r refl h e in cc
+
+module _ {S B : Type 0} (blocks : List B) (flow : List (Option S)) (P : B → S → Type 0) where
+  abbrev pub HoldsBelow : ℕ → Type 0
+  HoldsBelow i = (k : ℕ) (b : B) (s : S) → k < i → slice_get blocks k ≡ Some b → slice_get flow k ≡ Some (Some s) → P b s
+
+  pub holds_some : (i : ℕ) (b : B) (s : S) → slice_get blocks i ≡ Some b → slice_get flow i ≡ Some (Some s) → P b s → HoldsBelow i → HoldsBelow (i + 1)
+  holds_some i b s eb es p before k b' s' h eb' es' =
+      ⊎_elim
+      (λ (e : k ≡ i).
+      let b_is : b ≡ b' = cc in
+      let s_is : s ≡ s' = cc in
+      subst (λ x. P x s') b_is (subst (λ x. P b x) s_is p))
+      (λ (ne : k ≢ i). before k b' s' (omega arith) eb' es')
+      (cases_eq k i)
+
+  pub holds_none : (i : ℕ) → slice_get flow i ≡ Some None → HoldsBelow i → HoldsBelow (i + 1)
+  holds_none i en before k b' s' h eb' es' =
+      ⊎_elim
+      (λ (e : k ≡ i). let n : slice_get flow i ≡ Some (Some s') = subst (λ x. slice_get flow x ≡ Some (Some s')) e es' in cc)
+      (λ (ne : k ≢ i). before k b' s' (omega arith) eb' es')
+      (cases_eq k i)
+
+pub stated_within : {A : Type 0} (xs : List A) (k : ℕ) (x : A) → slice_get xs k ≡ Some x → k < length xs
+stated_within xs k x e = slice_get_within xs k x e

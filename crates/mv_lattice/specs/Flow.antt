@@ -1,0 +1,59 @@
+-- What a flow over a graph is, when its blocks go on, and when it is closed.
+use Rattle.std.specs.Prelude.{◌≡◌, ℕ, zero, suc, ◌+◌, ◌-◌, List, length, slice_get, option_and_then, Option, Some, All, Bool, true}
+use Rattle.mv_cfg.specs.declared.Block.{Block}
+use Rattle.mv_cfg.specs.declared.Cfg.{Cfg}
+use Rattle.mv_cfg.specs.Graph.{IsBlock, IsReached}
+
+-- the state that `count` instructions from `at` on make of s, none where a need of one of them fails
+abbrev pub carried : {S : Type 0} → (ℕ → S → Option S) → ℕ → ℕ → S → Option S
+carried step at zero s = Some s
+carried step at (suc count) s = option_and_then (carried step (suc at) count) (step at s)
+
+-- what the whole block makes of s
+abbrev pub through : {S : Type 0} → (ℕ → S → Option S) → Block → S → Option S
+through step b s = carried step b.first (b.last + 1 - b.first) s
+
+-- block k is stated to begin in s
+abbrev pub IsStated : {S : Type 0} → List (Option S) → ℕ → S → Type 0
+IsStated flow k s = slice_get flow k ≡ Some (Some s)
+
+-- one entry a block, with a state of the function exactly where the block is reached
+pub record IsFlow {S : Type 0} (IsState : S → Type 0) (g : Cfg) (flow : List (Option S)) : Type 0 where
+  pub entries : length flow ≡ length g.blocks.items
+  pub states : (k : ℕ) (s : S) → IsStated flow k s → IsState s
+  pub stated : (k : ℕ) → IsReached g k → (s : S) × IsStated flow k s
+  pub reached : (k : ℕ) (s : S) → IsStated flow k s → IsReached g k
+
+-- no need of an instruction of the block fails, if it begins in s
+abbrev pub IsCarriedAt : {S : Type 0} → (ℕ → S → Option S) → Block → S → Type 0
+IsCarriedAt {S} step b s = (t : S) × (through step b s ≡ Some t)
+
+-- each stated state is carried through its block
+pub record IsCarried {S : Type 0} (step : ℕ → S → Option S) (g : Cfg) (flow : List (Option S)) : Type 0 where
+  pub carried : (k : ℕ) (b : Block) (s : S) → IsBlock g k b → IsStated flow k s → IsCarriedAt step b s
+
+-- no other state is above s
+abbrev pub IsHighest : {S : Type 0} → (S → S → Type 0) → (S → S → Bool) → S → Type 0
+IsHighest {S} below equals s = (c : S) → below s c → equals c s ≡ true
+
+-- no other state is above a stated one
+abbrev pub AllHighest : {S : Type 0} → (S → S → Type 0) → (S → S → Bool) → List (Option S) → Type 0
+AllHighest {S} below equals flow = (k : ℕ) (s : S) → IsStated flow k s → IsHighest below equals s
+
+-- each stated state is carried through its block, and nothing that flows into it can raise it
+pub record IsAtRest {S : Type 0} (below : S → S → Type 0) (equals : S → S → Bool) (step : ℕ → S → Option S) (g : Cfg) (flow : List (Option S)) : Type 0 where
+  pub carried : IsCarried step g flow
+  pub highest : AllHighest below equals flow
+
+-- the state is below each one that is stated for one of these blocks
+abbrev pub IsBelowEach : {S : Type 0} → (S → S → Type 0) → List (Option S) → List ℕ → S → Type 0
+IsBelowEach {S} below flow blocks t = All (λ n. (u : S) → IsStated flow n u → below t u) blocks
+
+-- the block carries s to a state that is below each one that is stated for a successor
+abbrev pub IsClosedAt : {S : Type 0} → (S → S → Type 0) → (ℕ → S → Option S) → List (Option S) → Block → S → Type 0
+IsClosedAt {S} below step flow b s = (t : S) × ((through step b s ≡ Some t) × IsBelowEach below flow b.successors.items t)
+
+-- block 0's state is above the start state, and the flow is closed at each block for which a state is stated
+pub record IsClosed {S : Type 0} (below : S → S → Type 0) (step : ℕ → S → Option S) (g : Cfg) (start : S) (flow : List (Option S)) : Type 0 where
+  pub entry : (s : S) → IsStated flow 0 s → below start s
+  pub closed : (k : ℕ) (b : Block) (s : S) → IsBlock g k b → IsStated flow k s → IsClosedAt below step flow b s

@@ -1,0 +1,310 @@
+//! Flows of states over a graph of blocks, for any domain of states.
+#![tactic(auto)]
+
+ghost use Rattle.std.specs.Prelude.{◌≡◌, ℕ, ◌+◌, ◌-◌, ◌<◌, ◌≤◌, ◌↔◌, Option, true, length, IsTrue, IfOk, OnOk, IsErrOf, All, [], ◌∷◌};
+ghost use Rattle.mv_cfg.specs.Graph.{IsGraph};
+ghost use Rattle.mv_lattice.specs.Flow.{IsFlow, IsCarried, IsCarriedAt, IsHighest, AllHighest, IsAtRest, IsStated, carried};
+ghost use Rattle.mv_lattice.specs.Laws.{IsLawful};
+
+use mv_cfg::{Block, Cfg};
+use std::alloc::{AllocError, Global};
+
+/// Why a state cannot be carried through an instruction, or a flow is not accepted.
+#[derive(Drop, Clone, Copy, PartialEq, Eq, Debug)]
+pub enum StepError {
+    /// A need of an instruction fails, or a stated state does not hold what flows into it.
+    Need,
+    /// An allocation was refused.
+    Memory,
+}
+
+impl From<AllocError> for StepError {
+    ghost use Rattle.mv_lattice.specs.declared.StepError.TheVariants.{Memory};
+
+    ghost from_gives = { λ _ e. e ≡ Memory };
+
+    fn from(_: AllocError) -> Self {
+        StepError::Memory
+    }
+}
+
+/// What is known of a function before each of its instructions: the states, their order, and what
+/// an instruction makes of a state.
+pub trait Domain {
+    type State: PartialEq + Drop;
+
+    /// How many instructions the function has.
+    ghost size: { Self → ℕ };
+
+    /// The states of the function.
+    ghost is_state: { Self → Self.State → Type 0 };
+
+    /// The first state is below the second.
+    ghost below: { Self → Self.State → Self.State → Type 0 };
+
+    /// What an instruction makes of a state, none where a need of it fails.
+    ghost steps: { Self → ℕ → Self.State → Option Self.State };
+
+    /// An equal state.
+    fn copy(&self, alloc: Global, s: &Self::State) -> Result<Self::State, AllocError>
+        requires { is_state self.now s.now }
+        ensures { IfOk result (λ t. t ≡ s.now) };
+
+    /// Whether the first state is below the second.
+    fn leq(&self, a: &Self::State, b: &Self::State) -> bool
+        requires a { is_state self.now a.now }
+        requires b { is_state self.now b.now }
+        ensures { IsTrue result ↔ below self.now a.now b.now };
+
+    /// A state above the left argument, which is to hold what both say.
+    fn join(
+        &self,
+        alloc: Global,
+        a: &Self::State,
+        b: &Self::State,
+    ) -> Result<Self::State, AllocError>
+        requires a { is_state self.now a.now }
+        requires b { is_state self.now b.now }
+        ensures state { IfOk result (λ c. is_state self.now c) }
+        ensures left { IfOk result (λ c. below self.now a.now c) };
+
+    /// What the instruction at `at` makes of the state.
+    ///
+    /// Answers `Need` where a need of the instruction fails. The state is dropped then.
+    fn step(&self, alloc: Global, s: Self::State, at: usize) -> Result<Self::State, StepError>
+        requires state { is_state self.now s }
+        requires inside { at < size self.now }
+        ensures ok { IfOk result (λ t. steps self.now at s ≡ Option.Some t) }
+        ensures need { IsErrOf result StepError.Need → steps self.now at s ≡ Option.None };
+
+    /// The laws of the steps.
+    ghost laws: { (d : Self) → IsLawful (size d) (is_state d) (steps d) };
+}
+
+/// Carries a copy of the state through the instructions from `first` to `last`.
+fn carry<D: Domain>(
+    alloc: Global,
+    d: &D,
+    s: &D::State,
+    first: usize,
+    last: usize,
+) -> Result<D::State, StepError>
+    requires state { D.is_state d.now s.now }
+    requires order { first ≤ last }
+    requires inside { last < D.size d.now }
+    ensures state { IfOk result (λ t. D.is_state d.now t) }
+    ensures ok { IfOk result (λ t. carried (D.steps d.now) first (last + 1 - first) s.now ≡ Option.Some t) }
+    ensures need { IsErrOf result StepError.Need → carried (D.steps d.now) first (last + 1 - first) s.now ≡ Option.None }
+{
+    let mut t = d.copy(alloc, s)?;
+    for at in first..=last {
+        t = d.step(alloc, t, at)?;
+    }
+    Ok(t)
+}
+
+/// Accepts what flows into a stated state, where joining it in leaves that state as it is.
+fn flow_into<D: Domain>(
+    alloc: Global,
+    d: &D,
+    stated: &D::State,
+    t: &D::State,
+) -> Result<(), StepError>
+    requires stated { D.is_state d.now stated.now }
+    requires state { D.is_state d.now t.now }
+    ensures ok { OnOk result ((c : D.State) × (D.below d.now stated.now c × (D.State.eq c stated.now ≡ true))) }
+    ensures need { IsErrOf result StepError.Need → ¬ IsHighest (D.below d.now) D.State.eq stated.now }
+{
+    if d.join(alloc, stated, t)? == *stated {
+        Ok(())
+    } else {
+        Err(StepError::Need)
+    }
+}
+
+/// Accepts what flows into each of the blocks for which a state is stated.
+fn flow_into_each<D: Domain>(
+    alloc: Global,
+    d: &D,
+    t: &D::State,
+    blocks: &[usize],
+    flow: &[Option<D::State>],
+) -> Result<(), StepError>
+    requires state { D.is_state d.now t.now }
+    requires states { (k : ℕ) (u : D.State) → IsStated flow.now k u → D.is_state d.now u }
+    requires inside { All (λ n. n < length flow.now) blocks.now }
+    ensures { IsErrOf result StepError.Need → ¬ AllHighest (D.below d.now) D.State.eq flow.now }
+{
+    for n in blocks {
+        if let Some(stated) = &flow[*n] {
+            flow_into(alloc, d, stated, t)?;
+        }
+    }
+    Ok(())
+}
+
+/// Carries the state through the block, and accepts what flows on from it.
+fn check_block<D: Domain>(
+    alloc: Global,
+    d: &D,
+    block: &Block,
+    s: &D::State,
+    flow: &[Option<D::State>],
+) -> Result<(), StepError>
+    requires state { D.is_state d.now s.now }
+    requires order { block.now.first ≤ block.now.last }
+    requires inside { block.now.last < D.size d.now }
+    requires states { (k : ℕ) (u : D.State) → IsStated flow.now k u → D.is_state d.now u }
+    requires successors { All (λ n. n < length flow.now) block.now.successors.items }
+    ensures ok { OnOk result (IsCarriedAt (D.steps d.now) block.now s.now) }
+    ensures need { IsErrOf result StepError.Need → AllHighest (D.below d.now) D.State.eq flow.now → ¬ IsCarriedAt (D.steps d.now) block.now s.now }
+{
+    let t = carry(alloc, d, s, block.first, block.last)?;
+    flow_into_each(alloc, d, &t, &block.successors, flow)
+}
+
+/// Tests the stated states block by block: each is carried through its block, and joining what
+/// flows out into the state that is stated for a successor must leave that one as it is. So must
+/// joining the start state into the state of block 0.
+///
+/// Answers `Need` for each flow that is not accepted.
+pub fn check_flow<D: Domain>(
+    alloc: Global,
+    d: &D,
+    g: &Cfg,
+    start: &D::State,
+    stated: &[Option<D::State>],
+) -> Result<(), StepError>
+    requires graph { IsGraph g.now (D.size d.now) }
+    requires start { D.is_state d.now start.now }
+    requires flow { IsFlow (D.is_state d.now) g.now stated.now }
+    ensures ok { OnOk result (IsCarried (D.steps d.now) g.now stated.now) }
+    ensures need { IsErrOf result StepError.Need → ¬ IsAtRest (D.below d.now) D.State.eq (D.steps d.now) g.now stated.now }
+{
+    if let Some(s) = &stated[0] {
+        flow_into(alloc, d, s, start)?;
+    }
+    for (k, block) in g.blocks.iter().enumerate() {
+        if let Some(s) = &stated[k] {
+            check_block(alloc, d, block, s, stated)?;
+        }
+    }
+    Ok(())
+}
+
+#[cfg(test)]
+mod tests {
+    use super::*;
+    use mv_move_types::Availability;
+    use std::test::Fail;
+
+    /// A function of one local, whose value each instruction takes.
+    #[derive(Drop)]
+    struct Takes {
+        count: usize,
+    }
+
+    impl Domain for Takes {
+        ghost use Rattle.std.specs.Prelude.{◌≡◌, ◌⊎◌, ⊤, Option, Some, None};
+        ghost use Rattle.mv_move_types.specs.declared.borrow.Availability.{Availability};
+        ghost use Rattle.mv_move_types.specs.declared.borrow.Availability.TheVariants.{Unavailable, Available, Maybe};
+
+        type State = Availability;
+
+        ghost size = { λ d. d.count };
+
+        ghost is_state = { λ d s. ⊤ };
+
+        ghost below = { λ d a b. (a ≡ b) ⊎ (b ≡ Maybe) };
+
+        ghost steps = { λ d at s. elim s as (λ _. Option Availability) [ Unavailable ↦ None | Available ↦ Some Unavailable | Maybe ↦ None ] };
+
+        ghost laws = { λ d. record { keeps = λ at a b h p e. tt } };
+
+        fn copy(&self, _alloc: Global, s: &Availability) -> Result<Availability, AllocError> {
+            Ok(*s)
+        }
+
+        fn leq(&self, a: &Availability, b: &Availability) -> bool {
+            match (*a, *b) {
+                (_, Availability::Maybe) => true,
+                (Availability::Unavailable, Availability::Unavailable) => true,
+                (Availability::Available, Availability::Available) => true,
+                (_, _) => false,
+            }
+        }
+
+        fn join(
+            &self,
+            _alloc: Global,
+            a: &Availability,
+            b: &Availability,
+        ) -> Result<Availability, AllocError> {
+            Ok(match (*a, *b) {
+                (Availability::Unavailable, Availability::Unavailable) => Availability::Unavailable,
+                (Availability::Available, Availability::Available) => Availability::Available,
+                (_, _) => Availability::Maybe,
+            })
+        }
+
+        fn step(
+            &self,
+            _alloc: Global,
+            s: Availability,
+            _at: usize,
+        ) -> Result<Availability, StepError> {
+            match s {
+                Availability::Available => Ok(Availability::Unavailable),
+                Availability::Unavailable => Err(StepError::Need),
+                Availability::Maybe => Err(StepError::Need),
+            }
+        }
+    }
+
+    /// The block alone.
+    fn alone(alloc: Global, block: Block) -> Result<Vec<Block>, AllocError>
+        ensures { IfOk result (λ v. v.items ≡ block ∷ []) }
+    {
+        Ok(vec![in alloc; block]?)
+    }
+
+    /// Checks the flow that states so for the one block of so many instructions.
+    fn check_one_block(
+        alloc: Global,
+        count: usize,
+        start: Availability,
+        stated: Availability,
+    ) -> Result<(), StepError>
+        requires { 0 < count }
+    {
+        let block = Block {
+            first: 0,
+            last: count - 1,
+            successors: Vec::new(alloc),
+            reached: true,
+        };
+        let g = Cfg {
+            blocks: alone(alloc, block)?,
+        };
+        check_flow(alloc, &Takes { count }, &g, &start, &[Some(stated)])
+    }
+
+    #[test]
+    fn flows_of_one_block(rt: HostRuntime) {
+        let alloc = rt.alloc();
+        let (held, lost, unknown) = (
+            Availability::Available,
+            Availability::Unavailable,
+            Availability::Maybe,
+        );
+        assert_eq!(rt; check_one_block(alloc, 1, held, held), Ok(()));
+        // an instruction finds nothing to take
+        assert_eq!(rt; check_one_block(alloc, 2, held, held), Err(StepError::Need));
+        assert_eq!(rt;
+            check_one_block(alloc, 1, unknown, unknown),
+            Err(StepError::Need)
+        );
+        // the stated state does not hold the start state
+        assert_eq!(rt; check_one_block(alloc, 1, lost, held), Err(StepError::Need));
+    }
+}

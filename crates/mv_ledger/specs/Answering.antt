@@ -1,0 +1,41 @@
+-- What the ledger's replies say, and when a call of the ledger answers a record.
+use Rattle.std.specs.Prelude.{◌≡◌, ℕ, List, Option, Some, None, ⊤}
+use Rattle.mv_move_types.specs.Module.{Module}
+use Rattle.mv_binary_format.specs.Parsing.{module_of}
+use Rattle.mv_machine.specs.declared.Outcome.{Outcome}
+use Rattle.mv_machine.specs.declared.Ending.{Ending}
+use Rattle.mv_machine.specs.declared.Ending.TheVariants.{Returned as HasReturned, Aborted as HasAborted, Exhausted as HasExhausted}
+use Rattle.mv_machine.specs.Lines.{Reply as Told, Published as ToldPublished, Refused as ToldRefused, Rejected as ToldRejected, Returned as ToldReturned, Aborted as ToldAborted, Exhausted as ToldExhausted, Broken as ToldBroken}
+use Rattle.mv_machine.specs.Ledger.{LedgerState, Request, Answers}
+use Rattle.mv_ledger.specs.View.{LedgerView, state_of}
+use Rattle.mv_ledger.specs.RecordText.{Asks}
+use Rattle.mv_ledger.specs.declared.Reply.{Reply}
+use Rattle.mv_ledger.specs.declared.Reply.TheVariants.{Published, Refused, Rejected, Ran, Broken, Memory}
+
+-- the bytes spell the module
+abbrev pub Spells : List ℕ → Module → Type 0
+Spells bytes m = module_of bytes ≡ Some m
+
+-- what a run's ending says after so many steps
+abbrev pub told_ending : Ending → ℕ → Told
+told_ending HasReturned steps = ToldReturned steps
+told_ending (HasAborted kind number) steps = ToldAborted kind number steps
+told_ending (HasExhausted stop) steps = ToldExhausted stop steps
+
+-- what a reply says; want of memory says nothing
+abbrev pub told : Reply → Option Told
+told (Published count) = Some (ToldPublished count)
+told (Refused phase) = Some (ToldRefused phase)
+told (Rejected reason) = Some (ToldRejected reason)
+told (Ran outcome) = Some (told_ending outcome.ending outcome.steps)
+told Broken = Some ToldBroken
+told Memory = None
+
+-- a record of this kind with this payload may be answered by what was told, and the ledger goes on to new
+abbrev pub AnswersRecord : ℕ → List ℕ → Told → LedgerState → LedgerState → Type 0
+AnswersRecord kind payload reply old new = (request : Request) × (Asks kind payload request × Answers Spells old request reply new)
+
+-- the reply answers a record, or memory ran out and the ledger stays as it was
+abbrev pub Replies : ℕ → List ℕ → Option Told → LedgerView → LedgerView → Type 0
+Replies kind payload None old new = new ≡ old
+Replies kind payload (Some reply) old new = AnswersRecord kind payload reply (state_of old) (state_of new)

@@ -1,0 +1,5 @@
+pub mod View
+pub mod RecordText
+pub mod Publishing
+pub mod Answering
+pub mod Exact

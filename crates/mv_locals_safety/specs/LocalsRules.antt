@@ -1,0 +1,60 @@
+-- What is known of locals, its order, and the rules that change it.
+use Rattle.std.specs.Prelude.{Bool, true, false, ◌&&◌, List, [], ◌∷◌, ℕ, Option, slice_get, Some, slice_set}
+use Rattle.std.specs.Bool.{then_some}
+use Rattle.std.specs.Option.{option_map_or}
+use Rattle.mv_move_types.specs.declared.borrow.Availability.{Availability}
+use Rattle.mv_move_types.specs.declared.borrow.Availability.TheVariants.{Unavailable, Available, Maybe}
+use Rattle.mv_move_types.specs.Options.{◌>>=◌}
+use Rattle.mv_move_types.specs.declared.token.Token.{Token}
+use Rattle.mv_abilities.specs.Abilities.{token_abilities}
+use Rattle.mv_type_states.specs.TypesHold.{Point}
+use Rattle.mv_move_types.specs.Module.{local_tokens}
+use Rattle.mv_move_types.specs.declared.instruction.Instruction.{Instruction}
+use Rattle.mv_move_types.specs.declared.instruction.Instruction.TheVariants.{Ret, MoveLoc, ImmBorrowLoc}
+
+-- each availability is below itself and below Maybe
+abbrev pub availability_leq : Availability → Availability → Bool
+availability_leq a Maybe = true
+availability_leq Available Available = true
+availability_leq Unavailable Unavailable = true
+availability_leq _ _ = false
+
+-- each local's availability is below the other one's
+abbrev pub locals_leq : List Availability → List Availability → Bool
+locals_leq [] [] = true
+locals_leq [] (b ∷ bs) = false
+locals_leq (a ∷ rest) [] = false
+locals_leq (a ∷ rest) (b ∷ bs) = availability_leq a b && locals_leq rest bs
+
+-- whether a local surely holds a value
+abbrev pub is_available : Availability → Bool
+is_available Available = true
+is_available Unavailable = false
+is_available Maybe = false
+
+-- the local may be read, moved or borrowed
+abbrev pub needs_available : ℕ → List Availability → Option (List Availability)
+needs_available l locals = slice_get locals l >>= λ a. then_some (is_available a) locals
+
+-- whether values of a type may be dropped
+abbrev pub has_drop : Point → Token → Bool
+has_drop p t = option_map_or (λ a. a.drop) (token_abilities p.home t) false
+
+-- each local that can't be dropped holds nothing
+abbrev pub may_leave : Point → List Token → List Availability → Bool
+may_leave p (t ∷ ts) (Unavailable ∷ locals) = may_leave p ts locals
+may_leave p (t ∷ ts) (Available ∷ locals) = has_drop p t && may_leave p ts locals
+may_leave p (t ∷ ts) (Maybe ∷ locals) = has_drop p t && may_leave p ts locals
+may_leave p ts [] = true
+may_leave p [] locals = true
+
+-- a return leaves no local behind that may hold what can't be dropped
+abbrev pub leave_known : Point → List Availability → Option (List Availability)
+leave_known p locals = local_tokens p.home p.function >>= λ ts. then_some (may_leave p ts locals) locals
+
+-- the availabilities after an instruction, if those before it are what it needs
+unfoldable pub locals_after : Point → Instruction → List Availability → Option (List Availability)
+locals_after p (MoveLoc l) locals = needs_available l locals >>= λ before. Some (slice_set before l Unavailable)
+locals_after p (ImmBorrowLoc l) locals = needs_available l locals
+locals_after p Ret locals = leave_known p locals
+locals_after p _ locals = Some locals

@@ -1,0 +1,150 @@
+-- The ledger's state, its requests, and what each request changes and answers.
+use Rattle.std.specs.Prelude.{ℕ, List, [], map, ◌||◌, cond, Option, None, flat_map, filter_map, find, unwrap_or, Bool, false, ◌∷◌, fold, ◌≡◌, true, ◌&&◌, ◌^◌, nat_lt, nat_le, Result, Ok, ok_or, slice_get, ◌+◌, Some, Err, length, ◌++◌}
+use Rattle.std.specs.Option.{option_map_or}
+use Rattle.mv_machine.specs.State.{Storage, Event}
+use Rattle.mv_machine.specs.Lines.{Tallied, Reply, Returned as RanToEnd, Aborted as RanToAbort, Exhausted as RanOut, Rejected, Published, Refused}
+use Rattle.mv_move_types.specs.Published.{PublishedModule}
+use Rattle.mv_move_types.specs.Module.{Module, StructDefinition, name_of_struct, struct_abilities, own_name, parameter_tokens}
+use Rattle.mv_move_types.specs.Names.{ModuleName, StructName, same_struct}
+use Rattle.mv_machine.specs.Value.{Value, Leaf}
+use Rattle.mv_machine.specs.Run.{run, packs, unpacks, FunctionCall, RunOutcome, Returned, Aborted, Exhausted, Faulted}
+use Rattle.mv_move_types.specs.Named.{is_module, module_place, function_place}
+use Rattle.mv_move_types.specs.declared.token.ValueType.TheVariants.{OfLeaf}
+use Rattle.mv_move_types.specs.declared.token.Token.{Token}
+use Rattle.mv_move_types.specs.declared.token.Token.TheVariants.{Plain}
+use Rattle.mv_move_types.specs.Tokens.{same_kind}
+use Rattle.mv_move_types.specs.declared.token.LeafKind.TheVariants.{Signer}
+use Rattle.mv_move_types.specs.Results.{◌>>=◌, ◌>>◌, need}
+
+-- the modules in order of publication, the storage, the tallies of the structs with neither copy nor drop, and the runs had
+pub record LedgerState : Type 0 where
+  pub published : List PublishedModule
+  pub storage : Storage
+  pub tallies : List Tallied
+  pub runs : ℕ
+
+-- the ledger to begin with
+abbrev pub empty_ledger : LedgerState
+empty_ledger = record { published = []; storage = []; tallies = []; runs = 0 }
+
+-- the published modules' tables
+abbrev pub modules_of : LedgerState → List Module
+modules_of s = map (λ p. p.tables) s.published
+
+-- a module that a bundle offers
+pub record Offer : Type 0 where
+  pub text : List ℕ
+  pub certificate : List ℕ
+
+-- a function to be run, by the names of its module and of itself
+pub record RunRequest : Type 0 where
+  pub sender : ℕ
+  pub home : ModuleName
+  pub function : List ℕ
+  pub budget : ℕ
+  pub arguments : List Value
+
+-- what a record asks; BadRun and Bad are a run's and any other payload that isn't of its kind's shape
+pub data Request : Type 0 where
+  Publish : (sender : ℕ) (offers : List Offer) → Request
+  Run : (run : RunRequest) → Request
+  BadRun : Request
+  Bad : Request
+
+-- a struct's name, if it has neither copy nor drop
+abbrev pub scarce_name : Module → StructDefinition → Option StructName
+scarce_name m d = option_map_or (λ a. cond (a.copy || a.drop) None (name_of_struct m d)) (struct_abilities m d) None
+
+-- the structs with neither copy nor drop, by place of their module and index of their definition
+abbrev pub scarce_structs : List Module → List StructName
+scarce_structs = flat_map (λ m. filter_map (scarce_name m) m.structs)
+
+-- a struct whose values were neither made nor taken apart
+abbrev pub untouched_tally : StructName → Tallied
+untouched_tally s = record { struct = s; packs = 0; unpacks = 0 }
+
+-- the ledger after a bundle: its modules stand behind those that were there, and their structs have empty tallies
+abbrev pub with_bundle : LedgerState → List PublishedModule → LedgerState
+with_bundle s bundle =
+    record s {
+      published = s.published ++ bundle;
+      tallies = s.tallies ++ map untouched_tally (scarce_structs (map (λ p. p.tables) bundle));
+    }
+
+-- these are the offered modules, read from their texts
+abbrev pub AreRead : (List ℕ → Module → Type 0) → List Offer → List PublishedModule → Type 0
+AreRead IsText [] [] = Unit {0}
+AreRead IsText [] (p ∷ ps) = ⊥
+AreRead IsText (o ∷ os) [] = ⊥
+AreRead IsText (o ∷ os) (p ∷ ps) =
+    (p.text ≡ o.text) × (p.certificate ≡ o.certificate) × IsText o.text p.tables × AreRead IsText os ps
+
+-- whether a value is of a parameter's type
+abbrev pub is_argument : Token → Value → Bool
+is_argument (Plain (OfLeaf k)) (Leaf j n) = same_kind j k
+is_argument _ _ = false
+
+-- whether values are of parameters' types, one each
+abbrev pub are_arguments : List Token → List Value → Bool
+are_arguments [] [] = true
+are_arguments [] (v ∷ vs) = false
+are_arguments (t ∷ ts) [] = false
+are_arguments (t ∷ ts) (v ∷ vs) = is_argument t v && are_arguments ts vs
+
+-- the arguments with the sender in front, where the first parameter is a signer
+abbrev pub with_signer : ℕ → List Token → List Value → List Value
+with_signer sender (Plain (OfLeaf Signer) ∷ tokens) arguments = Leaf Signer sender ∷ arguments
+with_signer sender _ arguments = arguments
+
+-- the call that a run asks for, or the first reason against it; a payload of no shape is reason 1
+unfoldable pub admitted : LedgerState → RunRequest → Result FunctionCall ℕ
+admitted s r = do
+  need (nat_le r.budget 10000000) 2
+  place ← ok_or (module_place (modules_of s) r.home) 3
+  home ← ok_or (slice_get (modules_of s) place) 3
+  index ← ok_or (function_place home r.function) 4
+  d ← ok_or (slice_get home.functions index) 4
+  need d.is_entry 5
+  tokens ← ok_or (parameter_tokens home d) 6
+  need (are_arguments tokens (with_signer r.sender tokens r.arguments)) 6
+  need (nat_lt s.runs (2 ^ 32)) 7
+  Ok (record { function = record { place = place; index = index }; arguments = with_signer r.sender tokens r.arguments })
+
+-- a struct's tally with those of a run
+abbrev pub tally_with : List Event → Tallied → Tallied
+tally_with events t = record t { packs = t.packs + packs t.struct events; unpacks = t.unpacks + unpacks t.struct events }
+
+-- the ledger after one more run
+abbrev pub with_run : LedgerState → LedgerState
+with_run s = record s { runs = s.runs + 1 }
+
+-- the ledger after a run that returned
+abbrev pub with_returned : LedgerState → Storage → List Event → LedgerState
+with_returned s storage events = record (with_run s) { storage = storage; tallies = map (tally_with events) s.tallies }
+
+-- The reply to a run with this outcome, and the ledger after it. Of a run that meets a fault no more is said than
+-- that it counts as one and publishes nothing.
+abbrev pub Settles : LedgerState → RunOutcome → Reply → LedgerState → Type 0
+Settles old (Returned steps storage events) reply new = (reply ≡ RanToEnd steps) × (new ≡ with_returned old storage events)
+Settles old (Aborted kind number steps) reply new = (reply ≡ RanToAbort kind number steps) × (new ≡ with_run old)
+Settles old (Exhausted stop steps) reply new = (reply ≡ RanOut stop steps) × (new ≡ with_run old)
+Settles old (Faulted fault steps) reply new = (new.published ≡ old.published) × (new.runs ≡ old.runs + 1)
+
+-- the reply to a run, which is rejected where there is a reason against it
+abbrev pub Attempts : LedgerState → ℕ → Result FunctionCall ℕ → Reply → LedgerState → Type 0
+Attempts old budget (Ok call) reply new = Settles old (run (modules_of old) old.storage call budget) reply new
+Attempts old budget (Err reason) reply new = (reply ≡ Rejected reason) × (new ≡ old)
+
+-- a bundle is published whole, or refused and nothing changes
+abbrev pub AnswersPublish : (List ℕ → Module → Type 0) → LedgerState → List Offer → Reply → LedgerState → Type 0
+AnswersPublish IsText old offers (Published n) new =
+    (bundle : List PublishedModule) × AreRead IsText offers bundle × (n ≡ length offers) × (new ≡ with_bundle old bundle)
+AnswersPublish IsText old offers (Refused phase) new = new ≡ old
+AnswersPublish IsText old offers _ new = ⊥
+
+-- the ledger may give this reply to the request and go on to new; only a bundle leaves it a choice
+abbrev pub Answers : (List ℕ → Module → Type 0) → LedgerState → Request → Reply → LedgerState → Type 0
+Answers IsText old (Publish sender offers) reply new = AnswersPublish IsText old offers reply new
+Answers IsText old (Run r) reply new = Attempts old r.budget (admitted old r) reply new
+Answers IsText old BadRun reply new = (reply ≡ Rejected 1) × (new ≡ old)
+Answers IsText old Bad reply new = (reply ≡ Refused 1) × (new ≡ old)

@@ -1,0 +1,10 @@
+pub mod Value
+pub mod State
+pub mod Live
+pub mod Typing
+pub mod Step
+pub mod Run
+pub mod Flat
+pub mod Typed
+pub mod Lines
+pub mod Ledger

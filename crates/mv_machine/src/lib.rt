@@ -1,0 +1,42 @@
+//! The defensive machine: its values, states, steps, runs and answers stand in specs/. Here is how a run may end.
+#![tactic(auto)]
+
+/// Why a run aborts.
+#[derive(Clone, Copy, PartialEq, Eq, Debug)]
+pub enum Kind {
+    /// The code asks for it.
+    Code,
+    /// A number leaves its range, or a divisor is 0.
+    Arith,
+    /// A value is stored already where one is to be stored.
+    Exists,
+    /// No value is stored where one is wanted.
+    Missing,
+}
+
+/// What a run has used up.
+#[derive(Clone, Copy, PartialEq, Eq, Debug)]
+pub enum Stop {
+    /// Its budget of steps.
+    Steps,
+    /// The 256 frames that a run may have.
+    Frames,
+}
+
+/// How a run ended.
+#[derive(Clone, Copy, PartialEq, Eq, Debug)]
+pub enum Ending {
+    /// The first function returned.
+    Returned,
+    /// It was given up, for a reason and with a number.
+    Aborted(Kind, u64),
+    /// It used up what it was allowed.
+    Exhausted(Stop),
+}
+
+/// How a run ended, and how many instructions it executed.
+#[derive(Clone, Copy, PartialEq, Eq, Debug)]
+pub struct Outcome {
+    pub ending: Ending,
+    pub steps: u64,
+}

@@ -1,0 +1,108 @@
+-- The text of each entry of a module: its bytes.
+use Rattle.std.specs.Prelude.{ℕ, ◌+◌, List, ◌++◌, flat_map, length, [], ◌∷◌, cond}
+use Rattle.std.specs.Int.{w128, to_be_bytes}
+use Rattle.mv_uleb.specs.Uleb.{uleb}
+use Rattle.mv_move_types.specs.declared.token.Width.{Width}
+use Rattle.mv_move_types.specs.declared.token.Width.TheVariants.{U8, U64, U128}
+use Rattle.mv_move_types.specs.declared.token.LeafKind.{LeafKind}
+use Rattle.mv_move_types.specs.declared.token.LeafKind.TheVariants.{Boolean, Number, Address, Signer}
+use Rattle.mv_move_types.specs.declared.token.ValueType.{ValueType}
+use Rattle.mv_move_types.specs.declared.token.ValueType.TheVariants.{OfLeaf, OfStruct}
+use Rattle.mv_move_types.specs.declared.token.Token.{Token}
+use Rattle.mv_move_types.specs.declared.token.Token.TheVariants.{Plain, Reference, MutableReference}
+use Rattle.mv_move_types.specs.declared.token.Abilities.{Abilities}
+use Rattle.mv_move_types.specs.declared.tables.ModuleHandle.{ModuleHandle}
+use Rattle.mv_move_types.specs.declared.tables.StructHandle.{StructHandle}
+use Rattle.mv_move_types.specs.declared.tables.FunctionHandle.{FunctionHandle}
+use Rattle.mv_move_types.specs.Module.{StructDefinition, FunctionDefinition}
+use Rattle.mv_move_types.specs.declared.tables.Visibility.{Visibility}
+use Rattle.mv_move_types.specs.declared.tables.Visibility.TheVariants.{Private, Public}
+use Rattle.mv_move_types.specs.declared.instruction.Instruction.{Instruction}
+use Rattle.mv_move_types.specs.declared.instruction.Instruction.TheVariants.{Ret, MoveLoc, ImmBorrowLoc, Pack, MoveTo}
+use Rattle.mv_move_types.specs.declared.tables.Field.{Field}
+
+-- a count, and so many parts
+abbrev pub counted : {A : Type 0} → (A → List ℕ) → List A → List ℕ
+counted each xs = uleb (length xs) ++ flat_map each xs
+
+-- a number type's token
+abbrev pub width_code : Width → ℕ
+width_code U8 = 0x02
+width_code U64 = 0x03
+width_code U128 = 0x04
+
+-- a leaf type's token
+abbrev pub kind_code : LeafKind → ℕ
+kind_code Boolean = 0x01
+kind_code (Number w) = width_code w
+kind_code Address = 0x05
+kind_code Signer = 0x0C
+
+-- a type that is no reference
+abbrev pub value_type_text : ValueType → List ℕ
+value_type_text (OfLeaf kind) = kind_code kind ∷ []
+value_type_text (OfStruct i) = 0x08 ∷ uleb i
+
+-- a type, a reference after its mark
+abbrev pub token_text : Token → List ℕ
+token_text (Plain t) = value_type_text t
+token_text (Reference t) = 0x06 ∷ value_type_text t
+token_text (MutableReference t) = 0x07 ∷ value_type_text t
+
+-- a bit for each ability
+abbrev pub ability_bits : Abilities → ℕ
+ability_bits a = cond a.copy 1 0 + cond a.drop 2 0 + cond a.store 4 0 + cond a.key 8 0
+
+-- its address and its name
+abbrev pub module_handle_text : ModuleHandle → List ℕ
+module_handle_text h = uleb h.address ++ uleb h.name
+
+-- the last byte is the number of type parameters
+abbrev pub struct_handle_text : StructHandle → List ℕ
+struct_handle_text h = uleb h.module ++ uleb h.name ++ uleb (ability_bits h.abilities) ++ 0 ∷ []
+
+-- its module, its name and its signatures; the last byte is the number of type parameters
+abbrev pub function_handle_text : FunctionHandle → List ℕ
+function_handle_text h = uleb h.module ++ uleb h.name ++ uleb h.parameters ++ uleb h.results ++ 0 ∷ []
+
+-- its types
+abbrev pub signature_text : List Token → List ℕ
+signature_text = counted token_text
+
+-- its bytes behind their number
+abbrev pub identifier_text : List ℕ → List ℕ
+identifier_text name = uleb (length name) ++ name
+
+-- 16 bytes, the highest first
+abbrev pub address_text : ℕ → List ℕ
+address_text a = to_be_bytes w128 a
+
+-- its name and its type
+abbrev pub field_text : Field → List ℕ
+field_text f = uleb f.name ++ token_text f.token
+
+-- its handle and its fields; the byte between them marks declared fields
+abbrev pub struct_definition_text : StructDefinition → List ℕ
+struct_definition_text d = uleb d.handle ++ 2 ∷ counted field_text d.fields
+
+-- a visibility's byte
+abbrev pub visibility_code : Visibility → ℕ
+visibility_code Private = 0
+visibility_code Public = 1
+
+-- an opcode, and its immediate
+abbrev pub instruction_text : Instruction → List ℕ
+instruction_text Ret = 0x02 ∷ []
+instruction_text (MoveLoc i) = 0x0B ∷ uleb i
+instruction_text (ImmBorrowLoc i) = 0x0E ∷ uleb i
+instruction_text (Pack i) = 0x12 ∷ uleb i
+instruction_text (MoveTo i) = 0x2D ∷ uleb i
+
+-- the further locals' signature, and the instructions
+abbrev pub code_text : FunctionDefinition → List ℕ
+code_text d = uleb d.locals ++ counted instruction_text d.code
+
+-- its handle, its visibility, whether it is entry, its acquires list and its code
+abbrev pub function_definition_text : FunctionDefinition → List ℕ
+function_definition_text d =
+    uleb d.handle ++ visibility_code d.visibility ∷ cond d.is_entry 4 0 ∷ counted uleb d.acquires ++ code_text d

@@ -1,0 +1,13 @@
+pub mod Options
+pub mod Results
+pub mod Names
+pub mod Module
+pub mod Tokens
+pub mod AbilitySets
+pub mod Named
+pub mod Leaves
+pub mod Tags
+pub mod Flow
+pub mod Published
+pub mod Paths
+pub mod Refusals

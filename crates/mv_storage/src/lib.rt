@@ -1,0 +1,8 @@
+//! Storage of values under keys, and an overlay in which a run changes it before the changes are kept or given up.
+#![tactic(auto)]
+
+mod overlay;
+mod value;
+
+pub use overlay::{Overlay, Storage};
+pub use value::Value;

@@ -1,0 +1,3 @@
+pub mod TypeRules
+pub mod TypesHold
+pub mod Sound

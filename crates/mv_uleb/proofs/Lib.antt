@@ -1,0 +1,3 @@
+pub mod Spelled
+pub mod Front
+pub mod Form

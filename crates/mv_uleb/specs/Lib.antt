@@ -1,0 +1,4 @@
+pub mod Uleb
+pub mod Parsing
+pub mod Reading
+pub mod Laws

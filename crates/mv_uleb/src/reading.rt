@@ -1,0 +1,56 @@
+// The number at the front of bytes.
+
+ghost use Rattle.std.specs.Prelude.{◌≡◌, ℕ, ◌≤◌, ◌++◌, ◌↔◌, List, length, take, drop, Ok, Err, Some, None, IfOk, IsErr};
+ghost use Rattle.mv_uleb.specs.Uleb.{IsUlebUpTo, uleb};
+ghost use Rattle.mv_uleb.specs.Parsing.{number_from};
+ghost use Rattle.mv_uleb.specs.Reading.{EndsEarly, IsLong, IsBeyond, Gives};
+
+use super::UlebError;
+
+// The most bytes that a number of 64 bits has.
+const MOST: u8 = 10;
+
+/// Reads the number at the front of `bytes`, at most `max`, and how many bytes it takes. It looks at no more than ten
+/// bytes. A form that is too long is told before a number that is too great.
+pub fn read(bytes: &[u8], max: u64) -> Result<(u64, usize), UlebError>
+    ensures found { IfOk result (λ f. IsUlebUpTo max (take f.1 bytes.now) f.0) }
+    ensures within { IfOk result (λ f. f.1 ≤ length bytes.now) }
+    ensures few { IfOk result (λ f. f.1 ≤ 10) }
+    ensures parsed { IfOk result (λ f. number_from max bytes.now ≡ Some (f.0, drop f.1 bytes.now)) }
+    ensures refused { IsErr result → number_from max bytes.now ≡ None }
+    ensures ends { result ≡ Err UlebError.Ends ↔ EndsEarly bytes.now }
+    ensures long { result ≡ Err UlebError.Long ↔ IsLong bytes.now }
+    ensures range { result ≡ Err UlebError.Range ↔ IsBeyond max bytes.now }
+    ensures spelled { (n : ℕ) (rest : List ℕ) → n ≤ max → bytes.now ≡ uleb n ++ rest → result ≡ Ok (n, length (uleb n)) }
+{
+    read_within(bytes, MOST, max)
+}
+
+// The same, of at most so many bytes.
+fn read_within(bytes: &[u8], most: u8, max: u64) -> Result<(u64, usize), UlebError>
+    ensures { Gives most max bytes.now result }
+{
+    if most == 0 {
+        return Err(UlebError::Range);
+    }
+    let Some((first, rest)) = bytes.split_first() else {
+        return Err(UlebError::Ends);
+    };
+    let low = u64::from(*first);
+    if low < 128 {
+        return if low <= max {
+            Ok((low, 1))
+        } else {
+            Err(UlebError::Range)
+        };
+    }
+    let (high, used) = read_within(rest, most - 1, max / 128)?;
+    if high == 0 {
+        return Err(UlebError::Long);
+    }
+    let number = low - 128 + 128 * high;
+    if number > max {
+        return Err(UlebError::Range);
+    }
+    Ok((number, used + 1))
+}
