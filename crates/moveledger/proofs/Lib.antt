@@ -4,3 +4,4 @@ pub mod Whole
 pub mod Steps
 pub mod One
 pub mod Lines
+pub mod Tasks

@@ -5,3 +5,5 @@ pub mod Reading
 pub mod Next
 pub mod Progress
 pub mod Answered
+pub mod Line
+pub mod Status

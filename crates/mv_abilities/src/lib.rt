@@ -3,18 +3,72 @@
 
 ghost use Rattle.std.specs.Prelude.{◌≡◌, OnOk, IfErr, None, Some};
 ghost use Rattle.mv_move_types.specs.Refusals.{IsRefusedIn};
-ghost use Rattle.mv_abilities.specs.Abilities.{AbilitiesHold, token_abilities};
+ghost use Rattle.std.specs.List.{list_all};
+ghost use Rattle.mv_move_types.specs.Module.{struct_abilities};
+ghost use Rattle.mv_move_types.specs.AbilitySets.{leaf_abilities};
+ghost use Rattle.mv_abilities.specs.Abilities.{AbilitiesHold, token_abilities, field_is_able, struct_is_able};
 
+use mv_binary_format::StructDefinition;
 use mv_bounds::Bounded;
-use mv_move_types::{Abilities, Refusal, Token};
+use mv_move_types::{Abilities, Field, LeafKind, Refusal, Token, ValueType};
 
 /// Accepts exactly the modules whose rules of phase 6 hold.
 pub fn check(m: &Bounded<'_>) -> Result<(), Refusal>
     ensures ok { OnOk result (AbilitiesHold m.now) }
     ensures refused { IfErr result (IsRefusedIn 6 (AbilitiesHold m.now)) }
+    ensures phase { IfErr result (λ e. e ≡ Refusal.Phase 6) }
 {
-    let _ = m;
-    Err(Refusal::Memory)
+    if are_structs_able(m) {
+        Ok(())
+    } else {
+        Err(Refusal::Phase(6))
+    }
+}
+
+/// Whether each field of each struct has what the struct's abilities ask for.
+fn are_structs_able(m: &Bounded<'_>) -> bool
+    ensures { result ≡ list_all (struct_is_able m.now) m.now.structs }
+{
+    m.module().structs().iter().all(|d| has_able_fields(m, d))
+}
+
+/// Whether a struct's handle is there and each field has what the struct's abilities ask for.
+fn has_able_fields(m: &Bounded<'_>, d: &StructDefinition) -> bool
+    ensures { result ≡ struct_is_able m.now d.now }
+{
+    match declared(m, d) {
+        Some(structure) => are_able(m, structure, d.fields()),
+        None => false,
+    }
+}
+
+/// The abilities that a struct is declared with, if its handle is there.
+fn declared(m: &Bounded<'_>, d: &StructDefinition) -> Option<Abilities>
+    ensures { result ≡ struct_abilities m.now d.now }
+{
+    let handle = m.module().struct_handles().get(usize::from(d.handle()))?;
+    Some(handle.abilities)
+}
+
+/// Whether each field has what its struct's abilities ask for.
+fn are_able(m: &Bounded<'_>, structure: Abilities, fields: &[Field]) -> bool
+    ensures { result ≡ list_all (field_is_able m.now structure) fields.now }
+{
+    fields.iter().all(|f| is_able(m, structure, *f))
+}
+
+/// Whether a field has what its struct's abilities ask for: copy for copy, drop for drop, and store for store or key.
+fn is_able(m: &Bounded<'_>, structure: Abilities, f: Field) -> bool
+    ensures { result ≡ field_is_able m.now structure f }
+{
+    match of(m, f.token) {
+        Some(field) => {
+            (!structure.copy || field.copy)
+                && (!structure.drop || field.drop)
+                && (!(structure.store || structure.key) || field.store)
+        }
+        None => false,
+    }
 }
 
 /// The abilities of a type: a leaf's and a reference's are fixed, a struct has what its handle declares. None where the
@@ -22,15 +76,41 @@ pub fn check(m: &Bounded<'_>) -> Result<(), Refusal>
 pub fn of(m: &Bounded<'_>, token: Token) -> Option<Abilities>
     ensures { result ≡ token_abilities m.now token }
 {
-    use mv_move_types::{LeafKind, ValueType};
-    let leaf = match token {
-        Token::Plain(ValueType::OfStruct(h)) => return m.module().struct_handles().get(h as usize).map(|handle| handle.abilities),
-        Token::Plain(ValueType::OfLeaf(kind)) => Some(kind),
-        Token::Reference(_) | Token::MutableReference(_) => None,
-    };
-    Some(match leaf {
-        Some(LeafKind::Signer) => Abilities { copy: false, drop: true, store: false, key: false },
-        Some(_) => Abilities { copy: true, drop: true, store: true, key: false },
-        None => Abilities { copy: true, drop: true, store: false, key: false },
-    })
+    match token {
+        Token::Plain(ValueType::OfStruct(h)) => {
+            let handle = m.module().struct_handles().get(usize::from(h))?;
+            Some(handle.abilities)
+        }
+        Token::Plain(ValueType::OfLeaf(kind)) => Some(of_leaf(kind)),
+        Token::Reference(_) | Token::MutableReference(_) => {
+            Some(Abilities {
+                copy: true,
+                drop: true,
+                store: false,
+                key: false,
+            })
+        }
+    }
+}
+
+/// The abilities of a leaf: a signer can only be dropped, and every other leaf be copied, dropped and stored.
+fn of_leaf(kind: LeafKind) -> Abilities
+    ensures { result ≡ leaf_abilities kind }
+{
+    match kind {
+        LeafKind::Signer => Abilities {
+            copy: false,
+            drop: true,
+            store: false,
+            key: false,
+        },
+        LeafKind::Boolean | LeafKind::Number(_) | LeafKind::Address => {
+            Abilities {
+                copy: true,
+                drop: true,
+                store: true,
+                key: false,
+            }
+        }
+    }
 }

@@ -3,7 +3,6 @@ use Rattle.std.specs.Prelude.{ℕ, ◌==◌, List, [], slice_get, Bool, ◌&&◌
 use Rattle.std.specs.Option.{option_map_or}
 use Rattle.std.specs.List.{list_any, list_all}
 use Rattle.mv_move_types.specs.declared.instruction.Instruction.{Instruction}
-use Rattle.mv_move_types.specs.Options.{find_index}
 use Rattle.mv_move_types.specs.Module.{Module, FunctionDefinition, struct_abilities}
 use Rattle.mv_bounds.specs.Definitions.{all_differ}
 

@@ -1,11 +1,16 @@
 //! Phases 3 and 4 of publishing: every index is in bounds, nothing stands twice, and what is the module's own is defined once.
 #![tactic(auto)]
 
+mod duplicates;
+mod indices;
+
 ghost use Rattle.std.specs.Prelude.{◌≡◌, IfOk, IfErr, ◌⊎◌};
 ghost use Rattle.mv_bounds.specs.Bounds.{InBounds};
 ghost use Rattle.mv_bounds.specs.Definitions.{WellDefined};
 ghost use Rattle.mv_bounds.specs.Answers.{IsRefusedByBounds};
 
+use duplicates::well_defined;
+use indices::in_bounds;
 use mv_binary_format::Module;
 use mv_move_types::Refusal;
 use std::alloc::Global;
@@ -40,11 +45,22 @@ impl<'a> Bounded<'a> {
     }
 }
 
-/// Tries phases 3 and 4: the module, where both hold; else the first that fails.
+/// Tries phases 3 and 4 on a module.
+///
+/// # Errors
+///
+/// `Phase(3)`, where an index is not below the length of its table; else `Phase(4)`, where an entry stands twice, or a
+/// handle of the module's own is not defined exactly once, or another's is, or a struct has no fields or two of one
+/// name; `Memory`, where a growth was refused.
 pub fn check<'a>(alloc: Global, m: Module<'a>) -> Result<Bounded<'a>, Refusal>
     ensures ok { IfOk result (λ b. b ≡ m.entry) }
     ensures refused { IfErr result (IsRefusedByBounds m.entry) }
 {
-    let _ = m;
-    Err(Refusal::Memory)
+    if !in_bounds(&m) {
+        return Err(Refusal::Phase(3));
+    }
+    if !well_defined(alloc, &m)? {
+        return Err(Refusal::Phase(4));
+    }
+    Ok(Bounded { module: m })
 }

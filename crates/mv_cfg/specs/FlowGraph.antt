@@ -1,5 +1,5 @@
 -- When a flow graph is that of a function's code.
-use Rattle.std.specs.Prelude.{◌≡◌, ◌↔◌, ℕ, true, List, length, map, IsTrue, slice_get, Some}
+use Rattle.std.specs.Prelude.{◌≡◌, ◌↔◌, ℕ, true, List, length, map, IsTrue, slice_get}
 use Rattle.std.specs.Option.{option_map_or}
 use Rattle.mv_move_types.specs.declared.instruction.Instruction.{Instruction}
 use Rattle.mv_cfg.specs.declared.Block.{Block}

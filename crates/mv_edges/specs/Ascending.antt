@@ -1,9 +1,9 @@
 -- The order in which edges are listed.
-use Rattle.std.specs.Prelude.{ℕ, Bool, true, false, ◌&&◌, ◌||◌, ◌==◌, nat_lt, List, [], ◌∷◌, ◌+◌, ◌++◌, not}
+use Rattle.std.specs.Prelude.{ℕ, Bool, true, false, ◌&&◌, ◌||◌, ◌==◌, nat_lt, List, [], ◌∷◌, ◌++◌, not}
 use Rattle.std.specs.Str.{bytes_eq}
 use Rattle.mv_move_types.specs.declared.borrow.Node.{Node}
 use Rattle.mv_move_types.specs.declared.borrow.Node.TheVariants.{Slot, Own, Glob, Temp}
-use Rattle.mv_edges.specs.Edges.{Edge}
+use Rattle.mv_edges.specs.Edges.{Label, Edge}
 
 -- whether a list comes before another: position by position, and a beginning before its extension
 abbrev pub list_before : List ℕ → List ℕ → Bool
@@ -22,13 +22,13 @@ node_code (Temp k) = 3 ∷ k ∷ []
 abbrev pub nodes_code : Edge → List ℕ
 nodes_code e = node_code e.from ++ node_code e.to
 
--- edges ascend by their nodes, then by their lists, then exact before open
+-- labels ascend by their lists, then exact before open
+abbrev pub label_before : Label → Label → Bool
+label_before a b = list_before a.path b.path || bytes_eq a.path b.path && not a.is_open && b.is_open
+
+-- edges ascend by their nodes, then by their labels
 abbrev pub edge_before : Edge → Edge → Bool
-edge_before a b =
-    list_before (nodes_code a) (nodes_code b)
-    || bytes_eq (nodes_code a) (nodes_code b)
-    && (list_before a.label.path b.label.path
-    || bytes_eq a.label.path b.label.path && not a.label.is_open && b.label.is_open)
+edge_before a b = list_before (nodes_code a) (nodes_code b) || bytes_eq (nodes_code a) (nodes_code b) && label_before a.label b.label
 
 -- whether the edges ascend strictly
 abbrev pub are_ascending : List Edge → Bool

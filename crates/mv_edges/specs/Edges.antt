@@ -1,5 +1,5 @@
 -- Labels, edges and their order.
-use Rattle.std.specs.Prelude.{ℕ, Bool, List, false, ◌==◌, [], ◌&&◌, ◌||◌, filter, not, if◌then◌else◌, map, true, ◌∷◌}
+use Rattle.std.specs.Prelude.{ℕ, Bool, List, false, ◌==◌, [], ◌&&◌, ◌||◌, filter, not, if◌then◌else◌, map}
 use Rattle.std.specs.Bool.{beq}
 use Rattle.std.specs.Str.{bytes_eq}
 use Rattle.std.specs.List.{list_all, list_any}
@@ -25,6 +25,14 @@ same_node (Own i) (Own j) = i == j
 same_node (Glob i) (Glob j) = i == j
 same_node (Temp i) (Temp j) = i == j
 same_node _ _ = false
+
+-- whether two labels are one
+abbrev pub same_label : Label → Label → Bool
+same_label a b = bytes_eq a.path b.path && beq a.is_open b.is_open
+
+-- whether two edges are one
+abbrev pub same_edge : Edge → Edge → Bool
+same_edge a b = same_node a.from b.from && same_label a.label b.label && same_node a.to b.to
 
 -- the label of the place itself
 abbrev pub here : Label

@@ -1,2 +1,4 @@
-pub mod Edges
 pub mod Ascending
+pub mod Edges
+pub mod Equality
+pub mod Sorted

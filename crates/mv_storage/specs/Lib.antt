@@ -1,2 +1,3 @@
 pub mod Words
 pub mod Map
+pub mod Slots

@@ -1,5 +1,5 @@
 -- Storage as entries by ascending key, each a value's words.
-use Rattle.std.specs.Prelude.{ℕ, List, [], ◌∷◌, Bool, true, ◌≡◌, cond, Option, Some, None}
+use Rattle.std.specs.Prelude.{ℕ, List, [], ◌∷◌, true, ◌≡◌, cond, Option, Some, None}
 use Rattle.mv_move_types.specs.declared.tables.Key.{Key}
 use Rattle.mv_machine.specs.State.{key_before, same_key}
 use Rattle.mv_machine.specs.Flat.{FlatEntry}

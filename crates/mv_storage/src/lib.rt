@@ -2,6 +2,10 @@
 #![tactic(auto)]
 
 mod overlay;
+mod slot;
+mod slots;
+#[cfg(test)]
+mod tests;
 mod value;
 
 pub use overlay::{Overlay, Storage};

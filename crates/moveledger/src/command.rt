@@ -1,0 +1,85 @@
+// The command line.
+ghost use Rattle.std.specs.Prelude.{◌≡◌, IfOk, IfErr, false, map};
+ghost use Rattle.clap.specs.Words.{app_of, found_of, rows_of, rule_of, subcommand_of, subcommand_rows_of, takes};
+ghost use Rattle.clap.specs.declared.builder.Command.TheViews.{out-Command};
+ghost use Rattle.moveledger.specs.Line.{apply, given_as, moveledger, name_of, task_in, seen, IsWords};
+
+use clap::error::ErrorKind;
+use clap::{Arg, ArgMatches, Command};
+use std::alloc::{AllocError, Global};
+use thiserror::Error;
+
+/// What the program is asked to do.
+#[derive(Clone, Copy, Debug, PartialEq, Eq)]
+pub enum Task<'a> {
+    /// Answer the records of this file.
+    Apply(&'a str),
+}
+
+/// Why there is no task.
+#[derive(Debug, Drop, Error)]
+pub enum LineError {
+    /// The words aren't understood, or ask for help.
+    #[error("{0}")]
+    Words(clap::Error),
+    /// A growth was refused.
+    #[error("fault: memory")]
+    Memory,
+}
+
+/// A name that has to be given.
+fn name_arg<'a>(alloc: Global, name: &'a str) -> Arg<'a>
+    ensures rule { rule_of result ≡ name_of name.entry.now }
+    ensures local { result.global ≡ false }
+{
+    Arg::new(alloc, name).required(true)
+}
+
+/// `apply FILE`.
+fn apply_command<'a>(alloc: Global) -> Result<Command<'a>, AllocError>
+    ensures app { IfOk result (λ c. app_of c ≡ apply) }
+    ensures local { IfOk result (λ c. (out-Command c).has_globals ≡ false) }
+{
+    Command::new(alloc, "apply").arg(name_arg(alloc, "FILE"))
+}
+
+/// The program's command line.
+fn definition<'a>(alloc: Global) -> Result<Command<'a>, AllocError>
+    ensures { IfOk result (λ c. app_of c ≡ moveledger) }
+{
+    Command::new(alloc, "moveledger")
+        .subcommand_required(true)
+        .subcommand(apply_command(alloc)?)
+}
+
+/// What was given under a name.
+fn given<'a>(matches: &ArgMatches<'a>, id: &str) -> &'a str
+    ensures { result.now ≡ given_as id.now (rows_of (found_of matches.now)) }
+{
+    matches.get_str(id).unwrap_or("")
+}
+
+/// The task that matches have.
+fn task_of<'a>(matches: &ArgMatches<'a>) -> Task<'a>
+    ensures { seen result ≡ task_in (subcommand_rows_of matches.now) }
+{
+    match matches.subcommand() {
+        None => Task::Apply(""),
+        Some((_, found)) => Task::Apply(given(found, "FILE")),
+    }
+}
+
+/// The task that a command line asks for.
+pub fn command<'a>(alloc: Global, words: &'a [&'a str]) -> Result<Task<'a>, LineError>
+    ensures task { IfOk result (λ task. seen task ≡ task_in (subcommand_of moveledger (map (λ w. w.now) words.entry.now))) }
+    ensures words { IfErr result (λ e. IsWords e → takes moveledger (map (λ w. w.now) words.entry.now) ≡ false) }
+{
+    let Ok(command) = definition(alloc) else {
+        return Err(LineError::Memory);
+    };
+    match command.try_get_matches_from(words) {
+        Ok(matches) => Ok(task_of(&matches)),
+        Err(e) if e.kind() == ErrorKind::OutOfMemory => Err(LineError::Memory),
+        Err(e) => Err(LineError::Words(e)),
+    }
+}

@@ -1,0 +1,5 @@
+pub mod Entries
+pub mod Distinct
+pub mod Defined
+pub mod Finite
+pub mod Signatures

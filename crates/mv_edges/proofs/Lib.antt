@@ -1,0 +1,5 @@
+pub mod Comparisons
+pub mod EdgeOrder
+pub mod Insertion
+pub mod Lexicographic
+pub mod Sorting

@@ -1,0 +1,12 @@
+use Rattle.std.proofs.Common.{◌≡◌, ◌-◌, true, length, slice_get, Some, sym, ◌∙◌, subst}
+use Rattle.mv_edges.specs.Ascending.{are_ascending}
+use Rattle.mv_edges.proofs.Sorting.{ascending-push_some}
+use Rattle.mv_edges.proofs.edges.Edges.ascend_with.Goals as goal
+
+pub returns-in-Some : goal.returns-in-Some
+returns-in-Some c =
+    let same = c.deref.ensures.value ∙ c.self.view_is in
+    let last = c.in-Some.last.now in
+    let is_last = subst (λ es. slice_get es (length es - 1) ≡ Some last) same (sym c.in-Some.ensures.value) in
+    let ascending = subst (λ es. are_ascending es ≡ true) c.self.view_is c.self.invariant in
+    c.is_before.ensures ∙ sym (ascending-push_some c.args.self.now c.args.e.now last is_last ascending)

@@ -1,0 +1,4 @@
+pub mod Places
+pub mod Named
+pub mod ListTests
+pub mod Joins

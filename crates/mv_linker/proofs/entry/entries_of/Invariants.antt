@@ -1,0 +1,7 @@
+use Rattle.std.proofs.Common.{◌≡◌, take}
+use Rattle.mv_linker.specs.Kept.{published_in}
+use Rattle.mv_linker.specs.News.{published_of}
+use Rattle.mv_linker.proofs.entry.entries_of.Given as goal
+
+abbrev pub invariant-loop-n : goal.invariant-loop-n
+invariant-loop-n l = published_in l.entries.items ≡ published_of (take l.n-index l.new)

@@ -1,0 +1,33 @@
+use Rattle.mv_module_text.specs.Entries.{module_handle_text, struct_handle_text, function_handle_text, signature_text, identifier_text, address_text, struct_definition_text, function_definition_text}
+use Rattle.mv_module_text.specs.Fits.{module_handle_fits, struct_handle_fits, function_handle_fits, signature_fits, identifier_fits, address_fits, struct_definition_fits, function_definition_fits}
+use Rattle.mv_module_text.specs.Parsing.{module_handle_from, struct_handle_from, function_handle_from, signature_from, identifier_from, address_from, struct_definition_from, function_definition_from}
+use Rattle.mv_module_text.proofs.Handles.{module_handle-parts, module_handle-whole, struct_handle-parts, struct_handle-whole, function_handle-parts, function_handle-whole, signature-parts, signature-whole, identifier-parts, identifier-whole}
+use Rattle.mv_module_text.proofs.Addresses.{address-parts, address-whole}
+use Rattle.mv_module_text.proofs.Definitions.{struct_definition-parts, struct_definition-whole, function_definition-parts, function_definition-whole}
+use Rattle.mv_module_text.proofs.Texts.{stand_all}
+use Rattle.mv_module_text.proofs.Sizes.{module_handle-takes, struct_handle-takes, function_handle-takes, signature-takes, identifier-takes, address-takes, struct_definition-takes, function_definition-takes}
+use Rattle.mv_module_text.proofs.laws.tables_stand_as_texts.Goals as goal
+
+pub returns-clause-module_handles : goal.returns-clause-module_handles
+returns-clause-module_handles c = stand_all module_handle_from module_handle_text module_handle_fits module_handle-parts module_handle-whole module_handle-takes
+
+pub returns-clause-struct_handles : goal.returns-clause-struct_handles
+returns-clause-struct_handles c = stand_all struct_handle_from struct_handle_text struct_handle_fits struct_handle-parts struct_handle-whole struct_handle-takes
+
+pub returns-clause-function_handles : goal.returns-clause-function_handles
+returns-clause-function_handles c = stand_all function_handle_from function_handle_text function_handle_fits function_handle-parts function_handle-whole function_handle-takes
+
+pub returns-clause-signatures : goal.returns-clause-signatures
+returns-clause-signatures c = stand_all signature_from signature_text signature_fits signature-parts signature-whole signature-takes
+
+pub returns-clause-identifiers : goal.returns-clause-identifiers
+returns-clause-identifiers c = stand_all identifier_from identifier_text identifier_fits identifier-parts identifier-whole identifier-takes
+
+pub returns-clause-addresses : goal.returns-clause-addresses
+returns-clause-addresses c = stand_all address_from address_text address_fits address-parts address-whole address-takes
+
+pub returns-clause-structs : goal.returns-clause-structs
+returns-clause-structs c = stand_all struct_definition_from struct_definition_text struct_definition_fits struct_definition-parts struct_definition-whole struct_definition-takes
+
+pub returns-clause-functions : goal.returns-clause-functions
+returns-clause-functions c = stand_all function_definition_from function_definition_text function_definition_fits function_definition-parts function_definition-whole function_definition-takes

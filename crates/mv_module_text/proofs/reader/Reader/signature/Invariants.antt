@@ -1,0 +1,6 @@
+use Rattle.mv_module_text.specs.Parsing.{token_from}
+use Rattle.mv_module_text.proofs.Entries.{ReadsOn}
+use Rattle.mv_module_text.proofs.reader.Reader.signature.Given as goal
+
+abbrev pub invariant-tokens : goal.invariant-tokens
+invariant-tokens l = ReadsOn token_from l.count l.counter l.initial.self l.tokens.items l.self

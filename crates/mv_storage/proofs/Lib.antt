@@ -1,0 +1,5 @@
+pub mod Keys
+pub mod Maps
+pub mod Shown
+pub mod Steps
+pub mod Trees

@@ -1,0 +1,14 @@
+use Rattle.std.proofs.Common.{◌∙◌, subst}
+use Rattle.mv_storage.specs.Map.{Ascends}
+use Rattle.mv_storage.specs.declared.slot.Layer.TheVariants.{Committed, Current}
+use Rattle.mv_storage.proofs.Shown.{Ascends-shown, shown-same, layers-same}
+use Rattle.mv_storage.proofs.overlay.Storage.overlay.Goals as goal
+
+-- no slot is changed, so both layers are the committed one
+pub returns-clause-current : goal.returns-clause-current
+returns-clause-current c =
+    let settled = c.self.invariant in
+    shown-same Committed Current _ _ settled.ordered settled.ordered (λ q. layers-same _ (settled.kept q)) ∙ c.self.view_is
+
+pub returns-clause-ascends : goal.returns-clause-ascends
+returns-clause-ascends c = subst Ascends c.self.view_is (Ascends-shown Committed c.self.inside.slots.entries c.self.invariant.ordered)
