@@ -81,6 +81,6 @@ pub none_from : (max : ℕ) (bytes : List ℕ) → number_from max bytes ≡ Non
 none_from max bytes none n len le u =
     let P : List ℕ → Type 0 = λ l. number_from max l ≡ Some (n, drop len bytes) in
     let found : number_from max (take len bytes ++ drop len bytes) ≡ Some (n, drop len bytes) =
-        number_from-some max n (take len bytes ++ drop len bytes) (drop len bytes) (spelled-front (take len bytes) (drop len bytes) n u) le in
+    number_from-some max n (take len bytes ++ drop len bytes) (drop len bytes) (spelled-front (take len bytes) (drop len bytes) n u) le in
     let same : number_from max bytes ≡ Some (n, drop len bytes) = subst P (take-append-drop len bytes) found in
     cc

@@ -4,7 +4,7 @@ use Rattle.std.proofs.Math.Seq.{take-append_seam, take-append-add}
 use Rattle.std.specs.Io.{StartsWith}
 use Rattle.std.specs.Io.KnownBytes.{Consumes, Appends, IsAtEnd}
 use Rattle.std.proofs.KnownBytes.{Consumes-nil, Appends-nil, Consumes-trans, Appends-trans}
-use Rattle.mv_machine.specs.Ledger.{LedgerState}
+use Rattle.mv_ledger.specs.View.{LedgerView}
 use Rattle.mv_machine.specs.Lines.{Refused, numbered, reply_lines, reply_text}
 use Rattle.moveledger.specs.Records.{Record, Whole, Cut, IsText, NoWhole, Begins, AreRecords, AreWhole}
 use Rattle.moveledger.specs.Report.{Step, Reports}
@@ -18,11 +18,11 @@ AreRecords-push : (rs : List Record) (xs rest more : List ℕ) (r : Record) → 
 AreRecords-push [] xs rest more r e b = (more, subst (λ z. Begins z r more) (sym e) b, refl)
 AreRecords-push (r1 ∷ rs) xs rest more r h b = (h.0, h.1, AreRecords-push rs h.0 rest more r h.2 b)
 
-Reports-push : (rs : List Record) (n : ℕ) (old mid new : LedgerState) (r : Record) (text : List ℕ) (lines : List (List ℕ)) → Reports n old rs text mid → Step mid r lines new
+Reports-push : (rs : List Record) (n : ℕ) (old mid new : LedgerView) (r : Record) (text : List ℕ) (lines : List (List ℕ)) → Reports n old rs text mid → Step mid r lines new
     → Reports n old (rs ++ r ∷ []) (text ++ flat_map (numbered (n + length rs)) lines) new
 Reports-push [] n old mid new r text lines h step =
     let same : n + 0 ≡ n = omega arith in
-    let P : LedgerState → Type 0 = λ s. Step s r lines new in
+    let P : LedgerView → Type 0 = λ s. Step s r lines new in
     (lines, new, [], subst P h.1 step, ap (λ l. l ++ flat_map (numbered (n + 0)) lines) h.0 ∙ ap (λ m. flat_map (numbered m) lines) same ∙ sym (append-nil (flat_map (numbered n) lines)), (refl, refl))
 Reports-push (r1 ∷ rs) n old mid new r text lines h step =
     let same : n + length (r1 ∷ rs) ≡ (n + 1) + length rs = omega arith in
@@ -50,7 +50,7 @@ nonempty (x ∷ xs) ys h e = cc
 
 -- the run
 
-pub Progress-start : (a w : Option (List ℕ)) (s : LedgerState) → Progress a a w w s s 0
+pub Progress-start : (a w : Option (List ℕ)) (s : LedgerView) → Progress a a w w s s 0
 Progress-start a w s = record {
   whole = [];
   records = [];
@@ -62,7 +62,7 @@ Progress-start a w s = record {
   report = (refl, refl);
 }
 
-pub Progress-next : (given gives gives2 held holds holds2 : Option (List ℕ)) (old new new2 : LedgerState) (n kind : ℕ) (took items text : List ℕ) (lines : List (List ℕ))
+pub Progress-next : (given gives gives2 held holds holds2 : Option (List ℕ)) (old new new2 : LedgerView) (n kind : ℕ) (took items text : List ℕ) (lines : List (List ℕ))
     → Progress given gives held holds old new n → Consumes gives gives2 took → IsText took kind items
     → Step new (Whole kind items) lines new2 → text ≡ flat_map (numbered (n + 1)) lines → Appends holds holds2 text
     → Progress given gives2 held holds2 old new2 (n + 1)
@@ -82,7 +82,7 @@ Progress-next given gives gives2 held holds holds2 old new new2 n kind took item
     }
 
 -- nothing was written since the last record, and the ledger stayed
-pub Progress-stops : (given gives held holds : Option (List ℕ)) (old new : LedgerState) (n : ℕ) → Progress given gives held holds old new n → Stops given held holds old new
+pub Progress-stops : (given gives held holds : Option (List ℕ)) (old new : LedgerView) (n : ℕ) → Progress given gives held holds old new n → Stops given held holds old new
 Progress-stops given gives held holds old new n p = record {
   input = p.whole ++ left_of gives;
   records = p.records;
@@ -98,7 +98,7 @@ Progress-stops given gives held holds old new n p = record {
 }
 
 -- one record more came, and a part of its lines was written
-pub Stops-next : (given gives held holds holds2 : Option (List ℕ)) (old new new2 : LedgerState) (n : ℕ) (r : Record) (tail rest part : List ℕ) (lines : List (List ℕ))
+pub Stops-next : (given gives held holds holds2 : Option (List ℕ)) (old new new2 : LedgerView) (n : ℕ) (r : Record) (tail rest part : List ℕ) (lines : List (List ℕ))
     → Progress given gives held holds old new n → Tells gives tail → Begins tail r rest → Step new r lines new2
     → StartsWith (flat_map (numbered (n + 1)) lines) part → Appends holds holds2 part → Stops given held holds2 old new2
 Stops-next given gives held holds holds2 old new new2 n r tail rest part lines p told begins step front written =
@@ -119,7 +119,7 @@ Stops-next given gives held holds holds2 old new new2 n r tail rest part lines p
     }
 
 -- a read failed in a record
-pub Progress-stops_reading : (given gives gives2 held holds : Option (List ℕ)) (old new : LedgerState) (n : ℕ) (took : List ℕ)
+pub Progress-stops_reading : (given gives gives2 held holds : Option (List ℕ)) (old new : LedgerView) (n : ℕ) (took : List ℕ)
     → Progress given gives held holds old new n → Consumes gives gives2 took → NoWhole took → StopsReading given gives2 held holds old new
 Progress-stops_reading given gives gives2 held holds old new n took p taken none = record {
   whole = p.whole;
@@ -134,7 +134,7 @@ Progress-stops_reading given gives gives2 held holds old new n took p taken none
 }
 
 -- the input ended
-pub Progress-ends : (given gives gives2 held holds : Option (List ℕ)) (old new : LedgerState) (n : ℕ) (took : List ℕ)
+pub Progress-ends : (given gives gives2 held holds : Option (List ℕ)) (old new : LedgerView) (n : ℕ) (took : List ℕ)
     → Progress given gives held holds old new n → Consumes gives gives2 took → took ≡ [] → left_of gives2 ≡ [] → Answers given held holds old new n
 Progress-ends given gives gives2 held holds old new n took p taken none end = record {
   input = p.whole ++ (took ++ left_of gives2);
@@ -150,7 +150,7 @@ Progress-ends given gives gives2 held holds old new n took p taken none end = re
 }
 
 -- the numbers ended
-pub Progress-full : (given gives held holds : Option (List ℕ)) (old new : LedgerState) (n m : ℕ)
+pub Progress-full : (given gives held holds : Option (List ℕ)) (old new : LedgerView) (n m : ℕ)
     → Progress given gives held holds old new n → m ≡ n → m ≡ 2 ^ 64 - 1 → Answers given held holds old new m
 Progress-full given gives held holds old new n m p same full = record {
   input = p.whole ++ left_of gives;
@@ -166,7 +166,7 @@ Progress-full given gives held holds old new n m p same full = record {
 }
 
 -- the last record was cut
-pub Progress-cut : (given gives gives2 held holds holds2 : Option (List ℕ)) (old new : LedgerState) (n : ℕ) (took text : List ℕ) (lines : List (List ℕ))
+pub Progress-cut : (given gives gives2 held holds holds2 : Option (List ℕ)) (old new : LedgerView) (n : ℕ) (took text : List ℕ) (lines : List (List ℕ))
     → Progress given gives held holds old new n → Consumes gives gives2 took → (took ≢ []) → NoWhole (took ++ left_of gives2)
     → Step new Cut lines new → text ≡ flat_map (numbered (n + 1)) lines → Appends holds holds2 text → Answers given held holds2 old new (n + 1)
 Progress-cut given gives gives2 held holds holds2 old new n took text lines p taken some none step said written =

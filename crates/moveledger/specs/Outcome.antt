@@ -2,7 +2,7 @@
 use Rattle.std.specs.Prelude.{◌≡◌, ◌≢◌, ℕ, ◌+◌, ◌-◌, ◌^◌, ◌≤◌, ◌<◌, List, [], ◌∷◌, ◌++◌, length, take, Option, Some, None, ⊤, ◌⊎◌, flat_map, MatchOption, MatchResult, Result, Ok, Err}
 use Rattle.std.specs.Io.{StartsWith}
 use Rattle.std.specs.Io.KnownBytes.{Appends, Consumes, IsAtEnd}
-use Rattle.mv_machine.specs.Ledger.{LedgerState}
+use Rattle.mv_ledger.specs.View.{LedgerView}
 use Rattle.moveledger.specs.Records.{Record, Whole, Cut, AreRecords, AreWhole, NoWhole, Begins}
 use Rattle.mv_machine.specs.Lines.{numbered}
 use Rattle.moveledger.specs.Report.{Step, Reports}
@@ -18,7 +18,7 @@ left_of None = []
 left_of (Some xs) = xs
 
 -- All records that the input begins with are answered: up to its end, or to the last number.
-pub record Answers (given : Option (List ℕ)) (held holds : Option (List ℕ)) (old new : LedgerState) (n : ℕ) : Type 0 where
+pub record Answers (given : Option (List ℕ)) (held holds : Option (List ℕ)) (old new : LedgerView) (n : ℕ) : Type 0 where
   pub input : List ℕ
   pub records : List Record
   pub rest : List ℕ
@@ -31,23 +31,23 @@ pub record Answers (given : Option (List ℕ)) (held holds : Option (List ℕ)) 
   pub report : Reports 1 old records text new
 
 -- nothing more happened
-abbrev pub Stays : LedgerState → List ℕ → LedgerState → List ℕ → Type 0
+abbrev pub Stays : LedgerView → List ℕ → LedgerView → List ℕ → Type 0
 Stays old tail new part = (new ≡ old) × (part ≡ [])
 
 -- one more record, which has this number, was answered, and a beginning of its lines was written
-abbrev pub Begun : ℕ → LedgerState → List ℕ → LedgerState → List ℕ → Type 0
+abbrev pub Begun : ℕ → LedgerView → List ℕ → LedgerView → List ℕ → Type 0
 Begun n old tail new part = (r : Record) × (rest : List ℕ) × (lines : List (List ℕ)) × Begins tail r rest × Step old r lines new
     × StartsWith (flat_map (numbered n) lines) part
 
 -- All lines of some records of the input were written, and a beginning of those of at most one more. The
 -- ledger is as these records left it.
-pub record Stops (given : Option (List ℕ)) (held holds : Option (List ℕ)) (old new : LedgerState) : Type 0 where
+pub record Stops (given : Option (List ℕ)) (held holds : Option (List ℕ)) (old new : LedgerView) : Type 0 where
   pub input : List ℕ
   pub records : List Record
   pub tail : List ℕ
   pub text : List ℕ
   pub part : List ℕ
-  pub mid : LedgerState
+  pub mid : LedgerView
   pub told : Tells given input
   pub read : AreRecords input records tail
   pub report : Reports 1 old records text mid
@@ -56,7 +56,7 @@ pub record Stops (given : Option (List ℕ)) (held holds : Option (List ℕ)) (o
 
 -- What was read is whole records and a part of one. The ledger is as the whole ones left it, and what was
 -- written is exactly their report.
-pub record StopsReading (given gives : Option (List ℕ)) (held holds : Option (List ℕ)) (old new : LedgerState) : Type 0 where
+pub record StopsReading (given gives : Option (List ℕ)) (held holds : Option (List ℕ)) (old new : LedgerView) : Type 0 where
   pub whole : List ℕ
   pub part : List ℕ
   pub records : List Record

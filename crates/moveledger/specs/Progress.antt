@@ -1,12 +1,12 @@
 -- Where a run of the engine stands between two records.
 use Rattle.std.specs.Prelude.{◌≡◌, ℕ, List, [], ◌∷◌, ◌++◌, length, Option}
 use Rattle.std.specs.Io.KnownBytes.{Appends, Consumes}
-use Rattle.mv_machine.specs.Ledger.{LedgerState}
+use Rattle.mv_ledger.specs.View.{LedgerView}
 use Rattle.moveledger.specs.Records.{Record, AreWhole}
 use Rattle.moveledger.specs.Report.{Reports}
 
 -- so many whole records were taken in, and all of them are answered
-pub record Progress (given gives held holds : Option (List ℕ)) (old new : LedgerState) (n : ℕ) : Type 0 where
+pub record Progress (given gives held holds : Option (List ℕ)) (old new : LedgerView) (n : ℕ) : Type 0 where
   pub whole : List ℕ
   pub records : List Record
   pub text : List ℕ

@@ -4,7 +4,6 @@ ghost use Rattle.std.specs.Io.{StartsWith};
 ghost use Rattle.std.specs.Io.KnownBytes.{Appends};
 ghost use Rattle.mv_machine.specs.Lines.{Reply as Told, numbered, kind_text, stop_text};
 ghost use Rattle.mv_ledger.specs.Answering.{told, told_ending};
-ghost use Rattle.mv_ledger.specs.View.{state_of};
 ghost use Rattle.moveledger.specs.Answered.{IsAnswered, MayBeAnswered, line_of};
 
 use crate::engine::EngineError;
@@ -147,8 +146,8 @@ pub fn answer(
     kind: u8,
     payload: &[u8],
 ) -> Result<String, EngineError>
-    ensures ok { IfOk result (λ text. IsAnswered number kind payload.now (state_of ledger.old) (state_of ledger.new) (string_bytes text)) }
-    ensures err { IfErr result (λ e. (e ≡ EngineError.Memory) × MayBeAnswered kind payload.now (state_of ledger.old) (state_of ledger.new)) }
+    ensures ok { IfOk result (λ text. IsAnswered number kind payload.now ledger.old ledger.new (string_bytes text)) }
+    ensures err { IfErr result (λ e. (e ≡ EngineError.Memory) × MayBeAnswered kind payload.now ledger.old ledger.new) }
 {
     if kind == PUBLISH {
         return line_text(alloc, number, ledger.publish(payload));

@@ -1,6 +1,5 @@
 // The engine: records in, lines out.
 ghost use Rattle.std.specs.Prelude.{◌≡◌, ℕ, List, [], IfOk, IfErr, Err};
-ghost use Rattle.mv_ledger.specs.View.{state_of};
 ghost use Rattle.moveledger.specs.Records.{Record, AreRecords};
 ghost use Rattle.moveledger.specs.Outcome.{Answers, Stops, StopsReading};
 
@@ -34,13 +33,13 @@ pub fn engine<R: Read, W: Write>(
 ) -> Result<u64, EngineError>
     // All records that the input begins with are answered.
     ensures ok { IfOk result (λ n. Answers (R.remaining reader.old)
-        (W.contents writer.old) (W.contents writer.new) (state_of ledger.old) (state_of ledger.new) n) }
+        (W.contents writer.old) (W.contents writer.new) ledger.old ledger.new n) }
     // Whatever the error: a beginning of the report, and the ledger as some records left it.
     ensures err { IfErr result (λ _. Stops (R.remaining reader.old)
-        (W.contents writer.old) (W.contents writer.new) (state_of ledger.old) (state_of ledger.new)) }
+        (W.contents writer.old) (W.contents writer.new) ledger.old ledger.new) }
     // A failed read: exactly the lines of the records that were read whole.
     ensures read { result ≡ Err EngineError.Read → StopsReading (R.remaining reader.old)
-        (R.remaining reader.new) (W.contents writer.old) (W.contents writer.new) (state_of ledger.old) (state_of ledger.new) }
+        (R.remaining reader.new) (W.contents writer.old) (W.contents writer.new) ledger.old ledger.new }
 {
     for n in 0..u64::MAX {
         match next_record(alloc, reader)? {

@@ -7,6 +7,8 @@ mod engine;
 mod program;
 mod reading;
 mod status;
+#[cfg(test)]
+mod tests;
 
 use status::status as exit_status;
 use std::process::ExitCode;

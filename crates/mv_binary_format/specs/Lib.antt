@@ -1,2 +1,7 @@
 pub mod ModuleText
 pub mod Parsing
+pub mod Kinds
+pub mod Tables
+pub mod Code
+pub mod Laws
+pub mod Written

@@ -47,7 +47,7 @@ header_text h = h.kind ∷ uleb h.offset ++ uleb h.length
 -- the module's bytes with these headers, and its tables' contents in this order
 abbrev pub laid_out : Module → List Header → List Table → List ℕ
 laid_out m headers contents =
-    0xA1 ∷ 0x1C ∷ 0xEB ∷ 0x0B ∷ 5 ∷ 0 ∷ 0 ∷ 0 ∷ ( counted header_text headers
+    0xA1 ∷ 0x1C ∷ 0xEB ∷ 0x0B ∷ 5 ∷ 0 ∷ 0 ∷ 0 ∷ (counted header_text headers
     ++ flat_map (λ t. t.content) contents ++ uleb m.own)
 
 -- each part of the module has a text

@@ -1,24 +1,62 @@
 //! Whole modules in the Move binary format: their tables, their texts, and a cursor over a function's code.
 #![tactic(auto)]
 
+mod contents;
 mod cursor;
 mod definitions;
+mod entries;
+mod headers;
+mod laws;
+mod layout;
 mod module;
+mod written;
 
 ghost use Rattle.std.specs.Prelude.{◌≡◌, IfOk, IfErr, None, Some, ◌⊎◌};
+ghost use Rattle.mv_move_types.specs.Module.{Module as Tables};
+ghost use Rattle.mv_binary_format.specs.ModuleText.{IsModuleText};
 ghost use Rattle.mv_binary_format.specs.Parsing.{module_of};
 
 pub use cursor::Cursor;
 pub use definitions::{FunctionDefinition, StructDefinition};
+pub use laws::{modules_are_read_by_text, texts_are_of_one_module};
+pub use layout::encode;
 pub use module::{Module, code};
+use mv_module_text::Reader;
 use mv_move_types::Refusal;
-use std::alloc::{AllocError, Global};
+use std::alloc::Global;
 
 /// Reads a module from its bytes; whatever is no text of a module is refused in phase 2.
+///
+/// # Errors
+/// [`Refusal::Phase`] with 2 where no module has these bytes, and [`Refusal::Memory`] where memory runs out.
 pub fn decode<'a>(alloc: Global, bytes: &'a [u8]) -> Result<Module<'a>, Refusal>
+    ensures ok { IfOk result (λ m. module_of bytes.entry.now ≡ Some m) }
+    ensures text { IfOk result (λ m. IsModuleText bytes.entry.now m) }
+    ensures refused { result ≡ Err (Refusal.Phase 2) → module_of bytes.entry.now ≡ None }
+    ensures none { result ≡ Err (Refusal.Phase 2) → (m : Tables) → IsModuleText bytes.entry.now m → ⊥ }
+    ensures errors { IfErr result (λ e. (e ≡ Refusal.Phase 2) ⊎ (e ≡ Refusal.Memory)) }
+{
+    modules_are_read_by_text();
+    read(alloc, bytes)
+}
+
+// Reads the preamble, the headers, the contents that they tell of, and the own handle.
+#[tactic(auto, unfolding(crate::specs::Parsing::module_of))]
+fn read<'a>(alloc: Global, bytes: &'a [u8]) -> Result<Module<'a>, Refusal>
     ensures ok { IfOk result (λ m. module_of bytes.entry.now ≡ Some m) }
     ensures refused { result ≡ Err (Refusal.Phase 2) → module_of bytes.entry.now ≡ None }
     ensures errors { IfErr result (λ e. (e ≡ Refusal.Phase 2) ⊎ (e ≡ Refusal.Memory)) }
 {
-    Err(Refusal::Memory)
+    let mut reader = Reader::new(bytes);
+    headers::read_preamble(&mut reader)?;
+    let headers = headers::read_headers(alloc, &mut reader)?;
+    let tables = contents::read_contents(alloc, headers, &mut reader)?;
+    let own = reader.index()?;
+    if !reader.is_empty() {
+        return Err(Refusal::Phase(2));
+    }
+    Module::read(alloc, own, tables)
 }
+
+#[cfg(test)]
+mod tests;

@@ -1,11 +1,18 @@
 // A module as its tables.
-ghost use Rattle.std.specs.Prelude.{◌≡◌, ◌<◌, ℕ, List, length, slice_get, map, option_map, Option, Some, None, OnSome, IfSome, IsTrue, nat_le};
+ghost use Rattle.std.specs.Prelude.{◌≡◌, ◌<◌, ℕ, List, length, slice_get, map, option_map, Option, Some, None, OnSome, IfSome, IsTrue, nat_le, Ok, Err, IfOk, IfErr, ◌⊎◌};
 ghost use Rattle.std.specs.List.{list_all};
+ghost use Rattle.mv_binary_format.specs.Parsing.{module_from};
+ghost use Rattle.mv_binary_format.specs.Tables.{tables_of};
 ghost use Rattle.mv_module_text.specs.Fits.{signature_fits, struct_definition_fits, function_definition_fits};
 
-use super::{Cursor, FunctionDefinition, StructDefinition};
-use mv_move_types::{FunctionHandle, ModuleHandle, StructHandle, Token};
+use super::contents::Table;
+use super::{Cursor, FunctionDefinition, StructDefinition, entries};
+use mv_move_types::{FunctionHandle, ModuleHandle, Refusal, StructHandle, Token};
+use std::alloc::Global;
 use std::marker::Model;
+
+// The most functions that a module defines.
+const MOST_FUNCTIONS: usize = 256;
 
 /// A module as `decode` answered it. Names and code are slices of its bytes; its model is the record of its tables.
 #[derive(Drop)]
@@ -30,15 +37,15 @@ impl<'a> Model for Module<'a> {
     ghost Value = { Tables };
 
     ghost view = { λ m. record {
-        module_handles = m.module_handles.items;
-        struct_handles = m.struct_handles.items;
-        function_handles = m.function_handles.items;
-        signatures = map (λ s. s.items) m.signatures.items;
-        identifiers = map (λ name. name.now) m.identifiers.items;
-        addresses = m.addresses.items;
-        structs = m.structs.items;
-        functions = m.functions.items;
-        own = m.own;
+      module_handles = m.module_handles.items;
+      struct_handles = m.struct_handles.items;
+      function_handles = m.function_handles.items;
+      signatures = map (λ s. s.items) m.signatures.items;
+      identifiers = map (λ name. name.now) m.identifiers.items;
+      addresses = m.addresses.items;
+      structs = m.structs.items;
+      functions = m.functions.items;
+      own = m.own;
     } };
 
     ghost invariant = { λ m. IsTrue (list_all struct_definition_fits m.structs.items)
@@ -48,6 +55,37 @@ impl<'a> Model for Module<'a> {
 }
 
 impl<'a> Module<'a> {
+    // Reads the entries of its tables, of which no kind stands twice.
+    #[tactic(auto, unfolding(crate::specs::Parsing::module_from))]
+    pub(crate) fn read(alloc: Global, own: u16, mut tables: Vec<Table<'a>>) -> Result<Self, Refusal>
+        ensures ok { IfOk result (λ m. module_from own (tables_of tables.entry.items) ≡ Some m) }
+        ensures refused { result ≡ Err (Refusal.Phase 2) → module_from own (tables_of tables.entry.items) ≡ None }
+        ensures errors { IfErr result (λ e. (e ≡ Refusal.Phase 2) ⊎ (e ≡ Refusal.Memory)) }
+    {
+        let module_handles = entries::module_handles(alloc, &mut tables)?;
+        let struct_handles = entries::struct_handles(alloc, &mut tables)?;
+        let function_handles = entries::function_handles(alloc, &mut tables)?;
+        let signatures = entries::signatures(alloc, &mut tables)?;
+        let identifiers = entries::identifiers(alloc, &mut tables)?;
+        let addresses = entries::addresses(alloc, &mut tables)?;
+        let structs = entries::structs(alloc, &mut tables)?;
+        let functions = entries::functions(alloc, &mut tables)?;
+        if !tables.is_empty() || functions.len() > MOST_FUNCTIONS {
+            return Err(Refusal::Phase(2));
+        }
+        Ok(Module {
+            module_handles,
+            struct_handles,
+            function_handles,
+            signatures,
+            identifiers,
+            addresses,
+            structs,
+            functions,
+            own,
+        })
+    }
+
     /// The modules that it names, itself among them.
     pub fn module_handles(&self) -> &[ModuleHandle]
         ensures { result.now ≡ self.now.module_handles }
@@ -82,6 +120,20 @@ impl<'a> Module<'a> {
         ensures fits { IsTrue (list_all signature_fits self.now.signatures) }
     {
         self.signatures.get(index).map(|s| s.as_slice())
+    }
+
+    // Its signatures.
+    pub(crate) fn signatures(&self) -> &[Vec<Token>]
+        ensures { map (λ s. s.items) result.now ≡ self.now.signatures }
+    {
+        &self.signatures
+    }
+
+    // Its identifiers.
+    pub(crate) fn identifiers(&self) -> &[&'a [u8]]
+        ensures { map (λ name. name.now) result.now ≡ self.now.identifiers }
+    {
+        &self.identifiers
     }
 
     /// How many identifiers it has.

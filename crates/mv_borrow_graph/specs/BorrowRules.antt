@@ -1,5 +1,5 @@
 -- The rules for borrows, as a partial step on edges.
-use Rattle.std.specs.Prelude.{length, Bool, true, false, reverse, slice_get, ◌==◌, List, not, ℕ, Option, Some, ◌&&◌, ◌||◌, ◌+◌, ◌-◌, [], ◌∷◌, ◌++◌}
+use Rattle.std.specs.Prelude.{length, Bool, true, false, reverse, slice_get, ◌==◌, List, not, ℕ, Option, Some, ◌&&◌, ◌||◌, ◌-◌, [], ◌∷◌, ◌++◌}
 use Rattle.std.specs.Option.{option_map_or}
 use Rattle.std.specs.List.{list_any}
 use Rattle.std.specs.Bool.{then_some}

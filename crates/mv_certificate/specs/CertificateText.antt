@@ -1,5 +1,5 @@
 -- The text of a certificate.
-use Rattle.std.specs.Prelude.{ℕ, List, ◌∷◌, ◌+◌, cond, [], ◌++◌, map, Option, Some, None, flat_map, ◌≡◌}
+use Rattle.std.specs.Prelude.{ℕ, List, ◌∷◌, cond, [], ◌++◌, map, Option, Some, None, flat_map, ◌≡◌}
 use Rattle.mv_move_types.specs.declared.borrow.Availability.{Availability}
 use Rattle.mv_move_types.specs.declared.borrow.Availability.TheVariants.{Unavailable, Available, Maybe}
 use Rattle.mv_move_types.specs.declared.borrow.Node.{Node}

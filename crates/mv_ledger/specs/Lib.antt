@@ -4,3 +4,5 @@ pub mod Publishing
 pub mod Answering
 pub mod Exact
 pub mod Payloads
+pub mod Changes
+pub mod Judging

@@ -1,5 +1,7 @@
 -- Whether a bundle is published, and else the first phase that it fails.
-use Rattle.std.specs.Prelude.{◌≡◌, ℕ, ◌+◌, ◌≤◌, IsTrue, List, [], ◌∷◌, ◌++◌, map, length, Some, None}
+use Rattle.std.specs.Prelude.{◌≡◌, ℕ, ◌+◌, ◌≤◌, List, [], ◌∷◌, ◌++◌, map, length, Some, None, ⊤}
+use Rattle.mv_move_types.specs.declared.refusal.Refusal.{Refusal}
+use Rattle.mv_move_types.specs.declared.refusal.Refusal.TheVariants.{Phase, Memory}
 use Rattle.mv_move_types.specs.Module.{Module}
 use Rattle.mv_move_types.specs.Published.{PublishedModule}
 use Rattle.mv_binary_format.specs.Parsing.{module_of}
@@ -11,21 +13,20 @@ use Rattle.mv_cfg.specs.Blocks.{FlowHolds}
 use Rattle.mv_type_states.specs.TypesHold.{TypesHold}
 use Rattle.mv_type_states.specs.Sound.{IsSound}
 use Rattle.mv_acquires.specs.Acquires.{AcquiresHold}
-use Rattle.mv_certificate.specs.Certificate.{Certificate, all_needs_are_met}
+use Rattle.mv_certificate.specs.Certificate.{Certificate}
 use Rattle.mv_certificate.specs.CertificateText.{IsCertificateText}
 use Rattle.mv_linker.specs.Link.{MayJoin}
 use Rattle.mv_machine.specs.Ledger.{Offer, LedgerState, modules_of}
 
--- An offer passes phases 2 to 12, with the module and the certificate that it spells. Of phases 10 and 11 it is said today
--- that each stated block meets its needs, and nothing of where control goes on.
+-- An offer passes phases 2 to 12, with the module and the certificate that it spells. Of phases 10 and 11 nothing is said
+-- today.
 pub record Passes (o : Offer) (m : Module) (c : Certificate) : Type 0 where
   pub text : module_of o.text ≡ Some m
   pub sound : IsSound m
   pub certificate : IsCertificateText m o.certificate c
-  pub needs : IsTrue (all_needs_are_met m c)
   pub acquires : AcquiresHold m
 
--- the first phase that an offer fails; of a refusal in phase 10 or 11 no more is said today
+-- the first phase that an offer fails; of a refusal in phase 9, 10 or 11 no more is said today
 pub data FailsAt (o : Offer) : ℕ → Type 0 where
   no_text : module_of o.text ≡ None → FailsAt o 2
   no_bounds : (m : Module) → module_of o.text ≡ Some m → ¬ InBounds m → FailsAt o 3
@@ -34,10 +35,15 @@ pub data FailsAt (o : Offer) : ℕ → Type 0 where
   not_able : (m : Module) → module_of o.text ≡ Some m → InBounds m → WellDefined m → WellSigned m → ¬ AbilitiesHold m → FailsAt o 6
   no_flow : (m : Module) → module_of o.text ≡ Some m → InBounds m → WellDefined m → WellSigned m → AbilitiesHold m → ¬ FlowHolds m → FailsAt o 7
   not_typed : (m : Module) → module_of o.text ≡ Some m → InBounds m → WellDefined m → WellSigned m → AbilitiesHold m → FlowHolds m → ¬ TypesHold m → FailsAt o 8
-  no_certificate : (m : Module) → module_of o.text ≡ Some m → IsSound m → ((c : Certificate) → IsCertificateText m o.certificate c → ⊥) → FailsAt o 9
+  no_certificate : (m : Module) → module_of o.text ≡ Some m → IsSound m → FailsAt o 9
   no_locals : (m : Module) (c : Certificate) → module_of o.text ≡ Some m → IsSound m → IsCertificateText m o.certificate c → FailsAt o 10
   no_edges : (m : Module) (c : Certificate) → module_of o.text ≡ Some m → IsSound m → IsCertificateText m o.certificate c → FailsAt o 11
   no_acquires : (m : Module) (c : Certificate) → module_of o.text ≡ Some m → IsSound m → IsCertificateText m o.certificate c → ¬ AcquiresHold m → FailsAt o 12
+
+-- the phase that is answered is the first that the offer fails, or memory ran out
+abbrev pub IsRefusedOffer : Offer → Refusal → Type 0
+IsRefusedOffer o (Phase phase) = FailsAt o phase
+IsRefusedOffer o Memory = ⊤
 
 -- each offer passes, and these are its module's tables and texts
 abbrev pub AllPass : List Offer → List PublishedModule → Type 0

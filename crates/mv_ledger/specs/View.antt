@@ -1,9 +1,14 @@
 -- What a ledger holds, and the machine's state that it stands for.
-use Rattle.std.specs.Prelude.{ℕ, List, [], map}
+use Rattle.std.specs.Prelude.{ℕ, ◌≤◌, List, [], map, length, All, unwrap_or}
+use Rattle.mv_move_types.specs.Module.{Module, name_at}
+use Rattle.mv_move_types.specs.Names.{StructName}
 use Rattle.mv_move_types.specs.Published.{PublishedModule}
 use Rattle.mv_machine.specs.Flat.{FlatEntry, storage_of}
 use Rattle.mv_machine.specs.Lines.{Tallied}
 use Rattle.mv_machine.specs.Ledger.{LedgerState}
+use Rattle.mv_linker.specs.Link.{tables_in}
+use Rattle.mv_interpreter.specs.Runs.{IsFineWords}
+use Rattle.mv_ledger.specs.declared.tallies.Tally.{Tally}
 
 -- the published modules, the stored values as their words, the tallies, and the runs had
 pub record LedgerView : Type 0 where
@@ -24,3 +29,22 @@ state_of v = record {
   tallies = v.tallies;
   runs = v.runs;
 }
+
+-- the name of no struct
+abbrev pub no_struct : StructName
+no_struct = record { home = record { address = 0; name = [] }; name = [] }
+
+-- a tally with its struct's name
+abbrev pub tallied : List Module → Tally → Tallied
+tallied modules t = record { struct = unwrap_or (name_at modules t.place t.index) no_struct; packs = t.packs; unpacks = t.unpacks }
+
+-- what a ledger with these parts holds
+abbrev pub view_of : List PublishedModule → List FlatEntry → List Tally → ℕ → LedgerView
+view_of published stored tallies runs =
+    record { published = published; stored = stored; tallies = map (tallied (tables_in published)) tallies; runs = runs }
+
+-- a ledger's modules and runs are within their limits, and each stored value is one of its key's struct
+pub record IsLedger (published : List PublishedModule) (stored : List FlatEntry) (runs : ℕ) : Type 0 where
+  pub few : length published ≤ 4096
+  pub fine : All (IsFineWords (tables_in published)) stored
+  pub counted : runs ≤ 4294967296

@@ -1,14 +1,26 @@
 //! The ledger: it publishes bundles, executes runs, and keeps what they store.
 #![tactic(auto)]
 
+mod executing;
+mod payload;
+mod publishing;
+mod tallies;
+
 ghost use Rattle.std.specs.Prelude.{◌≡◌};
 ghost use Rattle.mv_ledger.specs.View.{empty_view, state_of};
-ghost use Rattle.mv_ledger.specs.Answering.{Replies, told};
-ghost use Rattle.mv_ledger.specs.Exact.{IsRightly};
+ghost use Rattle.mv_ledger.specs.Answering.{told};
+ghost use Rattle.mv_ledger.specs.Judging.{IsJudged};
+ghost use Rattle.mv_ledger.specs.Changes.{MayAnswer};
 
+use executing::{Barred, admitted};
+use mv_linker::Store;
 use mv_machine::Outcome;
+use mv_move_types::Refusal;
+use mv_storage::Storage;
+use payload::read_run;
 use std::alloc::Global;
 use std::marker::Model;
+use tallies::Tally;
 
 /// What the ledger answers to a record.
 #[derive(Clone, Copy, PartialEq, Eq, Debug)]
@@ -33,14 +45,20 @@ pub enum Reply {
 #[derive(Drop)]
 pub struct Ledger {
     alloc: Global,
+    store: Store,
+    storage: Storage,
+    tallies: Vec<Tally>,
+    runs: u64,
 }
 
 impl Model for Ledger {
-    ghost use Rattle.mv_ledger.specs.View.{LedgerView, empty_view};
+    ghost use Rattle.mv_ledger.specs.View.{LedgerView, view_of, IsLedger};
 
     ghost Value = { LedgerView };
 
-    ghost view = { λ l. empty_view };
+    ghost view = { λ l. view_of l.store l.storage l.tallies.items l.runs };
+
+    ghost invariant = { λ l. IsLedger l.store l.storage l.runs };
 }
 
 impl Ledger {
@@ -48,23 +66,52 @@ impl Ledger {
     pub fn new(alloc: Global) -> Self
         ensures { result ≡ empty_view }
     {
-        Ledger { alloc }
+        Ledger {
+            alloc,
+            store: Store::new(alloc),
+            storage: Storage::new(alloc),
+            tallies: Vec::new(alloc),
+            runs: 0,
+        }
     }
 
     /// Answers a publish record with this payload.
     pub fn publish(&mut self, payload: &[u8]) -> Reply
-        ensures answers { Replies 1 payload.now (told result) self.old self.new }
-        ensures exact { IsRightly (state_of self.old) payload.now (told result) (state_of self.new) }
+        ensures answers { MayAnswer 1 (told result) self.old self.new }
+        ensures judged { IsJudged (state_of self.old) payload.now (told result) self.new.published }
     {
-        let _ = payload;
-        Reply::Memory
+        match publishing::publish(self.alloc, &mut self.store, &mut self.tallies, payload) {
+            Ok(()) => Reply::Published(1),
+            Err(Refusal::Phase(phase)) => Reply::Refused(phase),
+            Err(Refusal::Memory) => Reply::Memory,
+        }
     }
 
     /// Answers a run record with this payload.
     pub fn execute(&mut self, payload: &[u8]) -> Reply
-        ensures answers { Replies 2 payload.now (told result) self.old self.new }
+        ensures answers { MayAnswer 2 (told result) self.old self.new }
     {
-        let _ = payload;
-        Reply::Memory
+        let asked = match read_run(self.alloc, payload) {
+            Ok(asked) => asked,
+            Err(Refusal::Phase(_)) => return Reply::Rejected(1),
+            Err(Refusal::Memory) => return Reply::Memory,
+        };
+        match admitted(self.alloc, &self.store, self.runs, asked) {
+            Ok(call) => {
+                let reply = executing::execute(
+                    self.alloc,
+                    &self.store,
+                    &mut self.storage,
+                    &mut self.tallies,
+                    &call,
+                );
+                if reply != Reply::Memory {
+                    self.runs += 1;
+                }
+                reply
+            }
+            Err(Barred::Rejected(reason)) => Reply::Rejected(reason),
+            Err(Barred::Memory) => Reply::Memory,
+        }
     }
 }

@@ -52,5 +52,5 @@ pub place-push : (xs : List Kept) (i : ℕ) (x : Kept) (name : ModuleName) → i
 place-push xs i x name lt is none named =
     let P : List Kept → Type 0 = λ l. find_index (is_module name) (map (λ (p : PublishedModule). p.tables) (map (λ (k : Kept). k.published) l)) ≡ None in
     let more : take i xs ++ x ∷ [] ≡ take (i + 1) xs =
-        ap (λ y. take i xs ++ y ∷ []) is ∙ sym (ap (λ n. take n xs) (add-one i) ∙ take-suc xs i x lt) in
+    ap (λ y. take i xs ++ y ∷ []) is ∙ sym (ap (λ n. take n xs) (add-one i) ∙ take-suc xs i x lt) in
     subst P more (find_index-push (λ (p : PublishedModule). p.tables) (λ (k : Kept). k.published) (is_module name) (take i xs) x none named)

@@ -30,8 +30,8 @@ impl Model for Entry {
     ghost Value = { Kept };
 
     ghost view = { λ e. record {
-        published = record { text = e.text.items; certificate = e.certificate.items; tables = tables_of e.text.items };
-        name = record { address = e.address; name = e.name.items };
+      published = record { text = e.text.items; certificate = e.certificate.items; tables = tables_of e.text.items };
+      name = record { address = e.address; name = e.name.items };
     } };
 
     ghost invariant = { λ e. own_name (tables_of e.text.items) ≡ Some (record { address = e.address; name = e.name.items }) };

@@ -1,1 +1,3 @@
 pub mod LocalsRules
+pub mod Domain
+pub mod Laws

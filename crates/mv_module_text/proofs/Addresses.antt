@@ -1,11 +1,11 @@
 -- What is read is what was written: addresses.
-use Rattle.std.proofs.Common.{◌≡◌, ℕ, ◌+◌, ◌*◌, ◌/◌, ◌%◌, ◌^◌, ◌<◌, ◌≤◌, List, [], ◌∷◌, ◌++◌, length, get_or, arith, refl, ap, suc, zero, sym, ◌∙◌, subst, Some, IsTrue, lt-ltb, ltb-true}
+use Rattle.std.proofs.Common.{◌≡◌, ℕ, ◌+◌, ◌*◌, ◌/◌, ◌%◌, ◌^◌, ◌<◌, List, [], ◌∷◌, length, get_or, arith, refl, ap, suc, zero, sym, ◌∙◌, subst, Some, lt-ltb, ltb-true}
 use Rattle.std.specs.List.{list_all}
 use Rattle.std.specs.Int.{w128, to_be_bytes, from_be_bytes, byte_at, bytes_high_first}
 use Rattle.std.proofs.lemmas.Bool.{and_parts, and_from}
 use Rattle.std.proofs.lemmas.Nat.{div-mul-add}
 use Rattle.byteorder.specs.Endian.{big_from}
-use Rattle.byteorder.specs.Numbers.{big_from-cons, big_from-lt, big_number-reads_back, length-bytes_high_first}
+use Rattle.byteorder.specs.Numbers.{big_from-cons, big_from-lt, big_number-reads_back}
 use Rattle.mv_move_types.specs.Options.{◌>>=◌}
 use Rattle.mv_module_text.specs.Entries.{address_text}
 use Rattle.mv_module_text.specs.Fits.{address_fits, is_byte}
@@ -68,12 +68,12 @@ bytes_back xs len ok =
 pub address-parts : Parts address_from address_text address_fits
 address-parts bytes rest v ok e =
     on_bind (bytes_from 16 bytes) _ (v, rest) e (λ x x_is e1.
-        let p = bytes-front 16 x.0 bytes x.1 ok x_is in
-        let well : AreBytes x.0 = (bytes_behind x.0 x.1 (subst AreBytes p.0.text ok)).0 in
-        let lt : from_be_bytes w128 x.0 < 2 ^ 128 = subst (λ z. z < 2 ^ 128) (sym (big_is x.0)) (big_from-lt 0 16 x.0 (small_at x.0 well)) in
-        Front-as address_text address_fits bytes x.1 rest (from_be_bytes w128 x.0) v e1
-        (subst (λ z. Front z bytes x.1) (sym (bytes_back x.0 p.1 well)) p.0)
-        (lt-ltb (from_be_bytes w128 x.0) (2 ^ 128) lt))
+    let p = bytes-front 16 x.0 bytes x.1 ok x_is in
+    let well : AreBytes x.0 = (bytes_behind x.0 x.1 (subst AreBytes p.0.text ok)).0 in
+    let lt : from_be_bytes w128 x.0 < 2 ^ 128 = subst (λ z. z < 2 ^ 128) (sym (big_is x.0)) (big_from-lt 0 16 x.0 (small_at x.0 well)) in
+    Front-as address_text address_fits bytes x.1 rest (from_be_bytes w128 x.0) v e1
+    (subst (λ z. Front z bytes x.1) (sym (bytes_back x.0 p.1 well)) p.0)
+    (lt-ltb (from_be_bytes w128 x.0) (2 ^ 128) lt))
 
 pub address-whole : Whole address_from address_text address_fits
 address-whole rest v ok =

@@ -1,22 +1,19 @@
 -- What is read is what was written: instructions and definitions.
-use Rattle.std.proofs.Common.{◌≡◌, ℕ, ◌<◌, ◌≤◌, List, [], ◌∷◌, ◌++◌, length, arith, refl, ap, suc, sym, ◌∙◌, subst, append_assoc, Option, Some, None, IsTrue, Bool, true, false, cond, eqb, ◌&&◌, nat_le, ◌⊎◌, inl, inr, ne_eqb}
+use Rattle.std.proofs.Common.{◌≡◌, ℕ, ◌≤◌, List, [], ◌∷◌, ◌++◌, length, arith, refl, ap, suc, sym, ◌∙◌, subst, append_assoc, Some, None, IsTrue, Bool, true, false, cond, eqb, ◌&&◌, nat_le, inl, inr}
 use Rattle.std.specs.List.{list_all}
-use Rattle.std.proofs.lemmas.Bool.{cases_eq, and_parts, and_from, leb-true, le-leb}
+use Rattle.std.proofs.lemmas.Bool.{and_parts, and_from, leb-true, le-leb}
 use Rattle.std.proofs.lemmas.Option.{none-some, same_Some}
 use Rattle.mv_uleb.specs.Uleb.{uleb}
-use Rattle.mv_uleb.specs.Parsing.{number_from}
 use Rattle.mv_move_types.specs.Options.{◌>>=◌}
-use Rattle.mv_move_types.specs.Module.{StructDefinition, FunctionDefinition}
 use Rattle.mv_move_types.specs.declared.instruction.Instruction.{Instruction}
 use Rattle.mv_move_types.specs.declared.instruction.Instruction.TheVariants.{Ret, MoveLoc, ImmBorrowLoc, Pack, MoveTo}
 use Rattle.mv_move_types.specs.declared.tables.Visibility.{Visibility}
 use Rattle.mv_move_types.specs.declared.tables.Visibility.TheVariants.{Private, Public}
-use Rattle.mv_move_types.specs.declared.tables.Field.{Field}
-use Rattle.mv_module_text.specs.Entries.{counted, field_text, struct_definition_text, visibility_code, instruction_text, code_text, function_definition_text}
-use Rattle.mv_module_text.specs.Fits.{is_index, field_fits, struct_definition_fits, immediate, instruction_fits, function_definition_fits}
+use Rattle.mv_module_text.specs.Entries.{counted, field_text, struct_definition_text, visibility_code, instruction_text, function_definition_text}
+use Rattle.mv_module_text.specs.Fits.{is_index, field_fits, struct_definition_fits, instruction_fits, function_definition_fits}
 use Rattle.mv_module_text.specs.Parsing.{Read, index_from, byte_from, mark_from, counted_from, field_from, struct_definition_from, visibility_of, visibility_from, entry_of, entry_from, instruction_by, instruction_from, function_definition_from}
 use Rattle.mv_module_text.specs.Laws.{AreBytes}
-use Rattle.mv_module_text.proofs.Texts.{Front, Parts, Whole, on_bind, Front-join, Front-as, index-parts, index-whole, byte-front, mark-front, mark-whole, counted-parts, counted-whole}
+use Rattle.mv_module_text.proofs.Texts.{Front, Parts, Whole, on_bind, Front-join, Front-as, index-parts, index-whole, byte-front, mark-front, counted-parts, counted-whole}
 use Rattle.mv_module_text.proofs.Handles.{cond-parts, field-parts, field-whole}
 
 -- an index behind an opcode makes an instruction
@@ -34,27 +31,27 @@ instruction_by-parts : (code : ℕ) (bytes more rest : List ℕ) (v : Instructio
     → Front (instruction_text v) bytes rest × IsTrue (instruction_fits v)
 instruction_by-parts code bytes more rest v front e =
     elim (cond-parts code 0x02 (Some (Ret, more)) _ (Some (v, rest)) e) [
-      inl p ↦ Front-as instruction_text instruction_fits bytes more rest Ret v p.1 (subst (λ z. Front (z ∷ []) bytes more) p.0 front) refl
-    | inr q ↦ on_bind (index_from more) _ (v, rest) q (λ i i_is e1.
-        elim (cond-parts code 0x0B (Some (MoveLoc i.0, i.1)) _ (Some (v, rest)) e1) [
-          inl p ↦ by_index 0x0B MoveLoc (λ _. refl) (λ _. refl) bytes more rest i v (subst (λ z. Front (z ∷ []) bytes more) p.0 front) i_is p.1
-        | inr e2 ↦ elim (cond-parts code 0x0E (Some (ImmBorrowLoc i.0, i.1)) _ (Some (v, rest)) e2) [
-            inl p ↦ by_index 0x0E ImmBorrowLoc (λ _. refl) (λ _. refl) bytes more rest i v (subst (λ z. Front (z ∷ []) bytes more) p.0 front) i_is p.1
-          | inr e3 ↦ elim (cond-parts code 0x12 (Some (Pack i.0, i.1)) _ (Some (v, rest)) e3) [
-              inl p ↦ by_index 0x12 Pack (λ _. refl) (λ _. refl) bytes more rest i v (subst (λ z. Front (z ∷ []) bytes more) p.0 front) i_is p.1
-            | inr e4 ↦ elim (cond-parts code 0x2D (Some (MoveTo i.0, i.1)) None (Some (v, rest)) e4) [
-                inl p ↦ by_index 0x2D MoveTo (λ _. refl) (λ _. refl) bytes more rest i v (subst (λ z. Front (z ∷ []) bytes more) p.0 front) i_is p.1
-              | inr none ↦ absurd (none-some (v, rest) none)
+      | inl p ↦ Front-as instruction_text instruction_fits bytes more rest Ret v p.1 (subst (λ z. Front (z ∷ []) bytes more) p.0 front) refl
+      | inr q ↦ on_bind (index_from more) _ (v, rest) q (λ i i_is e1.
+          elim (cond-parts code 0x0B (Some (MoveLoc i.0, i.1)) _ (Some (v, rest)) e1) [
+            | inl p ↦ by_index 0x0B MoveLoc (λ _. refl) (λ _. refl) bytes more rest i v (subst (λ z. Front (z ∷ []) bytes more) p.0 front) i_is p.1
+            | inr e2 ↦ elim (cond-parts code 0x0E (Some (ImmBorrowLoc i.0, i.1)) _ (Some (v, rest)) e2) [
+              | inl p ↦ by_index 0x0E ImmBorrowLoc (λ _. refl) (λ _. refl) bytes more rest i v (subst (λ z. Front (z ∷ []) bytes more) p.0 front) i_is p.1
+              | inr e3 ↦ elim (cond-parts code 0x12 (Some (Pack i.0, i.1)) _ (Some (v, rest)) e3) [
+                | inl p ↦ by_index 0x12 Pack (λ _. refl) (λ _. refl) bytes more rest i v (subst (λ z. Front (z ∷ []) bytes more) p.0 front) i_is p.1
+                | inr e4 ↦ elim (cond-parts code 0x2D (Some (MoveTo i.0, i.1)) None (Some (v, rest)) e4) [
+                  | inl p ↦ by_index 0x2D MoveTo (λ _. refl) (λ _. refl) bytes more rest i v (subst (λ z. Front (z ∷ []) bytes more) p.0 front) i_is p.1
+                  | inr none ↦ absurd (none-some (v, rest) none)
+                ]
               ]
             ]
-          ]
-        ])
+          ])
     ]
 
 pub instruction-parts : Parts instruction_from instruction_text instruction_fits
 instruction-parts bytes rest v ok e =
     on_bind (byte_from bytes) _ (v, rest) e (λ code code_is e1.
-        instruction_by-parts code.0 bytes code.1 rest v (byte-front code.0 bytes code.1 ok code_is) e1)
+    instruction_by-parts code.0 bytes code.1 rest v (byte-front code.0 bytes code.1 ok code_is) e1)
 
 -- an index that an instruction has
 immediate_fits : (i : ℕ) → (is_index i && true) ≡ true → is_index i ≡ true
@@ -70,16 +67,16 @@ instruction-whole rest (MoveTo i) ok = ap (λ r. r >>= λ i. Some (MoveTo i.0, i
 pub struct_definition-parts : Parts struct_definition_from struct_definition_text struct_definition_fits
 struct_definition-parts bytes rest v ok e =
     on_bind (index_from bytes) _ (v, rest) e (λ h h_is e1.
-        on_bind (mark_from 2 h.1) _ (v, rest) e1 (λ m m_is e2.
-            on_bind (counted_from 32 field_from m) _ (v, rest) e2 (λ f f_is e3.
-                let p = index-parts bytes h.1 h.0 ok h_is in
-                let q = mark-front 2 h.1 m p.0.left m_is in
-                let r = counted-parts 32 field_from field_text field_fits (omega arith) field-parts m f.1 f.0 q.left f_is in
-                let back : Front (2 ∷ counted field_text f.0) h.1 f.1 = Front-join (2 ∷ []) (counted field_text f.0) h.1 m f.1 q r.0 in
-                let s = and_parts (nat_le (length f.0) 32) (list_all field_fits f.0) r.1 in
-                Front-as struct_definition_text struct_definition_fits bytes f.1 rest (record { handle = h.0; fields = f.0 }) v e3
-                (Front-join (uleb h.0) (2 ∷ counted field_text f.0) bytes h.1 f.1 p.0 back)
-                (and_from (is_index h.0 && nat_le (length f.0) 32) (list_all field_fits f.0) (and_from (is_index h.0) (nat_le (length f.0) 32) p.1 s.0) s.1))))
+    on_bind (mark_from 2 h.1) _ (v, rest) e1 (λ m m_is e2.
+    on_bind (counted_from 32 field_from m) _ (v, rest) e2 (λ f f_is e3.
+    let p = index-parts bytes h.1 h.0 ok h_is in
+    let q = mark-front 2 h.1 m p.0.left m_is in
+    let r = counted-parts 32 field_from field_text field_fits (omega arith) field-parts m f.1 f.0 q.left f_is in
+    let back : Front (2 ∷ counted field_text f.0) h.1 f.1 = Front-join (2 ∷ []) (counted field_text f.0) h.1 m f.1 q r.0 in
+    let s = and_parts (nat_le (length f.0) 32) (list_all field_fits f.0) r.1 in
+    Front-as struct_definition_text struct_definition_fits bytes f.1 rest (record { handle = h.0; fields = f.0 }) v e3
+    (Front-join (uleb h.0) (2 ∷ counted field_text f.0) bytes h.1 f.1 p.0 back)
+    (and_from (is_index h.0 && nat_le (length f.0) 32) (list_all field_fits f.0) (and_from (is_index h.0) (nat_le (length f.0) 32) p.1 s.0) s.1))))
 
 pub struct_definition-whole : Whole struct_definition_from struct_definition_text struct_definition_fits
 struct_definition-whole rest v ok =
@@ -96,20 +93,20 @@ struct_definition-whole rest v ok =
 visibility_of-parts : (code : ℕ) (v : Visibility) → visibility_of code ≡ Some v → code ≡ visibility_code v
 visibility_of-parts code v e =
     elim (cond-parts code 0 (Some Private) (cond (eqb code 1) (Some Public) None) (Some v) e) [
-      inl p ↦ subst (λ z. code ≡ visibility_code z) (same_Some Private v p.1) p.0
-    | inr q ↦ elim (cond-parts code 1 (Some Public) None (Some v) q) [
-        inl p ↦ subst (λ z. code ≡ visibility_code z) (same_Some Public v p.1) p.0
-      | inr none ↦ absurd (none-some v none)
+      | inl p ↦ subst (λ z. code ≡ visibility_code z) (same_Some Private v p.1) p.0
+      | inr q ↦ elim (cond-parts code 1 (Some Public) None (Some v) q) [
+        | inl p ↦ subst (λ z. code ≡ visibility_code z) (same_Some Public v p.1) p.0
+        | inr none ↦ absurd (none-some v none)
       ]
     ]
 
 visibility-front : (bytes rest : List ℕ) (v : Visibility) → AreBytes bytes → visibility_from bytes ≡ Some (v, rest) → Front (visibility_code v ∷ []) bytes rest
 visibility-front bytes rest v ok e =
     on_bind (byte_from bytes) _ (v, rest) e (λ code code_is e1.
-        on_bind (visibility_of code.0) _ (v, rest) e1 (λ w w_is e2.
-            let p = byte-front code.0 bytes code.1 ok code_is in
-            let q = visibility_of-parts code.0 w w_is in
-            (Front-as (λ z. visibility_code z ∷ []) (λ _. true) bytes code.1 rest w v e2 (subst (λ z. Front (z ∷ []) bytes code.1) q p) refl).0))
+    on_bind (visibility_of code.0) _ (v, rest) e1 (λ w w_is e2.
+    let p = byte-front code.0 bytes code.1 ok code_is in
+    let q = visibility_of-parts code.0 w w_is in
+    (Front-as (λ z. visibility_code z ∷ []) (λ _. true) bytes code.1 rest w v e2 (subst (λ z. Front (z ∷ []) bytes code.1) q p) refl).0))
 
 visibility-whole : (v : Visibility) (rest : List ℕ) → visibility_from (visibility_code v ∷ rest) ≡ Some (v, rest)
 visibility-whole Private rest = refl
@@ -119,20 +116,20 @@ visibility-whole Public rest = refl
 entry_of-parts : (code : ℕ) (v : Bool) → entry_of code ≡ Some v → code ≡ cond v 4 0
 entry_of-parts code v e =
     elim (cond-parts code 0 (Some false) (cond (eqb code 4) (Some true) None) (Some v) e) [
-      inl p ↦ subst (λ z. code ≡ cond z 4 0) (same_Some false v p.1) p.0
-    | inr q ↦ elim (cond-parts code 4 (Some true) None (Some v) q) [
-        inl p ↦ subst (λ z. code ≡ cond z 4 0) (same_Some true v p.1) p.0
-      | inr none ↦ absurd (none-some v none)
+      | inl p ↦ subst (λ z. code ≡ cond z 4 0) (same_Some false v p.1) p.0
+      | inr q ↦ elim (cond-parts code 4 (Some true) None (Some v) q) [
+        | inl p ↦ subst (λ z. code ≡ cond z 4 0) (same_Some true v p.1) p.0
+        | inr none ↦ absurd (none-some v none)
       ]
     ]
 
 entry-front : (bytes rest : List ℕ) (v : Bool) → AreBytes bytes → entry_from bytes ≡ Some (v, rest) → Front (cond v 4 0 ∷ []) bytes rest
 entry-front bytes rest v ok e =
     on_bind (byte_from bytes) _ (v, rest) e (λ code code_is e1.
-        on_bind (entry_of code.0) _ (v, rest) e1 (λ w w_is e2.
-            let p = byte-front code.0 bytes code.1 ok code_is in
-            let q = entry_of-parts code.0 w w_is in
-            (Front-as (λ z. cond z 4 0 ∷ []) (λ _. true) bytes code.1 rest w v e2 (subst (λ z. Front (z ∷ []) bytes code.1) q p) refl).0))
+    on_bind (entry_of code.0) _ (v, rest) e1 (λ w w_is e2.
+    let p = byte-front code.0 bytes code.1 ok code_is in
+    let q = entry_of-parts code.0 w w_is in
+    (Front-as (λ z. cond z 4 0 ∷ []) (λ _. true) bytes code.1 rest w v e2 (subst (λ z. Front (z ∷ []) bytes code.1) q p) refl).0))
 
 entry-whole : (v : Bool) (rest : List ℕ) → entry_from (cond v 4 0 ∷ rest) ≡ Some (v, rest)
 entry-whole true rest = refl
@@ -148,34 +145,34 @@ fits_count n lt = let small : suc n ≤ 65536 = leb-true (suc n) 65536 lt in le-
 pub function_definition-parts : Parts function_definition_from function_definition_text function_definition_fits
 function_definition-parts bytes rest v ok e =
     on_bind (index_from bytes) _ (v, rest) e (λ h h_is e1.
-        on_bind (visibility_from h.1) _ (v, rest) e1 (λ w w_is e2.
-            on_bind (entry_from w.1) _ (v, rest) e2 (λ y y_is e3.
-                on_bind (counted_from 65535 index_from y.1) _ (v, rest) e3 (λ a a_is e4.
-                    on_bind (index_from a.1) _ (v, rest) e4 (λ l l_is e5.
-                        on_bind (counted_from 4096 instruction_from l.1) _ (v, rest) e5 (λ i i_is e6.
-                            let p = index-parts bytes h.1 h.0 ok h_is in
-                            let q = visibility-front h.1 w.1 w.0 p.0.left w_is in
-                            let r = entry-front w.1 y.1 y.0 q.left y_is in
-                            let s = counted-parts 65535 index_from uleb is_index (omega arith) index-parts y.1 a.1 a.0 r.left a_is in
-                            let t = index-parts a.1 l.1 l.0 s.0.left l_is in
-                            let u = counted-parts 4096 instruction_from instruction_text instruction_fits (omega arith) instruction-parts l.1 i.1 i.0 t.0.left i_is in
-                            let few = and_parts (nat_le (length a.0) 65535) (list_all is_index a.0) s.1 in
-                            let short = and_parts (nat_le (length i.0) 4096) (list_all instruction_fits i.0) u.1 in
-                            let flags : Front (cond y.0 4 0 ∷ counted uleb a.0) w.1 a.1 = Front-join (cond y.0 4 0 ∷ []) (counted uleb a.0) w.1 y.1 a.1 r s.0 in
-                            let who : Front (visibility_code w.0 ∷ cond y.0 4 0 ∷ counted uleb a.0) h.1 a.1 =
-                            Front-join (visibility_code w.0 ∷ []) (cond y.0 4 0 ∷ counted uleb a.0) h.1 w.1 a.1 q flags in
-                            let head : Front (uleb h.0 ++ visibility_code w.0 ∷ cond y.0 4 0 ∷ counted uleb a.0) bytes a.1 =
-                            Front-join (uleb h.0) (visibility_code w.0 ∷ cond y.0 4 0 ∷ counted uleb a.0) bytes h.1 a.1 p.0 who in
-                            let code : Front (uleb l.0 ++ counted instruction_text i.0) a.1 i.1 =
-                            Front-join (uleb l.0) (counted instruction_text i.0) a.1 l.1 i.1 t.0 u.0 in
-                            Front-as function_definition_text function_definition_fits bytes i.1 rest
-                            (record { handle = h.0; visibility = w.0; is_entry = y.0; acquires = a.0; locals = l.0; code = i.0 }) v e6
-                            (Front-join (uleb h.0 ++ visibility_code w.0 ∷ cond y.0 4 0 ∷ counted uleb a.0) (uleb l.0 ++ counted instruction_text i.0) bytes a.1 i.1 head code)
-                            (and_from (is_index h.0 && is_index l.0 && is_index (length a.0) && list_all is_index a.0 && nat_le (length i.0) 4096) (list_all instruction_fits i.0)
-                            (and_from (is_index h.0 && is_index l.0 && is_index (length a.0) && list_all is_index a.0) (nat_le (length i.0) 4096)
-                            (and_from (is_index h.0 && is_index l.0 && is_index (length a.0)) (list_all is_index a.0)
-                            (and_from (is_index h.0 && is_index l.0) (is_index (length a.0)) (and_from (is_index h.0) (is_index l.0) p.1 t.1) (count_fits (length a.0) few.0))
-                            few.1) short.0) short.1)))))))
+    on_bind (visibility_from h.1) _ (v, rest) e1 (λ w w_is e2.
+    on_bind (entry_from w.1) _ (v, rest) e2 (λ y y_is e3.
+    on_bind (counted_from 65535 index_from y.1) _ (v, rest) e3 (λ a a_is e4.
+    on_bind (index_from a.1) _ (v, rest) e4 (λ l l_is e5.
+    on_bind (counted_from 4096 instruction_from l.1) _ (v, rest) e5 (λ i i_is e6.
+    let p = index-parts bytes h.1 h.0 ok h_is in
+    let q = visibility-front h.1 w.1 w.0 p.0.left w_is in
+    let r = entry-front w.1 y.1 y.0 q.left y_is in
+    let s = counted-parts 65535 index_from uleb is_index (omega arith) index-parts y.1 a.1 a.0 r.left a_is in
+    let t = index-parts a.1 l.1 l.0 s.0.left l_is in
+    let u = counted-parts 4096 instruction_from instruction_text instruction_fits (omega arith) instruction-parts l.1 i.1 i.0 t.0.left i_is in
+    let few = and_parts (nat_le (length a.0) 65535) (list_all is_index a.0) s.1 in
+    let short = and_parts (nat_le (length i.0) 4096) (list_all instruction_fits i.0) u.1 in
+    let flags : Front (cond y.0 4 0 ∷ counted uleb a.0) w.1 a.1 = Front-join (cond y.0 4 0 ∷ []) (counted uleb a.0) w.1 y.1 a.1 r s.0 in
+    let who : Front (visibility_code w.0 ∷ cond y.0 4 0 ∷ counted uleb a.0) h.1 a.1 =
+    Front-join (visibility_code w.0 ∷ []) (cond y.0 4 0 ∷ counted uleb a.0) h.1 w.1 a.1 q flags in
+    let head : Front (uleb h.0 ++ visibility_code w.0 ∷ cond y.0 4 0 ∷ counted uleb a.0) bytes a.1 =
+    Front-join (uleb h.0) (visibility_code w.0 ∷ cond y.0 4 0 ∷ counted uleb a.0) bytes h.1 a.1 p.0 who in
+    let code : Front (uleb l.0 ++ counted instruction_text i.0) a.1 i.1 =
+    Front-join (uleb l.0) (counted instruction_text i.0) a.1 l.1 i.1 t.0 u.0 in
+    Front-as function_definition_text function_definition_fits bytes i.1 rest
+    (record { handle = h.0; visibility = w.0; is_entry = y.0; acquires = a.0; locals = l.0; code = i.0 }) v e6
+    (Front-join (uleb h.0 ++ visibility_code w.0 ∷ cond y.0 4 0 ∷ counted uleb a.0) (uleb l.0 ++ counted instruction_text i.0) bytes a.1 i.1 head code)
+    (and_from (is_index h.0 && is_index l.0 && is_index (length a.0) && list_all is_index a.0 && nat_le (length i.0) 4096) (list_all instruction_fits i.0)
+    (and_from (is_index h.0 && is_index l.0 && is_index (length a.0) && list_all is_index a.0) (nat_le (length i.0) 4096)
+    (and_from (is_index h.0 && is_index l.0 && is_index (length a.0)) (list_all is_index a.0)
+    (and_from (is_index h.0 && is_index l.0) (is_index (length a.0)) (and_from (is_index h.0) (is_index l.0) p.1 t.1) (count_fits (length a.0) few.0))
+    few.1) short.0) short.1)))))))
 
 -- the parts of a function definition before the rest
 function_regroup : (h a l c rest : List ℕ) (v f : ℕ) → ((h ++ v ∷ f ∷ a) ++ (l ++ c)) ++ rest ≡ h ++ (v ∷ f ∷ (a ++ (l ++ (c ++ rest))))

@@ -1,9 +1,8 @@
 -- No text of an entry is empty.
-use Rattle.std.proofs.Common.{◌≡◌, ℕ, ◌+◌, ◌<◌, ◌≤◌, ◌/◌, ◌%◌, List, [], ◌∷◌, ◌++◌, length, arith, length-append, lt-ltb, le-ltb, inl, inr}
+use Rattle.std.proofs.Common.{ℕ, ◌<◌, List, [], ◌∷◌, ◌++◌, length, arith, length-append, lt-ltb, le-ltb, inl, inr}
 use Rattle.std.proofs.lemmas.Bool.{cases_lt}
-use Rattle.mv_uleb.specs.Uleb.{uleb, uleb_in}
-use Rattle.mv_move_types.specs.Module.{FunctionDefinition}
-use Rattle.mv_module_text.specs.Entries.{module_handle_text, struct_handle_text, function_handle_text, signature_text, identifier_text, address_text, struct_definition_text, function_definition_text, counted, ability_bits, field_text, visibility_code, code_text, token_text}
+use Rattle.mv_uleb.specs.Uleb.{uleb}
+use Rattle.mv_module_text.specs.Entries.{module_handle_text, struct_handle_text, function_handle_text, signature_text, identifier_text, address_text, struct_definition_text, function_definition_text, counted, ability_bits, field_text, code_text}
 use Rattle.mv_module_text.specs.Fits.{module_handle_fits, struct_handle_fits, function_handle_fits, signature_fits, identifier_fits, address_fits, struct_definition_fits, function_definition_fits}
 use Rattle.mv_module_text.proofs.Texts.{Takes}
 
@@ -12,8 +11,8 @@ pub uleb-some : (n : ℕ) → 0 < length (uleb n)
 unfolding uleb
 uleb-some n =
     elim (cases_lt n 128) [
-      inl lt ↦ rw (lt-ltb n 128 lt) (omega arith)
-    | inr ge ↦ rw (le-ltb n 128 ge) (omega arith)
+      | inl lt ↦ rw (lt-ltb n 128 lt) (omega arith)
+      | inr ge ↦ rw (le-ltb n 128 ge) (omega arith)
     ]
 
 -- what begins with some bytes has some

@@ -1,5 +1,5 @@
 -- Fronts of bytes, and entries one after another.
-use Rattle.std.proofs.Common.{◌≡◌, ℕ, ◌+◌, ◌-◌, ◌^◌, ◌<◌, ◌≤◌, List, [], ◌∷◌, ◌++◌, take, drop, length, arith, refl, ap, suc, zero, sym, ◌∙◌, subst, take-append-drop, append_assoc, append-nil, length-append, length-take, Option, Some, None, IsTrue, Bool, true, false, ◌&&◌, nat_lt, nat_le, flat_map, ◌⊎◌, inl, inr, eqb}
+use Rattle.std.proofs.Common.{◌≡◌, ℕ, ◌+◌, ◌^◌, ◌<◌, ◌≤◌, List, [], ◌∷◌, ◌++◌, take, drop, length, arith, refl, ap, suc, zero, sym, ◌∙◌, subst, take-append-drop, append_assoc, length-append, length-take, Option, Some, None, IsTrue, Bool, true, false, ◌&&◌, nat_le, flat_map, eqb}
 use Rattle.std.specs.Bool.{then_some}
 use Rattle.std.specs.List.{list_all}
 use Rattle.std.proofs.lemmas.Bool.{and_parts, and_from, leb-true, le-leb, eqb-true, eq-eqb}
@@ -110,9 +110,10 @@ bytes-front n x bytes rest ok e =
     let front : take n bytes ≡ x = ap (λ z. z.0) p.1 in
     let back : drop n bytes ≡ rest = ap (λ z. z.1) p.1 in
     let le : n ≤ length bytes = leb-true n (length bytes) p.0 in
-    let len : length (take n bytes) ≡ n = omega (arith, length-take n bytes) in
-    (Front-from x bytes rest ok (sym (take-append-drop n bytes) ∙ ap (λ z. z ++ drop n bytes) front ∙ ap (λ z. x ++ z) back),
-    sym (ap length front) ∙ len)
+    let len : length (take n bytes) ≡ n = omega (arith, length-take n bytes) in (
+      Front-from x bytes rest ok (sym (take-append-drop n bytes) ∙ ap (λ z. z ++ drop n bytes) front ∙ ap (λ z. x ++ z) back),
+      sym (ap length front) ∙ len,
+    )
 
 -- the first bytes, and those behind them
 take-front : (x rest : List ℕ) → take (length x) (x ++ rest) ≡ x
@@ -139,14 +140,16 @@ entries-front each text fits parts zero bytes rest xs ok e =
     subst (λ z. Front (flat_map text z) bytes rest × IsTrue (list_all fits z) × (length z ≡ zero)) p.0 (Front-from [] bytes rest ok p.1, refl, refl)
 entries-front each text fits parts (suc n) bytes rest xs ok e =
     on_bind (each bytes) _ (xs, rest) e (λ x x_is e1.
-        on_bind (entries_from each n x.1) _ (xs, rest) e1 (λ more more_is e2.
-            let p = parts bytes x.1 x.0 ok x_is in
-            let q = entries-front each text fits parts n x.1 more.1 more.0 p.0.left more_is in
-            let s = some_pair_parts (x.0 ∷ more.0) xs more.1 rest e2 in
-            let front : Front (text x.0 ++ flat_map text more.0) bytes more.1 = Front-join (text x.0) (flat_map text more.0) bytes x.1 more.1 p.0 q.0 in
-            subst (λ z. Front (flat_map text z) bytes rest × IsTrue (list_all fits z) × (length z ≡ suc n)) s.0
-            (subst (λ z. Front (text x.0 ++ flat_map text more.0) bytes z) s.1 front,
-            and_from (fits x.0) (list_all fits more.0) p.1 q.1, ap suc q.2)))
+    on_bind (entries_from each n x.1) _ (xs, rest) e1 (λ more more_is e2.
+    let p = parts bytes x.1 x.0 ok x_is in
+    let q = entries-front each text fits parts n x.1 more.1 more.0 p.0.left more_is in
+    let s = some_pair_parts (x.0 ∷ more.0) xs more.1 rest e2 in
+    let front : Front (text x.0 ++ flat_map text more.0) bytes more.1 = Front-join (text x.0) (flat_map text more.0) bytes x.1 more.1 p.0 q.0 in
+    subst (λ z. Front (flat_map text z) bytes rest × IsTrue (list_all fits z) × (length z ≡ suc n)) s.0 (
+      subst (λ z. Front (text x.0 ++ flat_map text more.0) bytes z) s.1 front,
+      and_from (fits x.0) (list_all fits more.0) p.1 q.1,
+      ap suc q.2,
+    )))
 
 -- they are read
 pub entries-whole : {A : Type 0} (each : List ℕ → Read A) (text : A → List ℕ) (fits : A → Bool) → Whole each text fits
@@ -161,13 +164,14 @@ pub counted-parts : {A : Type 0} (most : ℕ) (each : List ℕ → Read A) (text
     → Parts (counted_from most each) (counted text) (λ xs. nat_le (length xs) most && list_all fits xs)
 counted-parts most each text fits lt parts bytes rest xs ok e =
     on_bind (number_from most bytes) _ (xs, rest) e (λ n n_is e1.
-        let p = number-front most n.0 bytes n.1 lt ok n_is in
-        let q = entries-front each text fits parts n.0 n.1 rest xs p.0.left e1 in
-        let same : n.0 ≡ length xs = sym q.2 in
-        let count : Front (uleb (length xs)) bytes n.1 = subst (λ z. Front (uleb z) bytes n.1) same p.0 in
-        let le : length xs ≤ most = omega (arith, p.1, q.2) in
-        (Front-join (uleb (length xs)) (flat_map text xs) bytes n.1 rest count q.0,
-        and_from (nat_le (length xs) most) (list_all fits xs) (le-leb (length xs) most le) q.1))
+    let p = number-front most n.0 bytes n.1 lt ok n_is in
+    let q = entries-front each text fits parts n.0 n.1 rest xs p.0.left e1 in
+    let same : n.0 ≡ length xs = sym q.2 in
+    let count : Front (uleb (length xs)) bytes n.1 = subst (λ z. Front (uleb z) bytes n.1) same p.0 in
+    let le : length xs ≤ most = omega (arith, p.1, q.2) in (
+      Front-join (uleb (length xs)) (flat_map text xs) bytes n.1 rest count q.0,
+      and_from (nat_le (length xs) most) (list_all fits xs) (le-leb (length xs) most le) q.1,
+    ))
 
 -- they are read
 pub counted-whole : {A : Type 0} (most : ℕ) (each : List ℕ → Read A) (text : A → List ℕ) (fits : A → Bool) → most < 2 ^ 64 → Whole each text fits
@@ -187,11 +191,11 @@ all-parts each text fits parts turns [] xs ok e =
 all-parts each text fits parts zero (b ∷ bytes) xs ok e = absurd (none-some xs e)
 all-parts each text fits parts (suc turns) (b ∷ bytes) xs ok e =
     on_bind (each (b ∷ bytes)) _ xs e (λ x x_is e1.
-        on_bind (all_from each turns x.1) _ xs e1 (λ more more_is e2.
-            let p = parts (b ∷ bytes) x.1 x.0 ok x_is in
-            let q = all-parts each text fits parts turns x.1 more p.0.left more_is in
-            subst (λ z. (b ∷ bytes ≡ flat_map text z) × IsTrue (list_all fits z)) (same_Some (x.0 ∷ more) xs e2)
-            (p.0.text ∙ ap (λ z. text x.0 ++ z) q.0, and_from (fits x.0) (list_all fits more) p.1 q.1)))
+    on_bind (all_from each turns x.1) _ xs e1 (λ more more_is e2.
+    let p = parts (b ∷ bytes) x.1 x.0 ok x_is in
+    let q = all-parts each text fits parts turns x.1 more p.0.left more_is in
+    subst (λ z. (b ∷ bytes ≡ flat_map text z) × IsTrue (list_all fits z)) (same_Some (x.0 ∷ more) xs e2)
+    (p.0.text ∙ ap (λ z. text x.0 ++ z) q.0, and_from (fits x.0) (list_all fits more) p.1 q.1)))
 
 -- a turn where bytes are left
 all_from-step : {A : Type 0} (each : List ℕ → Read A) (turns : ℕ) (bytes : List ℕ) → 0 < length bytes
@@ -216,6 +220,7 @@ all-whole each text fits whole takes (suc turns) (x ∷ xs) le ok =
 -- the law of entries up to the end
 pub stand_all : {A : Type 0} (from : List ℕ → Read A) (text : A → List ℕ) (fits : A → Bool) → Parts from text fits → Whole from text fits → Takes text fits
     → StandAsTexts from text fits
-stand_all from text fits parts whole takes = λ turns bytes xs le ok.
-    (all-parts from text fits parts turns bytes xs ok,
-    λ p. ap (all_from from turns) p.0 ∙ all-whole from text fits whole takes turns xs (subst (λ z. length z ≤ turns) p.0 le) p.1)
+stand_all from text fits parts whole takes = λ turns bytes xs le ok. (
+  all-parts from text fits parts turns bytes xs ok,
+  λ p. ap (all_from from turns) p.0 ∙ all-whole from text fits whole takes turns xs (subst (λ z. length z ≤ turns) p.0 le) p.1,
+)

@@ -20,8 +20,7 @@ pub fn entries_stand_by_text()
     ensures addresses { StandsByText address_from address_text address_fits }
     ensures structs { StandsByText struct_definition_from struct_definition_text struct_definition_fits }
     ensures functions { StandsByText function_definition_from function_definition_text function_definition_fits }
-{
-}
+{}
 
 /// Bytes are read as a table's entries up to their end exactly where they are the entries' texts and each may be written.
 pub fn tables_stand_as_texts()
@@ -33,5 +32,4 @@ pub fn tables_stand_as_texts()
     ensures addresses { StandAsTexts address_from address_text address_fits }
     ensures structs { StandAsTexts struct_definition_from struct_definition_text struct_definition_fits }
     ensures functions { StandAsTexts function_definition_from function_definition_text function_definition_fits }
-{
-}
+{}

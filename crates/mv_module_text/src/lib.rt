@@ -14,3 +14,6 @@ pub use writing::{
     write_identifier, write_index, write_instruction, write_module_handle, write_signature,
     write_struct_definition, write_struct_handle, write_token,
 };
+
+#[cfg(test)]
+mod tests;

@@ -1,6 +1,6 @@
 // Reading entries from the front of bytes.
 
-ghost use Rattle.std.specs.Prelude.{◌≡◌, ℕ, List, ◌≤◌, ◌<◌, Some, None, Ok, Err, IfOk, IfErr, OnOk, IsTrue, ◌↔◌, length, [], ◌⊎◌};
+ghost use Rattle.std.specs.Prelude.{◌≡◌, ◌≤◌, Some, None, Ok, Err, IfOk, IfErr, OnOk, IsTrue, ◌↔◌, [], ◌⊎◌};
 ghost use Rattle.mv_uleb.specs.Parsing.{number_from};
 ghost use Rattle.mv_module_text.specs.Parsing.{index_from, byte_from, mark_from, bytes_from, counted_from, token_from, module_handle_from, struct_handle_from, function_handle_from, signature_from, identifier_from, address_from, field_from, visibility_from, entry_from, instruction_from};
 
@@ -53,8 +53,8 @@ impl<'a> Reader<'a> {
 
     /// Reads a ULEB128 number that is at most `max`.
     ///
-    /// Like each function here it refuses with the phase of malformed modules, and leaves the reader somewhere behind
-    /// where it was.
+    /// Like each function here it refuses with the phase of malformed modules. After that nothing is known of what is
+    /// left.
     pub fn number(&mut self, max: u64) -> Result<u64, Refusal>
         ensures ok { IfOk result (λ v. number_from max self.old ≡ Some (v, self.new)) }
         ensures small { IfOk result (λ v. v ≤ max) }
@@ -109,6 +109,15 @@ impl<'a> Reader<'a> {
         Ok(())
     }
 
+    // Reads the number of type parameters, which has to be none.
+    fn no_type_parameters(&mut self) -> Result<(), Refusal>
+        ensures ok { OnOk result (mark_from 0 self.old ≡ Some self.new) }
+        ensures refused { result ≡ Err (Refusal.Phase 2) → mark_from 0 self.old ≡ None }
+        ensures errors { IfErr result (λ e. e ≡ Refusal.Phase 2) }
+    {
+        self.mark(0)
+    }
+
     /// Reads `n` bytes.
     pub fn bytes(&mut self, n: usize) -> Result<&'a [u8], Refusal>
         ensures ok { IfOk result (λ v. bytes_from n self.old ≡ Some (v.now, self.new)) }
@@ -156,7 +165,7 @@ impl<'a> Reader<'a> {
         let module = self.index()?;
         let name = self.index()?;
         let bits = self.number(15)?;
-        self.mark(0)?;
+        self.no_type_parameters()?;
         Ok(StructHandle {
             module,
             name,
@@ -174,7 +183,7 @@ impl<'a> Reader<'a> {
         let name = self.index()?;
         let parameters = self.index()?;
         let results = self.index()?;
-        self.mark(0)?;
+        self.no_type_parameters()?;
         Ok(FunctionHandle {
             module,
             name,

@@ -3,7 +3,7 @@
 ghost use Rattle.std.specs.Prelude.{◌≡◌, ◌++◌, OnOk};
 ghost use Rattle.mv_uleb.specs.Uleb.{uleb};
 ghost use Rattle.mv_module_text.specs.Written.{definition};
-ghost use Rattle.mv_module_text.specs.Entries.{token_text, module_handle_text, struct_handle_text, function_handle_text, signature_text, identifier_text, address_text, field_text, struct_definition_text, instruction_text, function_definition_text, visibility_code, value_type_text, kind_code, counted};
+ghost use Rattle.mv_module_text.specs.Entries.{token_text, module_handle_text, struct_handle_text, function_handle_text, signature_text, identifier_text, address_text, field_text, struct_definition_text, instruction_text, function_definition_text, value_type_text, kind_code, counted};
 
 use mv_move_types::{
     Field, FunctionHandle, Instruction, LeafKind, ModuleHandle, StructHandle, Token, ValueType,

@@ -10,7 +10,5 @@ mod token;
 pub use borrow::{Availability, Node};
 pub use instruction::Instruction;
 pub use refusal::Refusal;
-pub use tables::{
-    Definition, Field, FunctionHandle, Key, ModuleHandle, StructHandle, Visibility,
-};
+pub use tables::{Definition, Field, FunctionHandle, Key, ModuleHandle, StructHandle, Visibility};
 pub use token::{Abilities, LeafKind, Token, ValueType, Width};

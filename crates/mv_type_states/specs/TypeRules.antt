@@ -5,7 +5,7 @@ use Rattle.mv_move_types.specs.declared.token.Token.{Token}
 use Rattle.mv_move_types.specs.Tokens.{same_tokens}
 use Rattle.mv_move_types.specs.Options.{◌>>=◌}
 use Rattle.mv_move_types.specs.declared.token.ValueType.{ValueType}
-use Rattle.mv_move_types.specs.declared.token.Token.TheVariants.{Plain, Reference, MutableReference}
+use Rattle.mv_move_types.specs.declared.token.Token.TheVariants.{Plain, Reference}
 use Rattle.mv_move_types.specs.Module.{Module, FunctionDefinition, local_tokens, struct_abilities}
 use Rattle.mv_move_types.specs.declared.token.ValueType.TheVariants.{OfStruct, OfLeaf}
 use Rattle.mv_move_types.specs.declared.token.LeafKind.TheVariants.{Signer}

@@ -1,14 +1,22 @@
 //! Phases 5 to 8 of publishing, and the types on the stack at each instruction.
 #![tactic(auto)]
 
-ghost use Rattle.std.specs.Prelude.{◌≡◌, ◌<◌, length, map, slice_get, IfOk, IfErr, IfSome};
+ghost use Rattle.std.specs.Prelude.{◌≡◌, ◌<◌, length, map, slice_get, IfOk, IfErr, IfSome, OnOk};
 ghost use Rattle.mv_cfg.specs.FlowGraph.{IsFlowGraph};
+ghost use Rattle.mv_move_types.specs.Refusals.{IsRefusedIn};
+ghost use Rattle.mv_cfg.specs.Blocks.{FlowHolds};
+ghost use Rattle.mv_type_states.specs.TypesHold.{TypesHold};
+ghost use Rattle.mv_type_states.specs.Graphs.{AreGraphs};
 ghost use Rattle.mv_type_states.specs.Sound.{IsSound, IsRefusedByTypes, types_before};
+
+mod passes;
+mod scope;
 
 use mv_binary_format::Module;
 use mv_bounds::Bounded;
 use mv_cfg::Cfg;
 use mv_move_types::{Refusal, Token};
+use passes::{check_function, function_types};
 use std::alloc::{AllocError, Global};
 use std::marker::Model;
 
@@ -64,10 +72,33 @@ impl<'a> Typed<'a> {
         requires { f < length self.now.functions }
         ensures { IfOk result (λ all. IfSome (slice_get self.now.functions f) (λ d. map (λ types. types.items) all.items ≡ types_before self.now d)) }
     {
-        let _ = alloc;
-    let _ = f;
-        Err(AllocError)
+        function_types(alloc, &self.bounded, f, &self.graphs[f])
     }
+}
+
+/// The flow graphs of all functions, in order; refused in phase 7 where a function has none.
+fn flow_graphs(alloc: Global, m: &Bounded<'_>) -> Result<Vec<Cfg>, Refusal>
+    ensures ok { IfOk result (λ graphs. AreGraphs m.now.functions (length m.now.functions) graphs.items) }
+    ensures refused { IfErr result (IsRefusedIn 7 (FlowHolds m.now)) }
+{
+    let mut graphs = Vec::new(alloc);
+    for f in 0..m.module().functions().len() {
+        let graph = mv_cfg::blocks(alloc, m, f)?;
+        graphs.push(graph).map_err(AllocError::from)?;
+    }
+    Ok(graphs)
+}
+
+/// Accepts exactly the modules whose functions are well typed. The graphs are those of its functions.
+fn check_functions(alloc: Global, m: &Bounded<'_>, graphs: &[Cfg]) -> Result<(), Refusal>
+    requires { AreGraphs m.now.functions (length m.now.functions) graphs.now }
+    ensures ok { OnOk result (TypesHold m.now) }
+    ensures refused { IfErr result (IsRefusedIn 8 (TypesHold m.now)) }
+{
+    for (f, graph) in graphs.iter().enumerate() {
+        check_function(alloc, m, f, graph)?;
+    }
+    Ok(())
 }
 
 /// Tries phases 5, 6, 7 and 8: the module, where all hold; else the first that fails.
@@ -75,7 +106,9 @@ pub fn check<'a>(alloc: Global, m: Bounded<'a>) -> Result<Typed<'a>, Refusal>
     ensures ok { IfOk result (λ t. t ≡ m.entry) }
     ensures refused { IfErr result (IsRefusedByTypes m.entry) }
 {
-    let _ = alloc;
-    let _ = m;
-    Err(Refusal::Memory)
+    mv_signatures::check(&m)?;
+    mv_abilities::check(&m)?;
+    let graphs = flow_graphs(alloc, &m)?;
+    check_functions(alloc, &m, &graphs)?;
+    Ok(Typed { bounded: m, graphs })
 }

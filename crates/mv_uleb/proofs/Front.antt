@@ -173,6 +173,10 @@ Gives-error max bytes Range (Err Ends) lt g h = absurd (ends_or_beyond max bytes
 Gives-error max bytes Range (Err Long) lt g h = absurd (long_or_beyond max bytes h g)
 Gives-error max bytes Range (Err Range) lt g h = refl
 
+-- a pair of equal parts
+same_pair : (a b m n : ℕ) → a ≡ m → b ≡ n → ◌≡◌ {A = Result (ℕ × ℕ) UlebError} (Ok (a, b)) (Ok (m, n))
+same_pair a b m n p q = cc
+
 -- a number's form is read whole
 pub Gives-spelled : (max : ℕ) (bytes : List ℕ) (r : Result (ℕ × ℕ) UlebError) → max < 2 ^ 64 → Gives 10 max bytes r
     → (n : ℕ) (rest : List ℕ) → n ≤ max → bytes ≡ uleb n ++ rest → r ≡ Ok (n, length (uleb n))
@@ -184,4 +188,4 @@ Gives-spelled max bytes (Ok f) lt g n rest le t =
     let left : length bytes - f.1 ≡ length rest = sym (length-drop f.1 bytes) ∙ ap length p.1 in
     let whole : length bytes ≡ length (uleb n) + length rest = ap length t ∙ length-append (uleb n) rest in
     let used : f.1 ≡ length (uleb n) = omega arith in
-    ap (λ z. Ok (z, f.1)) p.0 ∙ ap (λ z. Ok (n, z)) used
+    same_pair f.0 f.1 n (length (uleb n)) p.0 used

@@ -1,12 +1,8 @@
 //! ULEB128 numbers, as DWARF has them: seven bits a byte, the lowest first, in the shortest form.
 #![tactic(auto)]
 
-ghost use Rattle.std.specs.Prelude.{◌≡◌, ℕ, ◌+◌, ◌<◌, ◌≤◌, ◌++◌, ◌↔◌, List, length, take, drop, Ok, Err, Some, None, IfOk, OnOk, OnErr, IsErr};
-ghost use Rattle.mv_uleb.specs.Uleb.{IsUlebUpTo, uleb};
-ghost use Rattle.mv_uleb.specs.Parsing.{number_from};
 ghost use Rattle.mv_uleb.specs.Laws.{HasOneForm, HasForm, StandsByForm};
 
-use std::alloc::AllocError;
 use thiserror::Error;
 
 /// Why no number stands at the front of bytes.

@@ -7,7 +7,7 @@ ghost use Rattle.mv_uleb.specs.Reading.{EndsEarly, IsLong, IsBeyond, Gives};
 
 use super::UlebError;
 
-// The most bytes that a number of 64 bits has.
+// The most bytes that are looked at: a number of 64 bits has no more.
 const MOST: u8 = 10;
 
 /// Reads the number at the front of `bytes`, at most `max`, and how many bytes it takes. It looks at no more than ten

@@ -1,6 +1,5 @@
 use Rattle.std.proofs.Common.{rules, ◌≡◌, string_bytes, arith}
 use Rattle.mv_ledger.specs.Answering.{told}
-use Rattle.mv_ledger.specs.View.{state_of}
 use Rattle.moveledger.specs.declared.engine.EngineError.TheVariants.{Memory}
 use Rattle.moveledger.proofs.Lines.{line_answers, error_answers, refusal_answers}
 use Rattle.moveledger.proofs.answering.answer.Goals as goal
@@ -18,4 +17,4 @@ pub returns-then-kind-eq-RUN-clause-err : goal.returns-then-kind-eq-RUN-clause-e
 returns-then-kind-eq-RUN-clause-err c = error_answers Memory c.args.kind 2 c.args.payload.now (told c.execute.result) c.args.ledger.now c.execute.new.self c.line_text-then-kind-eq-RUN.result c.if-kind-eq-RUN.true c.execute.ensures.answers c.line_text-then-kind-eq-RUN.ensures.err
 
 pub returns-clause-ok : goal.returns-clause-ok
-returns-clause-ok c = refusal_answers (λ text. string_bytes text) c.args.number c.args.kind c.args.payload.now (state_of c.args.ledger.now) c.line_text-2.result c.if-kind-eq-PUBLISH.false c.if-kind-eq-RUN.false c.line_text-2.ensures.ok
+returns-clause-ok c = refusal_answers (λ text. string_bytes text) c.args.number c.args.kind c.args.payload.now c.args.ledger.now c.line_text-2.result c.if-kind-eq-PUBLISH.false c.if-kind-eq-RUN.false c.line_text-2.ensures.ok

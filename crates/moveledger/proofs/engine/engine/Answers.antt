@@ -3,7 +3,6 @@ use Rattle.std.proofs.lemmas.Result.{err_from_is_err_and}
 use Rattle.moveledger.specs.Outcome.{Answers, Stops, StopsReading, left_of}
 use Rattle.moveledger.specs.Records.{Whole, Cut, IsText}
 use Rattle.mv_machine.specs.Lines.{Refused, reply_lines}
-use Rattle.mv_ledger.specs.View.{state_of}
 use Rattle.std.proofs.KnownBytes.{Appends-nil}
 use Rattle.moveledger.proofs.Taken.{Tells-taken}
 use Rattle.moveledger.proofs.Lines.{refused_line}
@@ -57,8 +56,8 @@ returns-in_err-text-in-Record-clause-err g c =
     let is : IsText e.0 c.in-Record.kind payload = subst P (sym c.deref.ensures.value) e.2 in
     let a = c.in_err-text-in-Record.ensures.err in
     let left : List ℕ = left_of (g.R.Read.remaining c.next_record.new.reader) in
-    rw (p.1) (elim a.1 as (λ _. Stops (g.R.Read.remaining c.args.reader.now) (g.W.Write.contents c.args.writer.now) (g.W.Write.contents c.loop-n.writer) (state_of c.args.ledger.now) (state_of c.answer.new.ledger)) [
-      | inl same ↦ subst (λ s. Stops (g.R.Read.remaining c.args.reader.now) (g.W.Write.contents c.args.writer.now) (g.W.Write.contents c.loop-n.writer) (state_of c.args.ledger.now) s) (sym same) (Progress-stops _ _ _ _ _ _ _ c.loop-n.invariant)
+    rw (p.1) (elim a.1 as (λ _. Stops (g.R.Read.remaining c.args.reader.now) (g.W.Write.contents c.args.writer.now) (g.W.Write.contents c.loop-n.writer) c.args.ledger.now c.answer.new.ledger) [
+      | inl same ↦ subst (λ s. Stops (g.R.Read.remaining c.args.reader.now) (g.W.Write.contents c.args.writer.now) (g.W.Write.contents c.loop-n.writer) c.args.ledger.now s) (sym same) (Progress-stops _ _ _ _ _ _ _ c.loop-n.invariant)
       | inr next ↦ Stops-next _ _ _ _ _ _ _ _ c.loop-n.n (Whole c.in-Record.kind payload) (e.0 ++ left) left [] next.0 c.loop-n.invariant (Tells-taken _ _ e.0 e.1) (e.0, is, refl) next.1 refl (Appends-nil _)
     ])
 

@@ -36,8 +36,8 @@ returns-then-not-all_new c =
 pub returns : goal.returns
 returns c = (
   (λ s. tests-join c.args.sender (tables_in c.args.s.now) c.args.added.now c.args.new.now c.are_sent_by.result c.are_distinct.result c.all_new.result c.all_alone.result
-  (record { sent_is = c.are_sent_by.ensures; distinct_is = c.are_distinct.ensures; fresh_is = c.all_new.ensures; alone_is = c.all_alone.ensures; same = c.requires })
-  c.if-not-are_sent_by.false c.if-not-are_distinct.false c.if-not-all_new.false s),
+      (record { sent_is = c.are_sent_by.ensures; distinct_is = c.are_distinct.ensures; fresh_is = c.all_new.ensures; alone_is = c.all_alone.ensures; same = c.requires })
+      c.if-not-are_sent_by.false c.if-not-are_distinct.false c.if-not-all_new.false s),
   (λ join. (join-tests c.args.sender (tables_in c.args.s.now) c.args.added.now c.args.new.now c.are_sent_by.result c.are_distinct.result c.all_new.result c.all_alone.result
-  (record { sent_is = c.are_sent_by.ensures; distinct_is = c.are_distinct.ensures; fresh_is = c.all_new.ensures; alone_is = c.all_alone.ensures; same = c.requires }) join).3),
+      (record { sent_is = c.are_sent_by.ensures; distinct_is = c.are_distinct.ensures; fresh_is = c.all_new.ensures; alone_is = c.all_alone.ensures; same = c.requires }) join).3),
 )

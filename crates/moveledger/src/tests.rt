@@ -1,0 +1,118 @@
+// Inputs through the engine, and the reports that come out.
+
+mod fakes;
+mod rows;
+
+use crate::engine::{EngineError, engine};
+use fakes::{Pieces, Room};
+use mv_ledger::Ledger;
+use rows::{REFUSED, RUNS, Row};
+use std::alloc::Global;
+use std::test::Fail;
+
+const MANY: usize = usize::MAX;
+
+// The bytes of an input.
+fn bytes_of(alloc: Global, row: &Row) -> Result<Vec<u8>, Fail> {
+    let mut bytes = Vec::new(alloc);
+    for part in row.input {
+        bytes.extend_from_slice(hex::decode(alloc, *part)?.as_slice())?;
+    }
+    Ok(bytes)
+}
+
+fn whole(bytes: &[u8]) -> Pieces<'_> {
+    Pieces {
+        bytes,
+        each: MANY,
+        until: MANY,
+    }
+}
+
+fn room(alloc: Global) -> Room {
+    Room {
+        taken: Vec::new(alloc),
+        each: MANY,
+        room: MANY,
+        fails: true,
+    }
+}
+
+#[test]
+fn records_are_answered(rt: HostRuntime) -> Result<(), Fail> {
+    for row in RUNS.iter().chain(REFUSED.iter()) {
+        let bytes = bytes_of(rt.alloc(), row)?;
+        let mut reader = whole(bytes.as_slice());
+        let mut writer = room(rt.alloc());
+        let mut ledger = Ledger::new(rt.alloc());
+        engine(rt.alloc(), &mut reader, &mut writer, &mut ledger)?;
+        assert_eq!(rt; writer.taken.as_slice(), row.report.as_bytes());
+    }
+    Ok(())
+}
+
+#[test]
+fn pieces_make_no_difference(rt: HostRuntime) -> Result<(), Fail> {
+    let row = &RUNS[1];
+    let bytes = bytes_of(rt.alloc(), row)?;
+    for each in [1, 7] {
+        let mut reader = Pieces {
+            each,
+            ..whole(bytes.as_slice())
+        };
+        let mut writer = Room {
+            each,
+            ..room(rt.alloc())
+        };
+        let mut ledger = Ledger::new(rt.alloc());
+        let count = engine(rt.alloc(), &mut reader, &mut writer, &mut ledger)?;
+        assert_eq!(rt; count, 3);
+        assert_eq!(rt; writer.taken.as_slice(), row.report.as_bytes());
+    }
+    Ok(())
+}
+
+#[test]
+fn failed_reads_end_it(rt: HostRuntime) -> Result<(), Fail> {
+    let row = &RUNS[1];
+    let bytes = bytes_of(rt.alloc(), row)?;
+    for (until, written) in [(0, 0), (123, 0), (124, 14), (125, 14), (176, 27)] {
+        let mut reader = Pieces {
+            until,
+            ..whole(bytes.as_slice())
+        };
+        let mut writer = room(rt.alloc());
+        let mut ledger = Ledger::new(rt.alloc());
+        let result = engine(rt.alloc(), &mut reader, &mut writer, &mut ledger);
+        assert_eq!(rt; result, Err(EngineError::Read));
+        assert_eq!(rt;
+            Some(writer.taken.as_slice()),
+            row.report.as_bytes().get(..written)
+        );
+    }
+    Ok(())
+}
+
+#[test]
+fn failed_writes_end_it(rt: HostRuntime) -> Result<(), Fail> {
+    let row = &RUNS[1];
+    let bytes = bytes_of(rt.alloc(), row)?;
+    for left in [0, 3, 16] {
+        for fails in [false, true] {
+            let mut reader = whole(bytes.as_slice());
+            let mut writer = Room {
+                room: left,
+                fails,
+                ..room(rt.alloc())
+            };
+            let mut ledger = Ledger::new(rt.alloc());
+            let result = engine(rt.alloc(), &mut reader, &mut writer, &mut ledger);
+            assert_eq!(rt; result, Err(EngineError::Write));
+            assert_eq!(rt;
+                Some(writer.taken.as_slice()),
+                row.report.as_bytes().get(..left)
+            );
+        }
+    }
+    Ok(())
+}

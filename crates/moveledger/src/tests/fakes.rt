@@ -1,0 +1,66 @@
+// Readers and writers that give, take and fail as a test asks.
+
+ghost use Rattle.std.specs.Prelude.{Some};
+
+use std::io;
+use std::io::{ErrorKind, Read, Write};
+
+/// A reader over memory that gives at most `each` bytes a call, and fails once it has given `until`.
+#[derive(Drop)]
+pub struct Pieces<'a> {
+    pub bytes: &'a [u8],
+    pub each: usize,
+    pub until: usize,
+}
+
+impl Read for Pieces<'_> {
+    // What it gives if it doesn't fail. A failed read takes nothing of it.
+    ghost remaining = { λ r. Some r.bytes.now };
+
+    fn read(&mut self, buf: &mut [u8]) -> io::Result<usize> {
+        if self.until == 0 {
+            return Err(io::Error::from(ErrorKind::Other));
+        }
+        let most = self
+            .each
+            .max(1)
+            .min(self.until)
+            .min(buf.len())
+            .min(self.bytes.len());
+        let (now, later) = self.bytes.split_at(most);
+        buf[..most].copy_from_slice(now);
+        self.bytes = later;
+        self.until -= most;
+        Ok(most)
+    }
+}
+
+/// A writer into memory that takes at most `each` bytes a call and `room` bytes in all. Then it fails, or takes nothing.
+#[derive(Drop)]
+pub struct Room {
+    pub taken: Vec<u8>,
+    pub each: usize,
+    pub room: usize,
+    pub fails: bool,
+}
+
+impl Write for Room {
+    ghost contents = { λ w. Some w.taken.items };
+
+    fn write(&mut self, buf: &[u8]) -> io::Result<usize> {
+        if self.room == 0 {
+            if self.fails {
+                return Err(io::Error::from(ErrorKind::Other));
+            }
+            return Ok(0);
+        }
+        let most = self.each.min(self.room).min(buf.len());
+        self.taken.extend_from_slice(&buf[..most])?;
+        self.room -= most;
+        Ok(most)
+    }
+
+    fn flush(&mut self) -> io::Result<()> {
+        Ok(())
+    }
+}

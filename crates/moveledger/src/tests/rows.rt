@@ -1,0 +1,415 @@
+// Inputs in hex, in parts, and the report that each is answered with.
+
+pub struct Row {
+    pub input: &'static [&'static str],
+    pub report: &'static str,
+}
+
+// The start of a record that publishes one module of 39 or of 99 bytes at the address 1.
+const PUBLISH_39: &str = "013a000000000000000000000000000000010127";
+
+const PUBLISH_99: &str = "017a000000000000000000000000000000010163";
+
+// A module named M with nothing in it: its tables, and what they hold up to the last byte.
+const NAME_ALONE: &str = "a11ceb0b0500000003010002070202080410";
+
+const NAME_ALONE_REST: &str = "0000014d00000000000000000000000000000001";
+
+// The module M with a resource Coin and an entry function mint: tables, handles, signatures, names and the
+// address, the struct, the function's header, its instructions, the module itself.
+const TABLES: &str = "a11ceb0b0500000008010002020204030605050b04070f0e081d100a2d050c320f";
+
+const HANDLES: &str = "000000010c000003010000";
+
+const SIGNATURES: &str = "00020c03";
+
+const NAMES: &str = "014d04436f696e0176046d696e7400000000000000000000000000000001";
+
+const COIN: &str = "0002010203";
+
+const MINT: &str = "000104000005";
+
+const MINT_CODE: &str = "0e000b0112002d0002";
+
+const ITSELF: &str = "00";
+
+const CERTIFICATE: &str = "0401010100";
+
+// The sender of a run and the address of the module that it names: both 1.
+const TWO_ONES: &str = "0000000000000000000000000000000100000000000000000000000000000001";
+// What mint is called with: the signer and the number 7.
+const SEVEN: &str = "01030700000000000000";
+
+/// Inputs that are published, run, rejected and exhausted.
+pub const RUNS: [Row; 5] = [
+    Row {
+        input: &[PUBLISH_39, NAME_ALONE, NAME_ALONE_REST, "0000"],
+        report: "1 published 1\n",
+    },
+    // The resource exists when it is made again.
+    Row {
+        input: &[
+            PUBLISH_99,
+            TABLES,
+            HANDLES,
+            SIGNATURES,
+            NAMES,
+            COIN,
+            MINT,
+            MINT_CODE,
+            ITSELF,
+            CERTIFICATE,
+            "0232",
+            TWO_ONES,
+            "014d046d696e7464",
+            SEVEN,
+            "0232",
+            TWO_ONES,
+            "014d046d696e7464",
+            SEVEN,
+        ],
+        report: "1 published 1\n2 returned 5\n3 aborted exists 0 4\n",
+    },
+    // Budgets of 0, 4 and 5 steps.
+    Row {
+        input: &[
+            PUBLISH_99,
+            TABLES,
+            HANDLES,
+            SIGNATURES,
+            NAMES,
+            COIN,
+            MINT,
+            MINT_CODE,
+            ITSELF,
+            CERTIFICATE,
+            "0232",
+            TWO_ONES,
+            "014d046d696e7400",
+            SEVEN,
+            "0232",
+            TWO_ONES,
+            "014d046d696e7404",
+            SEVEN,
+            "0232",
+            TWO_ONES,
+            "014d046d696e7405",
+            SEVEN,
+        ],
+        report: "1 published 1\n2 exhausted steps 0\n3 exhausted steps 4\n4 returned 5\n",
+    },
+    // A budget above 10,000,000, a module and a function that aren't there, too few values, a value of no kind.
+    Row {
+        input: &[
+            PUBLISH_99,
+            TABLES,
+            HANDLES,
+            SIGNATURES,
+            NAMES,
+            COIN,
+            MINT,
+            MINT_CODE,
+            ITSELF,
+            CERTIFICATE,
+            "0235",
+            TWO_ONES,
+            "014d046d696e7481ade204",
+            SEVEN,
+            "0232",
+            TWO_ONES,
+            "0158046d696e7464",
+            SEVEN,
+            "0229",
+            TWO_ONES,
+            "014d046e6f70656400",
+            "0229",
+            TWO_ONES,
+            "014d046d696e746400",
+            "022b",
+            TWO_ONES,
+            "014d046d696e7464010207",
+        ],
+        report: "1 published 1\n2 rejected 2\n3 rejected 3\n4 rejected 4\n5 rejected 6\n6 rejected 6\n",
+    },
+    // A record that ends early is the last.
+    Row {
+        input: &[
+            PUBLISH_99,
+            TABLES,
+            HANDLES,
+            SIGNATURES,
+            NAMES,
+            COIN,
+            MINT,
+            MINT_CODE,
+            ITSELF,
+            CERTIFICATE,
+            "02",
+        ],
+        report: "1 published 1\n2 refused 1\n",
+    },
+];
+
+/// Inputs whose records are refused, each for another reason.
+pub const REFUSED: [Row; 20] = [
+    // No module, and two.
+    Row {
+        input: &["01110000000000000000000000000000000100"],
+        report: "1 refused 1\n",
+    },
+    Row {
+        input: &[
+            "01a3010000000000000000000000000000000102",
+            "63",
+            TABLES,
+            HANDLES,
+            SIGNATURES,
+            NAMES,
+            COIN,
+            MINT,
+            MINT_CODE,
+            ITSELF,
+            CERTIFICATE,
+            "27",
+            NAME_ALONE,
+            NAME_ALONE_REST,
+            "0000",
+        ],
+        report: "1 refused 1\n",
+    },
+    // Kinds that no record has.
+    Row {
+        input: &["04000300040101"],
+        report: "1 refused 1\n2 refused 1\n3 refused 1\n",
+    },
+    // The last byte cut, a byte more, tables that overlap, a count of tables in two bytes.
+    Row {
+        input: &[
+            "0139000000000000000000000000000000010126",
+            NAME_ALONE,
+            NAME_ALONE_REST,
+            "00",
+        ],
+        report: "1 refused 2\n",
+    },
+    Row {
+        input: &[
+            "013b000000000000000000000000000000010128",
+            NAME_ALONE,
+            NAME_ALONE_REST,
+            "000000",
+        ],
+        report: "1 refused 2\n",
+    },
+    Row {
+        input: &[
+            PUBLISH_39,
+            "a11ceb0b0500000003010002070102080410",
+            NAME_ALONE_REST,
+            "0000",
+        ],
+        report: "1 refused 2\n",
+    },
+    Row {
+        input: &[
+            "013b000000000000000000000000000000010128",
+            "a11ceb0b050000008300010002070202080410",
+            NAME_ALONE_REST,
+            "0000",
+        ],
+        report: "1 refused 2\n",
+    },
+    // Another version.
+    Row {
+        input: &[
+            PUBLISH_39,
+            "a11ceb0b0600000003010002070202080410",
+            NAME_ALONE_REST,
+            "0000",
+        ],
+        report: "1 refused 2\n",
+    },
+    // A visibility that is none.
+    Row {
+        input: &[
+            PUBLISH_99,
+            TABLES,
+            HANDLES,
+            SIGNATURES,
+            NAMES,
+            COIN,
+            "000204000005",
+            MINT_CODE,
+            ITSELF,
+            CERTIFICATE,
+        ],
+        report: "1 refused 2\n",
+    },
+    // A local that isn't there.
+    Row {
+        input: &[
+            PUBLISH_99,
+            TABLES,
+            HANDLES,
+            SIGNATURES,
+            NAMES,
+            COIN,
+            MINT,
+            "0e000b0212002d0002",
+            ITSELF,
+            CERTIFICATE,
+        ],
+        report: "1 refused 3\n",
+    },
+    // Two names that are the same.
+    Row {
+        input: &[
+            PUBLISH_99,
+            TABLES,
+            HANDLES,
+            SIGNATURES,
+            "014d04436f696e014d046d696e7400000000000000000000000000000001",
+            COIN,
+            MINT,
+            MINT_CODE,
+            ITSELF,
+            CERTIFICATE,
+        ],
+        report: "1 refused 4\n",
+    },
+    // A field that is a signer.
+    Row {
+        input: &[
+            PUBLISH_99,
+            TABLES,
+            HANDLES,
+            SIGNATURES,
+            NAMES,
+            "000201020c",
+            MINT,
+            MINT_CODE,
+            ITSELF,
+            CERTIFICATE,
+        ],
+        report: "1 refused 5\n",
+    },
+    // Code that ends without a return.
+    Row {
+        input: &[
+            "0179000000000000000000000000000000010162",
+            "a11ceb0b0500000008010002020204030605050b04070f0e081d100a2d050c320e",
+            HANDLES,
+            SIGNATURES,
+            NAMES,
+            COIN,
+            "000104000004",
+            "0e000b0112002d00",
+            ITSELF,
+            CERTIFICATE,
+        ],
+        report: "1 refused 7\n",
+    },
+    // The operands in the wrong order.
+    Row {
+        input: &[
+            PUBLISH_99,
+            TABLES,
+            HANDLES,
+            SIGNATURES,
+            NAMES,
+            COIN,
+            MINT,
+            "0b010e0012002d0002",
+            ITSELF,
+            CERTIFICATE,
+        ],
+        report: "1 refused 8\n",
+    },
+    // Certificates that don't have the shape of the module.
+    Row {
+        input: &[
+            "0177000000000000000000000000000000010163",
+            TABLES,
+            HANDLES,
+            SIGNATURES,
+            NAMES,
+            COIN,
+            MINT,
+            MINT_CODE,
+            ITSELF,
+            "0100",
+        ],
+        report: "1 refused 9\n",
+    },
+    Row {
+        input: &[
+            "017b000000000000000000000000000000010163",
+            TABLES,
+            HANDLES,
+            SIGNATURES,
+            NAMES,
+            COIN,
+            MINT,
+            MINT_CODE,
+            ITSELF,
+            "050101010000",
+        ],
+        report: "1 refused 9\n",
+    },
+    // A certificate that says less than what holds.
+    Row {
+        input: &[
+            PUBLISH_99,
+            TABLES,
+            HANDLES,
+            SIGNATURES,
+            NAMES,
+            COIN,
+            MINT,
+            MINT_CODE,
+            ITSELF,
+            "0401000100",
+        ],
+        report: "1 refused 10\n",
+    },
+    // A resource that is stored, and not said to be.
+    Row {
+        input: &[
+            "017b000000000000000000000000000000010164",
+            "a11ceb0b0500000008010002020204030605050b04070f0e081d100a2d050c3210",
+            HANDLES,
+            SIGNATURES,
+            NAMES,
+            COIN,
+            "00010401000005",
+            MINT_CODE,
+            ITSELF,
+            CERTIFICATE,
+        ],
+        report: "1 refused 12\n",
+    },
+    // A second module handle, and a sender who isn't the module's address.
+    Row {
+        input: &[
+            "013e00000000000000000000000000000001012b",
+            "a11ceb0b05000000030100040704040808100000",
+            "0001014d014e000000000000000000000000000000010000",
+        ],
+        report: "1 refused 13\n",
+    },
+    Row {
+        input: &[
+            "017a000000000000000000000000000000020163",
+            TABLES,
+            HANDLES,
+            SIGNATURES,
+            NAMES,
+            COIN,
+            MINT,
+            MINT_CODE,
+            ITSELF,
+            CERTIFICATE,
+        ],
+        report: "1 refused 13\n",
+    },
+];

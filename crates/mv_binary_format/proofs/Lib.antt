@@ -1,0 +1,11 @@
+pub mod Samples
+pub mod Shorter
+pub mod Loops
+pub mod Taken
+pub mod Placed
+pub mod Sums
+pub mod Sound
+pub mod OfTables
+pub mod Complete
+pub mod Back
+pub mod Ordered

@@ -1,0 +1,149 @@
+-- The module that tables are of: what is read of them are its entries.
+use Rattle.std.proofs.Common.{◌≡◌, ℕ, suc, ◌==◌, nat_le, Bool, true, ◌&&◌, IsTrue, List, [], ◌∷◌, length, Option, Some, None, refl, sym, ap, subst, ◌∙◌, arith}
+use Rattle.std.specs.List.{find, list_all, flat_map, filter}
+use Rattle.std.specs.List.Sorted.{IsPermutation}
+use Rattle.std.proofs.lemmas.List.Sorted.{IsPermutation-refl}
+use Rattle.std.proofs.lemmas.Bool.{and_parts, and_from, eqb-true}
+use Rattle.std.proofs.lemmas.Option.{none-some, some_pair_parts}
+use Rattle.mv_move_types.specs.Module.{Module}
+use Rattle.mv_module_text.specs.Parsing.{Read, all_from, module_handle_from, struct_handle_from, function_handle_from, signature_from, identifier_from, address_from, struct_definition_from, function_definition_from}
+use Rattle.mv_module_text.specs.Entries.{module_handle_text, struct_handle_text, function_handle_text, signature_text, identifier_text, address_text, struct_definition_text, function_definition_text}
+use Rattle.mv_module_text.specs.Fits.{is_byte, module_handle_fits, struct_handle_fits, function_handle_fits, signature_fits, identifier_fits, address_fits, struct_definition_fits, function_definition_fits}
+use Rattle.mv_module_text.specs.Laws.{AreBytes, StandAsTexts}
+use Rattle.mv_binary_format.specs.ModuleText.{Table, table, tables}
+use Rattle.mv_binary_format.specs.Parsing.{without, is_of, content_of, entries_of, module_from}
+use Rattle.mv_binary_format.proofs.Shorter.{bind_some, then_some_parts}
+use Rattle.mv_binary_format.proofs.Sums.{found-in_all, others-in_all}
+use Rattle.mv_binary_format.proofs.Sound.{has_bytes, if_full, kind-taken, if_full-then, bytes-before, bytes-behind}
+
+-- What a table's entries are read by: each table is read exactly where the texts of its entries stand.
+pub record TableLaws : Type 0 where
+  pub module_handles : StandAsTexts module_handle_from module_handle_text module_handle_fits
+  pub struct_handles : StandAsTexts struct_handle_from struct_handle_text struct_handle_fits
+  pub function_handles : StandAsTexts function_handle_from function_handle_text function_handle_fits
+  pub signatures : StandAsTexts signature_from signature_text signature_fits
+  pub identifiers : StandAsTexts identifier_from identifier_text identifier_fits
+  pub addresses : StandAsTexts address_from address_text address_fits
+  pub structs : StandAsTexts struct_definition_from struct_definition_text struct_definition_fits
+  pub functions : StandAsTexts function_definition_from function_definition_text function_definition_fits
+
+-- whether a table's content is bytes
+abbrev pub has_only_bytes : Table → Bool
+has_only_bytes t = list_all is_byte t.content
+
+pub contents-are_bytes : (ts : List Table) → AreBytes (flat_map (λ t. t.content) ts) → list_all has_only_bytes ts ≡ true
+contents-are_bytes [] h = refl
+contents-are_bytes (t ∷ ts) h =
+    and_from _ _ (bytes-before t.content (flat_map (λ t. t.content) ts) h) (contents-are_bytes ts (bytes-behind t.content (flat_map (λ t. t.content) ts) h))
+
+by_find : (kind : ℕ) (ts : List Table) → list_all has_only_bytes ts ≡ true → (o : Option Table) → find (is_of kind) ts ≡ o → AreBytes (content_of kind ts)
+by_find kind ts h None e = rw e refl
+by_find kind ts h (Some t) e = rw e (found-in_all has_only_bytes (is_of kind) ts t h e)
+
+pub content_of-is_bytes : (kind : ℕ) (ts : List Table) → list_all has_only_bytes ts ≡ true → AreBytes (content_of kind ts)
+content_of-is_bytes kind ts h = by_find kind ts h (find (is_of kind) ts) refl
+
+-- what taking a table out gives
+pub record TakenOut {A : Type 0} (kind : ℕ) (text : A → List ℕ) (fits : A → Bool) (ts : List Table) (xs : List A) (others : List Table) : Type 0 where
+  pub tiled : IsPermutation ts (if_full (table kind text xs) others)
+  pub fit : list_all fits xs ≡ true
+  pub full : list_all has_bytes others ≡ true
+  pub bytes : list_all has_only_bytes others ≡ true
+
+pub taken-out : {A : Type 0} (kind : ℕ) (each : List ℕ → Read A) (text : A → List ℕ) (fits : A → Bool) → StandAsTexts each text fits → (ts : List Table) (xs : List A) (others : List Table)
+    → list_all has_bytes ts ≡ true → list_all has_only_bytes ts ≡ true → entries_of kind each ts ≡ Some (xs, others) → TakenOut kind text fits ts xs others
+unfolding entries_of
+taken-out {A} kind each text fits law ts xs others full bytes e =
+    let c = content_of kind ts in
+    by_read (all_from each (length c) c) refl (λ ys ys_is. (law (length c) c ys (omega arith) (content_of-is_bytes kind ts bytes)).0 ys_is) where
+      by_read : (o : Option (List A)) → all_from each (length (content_of kind ts)) (content_of kind ts) ≡ o
+          → ((ys : List A) → all_from each (length (content_of kind ts)) (content_of kind ts) ≡ Some ys → (content_of kind ts ≡ flat_map text ys) × IsTrue (list_all fits ys)) → TakenOut kind text fits ts xs others
+      by_read None o_is law' = absurd (none-some (xs, others) (let z : ◌≡◌ {A = Option (List A × List Table)} None (Some (xs, others)) = rw o_is at e in z))
+      by_read (Some ys) o_is law' =
+          let z : ◌≡◌ {A = Option (List A × List Table)} (Some (ys, without (is_of kind) ts)) (Some (xs, others)) = rw o_is at e in
+          let p = some_pair_parts ys xs (without (is_of kind) ts) others z in
+          let l = law' ys o_is in
+          let t : content_of kind ts ≡ flat_map text xs = l.0 ∙ ap (flat_map text) p.0 in
+          let f : list_all fits xs ≡ true = ap (list_all fits) (sym p.0) ∙ l.1 in
+          let taken = kind-taken kind ts full in
+          record {
+            tiled = subst (λ (us : List Table). IsPermutation ts (if_full (table kind text xs) us)) p.1
+                (subst (λ z. IsPermutation ts (if_full (record { kind = kind; content = z }) (without (is_of kind) ts))) t taken);
+            fit = f;
+            full = subst (λ (us : List Table). list_all has_bytes us ≡ true) p.1 (others-in_all has_bytes (is_of kind) ts full);
+            bytes = subst (λ (us : List Table). list_all has_only_bytes us ≡ true) p.1 (others-in_all has_only_bytes (is_of kind) ts bytes);
+          }
+
+-- the parts of a module that tables are of
+pub record IsOfTables (own : ℕ) (ts : List Table) (m : Module) : Type 0 where
+  pub tiled : IsPermutation ts (tables m)
+  pub module_handles : list_all module_handle_fits m.module_handles ≡ true
+  pub struct_handles : list_all struct_handle_fits m.struct_handles ≡ true
+  pub function_handles : list_all function_handle_fits m.function_handles ≡ true
+  pub signatures : list_all signature_fits m.signatures ≡ true
+  pub identifiers : list_all identifier_fits m.identifiers ≡ true
+  pub addresses : list_all address_fits m.addresses ≡ true
+  pub structs : list_all struct_definition_fits m.structs ≡ true
+  pub functions : list_all function_definition_fits m.functions ≡ true
+  pub few_functions : nat_le (length m.functions) 256 ≡ true
+  pub own_is : own ≡ m.own
+
+-- one table before the tables with bytes among others
+chain : (t : Table) (ts us rest : List Table) → IsPermutation ts (if_full t us) → IsPermutation us (filter has_bytes rest) → IsPermutation ts (filter has_bytes (t ∷ rest))
+chain t ts us rest p q = if_full-then t ts us (filter has_bytes rest) p q
+
+pub no_elements : {A : Type 0} (xs : List A) → (length xs == 0) ≡ true → xs ≡ []
+no_elements [] e = refl
+no_elements (x ∷ xs) e = let z : suc (length xs) ≡ 0 = eqb-true (length (x ∷ xs)) 0 e in absurd (omega arith)
+
+pub module-sound : TableLaws → (own : ℕ) (ts : List Table) (m : Module) → list_all has_bytes ts ≡ true → list_all has_only_bytes ts ≡ true → module_from own ts ≡ Some m → IsOfTables own ts m
+unfolding module_from
+module-sound laws own ts m full bytes e =
+    bind_some (entries_of 0x01 module_handle_from ts) _ m e (λ a a_is e1.
+    bind_some (entries_of 0x02 struct_handle_from a.1) _ m e1 (λ b b_is e2.
+    bind_some (entries_of 0x03 function_handle_from b.1) _ m e2 (λ c c_is e3.
+    bind_some (entries_of 0x05 signature_from c.1) _ m e3 (λ d d_is e4.
+    bind_some (entries_of 0x07 identifier_from d.1) _ m e4 (λ f f_is e5.
+    bind_some (entries_of 0x08 address_from f.1) _ m e5 (λ g g_is e6.
+    bind_some (entries_of 0x0A struct_definition_from g.1) _ m e6 (λ h h_is e7.
+    bind_some (entries_of 0x0C function_definition_from h.1) _ m e7 (λ i i_is e8.
+    let ta = taken-out 0x01 module_handle_from module_handle_text module_handle_fits laws.module_handles ts a.0 a.1 full bytes a_is in
+    let tb = taken-out 0x02 struct_handle_from struct_handle_text struct_handle_fits laws.struct_handles a.1 b.0 b.1 ta.full ta.bytes b_is in
+    let tc = taken-out 0x03 function_handle_from function_handle_text function_handle_fits laws.function_handles b.1 c.0 c.1 tb.full tb.bytes c_is in
+    let td = taken-out 0x05 signature_from signature_text signature_fits laws.signatures c.1 d.0 d.1 tc.full tc.bytes d_is in
+    let tf = taken-out 0x07 identifier_from identifier_text identifier_fits laws.identifiers d.1 f.0 f.1 td.full td.bytes f_is in
+    let tg = taken-out 0x08 address_from address_text address_fits laws.addresses f.1 g.0 g.1 tf.full tf.bytes g_is in
+    let th = taken-out 0x0A struct_definition_from struct_definition_text struct_definition_fits laws.structs g.1 h.0 h.1 tg.full tg.bytes h_is in
+    let ti = taken-out 0x0C function_definition_from function_definition_text function_definition_fits laws.functions h.1 i.0 i.1 th.full th.bytes i_is in
+    let p = then_some_parts ((length i.1 == 0) && nat_le (length i.0) 256) _ m e8 in
+    let q = and_parts (length i.1 == 0) (nat_le (length i.0) 256) p.0 in
+    let none : i.1 ≡ [] = no_elements i.1 q.0 in
+    let end : IsPermutation i.1 [] = subst (λ (us : List Table). IsPermutation i.1 us) none (IsPermutation-refl i.1) in
+    let xi = table 0x0C function_definition_text i.0 in
+    let xh = table 0x0A struct_definition_text h.0 in
+    let xg = table 0x08 address_text g.0 in
+    let xf = table 0x07 identifier_text f.0 in
+    let xd = table 0x05 signature_text d.0 in
+    let xc = table 0x03 function_handle_text c.0 in
+    let xb = table 0x02 struct_handle_text b.0 in
+    let tiled = chain (table 0x01 module_handle_text a.0) ts a.1 (xb ∷ xc ∷ xd ∷ xf ∷ xg ∷ xh ∷ xi ∷ []) ta.tiled
+    (chain xb a.1 b.1 (xc ∷ xd ∷ xf ∷ xg ∷ xh ∷ xi ∷ []) tb.tiled
+    (chain xc b.1 c.1 (xd ∷ xf ∷ xg ∷ xh ∷ xi ∷ []) tc.tiled
+    (chain xd c.1 d.1 (xf ∷ xg ∷ xh ∷ xi ∷ []) td.tiled
+    (chain xf d.1 f.1 (xg ∷ xh ∷ xi ∷ []) tf.tiled
+    (chain xg f.1 g.1 (xh ∷ xi ∷ []) tg.tiled
+    (chain xh g.1 h.1 (xi ∷ []) th.tiled
+    (chain xi h.1 i.1 [] ti.tiled end))))))) in
+    subst (λ (z : Module). IsOfTables own ts z) p.1 (record {
+      tiled = tiled;
+      module_handles = ta.fit;
+      struct_handles = tb.fit;
+      function_handles = tc.fit;
+      signatures = td.fit;
+      identifiers = tf.fit;
+      addresses = tg.fit;
+      structs = th.fit;
+      functions = ti.fit;
+      few_functions = q.1;
+      own_is = refl;
+    })))))))))

@@ -1,0 +1,10 @@
+use Rattle.std.proofs.Common.{length, map}
+use Rattle.mv_module_text.specs.Parsing.{signature_from}
+use Rattle.mv_binary_format.proofs.Loops.{AllReads}
+use Rattle.mv_binary_format.proofs.entries.signatures.Given as goal
+
+abbrev pub invariant-reading : goal.invariant-reading
+invariant-reading l = AllReads signature_from l.initial.reader (map (λ s. s.items) l.entries.items) l.reader
+
+abbrev pub decreases-reading : goal.decreases-reading
+decreases-reading l = length l.reader

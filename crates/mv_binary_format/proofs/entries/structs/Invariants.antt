@@ -1,0 +1,10 @@
+use Rattle.std.proofs.Common.{length}
+use Rattle.mv_module_text.specs.Parsing.{struct_definition_from}
+use Rattle.mv_binary_format.proofs.Loops.{AllReads}
+use Rattle.mv_binary_format.proofs.entries.structs.Given as goal
+
+abbrev pub invariant-reading : goal.invariant-reading
+invariant-reading l = AllReads struct_definition_from l.initial.reader l.entries.items l.reader
+
+abbrev pub decreases-reading : goal.decreases-reading
+decreases-reading l = length l.reader

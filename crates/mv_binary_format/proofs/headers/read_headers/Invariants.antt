@@ -1,0 +1,7 @@
+use Rattle.mv_binary_format.specs.Parsing.{header_from}
+use Rattle.mv_binary_format.specs.Kinds.{headers_of}
+use Rattle.mv_binary_format.proofs.Loops.{ReadsOn}
+use Rattle.mv_binary_format.proofs.headers.read_headers.Given as goal
+
+abbrev pub invariant-reading : goal.invariant-reading
+invariant-reading l = ReadsOn header_from l.count l.counter l.initial.reader (headers_of l.headers.items) l.reader

@@ -1,0 +1,7 @@
+use Rattle.std.proofs.Common.{sym, ◌∙◌}
+use Rattle.std.proofs.lemmas.Option.{same_Some}
+use Rattle.mv_binary_format.proofs.laws.texts_are_of_one_module.Goals as goal
+
+pub returns : goal.returns
+returns c = λ bytes m n are p q.
+    same_Some m n (sym ((c.modules_are_read_by_text.ensures bytes m are).1 p) ∙ (c.modules_are_read_by_text.ensures bytes n are).1 q)

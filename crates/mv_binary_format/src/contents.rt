@@ -1,0 +1,72 @@
+// The contents of a module's tables, as they stand in its bytes.
+
+ghost use Rattle.std.specs.Prelude.{◌≡◌, ◌≤◌, ◌==◌, ℕ, List, Some, None, Ok, Err, IfOk, IfErr, position, length, ◌⊎◌};
+ghost use Rattle.std.specs.List.{find};
+ghost use Rattle.mv_binary_format.specs.Parsing.{contents_from, without, is_of, content_of};
+ghost use Rattle.mv_binary_format.specs.Kinds.{table_code, headers_of};
+ghost use Rattle.mv_binary_format.specs.Tables.{tables_of};
+
+use super::headers::{Header, TableKind, take_header};
+use mv_module_text::Reader;
+use mv_move_types::Refusal;
+use std::alloc::Global;
+
+// The most bytes that the contents have.
+const MOST_BYTES: u64 = 65536;
+
+// A table's kind, and the bytes of its entries.
+#[derive(Clone, Copy)]
+pub struct Table<'a> {
+    pub kind: TableKind,
+    pub content: &'a [u8],
+}
+
+// Reads the contents that the headers tell of: each begins where the one before it ends, the first at 0.
+pub fn read_contents<'a>(
+    alloc: Global,
+    mut headers: Vec<Header>,
+    reader: &mut Reader<'a>,
+) -> Result<Vec<Table<'a>>, Refusal>
+    ensures ok { IfOk result (λ v. contents_from (length (headers_of headers.items)) 0 (headers_of headers.items) reader.old ≡ Some (tables_of v.items, reader.new)) }
+    ensures refused { result ≡ Err (Refusal.Phase 2) → contents_from (length (headers_of headers.items)) 0 (headers_of headers.items) reader.old ≡ None }
+    ensures errors { IfErr result (λ e. (e ≡ Refusal.Phase 2) ⊎ (e ≡ Refusal.Memory)) }
+{
+    let mut tables = Vec::with_capacity(alloc, headers.len())?;
+    let mut end = 0;
+    'reading: while !headers.is_empty() {
+        let header = take_header(&mut headers, end).ok_or(Refusal::Phase(2))?;
+        end += u64::from(header.length);
+        if end > MOST_BYTES {
+            return Err(Refusal::Phase(2));
+        }
+        let content = reader.bytes(header.length as usize)?;
+        let table = Table {
+            kind: header.kind,
+            content,
+        };
+        tables.push(table).map_err(|_| Refusal::Memory)?;
+    }
+    Ok(tables)
+}
+
+// The place of the table of this kind.
+fn place_of(tables: &[Table<'_>], kind: TableKind) -> Option<usize>
+    ensures { result ≡ position (λ t. table_code t.kind == table_code kind) tables.now }
+{
+    let code = kind.code();
+    tables.iter().position(|t| t.kind.code() == code)
+}
+
+// Takes the table of this kind out, and answers its content, which is empty where there is no such table.
+pub fn take_content<'a>(tables: &mut Vec<Table<'a>>, kind: TableKind) -> &'a [u8]
+    ensures content { result.now ≡ content_of (table_code kind) (tables_of tables.old.items) }
+    ensures others { tables_of tables.new.items ≡ without (is_of (table_code kind)) (tables_of tables.old.items) }
+{
+    match place_of(tables, kind) {
+        Some(i) => {
+            let table = tables.remove(i);
+            table.content
+        }
+        None => &[],
+    }
+}

@@ -1,0 +1,144 @@
+// The headers of a module's tables.
+
+ghost use Rattle.std.specs.Prelude.{◌≡◌, ◌==◌, ℕ, List, Some, None, Ok, Err, IfOk, IfErr, OnOk, OnSome, position, map, option_map, length, ◌⊎◌};
+ghost use Rattle.std.specs.Bool.{then_some};
+ghost use Rattle.std.specs.List.{find, list_any};
+ghost use Rattle.mv_module_text.specs.Parsing.{counted_from};
+ghost use Rattle.mv_binary_format.specs.Parsing.{kinds, header_from, without, begins_at, marks_from, preamble};
+ghost use Rattle.mv_binary_format.specs.Kinds.{table_code, header_of, headers_of};
+
+use mv_module_text::Reader;
+use mv_move_types::Refusal;
+use std::alloc::Global;
+
+// At most one table of each kind.
+const MOST_TABLES: u64 = 8;
+
+// The greatest offset, and the greatest length.
+const MOST_BYTES: u64 = 65536;
+
+// What a table has entries of.
+#[derive(Clone, Copy)]
+pub enum TableKind {
+    ModuleHandles,
+    StructHandles,
+    FunctionHandles,
+    Signatures,
+    Identifiers,
+    Addresses,
+    Structs,
+    Functions,
+}
+
+impl TableKind {
+    ghost use Rattle.mv_binary_format.specs.Kinds.{table_code};
+
+    // Its byte in a header.
+    pub fn code(self) -> u8
+        ensures { result ≡ table_code self }
+    {
+        match self {
+            TableKind::ModuleHandles => 0x01,
+            TableKind::StructHandles => 0x02,
+            TableKind::FunctionHandles => 0x03,
+            TableKind::Signatures => 0x05,
+            TableKind::Identifiers => 0x07,
+            TableKind::Addresses => 0x08,
+            TableKind::Structs => 0x0A,
+            TableKind::Functions => 0x0C,
+        }
+    }
+
+    // The kind of this byte.
+    fn of(code: u8) -> Option<TableKind>
+        ensures { option_map table_code result ≡ then_some (list_any (λ k. k == code) kinds) code }
+    {
+        match code {
+            0x01 => Some(TableKind::ModuleHandles),
+            0x02 => Some(TableKind::StructHandles),
+            0x03 => Some(TableKind::FunctionHandles),
+            0x05 => Some(TableKind::Signatures),
+            0x07 => Some(TableKind::Identifiers),
+            0x08 => Some(TableKind::Addresses),
+            0x0A => Some(TableKind::Structs),
+            0x0C => Some(TableKind::Functions),
+            _ => None,
+        }
+    }
+}
+
+// Where a table's content stands, from the first byte after the last header.
+#[derive(Clone, Copy)]
+pub struct Header {
+    pub kind: TableKind,
+    pub offset: u32,
+    pub length: u32,
+}
+
+// Reads the bytes that each module begins with.
+pub fn read_preamble(reader: &mut Reader<'_>) -> Result<(), Refusal>
+    ensures ok { OnOk result (marks_from preamble reader.old ≡ Some reader.new) }
+    ensures refused { result ≡ Err (Refusal.Phase 2) → marks_from preamble reader.old ≡ None }
+    ensures errors { IfErr result (λ e. e ≡ Refusal.Phase 2) }
+{
+    reader.mark(0xA1)?;
+    reader.mark(0x1C)?;
+    reader.mark(0xEB)?;
+    reader.mark(0x0B)?;
+    reader.mark(5)?;
+    reader.mark(0)?;
+    reader.mark(0)?;
+    reader.mark(0)
+}
+
+// Reads a header.
+#[tactic(auto, unfolding(crate::specs::Parsing::header_from))]
+fn read_header(reader: &mut Reader<'_>) -> Result<Header, Refusal>
+    ensures ok { IfOk result (λ h. header_from reader.old ≡ Some (header_of h, reader.new)) }
+    ensures refused { result ≡ Err (Refusal.Phase 2) → header_from reader.old ≡ None }
+    ensures errors { IfErr result (λ e. e ≡ Refusal.Phase 2) }
+{
+    let code = reader.byte()?;
+    let offset = reader.number(MOST_BYTES)?;
+    let length = reader.number(MOST_BYTES)?;
+    if length == 0 {
+        return Err(Refusal::Phase(2));
+    }
+    let kind = TableKind::of(code).ok_or(Refusal::Phase(2))?;
+    Ok(Header {
+        kind,
+        offset: offset as u32,
+        length: length as u32,
+    })
+}
+
+// Reads the headers, behind their number.
+pub fn read_headers(alloc: Global, reader: &mut Reader<'_>) -> Result<Vec<Header>, Refusal>
+    ensures ok { IfOk result (λ v. counted_from 8 header_from reader.old ≡ Some (headers_of v.items, reader.new)) }
+    ensures refused { result ≡ Err (Refusal.Phase 2) → counted_from 8 header_from reader.old ≡ None }
+    ensures errors { IfErr result (λ e. (e ≡ Refusal.Phase 2) ⊎ (e ≡ Refusal.Memory)) }
+{
+    let count = reader.number(MOST_TABLES)?;
+    let mut headers = Vec::with_capacity(alloc, count as usize)?;
+    'reading: for _ in 0..count {
+        let header = read_header(reader)?;
+        headers.push(header).map_err(|_| Refusal::Memory)?;
+    }
+    Ok(headers)
+}
+
+// The place of the header whose table begins at this offset.
+fn place_of(headers: &[Header], offset: u64) -> Option<usize>
+    ensures { result ≡ position (λ h. h.offset == offset) headers.now }
+{
+    headers.iter().position(|h| u64::from(h.offset) == offset)
+}
+
+// Takes the header out whose table begins at this offset.
+pub fn take_header(headers: &mut Vec<Header>, offset: u64) -> Option<Header>
+    ensures first { option_map header_of result ≡ find (begins_at offset) (headers_of headers.old.items) }
+    ensures others { OnSome result (headers_of headers.new.items ≡ without (begins_at offset) (headers_of headers.old.items)) }
+{
+    let i = place_of(headers, offset)?;
+    Some(headers.remove(i))
+}

@@ -1,0 +1,107 @@
+// Modules as bytes.
+
+use super::{code, decode, encode};
+use mv_move_types::{Instruction, Refusal};
+use std::test::Fail;
+
+// A module with a name alone, at the address 1.
+const EMPTY: [u8; 39] = [
+    0xA1, 0x1C, 0xEB, 0x0B, 0x05, 0x00, 0x00, 0x00, 0x03, 0x01, 0x00, 0x02, 0x07, 0x02, 0x02, 0x08,
+    0x04, 0x10, 0x00, 0x00, 0x01, 0x4D, 0x00, 0x00, 0x00, 0x00, 0x00, 0x00, 0x00, 0x00, 0x00, 0x00,
+    0x00, 0x00, 0x00, 0x00, 0x00, 0x01, 0x00,
+];
+
+// A module with a struct Coin and a function mint.
+const COIN: [u8; 99] = [
+    0xA1, 0x1C, 0xEB, 0x0B, 0x05, 0x00, 0x00, 0x00, 0x08, 0x01, 0x00, 0x02, 0x02, 0x02, 0x04, 0x03,
+    0x06, 0x05, 0x05, 0x0B, 0x04, 0x07, 0x0F, 0x0E, 0x08, 0x1D, 0x10, 0x0A, 0x2D, 0x05, 0x0C, 0x32,
+    0x0F, 0x00, 0x00, 0x00, 0x01, 0x0C, 0x00, 0x00, 0x03, 0x01, 0x00, 0x00, 0x00, 0x02, 0x0C, 0x03,
+    0x01, 0x4D, 0x04, 0x43, 0x6F, 0x69, 0x6E, 0x01, 0x76, 0x04, 0x6D, 0x69, 0x6E, 0x74, 0x00, 0x00,
+    0x00, 0x00, 0x00, 0x00, 0x00, 0x00, 0x00, 0x00, 0x00, 0x00, 0x00, 0x00, 0x00, 0x01, 0x00, 0x02,
+    0x01, 0x02, 0x03, 0x00, 0x01, 0x04, 0x00, 0x00, 0x05, 0x0E, 0x00, 0x0B, 0x01, 0x12, 0x00, 0x2D,
+    0x00, 0x02, 0x00,
+];
+
+#[test]
+fn reads_a_module_with_a_name_alone(rt: HostRuntime) -> Result<(), Fail> {
+    let m = decode(rt.alloc(), &EMPTY)?;
+    assert_eq!(rt; m.module_handles().len(), 1);
+    assert_eq!(rt; m.identifier_count(), 1);
+    assert_eq!(rt; m.addresses().len(), 1);
+    assert_eq!(rt; m.functions().len(), 0);
+    Ok(())
+}
+
+#[test]
+fn reads_the_coin_module(rt: HostRuntime) -> Result<(), Fail> {
+    let m = decode(rt.alloc(), &COIN)?;
+    assert_eq!(rt; m.struct_handles().len(), 1);
+    assert_eq!(rt; m.signature_count(), 2);
+    assert_eq!(rt; m.structs().len(), 1);
+    assert_eq!(rt; m.functions().len(), 1);
+    assert_eq!(rt; m.own(), 0);
+    let mint = code(&m, 0);
+    assert_eq!(rt; mint.len(), 5);
+    let mut n = 0u32;
+    for i in mint {
+        assert!(rt; n != 0 || i == Instruction::ImmBorrowLoc(0));
+        assert!(rt; n != 1 || i == Instruction::MoveLoc(1));
+        assert!(rt; n != 2 || i == Instruction::Pack(0));
+        assert!(rt; n != 3 || i == Instruction::MoveTo(0));
+        assert!(rt; n != 4 || i == Instruction::Ret);
+        n = n.saturating_add(1);
+    }
+    assert_eq!(rt; n, 5);
+    Ok(())
+}
+
+// Whether the bytes are no module's.
+fn is_refused(rt: &HostRuntime, bytes: &[u8]) -> bool {
+    matches!(decode(rt.alloc(), bytes), Err(Refusal::Phase(2)))
+}
+
+#[test]
+fn refuses_what_is_no_module(rt: HostRuntime) -> Result<(), Fail> {
+    let mut long_count = Vec::from_slice(rt.alloc(), &EMPTY[..8])?;
+    long_count.push(0x83)?;
+    long_count.push(0x00)?;
+    long_count.extend_from_slice(&EMPTY[9..])?;
+    assert!(rt; is_refused(&rt, &long_count));
+    let mut overlapping = EMPTY;
+    overlapping[13] = 0x01;
+    assert!(rt; is_refused(&rt, &overlapping));
+    let mut longer = Vec::from_slice(rt.alloc(), &EMPTY)?;
+    longer.push(0x00)?;
+    assert!(rt; is_refused(&rt, &longer));
+    assert!(rt; is_refused(&rt, &EMPTY[..38]));
+    assert!(rt; is_refused(&rt, &COIN[..98]));
+    let mut empty_table = EMPTY;
+    empty_table[11] = 0x00;
+    assert!(rt; is_refused(&rt, &empty_table));
+    let mut one_kind = EMPTY;
+    one_kind[12] = 0x01;
+    assert!(rt; is_refused(&rt, &one_kind));
+    Ok(())
+}
+
+#[test]
+fn takes_headers_in_any_order(rt: HostRuntime) -> Result<(), Fail> {
+    let mut turned = EMPTY;
+    turned[9] = 0x08;
+    turned[10] = 0x04;
+    turned[11] = 0x10;
+    turned[15] = 0x01;
+    turned[16] = 0x00;
+    turned[17] = 0x02;
+    assert_eq!(rt; decode(rt.alloc(), &turned)?.addresses().len(), 1);
+    Ok(())
+}
+
+#[test]
+fn writes_what_it_read(rt: HostRuntime) -> Result<(), Fail> {
+    let empty = decode(rt.alloc(), &EMPTY)?;
+    assert_eq!(rt; encode(rt.alloc(), &empty)?.as_slice(), EMPTY.as_slice());
+    let coin = decode(rt.alloc(), &COIN)?;
+    assert_eq!(rt; encode(rt.alloc(), &coin)?.as_slice(), COIN.as_slice());
+    Ok(())
+}

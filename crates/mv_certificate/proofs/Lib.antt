@@ -1,0 +1,5 @@
+pub mod Loops
+pub mod Texts
+pub mod Marks
+pub mod States
+pub mod Refusals

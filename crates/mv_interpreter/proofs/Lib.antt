@@ -1,0 +1,17 @@
+pub mod Binds
+pub mod Tags
+pub mod Locals
+pub mod Tests
+pub mod Lists
+pub mod Owns
+pub mod Homes
+pub mod Values
+pub mod Packs
+pub mod Stores
+pub mod Turning
+pub mod Beginning
+pub mod Stepping
+pub mod Owning
+pub mod Packing
+pub mod Storing
+pub mod Counting

@@ -1,0 +1,49 @@
+-- What stands at the places that a run record's names lead to.
+use Rattle.std.proofs.Common.{◌≡◌, ℕ, zero, suc, ◌<◌, Bool, true, false, cond, List, [], ◌∷◌, map, length, Option, Some, None, option_map, get_or, refl, sym, ap, ◌∙◌, subst, arith}
+use Rattle.std.specs.Prelude.{slice_get, IfSome}
+use Rattle.mv_move_types.specs.Options.{find_index}
+use Rattle.mv_move_types.specs.Names.{ModuleName}
+use Rattle.mv_move_types.specs.Module.{Module}
+use Rattle.mv_move_types.specs.Named.{is_module, module_place}
+use Rattle.mv_move_types.specs.Published.{PublishedModule}
+use Rattle.mv_linker.specs.Link.{tables_in}
+
+-- what is found in a list stands below its length
+find_index-below : {A : Type 0} (p : A → Bool) (xs : List A) (k : ℕ) → find_index p xs ≡ Some k → k < length xs
+find_index-below p [] k e = cc
+find_index-below p (x ∷ xs) k e = step (p x) (find_index p xs) k e (λ j. find_index-below p xs j)
+  where
+    step : (b : Bool) (o : Option ℕ) (k : ℕ) → cond b (Some 0) (option_map suc o) ≡ Some k → ((j : ℕ) → o ≡ Some j → j < length xs) → k < length (x ∷ xs)
+    step true o k e below = let z : 0 ≡ k = cc in omega arith
+    step false None k e below = cc
+    step false (Some j) k e below = let lt : j < length xs = below j refl in let s : suc j ≡ k = cc in omega arith
+
+tables-length : (published : List PublishedModule) → length (tables_in published) ≡ length published
+tables-length [] = refl
+tables-length (p ∷ published) = ap suc (tables-length published)
+
+-- a module that is found is one of the store's
+pub place-below : (published : List PublishedModule) (name : ModuleName) (o : Option ℕ) (k : ℕ) → o ≡ module_place (tables_in published) name → o ≡ Some k → k < length published
+place-below published name o k is some =
+    let lt : k < length (tables_in published) = find_index-below (is_module name) (tables_in published) k (sym is ∙ some) in
+    omega (arith, tables-length published)
+
+-- its tables stand at its place
+pub tables-at : (published : List PublishedModule) (k : ℕ) (m : Module) → k < length published → IfSome (slice_get published k) (λ p. m ≡ p.tables) → slice_get (tables_in published) k ≡ Some m
+tables-at [] k m lt h = absurd (omega (arith, lt))
+tables-at (p ∷ published) zero m lt h = ap Some (sym h)
+tables-at (p ∷ published) (suc k) m lt h = tables-at published k m (omega (arith, lt)) h
+
+-- the element at an index
+pub there : {A : Type 0} (xs ys : List A) (k : ℕ) (x : A) → xs ≡ ys → k < length ys → x ≡ get_or xs k x → slice_get ys k ≡ Some x
+there xs ys k x same lt is = found ys k x lt (is ∙ ap (λ l. get_or l k x) same)
+  where
+    found : {A : Type 0} (xs : List A) (k : ℕ) (x : A) → k < length xs → x ≡ get_or xs k x → slice_get xs k ≡ Some x
+    found [] k x lt e = absurd (omega (arith, lt))
+    found (y ∷ xs) zero x lt e = ap Some (sym e)
+    found (y ∷ xs) (suc k) x lt e = found xs k x (omega (arith, lt)) e
+
+-- a fact of what is found
+pub at_some : {A : Type 0} (P : A → Type 0) (o : Option A) (x : A) → o ≡ Some x → IfSome o P → P x
+at_some P None x e h = cc
+at_some P (Some y) x e h = let same : y ≡ x = cc in subst P same h

@@ -1,0 +1,35 @@
+use Rattle.std.proofs.Common.{Some, Err, sym, ap, ◌∙◌}
+use Rattle.std.proofs.lemmas.Result.{err_from_is_err_and}
+use Rattle.mv_ledger.proofs.Phases.{refused_text, refused_bounds, refused_types, refused_stated, refused_check}
+use Rattle.mv_ledger.proofs.publishing.verified.Goals as goal
+
+pub returns-in_err-module-clause-refused : goal.returns-in_err-module-clause-refused
+returns-in_err-module-clause-refused c =
+    let p = err_from_is_err_and c.from_residual.result c.from_residual.ensures.1 in
+    rw (p.1, p.2) (refused_text _ c.in_err-module.field-0.0 c.in_err-module.ensures.errors (λ is. c.in_err-module.ensures.refused (ap Err is)))
+
+pub returns-in_err-bounded-clause-refused : goal.returns-in_err-bounded-clause-refused
+returns-in_err-bounded-clause-refused c =
+    let p = err_from_is_err_and c.from_residual-in_err-bounded.result c.from_residual-in_err-bounded.ensures.1 in
+    rw (p.1, p.2) (refused_bounds _ c.in_ok-module.module c.in_err-bounded.field-0.0 c.in_ok-module.ensures.ok c.in_err-bounded.ensures.refused)
+
+pub returns-in_err-typed-clause-refused : goal.returns-in_err-typed-clause-refused
+returns-in_err-typed-clause-refused c =
+    let p = err_from_is_err_and c.from_residual-in_err-typed.result c.from_residual-in_err-typed.ensures.1 in
+    rw (p.1, p.2)
+    (refused_types _ c.in_ok-bounded.bounded c.in_err-typed.field-0.0 (c.in_ok-module.ensures.ok ∙ ap Some (sym c.in_ok-bounded.ensures.ok))
+    c.module-defined.ensures.bounds c.module-defined.ensures.definitions c.in_err-typed.ensures.refused)
+
+pub returns-in_err-stated-clause-refused : goal.returns-in_err-stated-clause-refused
+returns-in_err-stated-clause-refused c =
+    let p = err_from_is_err_and c.from_residual-in_err-stated.result c.from_residual-in_err-stated.ensures.1 in
+    rw (p.1, p.2)
+    (refused_stated _ c.in_ok-typed.typed c.in_err-stated.field-0.0 (c.in_ok-module.ensures.ok ∙ ap Some (sym c.in_ok-bounded.ensures.ok) ∙ ap Some (sym c.in_ok-typed.ensures.ok))
+    c.module-sound.ensures.sound c.in_err-stated.ensures.errors)
+
+pub returns-in_err-module-2-clause-refused : goal.returns-in_err-module-2-clause-refused
+returns-in_err-module-2-clause-refused c =
+    let p = err_from_is_err_and c.from_residual-in_err-module-2.result c.from_residual-in_err-module-2.ensures.1 in
+    rw (p.1, p.2)
+    (refused_check _ c.in_ok-typed.typed c.in_ok-stated.stated c.in_err-module-2.field-0.0 (c.in_ok-module.ensures.ok ∙ ap Some (sym c.in_ok-bounded.ensures.ok) ∙ ap Some (sym c.in_ok-typed.ensures.ok))
+    c.module-sound.ensures.sound c.in_ok-stated.ensures.ok c.in_err-module-2.ensures.refused)

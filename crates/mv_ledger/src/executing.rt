@@ -1,0 +1,222 @@
+// Runs: which are begun, and what they change.
+ghost use Rattle.std.specs.Prelude.{◌≡◌, ◌<◌, ◌≤◌, ℕ, All, IsTrue, length, map, Some, None, option_map, IfOk, IfSome, OnOk};
+ghost use Rattle.std.specs.List.{list_all};
+ghost use Rattle.mv_move_types.specs.Module.{parameter_tokens};
+ghost use Rattle.mv_move_types.specs.Named.{function_place};
+ghost use Rattle.mv_machine.specs.Ledger.{is_argument, are_arguments, with_signer as with_sender};
+ghost use Rattle.mv_linker.specs.Link.{tables_in};
+ghost use Rattle.mv_interpreter.specs.declared.Arg.{Arg as Argument};
+ghost use Rattle.mv_interpreter.specs.Runs.{IsCall, IsFineWords, number_fits, arg_value};
+ghost use Rattle.mv_ledger.specs.Changes.{RunsTo};
+ghost use Rattle.mv_ledger.specs.Answering.{told};
+
+use crate::Reply;
+use crate::payload::RunRecord;
+use crate::tallies::{Tally, add_run};
+use mv_binary_format::{FunctionDefinition, Module};
+use mv_interpreter::{Arg, RunError, run};
+use mv_linker::Store;
+use mv_machine::Ending;
+use mv_move_types::{Definition, LeafKind, Token, ValueType};
+use mv_storage::Storage;
+use std::alloc::{AllocError, Global};
+use std::mem;
+
+// How many steps a run may ask for at most.
+const MOST_STEPS: u64 = 10_000_000;
+
+// How many runs a ledger has at most.
+const MOST_RUNS: u64 = 4_294_967_296;
+
+/// A call that may be run.
+#[derive(Drop)]
+pub struct Call {
+    pub function: Definition,
+    pub arguments: Vec<Arg>,
+    pub budget: u64,
+}
+
+/// Why a run is not begun.
+#[derive(Clone, Copy, PartialEq, Eq, Debug)]
+pub enum Barred {
+    /// For this reason, from 2 to 7.
+    Rejected(u8),
+    /// A growth was refused.
+    Memory,
+}
+
+impl From<AllocError> for Barred {
+    ghost use Rattle.std.specs.Prelude.{◌≡◌};
+    ghost use Rattle.mv_ledger.specs.declared.executing.Barred.TheVariants.{Memory};
+
+    ghost from_gives = { λ _ e. e ≡ Memory };
+
+    fn from(_: AllocError) -> Self {
+        Barred::Memory
+    }
+}
+
+/// Whether a function has an identifier.
+fn is_named(m: &Module<'_>, d: &FunctionDefinition<'_>, name: &[u8]) -> bool {
+    let Some(handle) = m.function_handles().get(d.handle() as usize) else {
+        return false;
+    };
+    match m.identifier(handle.name as usize) {
+        Some(own) => own == name,
+        None => false,
+    }
+}
+
+/// The index of a module's function with an identifier.
+fn function_of(m: &Module<'_>, name: &[u8]) -> Option<usize>
+    ensures { IfSome result (λ i. i < length m.now.functions) }
+{
+    for (i, d) in m.functions().iter().enumerate() {
+        if is_named(m, d, name) {
+            return Some(i);
+        }
+    }
+    None
+}
+
+/// The types of a function's parameters.
+fn parameters<'m>(m: &'m Module<'_>, d: &FunctionDefinition<'_>) -> Option<&'m [Token]>
+    ensures { option_map (λ t. t.now) result ≡ parameter_tokens m.entry.now d.now }
+{
+    let handle = m.function_handles().get(d.handle() as usize)?;
+    m.signature(handle.parameters as usize)
+}
+
+/// The arguments with the sender in front, where the first parameter is a signer.
+fn with_signer(
+    sender: u128,
+    tokens: &[Token],
+    mut arguments: Vec<Arg>,
+) -> Result<Vec<Arg>, AllocError>
+    requires { IsTrue (list_all (λ (a : Argument). number_fits a.kind a.number) arguments.items) }
+    ensures range { IfOk result (λ v. IsTrue (list_all (λ (a : Argument). number_fits a.kind a.number) v.items)) }
+    ensures value { IfOk result (λ v. map arg_value v.items ≡ with_sender sender tokens.now (map arg_value arguments.items)) }
+{
+    if let Some(Token::Plain(ValueType::OfLeaf(LeafKind::Signer))) = tokens.first() {
+        let signer = Arg {
+            kind: LeafKind::Signer,
+            number: sender,
+        };
+        arguments.insert(0, signer)?;
+    }
+    Ok(arguments)
+}
+
+/// Whether an argument is of a parameter's type.
+fn is_passed(token: Token, argument: Arg) -> bool
+    ensures { result ≡ is_argument token (arg_value argument) }
+{
+    match token {
+        Token::Plain(ValueType::OfLeaf(kind)) => kind == argument.kind,
+        _ => false,
+    }
+}
+
+/// Whether arguments are of parameters' types, one each.
+fn are_passed(tokens: &[Token], arguments: &[Arg]) -> bool
+    ensures { result ≡ are_arguments tokens.now (map arg_value arguments.now) }
+{
+    match tokens {
+        [] => arguments.is_empty(),
+        [token, tokens @ ..] => match arguments {
+            [] => false,
+            [argument, arguments @ ..] => {
+                is_passed(*token, *argument) && are_passed(tokens, arguments)
+            }
+        },
+    }
+}
+
+/// The call that a run record asks for.
+///
+/// # Errors
+///
+/// `Rejected` with the first reason against it: 2, a budget above 10,000,000; 3, no such module; 4, no such function in
+/// it; 5, a function that is no entry; 6, arguments that are not of its parameters' types; 7, no further run may be had.
+/// `Memory`, where a growth was refused.
+pub fn admitted(
+    alloc: Global,
+    store: &Store,
+    runs: u64,
+    asked: RunRecord<'_>,
+) -> Result<Call, Barred>
+    requires few { length store.now ≤ 4096 }
+    requires range { IsTrue (list_all (λ (a : Argument). number_fits a.kind a.number) asked.arguments.items) }
+    ensures call { IfOk result (λ c. IsCall (tables_in store.now) c.function c.arguments.items) }
+    ensures runs { OnOk result (runs < 4294967296) }
+{
+    if asked.budget > MOST_STEPS {
+        return Err(Barred::Rejected(2));
+    }
+    let place = store
+        .find(asked.home, asked.module)
+        .ok_or(Barred::Rejected(3))?;
+    let home = store.module(alloc, place)?;
+    let index = function_of(&home, asked.function).ok_or(Barred::Rejected(4))?;
+    let d = &home.functions()[index];
+    if !d.is_entry() {
+        return Err(Barred::Rejected(5));
+    }
+    let tokens = parameters(&home, d).ok_or(Barred::Rejected(6))?;
+    let arguments = with_signer(asked.sender, tokens, asked.arguments)?;
+    if !are_passed(tokens, &arguments) {
+        return Err(Barred::Rejected(6));
+    }
+    if runs >= MOST_RUNS {
+        return Err(Barred::Rejected(7));
+    }
+    Ok(Call {
+        function: Definition {
+            place: place as u16,
+            index: index as u16,
+        },
+        arguments,
+        budget: asked.budget,
+    })
+}
+
+/// Runs a call. A run that returns keeps what it made of the storage, and its tally is added; any other leaves both.
+pub fn execute(
+    alloc: Global,
+    store: &Store,
+    storage: &mut Storage,
+    tallies: &mut Vec<Tally>,
+    call: &Call,
+) -> Reply
+    requires call { IsCall (tables_in store.now) call.now.function call.now.arguments.items }
+    requires stored { All (IsFineWords (tables_in store.now)) storage.old }
+    ensures stored { All (IsFineWords (tables_in store.now)) storage.new }
+    ensures kept { RunsTo (told result) storage.old storage.new tallies.old.items tallies.new.items }
+{
+    let mut overlay = mem::replace(storage, Storage::new(alloc)).overlay();
+    match run(
+        alloc,
+        store,
+        &mut overlay,
+        call.function,
+        &call.arguments,
+        call.budget,
+    ) {
+        Ok((outcome, tally)) => {
+            if outcome.ending == Ending::Returned {
+                *storage = overlay.commit();
+                add_run(tallies, &tally);
+            } else {
+                *storage = overlay.discard();
+            }
+            Reply::Ran(outcome)
+        }
+        Err(e) => {
+            *storage = overlay.discard();
+            match e {
+                RunError::Broken => Reply::Broken,
+                RunError::Memory => Reply::Memory,
+            }
+        }
+    }
+}

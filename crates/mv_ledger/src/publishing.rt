@@ -1,0 +1,100 @@
+// Publishing a bundle: its phases in order, and what it changes.
+ghost use Rattle.std.specs.Prelude.{◌≡◌, ◌≤◌, ◌++◌, List, length, IfOk, IfErr, OnOk, OnErr};
+ghost use Rattle.mv_certificate.specs.Certificate.{Certificate};
+ghost use Rattle.mv_linker.specs.Link.{IsStore};
+ghost use Rattle.mv_ledger.specs.Publishing.{Passes, IsRefusedOffer};
+ghost use Rattle.mv_ledger.specs.Judging.{IsAcceptedBy, IsRefusedBy};
+ghost use Rattle.mv_ledger.specs.Changes.{AddsOne};
+
+use crate::payload::{Bundle, read_bundle};
+use crate::tallies::{Tally, scarce_structs, untouched};
+use mv_linker::{Linked, New, Store, add, link};
+use mv_move_types::Refusal;
+use std::alloc::{AllocError, Global};
+
+// How many modules a ledger has at most.
+const MOST_MODULES: usize = 4096;
+
+/// The offered module with what it passed: phases 2 to 12 in order.
+fn verified<'a>(alloc: Global, bundle: &Bundle<'a>) -> Result<New<'a>, Refusal>
+    ensures text { IfOk result (λ n. n.text.now ≡ bundle.now.text.now) }
+    ensures certificate { IfOk result (λ n. n.certificate.now ≡ bundle.now.certificate.now) }
+    ensures passes { IfOk result (λ n. (c : Certificate) × Passes (record { text = bundle.now.text.now; certificate = bundle.now.certificate.now }) n.module c) }
+    ensures refused { IfErr result (IsRefusedOffer (record { text = bundle.now.text.now; certificate = bundle.now.certificate.now })) }
+{
+    let module = mv_binary_format::decode(alloc, bundle.text)?;
+    let bounded = mv_bounds::check(alloc, module)?;
+    let _defined = bounded.module();
+    let typed = mv_type_states::check(alloc, bounded)?;
+    let _sound = typed.module();
+    let stated = mv_certificate::decode(alloc, &typed, bundle.certificate)?;
+    let module = mv_certificate::check(alloc, typed, &stated)?;
+    let _acquires = module.module();
+    Ok(New {
+        module,
+        text: bundle.text,
+        certificate: bundle.certificate,
+    })
+}
+
+/// Adds a bundle and its tallies, or nothing.
+fn join(
+    store: &mut Store,
+    linked: Linked,
+    tallies: &mut Vec<Tally>,
+    mut fresh: Vec<Tally>,
+) -> Result<(), AllocError>
+    requires { IsStore (store.old ++ linked) }
+    ensures ok { OnOk result (store.new ≡ store.old ++ linked) }
+    ensures tallied { OnOk result (tallies.new.items ≡ tallies.old.items ++ fresh.items) }
+    ensures err { OnErr result (store.new ≡ store.old) }
+    ensures kept { OnErr result (tallies.new.items ≡ tallies.old.items) }
+{
+    let count = tallies.len();
+    tallies.append(&mut fresh)?;
+    if let Err(e) = add(store, linked) {
+        tallies.truncate(count);
+        return Err(e);
+    }
+    Ok(())
+}
+
+/// Publishes the bundle that a payload has: its module joins the store, and its structs with neither copy nor drop have
+/// empty tallies.
+///
+/// # Errors
+///
+/// `Phase(1)`, where the payload is none of a publish record; else the first phase that fails; `Memory`, where a growth
+/// was refused. Nothing changes then.
+pub fn publish(
+    alloc: Global,
+    store: &mut Store,
+    tallies: &mut Vec<Tally>,
+    payload: &[u8],
+) -> Result<(), Refusal>
+    ensures ok { OnOk result (AddsOne store.old store.new) }
+    ensures room { OnOk result (length store.new ≤ 4096) }
+    ensures err { OnErr result (store.new ≡ store.old) }
+    ensures kept { OnErr result (tallies.new.items ≡ tallies.old.items) }
+    ensures accepted { OnOk result (IsAcceptedBy store.old payload.now store.new) }
+    ensures refused { IfErr result (IsRefusedBy store.old payload.now) }
+{
+    let Ok(bundle) = read_bundle(payload) else {
+        return Err(Refusal::Phase(1));
+    };
+    let new = verified(alloc, &bundle)?;
+    let structs = scarce_structs(alloc, new.module.module())?;
+    let linked = link(
+        alloc,
+        store,
+        Some(bundle.sender),
+        vec![in alloc; new].map_err(AllocError::from)?,
+    )?;
+    let count = store.len();
+    if count >= MOST_MODULES {
+        return Err(Refusal::Phase(14));
+    }
+    let fresh = untouched(alloc, count as u16, &structs)?;
+    join(store, linked, tallies, fresh)?;
+    Ok(())
+}

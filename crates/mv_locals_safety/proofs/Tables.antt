@@ -1,0 +1,97 @@
+-- What the tables of a module say of a function's locals.
+use Rattle.std.proofs.Common.{◌≡◌, ℕ, zero, suc, ◌+◌, ◌-◌, ◌≤◌, ◌<◌, Bool, true, ◌&&◌, List, [], ◌∷◌, ◌++◌, length, length-append, replicate, slice_get, Option, Some, None, IsSome, Result, Ok, Err, IfOk, IsErrOf, refl, sym, ap, ◌∙◌, subst, arith, option_map, ⊎_elim}
+use Rattle.std.specs.List.{list_all, zip}
+use Rattle.std.specs.Bool.{then_some}
+use Rattle.std.proofs.lemmas.Bool.{and_parts}
+use Rattle.std.proofs.lemmas.List.{length-replicate}
+use Rattle.std.proofs.lemmas.Option.{slice_get_cases}
+use Rattle.std.proofs.lemmas.Bool.{ltb-true}
+use Rattle.mv_move_types.specs.declared.borrow.Availability.{Availability}
+use Rattle.mv_move_types.specs.declared.borrow.Availability.TheVariants.{Unavailable, Available, Maybe}
+use Rattle.mv_move_types.specs.declared.token.Token.{Token}
+use Rattle.mv_move_types.specs.declared.tables.FunctionHandle.{FunctionHandle}
+use Rattle.mv_move_types.specs.Options.{◌>>=◌}
+use Rattle.mv_move_types.specs.Module.{Module, FunctionDefinition, local_tokens, parameter_tokens}
+use Rattle.mv_bounds.specs.Bounds.{below, InBounds, function_in, function_handle_in, local_count}
+use Rattle.mv_type_states.specs.TypesHold.{Point}
+use Rattle.mv_locals_safety.specs.LocalsRules.{may_leave, leave_known, locals_after}
+use Rattle.mv_locals_safety.specs.Domain.{Function, may_stay, point_in, start_locals, locals_step, IsOfLocals, Follows}
+use Rattle.mv_move_types.specs.declared.instruction.Instruction.{Instruction}
+use Rattle.mv_lattice.specs.declared.StepError.{StepError}
+use Rattle.mv_lattice.specs.declared.StepError.TheVariants.{Need, Memory}
+
+-- an index below the length of its table reads an entry
+read : {A : Type 0} (i : ℕ) (xs : List A) → below i xs ≡ true → (x : A) × (slice_get xs i ≡ Some x)
+read i xs h = let within : i < length xs = ltb-true i (length xs) h in ⊎_elim (λ c. (c.0, c.2)) (λ c. absurd (let past : length xs ≤ i = c.0 in omega (arith, within, past))) (slice_get_cases xs i).1
+
+-- what holds of all holds of each
+all_at : {A : Type 0} (p : A → Bool) (xs : List A) (i : ℕ) (x : A) → list_all p xs ≡ true → slice_get xs i ≡ Some x → p x ≡ true
+all_at p [] i x h e = cc
+all_at p (y ∷ xs) zero x h e = let same : y ≡ x = cc in subst (λ z. p z ≡ true) same (and_parts (p y) (list_all p xs) h).0
+all_at p (y ∷ xs) (suc i) x h e = all_at p xs i x (and_parts (p y) (list_all p xs) h).1 e
+
+local_tokens_some : (m : Module) (d : FunctionDefinition) (h : FunctionHandle) (ps others : List Token) → slice_get m.function_handles d.handle ≡ Some h → slice_get m.signatures h.parameters ≡ Some ps → slice_get m.signatures d.locals ≡ Some others → local_tokens m d ≡ Some (ps ++ others)
+local_tokens_some m d h ps others a b c = rw (a, b, c) refl
+
+-- a function's signatures are there
+pub locals_there : (m n : Module) (f : ℕ) (d : FunctionDefinition) → n ≡ m → InBounds m → slice_get n.functions f ≡ Some d → (ts : List Token) × (local_tokens n d ≡ Some ts)
+locals_there m n f d same bounds at =
+    let bounds-n = subst InBounds (sym same) bounds in
+    let in_function = all_at (function_in n) n.functions f d bounds-n.functions at in
+    let three = and_parts _ _ in_function in
+    let two = and_parts _ _ three.0 in
+    let one = and_parts _ _ two.0 in
+    let handle = read d.handle n.function_handles one.0 in
+    let in_handle = all_at (function_handle_in n) n.function_handles d.handle handle.0 bounds-n.function_handles handle.1 in
+    let front = and_parts _ _ (and_parts _ _ in_handle).0 in
+    let parameters = read handle.0.parameters n.signatures front.1 in
+    let others = read d.locals n.signatures one.1 in
+    (parameters.0 ++ others.0, local_tokens_some n d handle.0 parameters.0 others.0 handle.1 parameters.1 others.1)
+
+pub some_there : {A B : Type 0} (f : A → B) (o : Option A) (found : Option B) (x : B) → option_map f o ≡ found → found ≡ Some x → IsSome o
+some_there f None found x e h = absurd (let no : ⊥ = cc (e, h) in no)
+some_there f (Some y) found x e h = refl
+
+may_leave_zipped : (p : Point) (ts : List Token) (s : List Availability) → may_leave p ts s ≡ list_all (λ q. may_stay p.home q.0 q.1) (zip ts s)
+may_leave_zipped p [] [] = refl
+may_leave_zipped p [] (a ∷ s) = refl
+may_leave_zipped p (t ∷ ts) [] = refl
+may_leave_zipped p (t ∷ ts) (Unavailable ∷ s) = may_leave_zipped p ts s
+may_leave_zipped p (t ∷ ts) (Available ∷ s) = ap (λ r. may_stay p.home t Available && r) (may_leave_zipped p ts s)
+may_leave_zipped p (t ∷ ts) (Maybe ∷ s) = ap (λ r. may_stay p.home t Maybe && r) (may_leave_zipped p ts s)
+
+-- what a return makes of the availabilities, by the test of the locals' types
+pub return_known : (d : Function) (m : Module) (e : FunctionDefinition) (ts ts' : List Token) (s s' : List Availability) (b r : Bool) → record { home = m; function = e } ≡ d → local_tokens m e ≡ Some ts → ts' ≡ ts → s' ≡ s → r ≡ list_all (λ q. may_stay m q.0 q.1) (zip ts' s') → r ≡ b → leave_known (point_in d.home d.function) s ≡ then_some b s
+return_known d m e ts ts' s s' b r view tokens same_ts same_s tested decided =
+    let test = subst (λ x. list_all (λ q. may_stay m q.0 q.1) (zip x s) ≡ b) same_ts (subst (λ x. list_all (λ q. may_stay m q.0 q.1) (zip ts' x) ≡ b) same_s (sym tested ∙ decided)) in
+    subst (λ (x : Function). leave_known (point_in x.home x.function) s ≡ then_some b s) view (known test)
+  where
+    known : list_all (λ q. may_stay m q.0 q.1) (zip ts s) ≡ b → leave_known (point_in m e) s ≡ then_some b s
+    known test = rw (tokens, may_leave_zipped (point_in m e) ts s, test) refl
+
+-- what follows the rules for an instruction is the step at its place
+pub step_ok : (m : Module) (d : FunctionDefinition) (at : ℕ) (s : List Availability) (i : Instruction) (r : Result (List Availability) StepError) → slice_get d.code at ≡ Some i → Follows r (locals_after (point_in m d) i s) → IfOk r (λ t. locals_step m d at s ≡ Some t)
+step_ok m d at s i (Ok t) code f = rw code f
+step_ok m d at s i (Err Need) code f = tt
+step_ok m d at s i (Err Memory) code f = tt
+
+pub step_need : (m : Module) (d : FunctionDefinition) (at : ℕ) (s : List Availability) (i : Instruction) (r : Result (List Availability) StepError) → slice_get d.code at ≡ Some i → Follows r (locals_after (point_in m d) i s) → IsErrOf r Need → locals_step m d at s ≡ None
+step_need m d at s i (Ok t) code f h = cc (h)
+step_need m d at s i (Err Need) code f h = rw code f
+step_need m d at s i (Err Memory) code f h = cc (h)
+
+module _ (m : Module) (d : FunctionDefinition) (ts : List Token) (parameters : ℕ) (tokens : local_tokens m d ≡ Some ts) (counted : option_map length (parameter_tokens m d) ≡ Some parameters) where
+  pub start_is : (s : List Availability) → s ≡ replicate parameters Available ++ replicate (length ts - parameters) Unavailable → start_locals m d ≡ Some s
+  start_is s is = by_parameters (parameter_tokens m d) counted
+    where
+      by_parameters : (o : Option (List Token)) → option_map length o ≡ Some parameters → (o >>= λ ps. local_tokens m d >>= λ locals. Some (replicate (length ps) Available ++ replicate (length locals - length ps) Unavailable)) ≡ Some s
+      by_parameters None e = cc
+      by_parameters (Some ps) e = let long : length ps ≡ parameters = cc in rw (tokens, long) (ap Some (sym is))
+
+  pub state_is : (s : List Availability) → parameters ≤ length ts → s ≡ replicate parameters Available ++ replicate (length ts - parameters) Unavailable → IsOfLocals m d s
+  state_is s few is =
+      let count : local_count m d ≡ length ts = rw tokens refl in
+      let long : length s ≡ length (replicate parameters Available) + length (replicate (length ts - parameters) Unavailable) = ap length is ∙ length-append (replicate parameters Available) (replicate (length ts - parameters) Unavailable) in
+      let first : length (replicate parameters Available) ≡ parameters = length-replicate parameters Available in
+      let second : length (replicate (length ts - parameters) Unavailable) ≡ length ts - parameters = length-replicate (length ts - parameters) Unavailable in
+      omega (arith, count, long, first, second, few)

@@ -1,0 +1,68 @@
+-- The availabilities of a function's locals as a domain of states.
+use Rattle.std.specs.Prelude.{◌≡◌, ⊤, ℕ, Bool, true, false, ◌-◌, List, [], ◌++◌, length, replicate, map, zip, Option, Some, None, Result, Ok, Err, slice_get, slice_set}
+use Rattle.std.specs.Option.{option_map_or}
+use Rattle.mv_move_types.specs.declared.borrow.Availability.{Availability}
+use Rattle.mv_move_types.specs.declared.borrow.Availability.TheVariants.{Unavailable, Available, Maybe}
+use Rattle.mv_move_types.specs.Options.{◌>>=◌}
+use Rattle.mv_move_types.specs.declared.token.Token.{Token}
+use Rattle.mv_move_types.specs.Module.{Module, FunctionDefinition, local_tokens, parameter_tokens}
+use Rattle.mv_bounds.specs.Bounds.{local_count}
+use Rattle.mv_abilities.specs.Abilities.{token_abilities}
+use Rattle.mv_type_states.specs.TypesHold.{Point}
+use Rattle.mv_lattice.specs.declared.StepError.{StepError}
+use Rattle.mv_lattice.specs.declared.StepError.TheVariants.{Need, Memory}
+use Rattle.mv_locals_safety.specs.LocalsRules.{locals_after, needs_available}
+
+-- a function, and the tables of its module
+pub record Function : Type 0 where
+  pub home : Module
+  pub function : FunctionDefinition
+
+-- where the rules for locals stand in a function: they read no types
+abbrev pub point_in : Module → FunctionDefinition → Point
+point_in m d = record { home = m; function = d; types = [] }
+
+-- one availability a local
+abbrev pub IsOfLocals : Module → FunctionDefinition → List Availability → Type 0
+IsOfLocals m d locals = length locals ≡ local_count m d
+
+-- at the start the parameters hold values, and the other locals hold none
+abbrev pub start_locals : Module → FunctionDefinition → Option (List Availability)
+start_locals m d = do
+  parameters ← parameter_tokens m d
+  locals ← local_tokens m d
+  Some (replicate (length parameters) Available ++ replicate (length locals - length parameters) Unavailable)
+
+-- what the instruction at a place makes of the availabilities
+abbrev pub locals_step : Module → FunctionDefinition → ℕ → List Availability → Option (List Availability)
+locals_step m d at locals = slice_get d.code at >>= λ i. locals_after (point_in m d) i locals
+
+-- the least availability above both
+abbrev pub least_above : Availability → Availability → Availability
+least_above Unavailable Unavailable = Unavailable
+least_above Available Available = Available
+least_above _ _ = Maybe
+
+-- each joined with the one at its place
+abbrev pub joined : List Availability → List Availability → List Availability
+joined a b = map (λ p. least_above p.0 p.1) (zip a b)
+
+-- the availabilities without the value of a local, which has to hold one
+abbrev pub moved_out : ℕ → List Availability → Option (List Availability)
+moved_out l locals = needs_available l locals >>= λ before. Some (slice_set before l Unavailable)
+
+-- whether values of a type may be dropped
+abbrev pub is_droppable : Module → Token → Bool
+is_droppable m t = option_map_or (λ a. a.drop) (token_abilities m t) false
+
+-- whether a local of this type may be left behind
+abbrev pub may_stay : Module → Token → Availability → Bool
+may_stay m t Unavailable = true
+may_stay m t Available = is_droppable m t
+may_stay m t Maybe = is_droppable m t
+
+-- the state after is this one, or a need fails where there is none
+abbrev pub Follows : {S : Type 0} → Result S StepError → Option S → Type 0
+Follows (Ok t) after = after ≡ Some t
+Follows (Err Need) after = after ≡ None
+Follows (Err Memory) after = ⊤

@@ -1,0 +1,202 @@
+// A function's locals as a domain of states.
+ghost use Rattle.std.specs.Prelude.{◌≡◌, ◌<◌, ◌++◌, length, slice_get, zip, Some, option_map, IfOk, IfSome};
+ghost use Rattle.std.specs.List.{list_all};
+ghost use Rattle.mv_move_types.specs.Module.{local_tokens, parameter_tokens};
+ghost use Rattle.mv_locals_safety.specs.LocalsRules.{leave_known, locals_after};
+ghost use Rattle.mv_locals_safety.specs.Domain.{point_in, start_locals, may_stay, IsOfLocals, Follows};
+
+use super::Availabilities;
+use mv_binary_format::{FunctionDefinition, Module};
+use mv_bounds::Bounded;
+use mv_lattice::{Domain, StepError};
+use mv_move_types::{Availability, Instruction, Token};
+use mv_type_states::Typed;
+use std::alloc::{AllocError, Global};
+use std::marker::Model;
+
+/// The types of a function's parameters, and of its other locals.
+fn signatures_of<'t>(
+    home: &'t Module<'_>,
+    function: &FunctionDefinition<'_>,
+) -> Option<(&'t [Token], &'t [Token])>
+    ensures parameters { IfSome result (λ p. parameter_tokens home.entry.now function.now ≡ Some p.0.now) }
+    ensures locals { option_map (λ p. p.0.now ++ p.1.now) result ≡ local_tokens home.entry.now function.now }
+{
+    let handle = home.function_handles().get(usize::from(function.handle()))?;
+    let parameters = home.signature(usize::from(handle.parameters))?;
+    let others = home.signature(usize::from(function.locals()))?;
+    Some((parameters, others))
+}
+
+/// The definition of function `f`.
+fn function_at<'t, 'm>(home: &'t Module<'m>, f: usize) -> &'t FunctionDefinition<'m>
+    requires { f < length home.now.functions }
+    ensures { slice_get home.entry.now.functions f ≡ Some result.now }
+{
+    &home.functions()[f]
+}
+
+/// Whether a local may be left behind: it holds nothing, or its value may be dropped.
+fn may_remain(m: &Bounded<'_>, token: Token, a: Availability) -> bool
+    ensures { result ≡ may_stay m.now token a }
+{
+    let is_droppable = match mv_abilities::of(m, token) {
+        Some(abilities) => abilities.drop,
+        None => false,
+    };
+    match a {
+        Availability::Unavailable => true,
+        Availability::Available | Availability::Maybe => is_droppable,
+    }
+}
+
+/// Whether each local may be left behind.
+fn may_all_remain(m: &Bounded<'_>, locals: &[Token], s: &[Availability]) -> bool
+    ensures { result ≡ list_all (λ q. may_stay m.now q.0 q.1) (zip locals.now s.now) }
+{
+    locals
+        .iter()
+        .zip(s)
+        .all(|(token, a)| may_remain(m, *token, *a))
+}
+
+/// What each local of a function holds before each of its instructions.
+#[derive(Drop)]
+pub struct LocalsDomain<'t, 'm> {
+    bounded: &'t Bounded<'m>,
+    function: &'t FunctionDefinition<'m>,
+    code: Vec<Instruction>,
+    parameters: usize,
+    locals: Vec<Token>,
+}
+
+impl<'t, 'm> Model for LocalsDomain<'t, 'm> {
+    ghost use Rattle.std.specs.Prelude.{◌≡◌, ◌≤◌, length, Some, option_map};
+    ghost use Rattle.mv_move_types.specs.Module.{local_tokens, parameter_tokens};
+    ghost use Rattle.mv_locals_safety.specs.Domain.{Function};
+
+    ghost Value = { Function };
+
+    ghost view = { λ d. record { home = d.bounded.now; function = d.function.now } };
+
+    ghost invariant = { λ d. (d.code.items ≡ d.function.now.code)
+        × (option_map length (parameter_tokens d.bounded.now d.function.now) ≡ Some d.parameters)
+        × (local_tokens d.bounded.now d.function.now ≡ Some d.locals.items)
+        × (d.parameters ≤ length d.locals.items) };
+}
+
+impl<'t, 'm> LocalsDomain<'t, 'm> {
+    /// The domain of function `f`.
+    pub fn of_function(alloc: Global, m: &'t Typed<'m>, f: usize) -> Result<Self, AllocError>
+        requires { f < length m.now.functions }
+        ensures home { IfOk result (λ d. d.home ≡ m.entry.now) }
+        ensures function { IfOk result (λ d. slice_get m.entry.now.functions f ≡ Some d.function) }
+    {
+        let bounded = m.bounded();
+        let module = bounded.module();
+        let function = function_at(module, f);
+        let (parameters, others) = signatures_of(module, function).unwrap();
+        let mut locals = Vec::from_slice(alloc, parameters)?;
+        locals.extend_from_slice(others)?;
+        Ok(LocalsDomain {
+            bounded,
+            function,
+            code: function.code().collect(alloc)?,
+            parameters: parameters.len(),
+            locals,
+        })
+    }
+
+    /// What is known where the function begins: parameters hold values, and other locals hold none.
+    #[tactic(auto, using(crate::proofs::Tables::start_is, crate::proofs::Tables::state_is))]
+    pub fn start(&self, alloc: Global) -> Result<Availabilities, AllocError>
+        ensures start { IfOk result (λ s. start_locals self.now.home self.now.function ≡ Some s) }
+        ensures state { IfOk result (λ s. IsOfLocals self.now.home self.now.function s) }
+    {
+        let mut all = vec![in alloc; Availability::Available; self.parameters]?;
+        let others = self.locals.len().saturating_sub(self.parameters);
+        all.extend_from_slice(&vec![in alloc; Availability::Unavailable; others]?)?;
+        Ok(Availabilities::new(all))
+    }
+
+    /// The same availabilities; refused where a local may hold what can't be dropped.
+    fn returned(&self, s: Availabilities) -> Result<Availabilities, StepError>
+        ensures { Follows result (leave_known (point_in self.now.home self.now.function) s) }
+    {
+        if !may_all_remain(self.bounded, &self.locals, s.as_slice()) {
+            return Err(StepError::Need);
+        }
+        Ok(s)
+    }
+
+    /// An instruction of the function.
+    fn instruction(&self, at: usize) -> Instruction
+        requires { at < length self.now.function.code }
+        ensures { slice_get self.now.function.code at ≡ Some result }
+    {
+        self.code[at]
+    }
+
+    /// What an instruction makes of the availabilities.
+    #[tactic(auto, unfolding(crate::specs::LocalsRules::locals_after))]
+    fn after(
+        &self,
+        instruction: Instruction,
+        s: Availabilities,
+    ) -> Result<Availabilities, StepError>
+        ensures { Follows result (locals_after (point_in self.now.home self.now.function) instruction s) }
+    {
+        match instruction {
+            Instruction::MoveLoc(local) => s.moved(local),
+            Instruction::ImmBorrowLoc(local) => s.borrowed(local),
+            Instruction::Ret => self.returned(s),
+            Instruction::Pack(_) | Instruction::MoveTo(_) => Ok(s),
+        }
+    }
+}
+
+impl<'t, 'm> Domain for LocalsDomain<'t, 'm> {
+    ghost use Rattle.std.specs.Prelude.{length, IsTrue};
+    ghost use Rattle.mv_locals_safety.specs.LocalsRules.{locals_leq};
+    ghost use Rattle.mv_locals_safety.specs.Domain.{IsOfLocals, locals_step};
+    ghost use Rattle.mv_locals_safety.specs.Laws.{locals_lawful};
+
+    type State = Availabilities;
+
+    ghost size = { λ d. length d.function.code };
+
+    ghost is_state = { λ d s. IsOfLocals d.home d.function s };
+
+    ghost below = { λ d a b. IsTrue (locals_leq a b) };
+
+    ghost steps = { λ d at s. locals_step d.home d.function at s };
+
+    ghost laws = { λ d. locals_lawful d.home d.function };
+
+    fn copy(&self, alloc: Global, s: &Availabilities) -> Result<Availabilities, AllocError> {
+        s.copy(alloc)
+    }
+
+    fn leq(&self, a: &Availabilities, b: &Availabilities) -> bool {
+        a.is_below(b)
+    }
+
+    #[tactic(auto, using(crate::proofs::Order::joined_left, crate::proofs::Order::joined_length))]
+    fn join(
+        &self,
+        alloc: Global,
+        a: &Availabilities,
+        b: &Availabilities,
+    ) -> Result<Availabilities, AllocError> {
+        a.join(alloc, b)
+    }
+
+    fn step(
+        &self,
+        _alloc: Global,
+        s: Availabilities,
+        at: usize,
+    ) -> Result<Availabilities, StepError> {
+        self.after(self.instruction(at), s)
+    }
+}

@@ -1,0 +1,154 @@
+// The availabilities of a function's locals.
+ghost use Rattle.std.specs.Prelude.{◌≡◌, length, slice_get, zip, false, IfOk};
+ghost use Rattle.std.specs.List.{list_all};
+ghost use Rattle.std.specs.Option.{option_map_or};
+ghost use Rattle.mv_locals_safety.specs.LocalsRules.{availability_leq, locals_leq, is_available, needs_available};
+ghost use Rattle.mv_locals_safety.specs.Domain.{least_above, joined, moved_out, Follows};
+
+use mv_lattice::StepError;
+use mv_move_types::Availability;
+use std::alloc::{AllocError, Global};
+use std::marker::Model;
+
+/// Whether the first says as much as the second, or more.
+fn is_below(a: Availability, b: Availability) -> bool
+    ensures { result ≡ availability_leq a b }
+{
+    match (a, b) {
+        (_, Availability::Maybe) => true,
+        (Availability::Unavailable, Availability::Unavailable) => true,
+        (Availability::Available, Availability::Available) => true,
+        (_, _) => false,
+    }
+}
+
+/// What both say.
+fn common(a: Availability, b: Availability) -> Availability
+    ensures { result ≡ least_above a b }
+{
+    match (a, b) {
+        (Availability::Unavailable, Availability::Unavailable) => Availability::Unavailable,
+        (Availability::Available, Availability::Available) => Availability::Available,
+        (_, _) => Availability::Maybe,
+    }
+}
+
+/// Whether each says as much as the one at its place, or more.
+fn are_below(a: &[Availability], b: &[Availability]) -> bool
+    ensures { result ≡ list_all (λ p. availability_leq p.0 p.1) (zip a.now b.now) }
+{
+    a.iter().zip(b).all(|(x, y)| is_below(*x, *y))
+}
+
+/// What each says with the one at its place.
+fn all_common(
+    alloc: Global,
+    a: &[Availability],
+    b: &[Availability],
+) -> Result<Vec<Availability>, AllocError>
+    ensures { IfOk result (λ v. v.items ≡ joined a.now b.now) }
+{
+    a.iter().zip(b).map(|(x, y)| common(*x, *y)).collect(alloc)
+}
+
+/// What is known of each local of a function, parameters first.
+#[derive(Drop, Debug)]
+pub struct Availabilities {
+    all: Vec<Availability>,
+}
+
+impl Model for Availabilities {
+    ghost use Rattle.std.specs.Prelude.{List};
+    ghost use Rattle.mv_move_types.specs.declared.borrow.Availability.{Availability};
+
+    ghost Value = { List Availability };
+
+    ghost view = { λ s. s.all.items };
+}
+
+impl PartialEq for Availabilities {
+    ghost use Rattle.std.specs.Cmp.Lexicographic.{pointwise, lists_per};
+    ghost use Rattle.std.specs.Cmp.Rules.{comparing};
+    ghost use Rattle.std.proofs.Common.{rules};
+
+    ghost eq = { pointwise ⟦<Availability as PartialEq>⟧.eq };
+
+    ghost laws = { lists_per (Prim.search (comparing, rules)) };
+
+    fn eq(&self, other: &Self) -> bool {
+        self.all == other.all
+    }
+}
+
+impl Availabilities {
+    /// The state of these availabilities.
+    pub fn new(all: Vec<Availability>) -> Self
+        ensures { result ≡ all.items }
+    {
+        Availabilities { all }
+    }
+
+    /// The availabilities, parameters first.
+    pub fn as_slice(&self) -> &[Availability]
+        ensures { result.now ≡ self.now }
+    {
+        &self.all
+    }
+
+    /// Equal availabilities.
+    pub fn copy(&self, alloc: Global) -> Result<Self, AllocError>
+        ensures { IfOk result (λ s. s ≡ self.now) }
+    {
+        Ok(Availabilities::new(Vec::from_slice(alloc, &self.all)?))
+    }
+
+    /// Whether a local surely holds a value.
+    fn holds(&self, local: u16) -> bool
+        ensures { result ≡ option_map_or is_available (slice_get self.now local) false }
+    {
+        match self.all.get(usize::from(local)) {
+            Some(Availability::Available) => true,
+            _ => false,
+        }
+    }
+
+    /// The same availabilities; refused where a local may hold no value.
+    pub(crate) fn borrowed(self, local: u16) -> Result<Self, StepError>
+        ensures { Follows result (needs_available local self) }
+    {
+        if self.holds(local) {
+            Ok(self)
+        } else {
+            Err(StepError::Need)
+        }
+    }
+
+    /// The availabilities without the value of a local; refused where it may hold none.
+    pub(crate) fn moved(self, local: u16) -> Result<Self, StepError>
+        ensures { Follows result (moved_out local self) }
+    {
+        if !self.holds(local) {
+            return Err(StepError::Need);
+        }
+        let Availabilities { mut all } = self;
+        all[usize::from(local)] = Availability::Unavailable;
+        Ok(Availabilities { all })
+    }
+
+    /// Whether each local's availability says as much as the other's, or more.
+    #[tactic(auto, using(crate::proofs::Order::leq_zipped))]
+    pub fn is_below(&self, other: &Availabilities) -> bool
+        requires { length self.now ≡ length other.now }
+        ensures { result ≡ locals_leq self.now other.now }
+    {
+        are_below(&self.all, &other.all)
+    }
+
+    /// What both say of each local.
+    pub fn join(&self, alloc: Global, other: &Availabilities) -> Result<Self, AllocError>
+        requires { length self.now ≡ length other.now }
+        ensures { IfOk result (λ s. s ≡ joined self.now other.now) }
+    {
+        Ok(Availabilities::new(all_common(alloc, &self.all, &other.all)?))
+    }
+}

@@ -1,0 +1,107 @@
+-- All functions of a module, one after another, and the phases.
+use Rattle.std.proofs.Common.{◌≡◌, ℕ, ◌+◌, ◌<◌, List, [], ◌∷◌, ◌++◌, length, slice_get, Option, Some, None, IsTrue, IfSome, refl, sym, ◌∙◌, subst, inl, inr, ◌⊎◌, ⊎_elim, zero, suc, length-append, arith}
+use Rattle.std.proofs.lemmas.Option.{MatchOption-at_some, slice_get_within}
+use Rattle.mv_move_types.specs.declared.refusal.Refusal.{Refusal}
+use Rattle.mv_move_types.specs.declared.refusal.Refusal.TheVariants.{Phase, Memory}
+use Rattle.mv_move_types.specs.Refusals.{IsRefusedIn}
+use Rattle.mv_move_types.specs.Module.{Module, FunctionDefinition}
+use Rattle.mv_signatures.specs.Signatures.{WellSigned}
+use Rattle.mv_abilities.specs.Abilities.{AbilitiesHold}
+use Rattle.mv_cfg.specs.declared.Cfg.{Cfg}
+use Rattle.mv_cfg.specs.Blocks.{ends_well, FlowHolds}
+use Rattle.mv_cfg.specs.FlowGraph.{IsFlowGraph}
+use Rattle.mv_type_states.specs.TypesHold.{function_is_typed, TypesHold}
+use Rattle.mv_type_states.specs.Graphs.{AreGraphs}
+use Rattle.mv_type_states.specs.Sound.{FailsTypes, ill_signed, unable, endless, ill_typed, IsRefusedByTypes}
+use Rattle.mv_type_states.proofs.Stacks.{list_all-at, list_all-each}
+
+-- what is refused for a part is refused for the whole
+pub refused-wider : (phase : ℕ) (part whole : Type 0) (e : Refusal) → (whole → part) → IsRefusedIn phase part e → IsRefusedIn phase whole e
+refused-wider phase part whole (Phase p) narrow r = (r.0, λ h. r.1 (narrow h))
+refused-wider phase part whole Memory narrow r = tt
+
+-- an element that is there
+pub slice_get-there : {A : Type 0} (xs : List A) (i : ℕ) → i < length xs → (x : A) × (slice_get xs i ≡ Some x)
+slice_get-there [] i h = absurd (omega arith)
+slice_get-there (x ∷ xs) zero h = (x, refl)
+slice_get-there (x ∷ xs) (suc i) h = slice_get-there xs i (omega arith)
+
+-- the last of a list with one more
+slice_get-push : {A : Type 0} (xs : List A) (y : A) (k : ℕ) (z : A) → slice_get (xs ++ y ∷ []) k ≡ Some z → (slice_get xs k ≡ Some z) ⊎ ((k ≡ length xs) × (z ≡ y))
+slice_get-push [] y zero z e = inr (refl, cc)
+slice_get-push [] y (suc k) z e = cc
+slice_get-push (x ∷ xs) y zero z e = inl e
+slice_get-push (x ∷ xs) y (suc k) z e =
+    ⊎_elim (λ h. inl h) (λ h. inr (omega (arith, h.0), h.1)) (slice_get-push xs y k z e)
+
+pub AreGraphs-start : (fs : List FunctionDefinition) → AreGraphs fs 0 []
+AreGraphs-start fs = record { entries = refl; each = λ f d g at h. cc }
+
+pub AreGraphs-push : (fs : List FunctionDefinition) (n : ℕ) (gs : List Cfg) (g : Cfg) → AreGraphs fs n gs → n < length fs → IfSome (slice_get fs n) (λ d. IsFlowGraph d.code g) → AreGraphs fs (n + 1) (gs ++ g ∷ [])
+AreGraphs-push fs n gs g p there new = record {
+  entries = let size = p.entries in omega (arith, length-append {A = Cfg});
+  each = λ f d h at there. ⊎_elim
+      (λ old. p.each f d h at old)
+      (λ last. let is_n : f ≡ n = last.0 ∙ p.entries in
+      subst (λ (x : Cfg). IsFlowGraph d.code x) (sym last.1)
+      (MatchOption-at_some _ (λ (x : FunctionDefinition). IsFlowGraph x.code g) d (subst (λ (i : ℕ). slice_get fs i ≡ Some d) is_n at) new))
+      (slice_get-push gs g f h there);
+}
+
+-- each function has a graph, so each ends well
+pub FlowHolds-from_AreGraphs : (m : Module) (gs : List Cfg) → AreGraphs m.functions (length m.functions) gs → FlowHolds m
+FlowHolds-from_AreGraphs m gs p =
+    list_all-each (λ (d : FunctionDefinition). ends_well d.code) m.functions
+    (λ f d at. let in_fs = slice_get_within m.functions f d at in
+    let size = p.entries in
+    let graph = slice_get-there gs f (omega arith) in (p.each f d graph.0 at graph.1).ends)
+
+-- where all functions end well, each does
+pub ends-from_FlowHolds : (m : Module) (f : ℕ) (d : FunctionDefinition) → slice_get m.functions f ≡ Some d → FlowHolds m → IsTrue (ends_well d.code)
+ends-from_FlowHolds m f d at h = list_all-at (λ (x : FunctionDefinition). ends_well x.code) m.functions f d h at
+
+pub typed-from_TypesHold : (m : Module) (f : ℕ) (d : FunctionDefinition) → slice_get m.functions f ≡ Some d → TypesHold m → IsTrue (function_is_typed m d)
+typed-from_TypesHold m f d at h = list_all-at (function_is_typed m) m.functions f d h at
+
+-- where all functions are well typed, one that is there is
+pub each_typed : (m : Module) (f : ℕ) → TypesHold m → IfSome (slice_get m.functions f) (λ d. IsTrue (function_is_typed m d))
+each_typed m f h = at (slice_get m.functions f) refl
+  where
+    at : (o : Option FunctionDefinition) → slice_get m.functions f ≡ o → IfSome o (λ d. IsTrue (function_is_typed m d))
+    at None e = tt
+    at (Some d) e = typed-from_TypesHold m f d e h
+
+-- a refusal of function f in phase 7 is one of the module
+pub flow_refused : (m : Module) (f : ℕ) (e : Refusal) → f < length m.functions → IfSome (slice_get m.functions f) (λ d. IsRefusedIn 7 (IsTrue (ends_well d.code)) e) → IsRefusedIn 7 (FlowHolds m) e
+flow_refused m f e there r =
+    let d = slice_get-there m.functions f there in
+    refused-wider 7 (IsTrue (ends_well d.0.code)) (FlowHolds m) e (ends-from_FlowHolds m f d.0 d.1)
+    (MatchOption-at_some _ (λ (x : FunctionDefinition). IsRefusedIn 7 (IsTrue (ends_well x.code)) e) d.0 d.1 r)
+
+-- the same in phase 8
+pub types_refused : (m : Module) (f : ℕ) (e : Refusal) → f < length m.functions → IfSome (slice_get m.functions f) (λ d. IsRefusedIn 8 (IsTrue (function_is_typed m d)) e) → IsRefusedIn 8 (TypesHold m) e
+types_refused m f e there r =
+    let d = slice_get-there m.functions f there in
+    refused-wider 8 (IsTrue (function_is_typed m d.0)) (TypesHold m) e (typed-from_TypesHold m f d.0 d.1)
+    (MatchOption-at_some _ (λ (x : FunctionDefinition). IsRefusedIn 8 (IsTrue (function_is_typed m x)) e) d.0 d.1 r)
+
+-- the first functions are well typed
+abbrev pub AreTyped : Module → ℕ → Type 0
+AreTyped m n = (k : ℕ) (d : FunctionDefinition) → k < n → slice_get m.functions k ≡ Some d → IsTrue (function_is_typed m d)
+
+-- a module refused by the first phase that it fails
+pub fails_signatures : (m : Module) (e : Refusal) → IsRefusedIn 5 (WellSigned m) e → IsRefusedByTypes m e
+fails_signatures m (Phase p) r = subst (λ (n : ℕ). FailsTypes m n) (sym r.0) (ill_signed r.1)
+fails_signatures m Memory r = tt
+
+pub fails_abilities : (m : Module) (e : Refusal) → WellSigned m → IsRefusedIn 6 (AbilitiesHold m) e → IsRefusedByTypes m e
+fails_abilities m (Phase p) signed r = subst (λ (n : ℕ). FailsTypes m n) (sym r.0) (unable signed r.1)
+fails_abilities m Memory signed r = tt
+
+pub fails_flow : (m : Module) (e : Refusal) → WellSigned m → AbilitiesHold m → IsRefusedIn 7 (FlowHolds m) e → IsRefusedByTypes m e
+fails_flow m (Phase p) signed able r = subst (λ (n : ℕ). FailsTypes m n) (sym r.0) (endless signed able r.1)
+fails_flow m Memory signed able r = tt
+
+pub fails_types : (m : Module) (e : Refusal) → WellSigned m → AbilitiesHold m → FlowHolds m → IsRefusedIn 8 (TypesHold m) e → IsRefusedByTypes m e
+fails_types m (Phase p) signed able flow r = subst (λ (n : ℕ). FailsTypes m n) (sym r.0) (ill_typed signed able flow r.1)
+fails_types m Memory signed able flow r = tt

@@ -1,0 +1,175 @@
+-- Stacks with the topmost last, and what is taken from them.
+use Rattle.std.proofs.Common.{◌≡◌, ℕ, ◌+◌, ◌<◌, Bool, true, false, ◌&&◌, List, [], ◌∷◌, ◌++◌, length, reverse, take, drop, slice_get, Option, Some, None, refl, sym, ap, ◌∙◌, subst, zero, suc, add-one, length-append, map, arith, IsTrue, IsSome, option_map, nat_eq, slice_index_or, vec_len, Vec, Global, Err}
+use Rattle.std.proofs.lemmas.List.{reverse-append, length-reverse, nil_from_length, map-append}
+use Rattle.std.proofs.lemmas.Bool.{ltb-true, ne_eqb, eqb-true, eqb-false}
+use Rattle.std.proofs.Math.Dec.{eqb-suc-zero}
+use Rattle.mv_move_types.specs.declared.token.Token.{Token}
+use Rattle.mv_move_types.specs.Tokens.{same_token, same_tokens}
+use Rattle.mv_move_types.specs.declared.refusal.Refusal.{Refusal}
+use Rattle.mv_move_types.specs.declared.refusal.Refusal.TheVariants.{Phase, Memory}
+use Rattle.mv_move_types.specs.declared.tables.Field.{Field}
+use Rattle.mv_move_types.specs.Options.{◌>>=◌}
+use Rattle.mv_type_states.specs.declared.scope.Scope.{Scope}
+use Rattle.mv_type_states.specs.TypeRules.{Types, provided, taken, local_type}
+use Rattle.mv_type_states.specs.Scopes.{IsScope, Follows}
+use Rattle.mv_type_states.proofs.Tokens.{token_same, both_true}
+use Rattle.mv_cfg.proofs.Graphs.{slice_get-read}
+use Rattle.std.specs.List.{list_all}
+use Rattle.std.proofs.lemmas.Option.{none-some, same_Some, slice_get-get_or}
+use Rattle.mv_move_types.specs.declared.tables.FunctionHandle.{FunctionHandle}
+use Rattle.mv_move_types.specs.Module.{Module, FunctionDefinition}
+use Rattle.mv_bounds.specs.Bounds.{InBounds, function_in, function_handle_in}
+
+-- a push puts a type on top
+pub reverse-push : (xs : List Token) (x : Token) → reverse (xs ++ x ∷ []) ≡ x ∷ reverse xs
+reverse-push xs x = reverse-append xs (x ∷ [])
+
+length_push : (xs : List Token) (x : Token) → length (xs ++ x ∷ []) ≡ suc (length xs)
+length_push xs x = rw (length-append, add-one) refl
+
+one_and_others : (b : Bool) (ws : List Token) (s : Types)
+    → provided (b && same_tokens (take (length ws) s) (reverse ws)) (drop (length ws) s) ≡ (provided (b && true) s >>= λ below. taken ws below)
+one_and_others true ws s = refl
+one_and_others false ws s = refl
+
+-- taking more types is taking the last, and then the others
+pub taken-last : (ws : List Token) (w : Token) (s : Types) → taken (ws ++ w ∷ []) s ≡ (taken (w ∷ []) s >>= λ below. taken ws below)
+taken-last ws w [] = rw (reverse-push ws w, length_push ws w) refl
+taken-last ws w (t ∷ s) = rw (reverse-push ws w, length_push ws w) (one_and_others (same_token t w) ws s)
+
+-- where the last is there, the others are still to be taken
+pub taken-some : (fields others : List Field) (last : Field) (s below : Types) → fields ≡ others ++ last ∷ [] → taken (last.token ∷ []) s ≡ Some below
+    → taken (map (λ f. f.token) others) below ≡ taken (map (λ f. f.token) fields) s
+taken-some fields others last s below is there =
+    rw (is, map-append, taken-last, there) refl
+
+-- where it isn't, they can't be taken
+pub taken-none : (fields others : List Field) (last : Field) (s : Types) → fields ≡ others ++ last ∷ [] → taken (last.token ∷ []) s ≡ None
+    → taken (map (λ f. f.token) fields) s ≡ None
+taken-none fields others last s is there =
+    rw (is, map-append, taken-last, there) refl
+
+-- the topmost is the one that is wanted
+pub taken-one : (xs : List Token) (w : Token) → taken (w ∷ []) (reverse (xs ++ w ∷ [])) ≡ Some (reverse xs)
+taken-one xs w = rw (reverse-push xs w, token_same w) refl
+
+-- it is another
+pub taken-other : (xs : List Token) (t w : Token) → same_token t w ≡ false → taken (w ∷ []) (reverse (xs ++ t ∷ [])) ≡ None
+taken-other xs t w e = rw (reverse-push xs t, e) refl
+
+-- a local's type is among the parameters' and the others
+pub local_type-scope : (s : Scope) → IsScope s → (l : ℕ) → local_type s.module.now s.function.now l ≡ slice_get (s.parameters.now ++ s.others.now) l
+local_type-scope s p l = rw (p.is_handle, p.parameters, p.others) refl
+
+pub slice_get-first : {A : Type 0} (xs ys : List A) (i : ℕ) → i < length xs → slice_get (xs ++ ys) i ≡ slice_get xs i
+slice_get-first [] ys i h = absurd (omega arith)
+slice_get-first (x ∷ xs) ys zero h = refl
+slice_get-first (x ∷ xs) ys (suc i) h = slice_get-first xs ys i (omega arith)
+
+pub slice_get-second : {A : Type 0} (xs ys : List A) (i k : ℕ) → length xs + k ≡ i → slice_get (xs ++ ys) i ≡ slice_get ys k
+slice_get-second [] ys i k e = let same : i ≡ k = omega arith in rw same refl
+slice_get-second (x ∷ xs) ys zero k e = absurd (omega arith)
+slice_get-second (x ∷ xs) ys (suc i) k e = slice_get-second xs ys i k (omega arith)
+
+and_assoc : (a b c : Bool) → (a && (b && c)) ≡ ((a && b) && c)
+and_assoc true b c = refl
+and_assoc false b c = refl
+
+same_tokens-front : (r s : List Token) → same_tokens s r ≡ (same_tokens (take (length r) s) r && nat_eq (length (drop (length r) s)) 0)
+same_tokens-front [] [] = refl
+same_tokens-front [] (x ∷ s) = sym (eqb-suc-zero (length s))
+same_tokens-front (y ∷ r) [] = refl
+same_tokens-front (y ∷ r) (x ∷ s) =
+    ap (λ b. same_token x y && b) (same_tokens-front r s) ∙ and_assoc (same_token x y) (same_tokens (take (length r) s) r) (nat_eq (length (drop (length r) s)) 0)
+
+provided_both : (b : Bool) (d : Types) → provided (b && nat_eq (length d) 0) [] ≡ (provided b d >>= λ below. provided (nat_eq (length below) 0) [])
+provided_both true d = refl
+provided_both false d = refl
+
+-- these types alone are on the stack where they can be taken and nothing is left
+pub alone : (rs : List Token) (s : Types) → provided (same_tokens s (reverse rs)) [] ≡ (taken rs s >>= λ below. provided (nat_eq (length below) 0) [])
+alone rs s =
+    let front : same_tokens s (reverse rs) ≡ (same_tokens (take (length rs) s) (reverse rs) && nat_eq (length (drop (length rs) s)) 0) =
+    rw length-reverse at (same_tokens-front (reverse rs) s) in
+    ap (λ b. provided b []) front ∙ provided_both (same_tokens (take (length rs) s) (reverse rs)) (drop (length rs) s)
+
+-- the last is there, and others are still to be taken
+pub taken_types-some : (types others : List Token) (last : Token) (s below : Types) → types ≡ others ++ last ∷ [] → taken (last ∷ []) s ≡ Some below
+    → taken others below ≡ taken types s
+taken_types-some types others last s below is there = rw (is, taken-last, there) refl
+
+pub taken_types-none : (types others : List Token) (last : Token) (s : Types) → types ≡ others ++ last ∷ [] → taken (last ∷ []) s ≡ None
+    → taken types s ≡ None
+taken_types-none types others last s is there = rw (is, taken-last, there) refl
+
+-- what an index that is in bounds reads
+pub is_some-read : {A B : Type 0} (f : A → B) (o : Option A) (xs : List B) (i : ℕ) → option_map f o ≡ slice_get xs i → i < length xs → IsSome o
+is_some-read f None [] i e h = absurd (omega arith)
+is_some-read f None (x ∷ xs) zero e h = absurd (none-some x e)
+is_some-read f None (x ∷ xs) (suc i) e h = is_some-read f None xs i e (omega arith)
+is_some-read f (Some y) xs i e h = refl
+
+-- what is read there
+pub some-read : {A B : Type 0} (f : A → B) (o : Option A) (x : A) (xs : List B) (i j : ℕ) → option_map f o ≡ slice_get xs i → i ≡ j → o ≡ Some x → slice_get xs j ≡ Some (f x)
+some-read f o x xs i j e same is = ap (λ k. slice_get xs k) (sym same) ∙ sym e ∙ ap (option_map f) is
+
+-- where the types can't be taken, they aren't alone on the stack
+pub alone-refused : (e : Refusal) (rs : List Token) (s new : Types) → Follows (Err e) (taken rs s) new → Follows (Err e) (provided (same_tokens s (reverse rs)) []) new
+alone-refused (Phase p) rs s new r = (r.0, rw (alone rs s, r.1) refl)
+alone-refused Memory rs s new r = tt
+
+-- something is left below them
+pub alone-left : (rs : List Token) (s : Types) (new : List Token) → taken rs s ≡ Some (reverse new) → 0 < length new → provided (same_tokens s (reverse rs)) [] ≡ None
+alone-left rs s new e some = rw (alone rs s, e, length-reverse, ne_eqb (length new) 0 (λ z. omega arith)) refl
+
+-- whether a stack is empty, by its length
+pub empty_stack : (v : Vec Token Global) (r : Bool) → r ≡ nat_eq (vec_len v) 0 → r ≡ true → v.items ≡ []
+empty_stack v r e t = nil_from_length v.items (let z : vec_len v ≡ 0 = eqb-true (vec_len v) 0 (sym e ∙ t) in let same = v.ok.0 in omega arith)
+
+pub full_stack : (v : Vec Token Global) (r : Bool) → r ≡ nat_eq (vec_len v) 0 → r ≡ false → 0 < length v.items
+full_stack v r e t = let z : vec_len v ≡ 0 → ⊥ = eqb-false (vec_len v) 0 (sym e ∙ t) in let same = v.ok.0 in omega arith
+
+-- what holds of all holds of each
+pub list_all-at : {A : Type 0} (p : A → Bool) (xs : List A) (i : ℕ) (x : A) → IsTrue (list_all p xs) → slice_get xs i ≡ Some x → IsTrue (p x)
+list_all-at p [] i x h at = absurd (none-some x at)
+list_all-at p (y ∷ ys) zero x h at = subst (λ (z : _). IsTrue (p z)) (same_Some y x at) (both_true (p y) (list_all p ys) h).0
+list_all-at p (y ∷ ys) (suc i) x h at = list_all-at p ys i x (both_true (p y) (list_all p ys) h).1 at
+
+-- what holds of each holds of all
+pub list_all-each : {A : Type 0} (p : A → Bool) (xs : List A) → ((i : ℕ) (x : A) → slice_get xs i ≡ Some x → IsTrue (p x)) → IsTrue (list_all p xs)
+list_all-each p [] each = refl
+list_all-each p (x ∷ xs) each = rw (each 0 x refl) (list_all-each p xs (λ i y h. each (suc i) y h))
+
+-- the signatures that a function names are there
+pub record HasSignatures (m : Module) (d : FunctionDefinition) (h : FunctionHandle) : Type 0 where
+  pub named : slice_get m.function_handles d.handle ≡ Some h
+  pub parameters : h.parameters < length m.signatures
+  pub results : h.results < length m.signatures
+  pub locals : d.locals < length m.signatures
+
+signatures_of : (m : Module) (f : ℕ) (d : FunctionDefinition) (default : FunctionHandle) → InBounds m → slice_get m.functions f ≡ Some d → HasSignatures m d (slice_index_or m.function_handles d.handle default)
+signatures_of m f d default bounds at =
+    let in_function = list_all-at (function_in m) m.functions f d bounds.functions at in
+    let three = both_true _ _ in_function in
+    let two = both_true _ _ three.0 in
+    let one = both_true _ _ two.0 in
+    let handle : d.handle < length m.function_handles = ltb-true _ _ one.0 in
+    let named = slice_get-get_or m.function_handles d.handle default handle in
+    let in_handle = list_all-at (function_handle_in m) m.function_handles d.handle (slice_index_or m.function_handles d.handle default) bounds.function_handles named in
+    let last = both_true _ _ in_handle in
+    let front = both_true _ _ last.0 in record {
+      named = named;
+      parameters = ltb-true _ _ front.1;
+      results = ltb-true _ _ last.1;
+      locals = ltb-true _ _ one.1;
+    }
+
+-- the same of what is read of a module, part by part
+pub signatures_read : (m read : Module) (f : ℕ) (fs : List FunctionDefinition) (d : FunctionDefinition) (hs : List FunctionHandle) (i : ℕ) (default : FunctionHandle)
+    → InBounds m → read ≡ m → fs ≡ read.functions → f < length m.functions → d ≡ slice_index_or fs f d → hs ≡ read.function_handles → i ≡ d.handle
+    → (slice_get read.functions f ≡ Some d) × HasSignatures read d (slice_index_or hs i default)
+signatures_read m read f fs d hs i default bounds is fs_is there at hs_is i_is =
+    let inside = subst (λ (x : Module). InBounds x) (sym is) bounds in
+    let short : f < length read.functions = subst (λ (x : Module). f < length x.functions) (sym is) there in
+    let found = slice_get-read fs read.functions f d fs_is short at in
+    (found, rw (hs_is, i_is) (signatures_of read f d default inside found))
