@@ -151,7 +151,7 @@ pub const RUNS: [Row; 5] = [
 ];
 
 /// Inputs whose records are refused, each for another reason.
-pub const REFUSED: [Row; 20] = [
+pub const REFUSED: [Row; 21] = [
     // No module, and two.
     Row {
         input: &["01110000000000000000000000000000000100"],
@@ -175,6 +175,11 @@ pub const REFUSED: [Row; 20] = [
             NAME_ALONE_REST,
             "0000",
         ],
+        report: "1 refused 1\n",
+    },
+    // The longest payload that a record may have, and none of it.
+    Row {
+        input: &["0180808010"],
         report: "1 refused 1\n",
     },
     // Kinds that no record has.
