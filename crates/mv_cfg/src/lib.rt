@@ -91,28 +91,3 @@ pub fn blocks(alloc: Global, m: &Bounded<'_>, f: usize) -> Result<Cfg, Refusal>
     let blocks = split(alloc, function.code())?;
     Ok(Cfg { blocks })
 }
-
-#[cfg(test)]
-mod tests {
-    use super::*;
-    use std::test::Fail;
-
-    #[test]
-    fn splits_at_returns(rt: HostRuntime) -> Result<(), Fail> {
-        let code = [Instruction::MoveLoc(0), Instruction::Ret, Instruction::Ret];
-        assert!(rt; is_ended(Cursor::new(&code)));
-        let parts = split(rt.alloc(), Cursor::new(&code))?;
-        assert_eq!(rt; parts.len(), 2);
-        let (one, two) = (&parts[0], &parts[1]);
-        assert_eq!(rt; (one.first, one.last, one.reached), (0, 1, true));
-        assert_eq!(rt; (two.first, two.last, two.reached), (2, 2, false));
-        Ok(())
-    }
-
-    #[test]
-    fn ends_in_no_return(rt: HostRuntime) -> Result<(), Fail> {
-        assert!(rt; !is_ended(Cursor::new(&[Instruction::Ret, Instruction::Pack(0)])));
-        assert!(rt; !is_ended(Cursor::new(&[])));
-        Ok(())
-    }
-}
