@@ -1,5 +1,5 @@
 -- The module that a store has at a place: its structs' names stand for its own definitions.
-use Rattle.std.proofs.Common.{◌≡◌, ℕ, ◌<◌, Bool, true, false, List, [], ◌∷◌, map, length, refl, sym, ap, subst, ◌∙◌, Option, Some, None, arith}
+use Rattle.std.proofs.Common.{◌≡◌, ℕ, ◌<◌, true, false, List, map, length, refl, sym, ap, subst, ◌∙◌, Option, Some, None, arith}
 use Rattle.std.specs.Prelude.{slice_get, IsTrue, ◌&&◌, ◌==◌, option_map, option_and_then}
 use Rattle.std.specs.List.{list_all}
 use Rattle.std.specs.Option.{option_map_or}
@@ -10,10 +10,10 @@ use Rattle.std.proofs.lemmas.Option.{slice_get-map}
 use Rattle.mv_move_types.specs.declared.tables.Field.{Field}
 use Rattle.mv_move_types.specs.declared.tables.ModuleHandle.{ModuleHandle}
 use Rattle.mv_move_types.specs.declared.tables.StructHandle.{StructHandle}
-use Rattle.mv_move_types.specs.Options.{◌>>=◌, find_index}
+use Rattle.mv_move_types.specs.Options.{find_index}
 use Rattle.mv_move_types.specs.Names.{ModuleName, StructName, same_module, same_struct}
 use Rattle.mv_move_types.specs.Module.{Module, StructDefinition, module_name, own_name, struct_name, name_of_struct}
-use Rattle.mv_move_types.specs.Named.{is_module, module_place, module_named, is_struct, definition_of}
+use Rattle.mv_move_types.specs.Named.{is_module, module_place, module_named, is_struct}
 use Rattle.mv_move_types.specs.Published.{PublishedModule}
 use Rattle.mv_signatures.specs.Signatures.{may_be_field}
 use Rattle.mv_bounds.specs.Bounds.{InBounds, below, struct_in, field_in, struct_handle_in, module_handle_in}

@@ -1,28 +1,26 @@
 -- Instructions on locals.
 use Rattle.std.proofs.Common.{◌≡◌, ℕ, zero, suc, ◌+◌, Bool, true, false, List, [], ◌∷◌, map, refl, sym, ap, subst, ◌∙◌, Option, Some, None, Result, Ok, Err}
 use Rattle.std.proofs.Common.{Bor}
-use Rattle.std.specs.Prelude.{ok_or, slice_get, slice_set, option_map, option_and_then, is_some, not, All}
+use Rattle.std.specs.Prelude.{ok_or, slice_get, slice_set, option_map, is_some, not, All}
 use Rattle.std.proofs.lemmas.List.{map-set}
 use Rattle.std.proofs.lemmas.List.Elements.{All-cons, All-set, All-head, All-tail as All-rest_of}
 use Rattle.mv_move_types.specs.Module.{Module, FunctionDefinition, local_tokens}
 use Rattle.mv_move_types.specs.declared.token.Token.{Token}
-use Rattle.mv_move_types.specs.Results.{◌>>=◌, ◌>>◌, need}
+use Rattle.mv_move_types.specs.Results.{◌>>=◌}
 use Rattle.mv_move_types.specs.declared.instruction.Instruction.TheVariants.{MoveLoc, ImmBorrowLoc}
 use Rattle.mv_machine.specs.declared.Ending.{Ending}
 use Rattle.mv_machine.specs.Value.{Value, Ref, Local}
 use Rattle.mv_machine.specs.State.{State}
 use Rattle.mv_machine.specs.Live.{live, is_frozen_by}
-use Rattle.mv_machine.specs.Typing.{Fault, Failure, Faults, LinkageFault, LostFault, FrozenFault, TypeFault, entry, linked, tag_named}
-use Rattle.mv_machine.specs.Step.{Here, Turn, Goes, rule, move_local, borrow_local, held as held_value, local_place, local_tag, is_reference_tag}
-use Rattle.mv_machine.specs.Flat.{FlatEntry}
+use Rattle.mv_machine.specs.Typing.{Failure, Faults, LinkageFault, LostFault, FrozenFault, TypeFault, entry, tag_named}
+use Rattle.mv_machine.specs.Step.{Here, Turn, rule, move_local, borrow_local, held as held_value, local_place, local_tag, is_reference_tag}
 use Rattle.mv_frames.specs.Frames.{FrameState, held}
 use Rattle.mv_frames.specs.declared.operand.Operand.{Operand}
 use Rattle.mv_frames.specs.declared.operand.Operand.TheVariants.{Reference as ReferenceOperand}
-use Rattle.mv_interpreter.specs.declared.StructTally.{StructTally}
 use Rattle.mv_interpreter.specs.declared.RunError.{RunError}
-use Rattle.mv_interpreter.specs.declared.RunError.TheVariants.{Memory, Broken}
+use Rattle.mv_interpreter.specs.declared.RunError.TheVariants.{Broken}
 use Rattle.mv_interpreter.specs.Works.{Work, Represents, Matches, IsFine, IsFineLocal, IsFineOperand, value_of}
-use Rattle.mv_interpreter.proofs.Binds.{goes_so, on_need, on_found, on_part, on_fault, OnlyFaults}
+use Rattle.mv_interpreter.proofs.Binds.{goes_so, on_need, on_part, on_fault, OnlyFaults}
 use Rattle.mv_interpreter.proofs.Tags.{tag_named-faults}
 
 -- a value in the machine's local is that of an operand

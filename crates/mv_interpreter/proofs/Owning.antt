@@ -1,13 +1,12 @@
 -- The struct that an instruction names.
-use Rattle.std.proofs.Common.{◌≡◌, ℕ, Bool, true, false, List, [], ◌∷◌, refl, sym, ap, ◌∙◌, Option, Some, None, Result, Ok, Err}
+use Rattle.std.proofs.Common.{◌≡◌, ℕ, Bool, true, false, refl, sym, ap, ◌∙◌, Option, Some, None, Result, Ok, Err}
 use Rattle.std.specs.Prelude.{slice_get, ok_or}
-use Rattle.mv_move_types.specs.declared.token.Abilities.{Abilities}
 use Rattle.mv_move_types.specs.declared.tables.StructHandle.{StructHandle}
 use Rattle.mv_move_types.specs.Names.{ModuleName, StructName, same_module}
 use Rattle.mv_move_types.specs.Module.{Module, StructDefinition, own_name, struct_name, struct_abilities}
 use Rattle.mv_move_types.specs.Options.{◌>>=◌ as ◌>>=ₒ◌}
 use Rattle.mv_move_types.specs.Results.{◌>>=◌, ◌>>◌, need}
-use Rattle.mv_machine.specs.Typing.{Fault, Failure, Faults, Aborts, LinkageFault, TypeFault, entry, linked}
+use Rattle.mv_machine.specs.Typing.{Failure, Faults, LinkageFault, TypeFault, entry, linked}
 use Rattle.mv_machine.specs.Step.{Here, OwnStruct, own_struct, keyed_struct}
 use Rattle.mv_interpreter.proofs.Binds.{OnlyFaults}
 use Rattle.mv_interpreter.proofs.Tags.{bind-faults, found-faults, need-faults}

@@ -1,5 +1,5 @@
 -- The instruction that makes a struct value.
-use Rattle.std.proofs.Common.{◌≡◌, ℕ, zero, suc, ◌+◌, ◌<◌, ◌≤◌, Bool, true, false, cond, List, [], ◌∷◌, ◌++◌, map, reverse, take, drop, length, refl, sym, ap, subst, ◌∙◌, Option, Some, None, Result, Ok, Err, arith}
+use Rattle.std.proofs.Common.{◌≡◌, ℕ, ◌+◌, ◌<◌, ◌≤◌, Bool, true, false, cond, List, [], ◌∷◌, map, reverse, take, drop, length, refl, sym, ap, ◌∙◌, Option, Some, None, Result, Ok, Err, arith}
 use Rattle.std.specs.Prelude.{slice_get, ◌==◌, nat_le, ◌&&◌, IsTrue, All, option_map, option_and_then, not}
 use Rattle.std.specs.List.{list_all}
 use Rattle.std.specs.Option.{option_map_or}
@@ -10,37 +10,36 @@ use Rattle.std.proofs.lemmas.List.Sums.{sum_by-cons}
 use Rattle.std.proofs.lemmas.List.Elements.{All-head, All-tail}
 use Rattle.mv_move_types.specs.declared.tables.Field.{Field}
 use Rattle.mv_move_types.specs.declared.instruction.Instruction.TheVariants.{Pack}
-use Rattle.mv_move_types.specs.declared.token.LeafKind.{LeafKind}
 use Rattle.mv_move_types.specs.declared.token.LeafKind.TheVariants.{Boolean}
 use Rattle.mv_move_types.specs.declared.token.ValueType.TheVariants.{OfLeaf, OfStruct}
 use Rattle.mv_move_types.specs.declared.token.Token.{Token}
 use Rattle.mv_move_types.specs.declared.token.Token.TheVariants.{Plain, Reference, MutableReference}
-use Rattle.mv_move_types.specs.Tags.{Tag, LeafTag, StructTag, ReferenceTag, same_tag}
+use Rattle.mv_move_types.specs.Tags.{Tag, LeafTag, ReferenceTag, same_tag}
 use Rattle.mv_move_types.specs.Names.{StructName, same_struct}
 use Rattle.mv_move_types.specs.Module.{Module, StructDefinition, FunctionDefinition, name_at, struct_name}
-use Rattle.mv_move_types.specs.Results.{◌>>=◌, ◌>>◌, need, for_each}
+use Rattle.mv_move_types.specs.Results.{for_each}
 use Rattle.mv_module_text.specs.Fits.{struct_definition_fits}
 use Rattle.mv_machine.specs.declared.Ending.{Ending}
-use Rattle.mv_machine.specs.Value.{Value, Values, Struct, Local, fields_of}
+use Rattle.mv_machine.specs.Value.{Value, Struct, Local, fields_of}
 use Rattle.mv_machine.specs.State.{State, Event, place_value}
-use Rattle.mv_machine.specs.Typing.{Fault, Failure, Faults, TypeFault, tag_named, plain_tag, has_tag, have_tags}
-use Rattle.mv_machine.specs.Step.{Here, Turn, Goes, OwnStruct, rule, pack, own_struct, operands}
+use Rattle.mv_machine.specs.Typing.{Failure, Faults, TypeFault, tag_named, plain_tag, has_tag, have_tags}
+use Rattle.mv_machine.specs.Step.{Here, rule, pack, own_struct, operands}
 use Rattle.mv_machine.specs.Run.{packs, unpacks}
 use Rattle.mv_frames.specs.Frames.{FrameState}
 use Rattle.mv_frames.specs.declared.operand.Operand.{Operand}
 use Rattle.mv_frames.specs.declared.operand.Operand.TheVariants.{Leaf as LeafOperand, Struct as StructOperand, Reference as ReferenceOperand}
 use Rattle.mv_interpreter.specs.declared.StructTally.{StructTally}
 use Rattle.mv_interpreter.specs.declared.RunError.{RunError}
-use Rattle.mv_interpreter.specs.declared.RunError.TheVariants.{Memory, Broken}
+use Rattle.mv_interpreter.specs.declared.RunError.TheVariants.{Broken}
 use Rattle.mv_interpreter.specs.Runs.{Tallies, packs_in, unpacks_in, is_tally_of}
-use Rattle.mv_interpreter.specs.Works.{Work, IsHome, IsFine, IsFineOperand, Represents, Matches, AreOfStruct, value_of, is_leaf_of, are_leaves_of, number_of, with_pack, is_tally_at}
-use Rattle.mv_interpreter.proofs.Binds.{OnlyFaults, on_fault, on_need, on_part, goes_so}
+use Rattle.mv_interpreter.specs.Works.{Work, IsHome, IsFine, IsFineOperand, Represents, Matches, value_of, is_leaf_of, are_leaves_of, with_pack, is_tally_at}
+use Rattle.mv_interpreter.proofs.Binds.{on_need, on_part, goes_so}
 use Rattle.mv_interpreter.proofs.Tags.{tag_named-faults}
 use Rattle.mv_interpreter.proofs.Lists.{map-turned}
 use Rattle.mv_interpreter.proofs.Tests.{some_is}
-use Rattle.mv_interpreter.proofs.Owning.{OwnIs, own-faults, own-is, on_bind, ok_is}
+use Rattle.mv_interpreter.proofs.Owning.{own-faults, own-is, on_bind, ok_is}
 use Rattle.mv_interpreter.proofs.Stepping.{operands-faults, each-faults}
-use Rattle.mv_interpreter.proofs.Values.{made, taken-fine, leaf_fields, is_leaf_type, name_is}
+use Rattle.mv_interpreter.proofs.Values.{made, taken-fine, leaf_fields, is_leaf_type}
 use Rattle.mv_interpreter.proofs.Packs.{Packed, packed_frame, packed_is}
 
 -- the tag of a leaf

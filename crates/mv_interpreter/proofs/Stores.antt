@@ -1,6 +1,6 @@
 -- What storing leaves.
-use Rattle.std.proofs.Common.{◌≡◌, ℕ, zero, suc, ◌+◌, Bool, true, false, cond, List, [], ◌∷◌, map, drop, refl, sym, ap, subst, ◌∙◌, Option, Some, None, eqb}
-use Rattle.std.specs.Prelude.{slice_get, All, IsTrue, ◌&&◌, option_and_then, ◌==◌}
+use Rattle.std.proofs.Common.{◌≡◌, ℕ, ◌+◌, Bool, true, false, cond, List, [], ◌∷◌, drop, refl, sym, ap, subst, ◌∙◌, Option, Some, None}
+use Rattle.std.specs.Prelude.{slice_get, All, option_and_then, ◌==◌}
 use Rattle.std.specs.Option.{option_map_or}
 use Rattle.std.proofs.lemmas.Bool.{eqb-true}
 use Rattle.std.proofs.lemmas.List.Elements.{All-cons, All-head, All-tail, All-drop}
@@ -9,12 +9,12 @@ use Rattle.mv_move_types.specs.declared.token.LeafKind.TheVariants.{Boolean, Num
 use Rattle.mv_move_types.specs.declared.tables.Key.{Key}
 use Rattle.mv_move_types.specs.Names.{StructName}
 use Rattle.mv_move_types.specs.Options.{◌>>=◌}
-use Rattle.mv_move_types.specs.Module.{Module, StructDefinition, struct_abilities, name_at}
+use Rattle.mv_move_types.specs.Module.{Module, StructDefinition, struct_abilities}
 use Rattle.mv_module_text.specs.Fits.{address_fits}
-use Rattle.mv_machine.specs.Value.{Value, Struct}
+use Rattle.mv_machine.specs.Value.{Struct}
 use Rattle.mv_machine.specs.State.{same_key, key_before}
-use Rattle.mv_machine.specs.Flat.{FlatEntry, flat}
-use Rattle.mv_machine.specs.Typed.{is_of_struct, is_fine_entry, abilities_at}
+use Rattle.mv_machine.specs.Flat.{FlatEntry}
+use Rattle.mv_machine.specs.Typed.{is_of_struct, abilities_at}
 use Rattle.mv_storage.specs.Map.{with_words}
 use Rattle.mv_frames.specs.Frames.{FrameState, held}
 use Rattle.mv_frames.specs.declared.operand.Operand.{Operand}

@@ -1,66 +1,70 @@
 -- The instruction that stores a struct value.
-use Rattle.std.proofs.Common.{◌≡◌, ℕ, zero, suc, ◌+◌, Bool, true, false, cond, List, [], ◌∷◌, ◌++◌, map, drop, refl, sym, ap, subst, ◌∙◌, Option, Some, None, Result, Ok, Err, arith}
-use Rattle.std.specs.Prelude.{slice_get, ok_or, is_some, not, ◌&&◌, ◌==◌, All, IsTrue, option_map, option_and_then}
+use Rattle.std.proofs.Common.{◌≡◌, ℕ, ◌+◌, Bool, true, false, cond, List, [], ◌∷◌, map, drop, refl, sym, ap, subst, ◌∙◌, Option, Some, None, Result, Ok, Err}
+use Rattle.std.specs.Prelude.{slice_get, ok_or, is_some, not, ◌==◌, All, option_map, option_and_then}
 use Rattle.std.specs.Option.{option_map_or}
 use Rattle.std.proofs.lemmas.List.Elements.{All-head, All-tail}
 use Rattle.mv_move_types.specs.declared.tables.Key.{Key}
 use Rattle.mv_move_types.specs.declared.tables.Definition.{Definition}
 use Rattle.mv_move_types.specs.declared.token.Abilities.{Abilities}
-use Rattle.mv_move_types.specs.declared.token.LeafKind.{LeafKind}
 use Rattle.mv_move_types.specs.declared.token.LeafKind.TheVariants.{Boolean, Number, Address, Signer}
 use Rattle.mv_move_types.specs.declared.instruction.Instruction.TheVariants.{MoveTo}
-use Rattle.mv_move_types.specs.Tags.{Tag, LeafTag, StructTag, ReferenceTag, same_tag}
+use Rattle.mv_move_types.specs.Tags.{Tag, StructTag, ReferenceTag, same_tag}
 use Rattle.mv_move_types.specs.Names.{StructName, same_struct}
-use Rattle.mv_move_types.specs.Options.{◌>>=◌ as ◌>>=ₒ◌, find_index}
-use Rattle.mv_move_types.specs.Module.{Module, StructDefinition, FunctionDefinition, struct_abilities, struct_name, name_at, name_of_struct}
+use Rattle.mv_move_types.specs.Options.{find_index}
+use Rattle.mv_move_types.specs.Module.{Module, StructDefinition, FunctionDefinition, struct_abilities, name_of_struct}
 use Rattle.mv_move_types.specs.Named.{is_struct}
-use Rattle.mv_move_types.specs.Results.{◌>>=◌, ◌>>◌, need}
+use Rattle.mv_move_types.specs.Results.{◌>>◌, need}
 use Rattle.mv_machine.specs.declared.Ending.{Ending}
 use Rattle.mv_machine.specs.declared.Ending.TheVariants.{Aborted as HasAborted}
 use Rattle.mv_machine.specs.declared.Kind.TheVariants.{Exists as AlreadyThere}
 use Rattle.mv_machine.specs.Value.{Value, Leaf, Struct, Ref, Reference, Local, value_at}
-use Rattle.mv_machine.specs.State.{State, Frame, Storage, Entry, same_key, key_before, stored_at, with_stored, place_value, local_in, local_value}
-use Rattle.mv_machine.specs.Typing.{Fault, Failure, Faults, Aborts, TypeFault, DanglingFault, plain_tag, has_tag}
-use Rattle.mv_machine.specs.Step.{Here, Turn, Goes, OwnStruct, rule, move_to, keyed_struct, operand, as_signer, as_reference, follow, key_at, with_stack, with_storage, goes_on}
-use Rattle.mv_machine.specs.Flat.{FlatEntry, flat, flat_storage}
+use Rattle.mv_machine.specs.State.{State, Storage, same_key, key_before, stored_at, with_stored, place_value, local_in, local_value}
+use Rattle.mv_machine.specs.Typing.{Failure, Faults, Aborts, TypeFault, DanglingFault, plain_tag, has_tag}
+use Rattle.mv_machine.specs.Step.{Here, Turn, OwnStruct, rule, move_to, keyed_struct, operand, as_signer, as_reference, follow, key_at, with_stack, with_storage, goes_on}
+use Rattle.mv_machine.specs.Flat.{FlatEntry, storage_of, value_under}
 use Rattle.mv_storage.specs.Map.{words_at, with_words}
 use Rattle.mv_frames.specs.Frames.{FrameState, held}
 use Rattle.mv_frames.specs.declared.operand.Operand.{Operand}
 use Rattle.mv_frames.specs.declared.operand.Operand.TheVariants.{Leaf as LeafOperand, Struct as StructOperand, Reference as ReferenceOperand}
 use Rattle.mv_interpreter.specs.declared.RunError.{RunError}
-use Rattle.mv_interpreter.specs.declared.RunError.TheVariants.{Memory, Broken}
-use Rattle.mv_interpreter.specs.Works.{Work, IsHome, IsFine, IsFineOperand, IsFineLocal, Represents, Matches, AreOfStruct, value_of, struct_on, signer_of, signer_on}
-use Rattle.mv_interpreter.proofs.Binds.{OnlyFaults, on_fault, on_need, on_found, on_part, goes_so}
+use Rattle.mv_interpreter.specs.declared.RunError.TheVariants.{Broken}
+use Rattle.mv_interpreter.specs.Works.{Work, IsHome, IsFine, IsFineOperand, IsFineLocal, Represents, Matches, value_of, struct_on, signer_of, signer_on}
+use Rattle.mv_interpreter.proofs.Binds.{OnlyFaults, on_need, on_found, on_part, goes_so}
 use Rattle.mv_interpreter.proofs.Lists.{on_some}
 use Rattle.mv_interpreter.proofs.Tests.{some_is, same_struct-is, eqb-same}
 use Rattle.mv_interpreter.proofs.Locals.{local_held, held-fine}
 use Rattle.mv_interpreter.proofs.Owning.{OwnIs, keyed-faults, keyed-is, found_is, ok_is}
-use Rattle.mv_interpreter.proofs.Stores.{key_test, struct_on-is}
+use Rattle.mv_interpreter.proofs.Stores.{key_test}
 
 -- ---- storage as words
 
-words_at_flat : (storage : Storage) (key : Key) → words_at (flat_storage storage) key ≡ option_map flat (stored_at storage key)
-words_at_flat [] key = refl
-words_at_flat (e ∷ es) key = by_case (same_key e.key key) (words_at_flat es key)
+-- a value is stored where words are
+there_as_words : (modules : List Module) (entries : List FlatEntry) (key : Key) → is_some (words_at entries key) ≡ is_some (stored_at (storage_of modules entries) key)
+there_as_words modules [] key = refl
+there_as_words modules (e ∷ es) key = by_case (same_key e.key key) (there_as_words modules es key)
   where
-    by_case : (b : Bool) → words_at (flat_storage es) key ≡ option_map flat (stored_at es key) → cond b (Some (flat e.value)) (words_at (flat_storage es) key) ≡ option_map flat (cond b (Some e.value) (stored_at es key))
+    by_case : (b : Bool) → is_some (words_at es key) ≡ is_some (stored_at (storage_of modules es) key)
+        → is_some (cond b (Some e.words) (words_at es key)) ≡ is_some (cond b (Some (value_under modules e.key e.words)) (stored_at (storage_of modules es) key))
     by_case true h = refl
     by_case false h = h
 
-with_words_flat : (storage : Storage) (key : Key) (v : Value) → flat_storage (with_stored storage key v) ≡ with_words (flat_storage storage) key (flat v)
-with_words_flat [] key v = refl
-with_words_flat (e ∷ es) key v = by_case (same_key e.key key) (key_before key e.key) (with_words_flat es key v)
+-- the value of the words is stored with them
+stored_as_words : (modules : List Module) (entries : List FlatEntry) (key : Key) (words : List ℕ) → with_stored (storage_of modules entries) key (value_under modules key words) ≡ storage_of modules (with_words entries key words)
+stored_as_words modules [] key words = refl
+stored_as_words modules (e ∷ es) key words = by_case (same_key e.key key) (key_before key e.key) (stored_as_words modules es key words)
   where
-    by_case : (a b : Bool) → flat_storage (with_stored es key v) ≡ with_words (flat_storage es) key (flat v)
-        → flat_storage (cond a (record { key = key; value = v } ∷ es) (cond b (record { key = key; value = v } ∷ e ∷ es) (e ∷ with_stored es key v)))
-        ≡ cond a ((record { key = key; words = flat v }) ∷ flat_storage es) (cond b ((record { key = key; words = flat v }) ∷ (record { key = e.key; words = flat e.value }) ∷ flat_storage es) ((record { key = e.key; words = flat e.value }) ∷ with_words (flat_storage es) key (flat v)))
+    v : Value
+    v = value_under modules key words
+
+    old : Value
+    old = value_under modules e.key e.words
+
+    by_case : (a b : Bool) → with_stored (storage_of modules es) key v ≡ storage_of modules (with_words es key words)
+        → cond a (record { key = key; value = v } ∷ storage_of modules es) (cond b (record { key = key; value = v } ∷ record { key = e.key; value = old } ∷ storage_of modules es) (record { key = e.key; value = old } ∷ with_stored (storage_of modules es) key v))
+        ≡ storage_of modules (cond a (record { key = key; words = words } ∷ es) (cond b (record { key = key; words = words } ∷ e ∷ es) (e ∷ with_words es key words)))
     by_case true b h = refl
     by_case false true h = refl
-    by_case false false h = ap (λ xs. (record { key = e.key; words = flat e.value }) ∷ xs) h
-
-is_some-flat : (o : Option Value) → is_some (option_map flat o) ≡ is_some o
-is_some-flat None = refl
-is_some-flat (Some v) = refl
+    by_case false false h = ap (λ (xs : Storage). record { key = e.key; value = old } ∷ xs) h
 
 -- ---- operands on the machine's stack
 
@@ -162,7 +166,7 @@ pub record Found (home : Module) (place i : ℕ) (w : Work) (struct : OwnStruct)
   pub words : List ℕ
   pub on : struct_on i w.frame.operands ≡ Some words
   pub signed : signer_on w.frame.locals (drop 1 w.frame.operands) ≡ Some address
-  pub flat_is : flat top ≡ words
+  pub value_is : top ≡ value_of modules place (StructOperand i words)
   pub rest_is : rest ≡ map (value_of modules place) (drop 1 (drop 1 w.frame.operands))
 
 -- the last test of the rule, and what it stores
@@ -201,7 +205,6 @@ module _ (modules : List Module) (home : Module) (function : FunctionDefinition)
           let followed : place_value s (record { root = Local 0 l; path = [] }) ≡ Some x = ap (λ (r : Reference). place_value s r.place) (sym reference.1.1.1) ∙ found_is (place_value s ref.place) (Faults DanglingFault) x x_is in
           let local = local_there l x followed in
           let leaf : local.0 ≡ LeafOperand Signer address = signer_operand modules place home at local.0 address (held-fine (IsFineLocal modules place) w.frame.locals l local.0 fine.locals local.1) (local.2 ∙ signed) in
-          let words_are : AreOfStruct modules place i value.0 = subst (λ (q : Operand). P q) value.1 o_fine in
           let mutable : reference.0 ≡ false = ap (λ (r : Reference). r.is_mutable) (sym reference.1.1.1) ∙ fixed in
           record {
             key = ap (λ (d : Option StructDefinition). option_map_or (λ (a : Abilities). a.key) (option_and_then (struct_abilities home) d) false) own.d_is ∙ ap (λ (a : Option Abilities). option_map_or (λ (a : Abilities). a.key) a false) own.able ∙ key;
@@ -209,7 +212,7 @@ module _ (modules : List Module) (home : Module) (function : FunctionDefinition)
             on = ap (struct_on i) is ∙ ap (λ (q : Operand). struct_on i (q ∷ p ∷ os)) value.1 ∙ ap (λ (b : Bool). cond b (Some value.0) None) (eqb-same i);
             signed = ap (λ (ops : List Operand). signer_on w.frame.locals (drop 1 ops)) is ∙ ap (λ (q : Operand). signer_on w.frame.locals (q ∷ os)) reference.1.1.0
                 ∙ ap (λ (b : Bool). cond b None (signer_of (held w.frame.locals l))) mutable ∙ ap signer_of local.1 ∙ ap (λ (q : Operand). signer_of (Some q)) leaf;
-            flat_is = ap flat (sym o_is ∙ ap (value_of modules place) value.1 ∙ words_are.value) ∙ words_are.leaves;
+            value_is = sym o_is ∙ ap (value_of modules place) value.1;
             rest_is = sym os_are ∙ ap (λ (ops : List Operand). map (value_of modules place) (drop 1 (drop 1 ops))) (sym is);
           }
         where
@@ -270,8 +273,13 @@ module _ (modules : List Module) (home : Module) (function : FunctionDefinition)
 
   there : (i address : ℕ) → is_some (words_at w.entries (key_of i address)) ≡ is_some (stored_at s.storage (key_at here i address))
   there i address =
-      ap (λ (es : List FlatEntry). is_some (words_at es (key_of i address))) (sym rep.stored) ∙ ap is_some (words_at_flat s.storage (key_of i address)) ∙ is_some-flat (stored_at s.storage (key_of i address))
+      there_as_words modules w.entries (key_of i address) ∙ ap (λ (es : Storage). is_some (stored_at es (key_of i address))) (sym rep.stored)
       ∙ ap (λ (k : Key). is_some (stored_at s.storage k)) (sym (key_is i address))
+
+  -- a struct operand's value is that of its words under a key of its struct
+  value_at_key : (i address : ℕ) (words : List ℕ) → value_of modules place (StructOperand i words) ≡ value_under modules (key_of i address) words
+  unfolding value_of
+  value_at_key i address words = refl
 
   address_so : (f1 : FrameState) (address other : ℕ) → f1 ≡ record (w.frame) { operands = drop 1 w.frame.operands } → signer_on f1.locals f1.operands ≡ Some address → signer_on w.frame.locals (drop 1 w.frame.operands) ≡ Some other → other ≡ address
   address_so f1 address other a signed found = some_is other address (sym found ∙ ap (λ (f : FrameState). signer_on f.locals f.operands) (sym a) ∙ signed)
@@ -300,10 +308,12 @@ module _ (modules : List Module) (home : Module) (function : FunctionDefinition)
       let words_are : words ≡ found.words = some_is words found.words (sym on ∙ found.on) in
       let frame_is : f3 ≡ record (w.frame) { next = w.frame.next + 1; operands = drop 1 (drop 1 w.frame.operands) } =
       c ∙ ap (λ (g : FrameState). record g { next = g.next + 1 }) (b ∙ ap (λ (g : FrameState). record g { operands = drop 1 g.operands }) a) in
-      let entries_are : entries ≡ flat_storage (with_stored s.storage (key_at here i other) top) =
-      put ∙ ap (λ (n : ℕ). with_words w.entries (record { address = address; place = n; index = i }) words) p_is ∙ ap (with_words w.entries (key_of i address)) (words_are ∙ sym found.flat_is)
-      ∙ ap (λ (es : List FlatEntry). with_words es (key_of i address) (flat top)) (sym rep.stored) ∙ ap (λ (n : ℕ). with_words (flat_storage s.storage) (key_of i n) (flat top)) (sym same)
-      ∙ ap (λ (k : Key). with_words (flat_storage s.storage) k (flat top)) (sym (key_is i other)) ∙ sym (with_words_flat s.storage (key_at here i other) top) in
+      let top_is : top ≡ value_under modules (key_of i address) words = found.value_is ∙ ap (λ (ws : List ℕ). value_of modules place (StructOperand i ws)) (sym words_are) ∙ value_at_key i address words in
+      let key_same : key_at here i other ≡ key_of i address = key_is i other ∙ ap (key_of i) same in
+      let put_so : entries ≡ with_words w.entries (key_of i address) words = put ∙ ap (λ (n : ℕ). with_words w.entries (record { address = address; place = n; index = i }) words) p_is in
+      let entries_are : with_stored s.storage (key_at here i other) top ≡ storage_of modules entries =
+      ap (λ (es : Storage). with_stored es (key_at here i other) top) rep.stored ∙ ap (λ (k : Key). with_stored (storage_of modules w.entries) k top) key_same
+      ∙ ap (with_stored (storage_of modules w.entries) (key_of i address)) top_is ∙ stored_as_words modules w.entries (key_of i address) words ∙ ap (storage_of modules) (sym put_so) in
       subst (λ (t : Bool). Matches modules (need (not t) (Aborts AlreadyThere 0) >> goes_on (with_stack (with_storage s (with_stored s.storage (key_at here i other) top)) rest)) (Ok None) new) (sym empty)
       (goes_so modules _ (goes_on (with_stack (with_storage s (with_stored s.storage (key_at here i other) top)) rest)) new (record { frame = record (w.frame) { next = w.frame.next + 1; operands = drop 1 (drop 1 w.frame.operands) }; entries = entries; tally = w.tally }) refl
       (ap (λ (f : FrameState). record { frame = f; entries = entries; tally = w.tally }) frame_is) (record {
@@ -313,6 +323,6 @@ module _ (modules : List Module) (home : Module) (function : FunctionDefinition)
         locals = rep.locals;
         stack = found.rest_is;
         alone = rep.alone;
-        stored = sym entries_are;
+        stored = entries_are;
         counted = rep.counted;
       })))

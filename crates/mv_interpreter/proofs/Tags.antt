@@ -1,5 +1,5 @@
 -- Tags of a module's types: where one isn't found that is a fault.
-use Rattle.std.proofs.Common.{◌≡◌, ℕ, Bool, true, false, List, [], ◌∷◌, refl, Option, Some, None, Result, Ok, Err}
+use Rattle.std.proofs.Common.{ℕ, Bool, true, false, List, Option, Some, None, Result, Ok, Err}
 use Rattle.std.specs.Prelude.{ok_or, slice_get}
 use Rattle.mv_move_types.specs.declared.token.Abilities.{Abilities}
 use Rattle.mv_move_types.specs.declared.token.ValueType.{ValueType}
@@ -11,7 +11,7 @@ use Rattle.mv_move_types.specs.AbilitySets.{same_abilities}
 use Rattle.mv_move_types.specs.Names.{StructName}
 use Rattle.mv_move_types.specs.Named.{declared}
 use Rattle.mv_move_types.specs.Module.{Module, struct_name}
-use Rattle.mv_move_types.specs.Tags.{Tag, StructTag}
+use Rattle.mv_move_types.specs.Tags.{StructTag}
 use Rattle.mv_move_types.specs.Results.{◌>>=◌, ◌>>◌, need}
 use Rattle.mv_machine.specs.Typing.{Fault, Failure, Aborts, Faults, LinkageFault, struct_tag, value_type_tag, tag_named}
 use Rattle.mv_interpreter.proofs.Binds.{OnlyFaults}

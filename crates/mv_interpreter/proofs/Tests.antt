@@ -1,5 +1,5 @@
 -- What the tests of names and kinds mean.
-use Rattle.std.proofs.Common.{◌≡◌, ℕ, Bool, true, false, List, [], ◌∷◌, refl, sym, ap, ap₂, ◌∙◌, subst, eqb, Some}
+use Rattle.std.proofs.Common.{◌≡◌, ℕ, Bool, true, false, List, refl, sym, ap, ap₂, subst, eqb, Some}
 use Rattle.std.specs.Prelude.{◌&&◌}
 use Rattle.std.specs.Cmp.{first_so, second_so}
 use Rattle.std.specs.Str.{bytes_eq}

@@ -1,5 +1,5 @@
 -- Struct values whose fields are leaves.
-use Rattle.std.proofs.Common.{◌≡◌, ℕ, suc, Bool, true, false, cond, List, [], ◌∷◌, ◌++◌, map, reverse, length, take, drop, refl, sym, ap, subst, ◌∙◌, Option, Some, None}
+use Rattle.std.proofs.Common.{◌≡◌, ℕ, suc, Bool, true, false, cond, List, [], ◌∷◌, ◌++◌, map, reverse, length, take, refl, sym, ap, subst, ◌∙◌, Option, Some}
 use Rattle.std.specs.Prelude.{slice_get, All, IsTrue, ◌&&◌, unwrap_or}
 use Rattle.std.specs.List.{list_all}
 use Rattle.std.specs.Option.{option_map_or}
@@ -11,22 +11,21 @@ use Rattle.mv_move_types.specs.declared.token.LeafKind.TheVariants.{Boolean, Num
 use Rattle.mv_move_types.specs.declared.token.ValueType.TheVariants.{OfLeaf, OfStruct}
 use Rattle.mv_move_types.specs.declared.token.Token.{Token}
 use Rattle.mv_move_types.specs.declared.token.Token.TheVariants.{Plain, Reference, MutableReference}
-use Rattle.mv_move_types.specs.Tokens.{same_kind}
-use Rattle.mv_move_types.specs.Names.{StructName, same_struct}
+use Rattle.mv_move_types.specs.Names.{StructName}
 use Rattle.mv_move_types.specs.Module.{Module, StructDefinition, name_of_struct, name_at}
 use Rattle.mv_move_types.specs.Named.{definition_of}
 use Rattle.mv_move_types.specs.Options.{◌>>=◌}
 use Rattle.mv_module_text.specs.Fits.{token_fits, field_fits, struct_definition_fits, is_index}
 use Rattle.std.specs.Prelude.{nat_le}
 use Rattle.mv_signatures.specs.Signatures.{may_be_field}
-use Rattle.mv_machine.specs.Value.{Value, Values, Leaf, Struct, NoMore, More, fields_of}
+use Rattle.mv_machine.specs.Value.{Value, Values, Leaf, Struct, fields_of}
 use Rattle.mv_machine.specs.Flat.{flat, flat_fields, value_from, fields_from, struct_from}
-use Rattle.mv_machine.specs.Typed.{leaf_fits, is_of_type, are_of_types, is_of_struct}
+use Rattle.mv_machine.specs.Typed.{leaf_fits, is_of_type, are_of_types}
 use Rattle.mv_frames.specs.declared.operand.Operand.{Operand}
 use Rattle.mv_frames.specs.declared.operand.Operand.TheVariants.{Leaf as LeafOperand, Struct as StructOperand, Reference as ReferenceOperand}
 use Rattle.mv_interpreter.specs.Runs.{number_fits}
-use Rattle.mv_interpreter.specs.Works.{Work, IsHome, IsOwn, IsFine, IsFineOperand, AreOfStruct, value_of, is_leaf_of, are_leaves_of, number_of}
-use Rattle.mv_interpreter.proofs.Tests.{same_kind-is, same_struct-same, both, some_is}
+use Rattle.mv_interpreter.specs.Works.{IsHome, IsOwn, IsFineOperand, AreOfStruct, value_of, is_leaf_of, are_leaves_of, number_of}
+use Rattle.mv_interpreter.proofs.Tests.{same_kind-is, same_struct-same, both}
 use Rattle.mv_interpreter.proofs.Lists.{then_found, each, All-reverse}
 
 -- whether a type is a leaf that a field may have

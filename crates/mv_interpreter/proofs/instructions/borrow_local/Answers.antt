@@ -1,5 +1,3 @@
-use Rattle.std.proofs.Common.{ap, sym, ◌∙◌}
-use Rattle.mv_interpreter.specs.Works.{Work}
 use Rattle.mv_interpreter.proofs.Locals.{lost_borrow, borrowed, none_held}
 use Rattle.mv_interpreter.proofs.instructions.borrow_local.Goals as goal
 

@@ -1,5 +1,5 @@
 -- The tallies before the one that is looked at are of other structs.
-use Rattle.std.proofs.Common.{refl, sym, ap, ◌∙◌, ◌≤◌, ◌<◌, ◌≡◌, ◌-◌, ◌^◌, length, arith}
+use Rattle.std.proofs.Common.{sym, ap, ◌∙◌, ◌≤◌, ◌-◌, ◌^◌, length, arith}
 use Rattle.mv_interpreter.specs.Works.{with_pack}
 use Rattle.mv_interpreter.proofs.Counting.{passed_more, counted_at, counted_new, fits_at}
 use Rattle.mv_interpreter.proofs.instructions.count_pack.Goals as goal

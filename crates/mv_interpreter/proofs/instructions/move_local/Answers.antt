@@ -1,5 +1,4 @@
-use Rattle.std.proofs.Common.{ap, sym, ◌∙◌}
-use Rattle.mv_interpreter.specs.Works.{Work}
+use Rattle.std.proofs.Common.{sym, ◌∙◌}
 use Rattle.mv_interpreter.proofs.Locals.{lost, moved, moved-fine}
 use Rattle.mv_interpreter.proofs.instructions.move_local.Goals as goal
 

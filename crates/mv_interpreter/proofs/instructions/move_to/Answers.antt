@@ -2,7 +2,6 @@ use Rattle.std.proofs.Common.{sym, ◌∙◌, ap}
 use Rattle.mv_move_types.specs.declared.tables.Definition.{Definition}
 use Rattle.mv_storage.specs.Map.{with_words}
 use Rattle.mv_frames.specs.Frames.{FrameState}
-use Rattle.mv_interpreter.specs.Works.{Work}
 use Rattle.mv_interpreter.proofs.Stores.{put-fine, given_up-fine}
 use Rattle.mv_interpreter.proofs.Storing.{no_key, no_value, no_signer, already, stored}
 use Rattle.mv_interpreter.proofs.instructions.move_to.Goals as goal

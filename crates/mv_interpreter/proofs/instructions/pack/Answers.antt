@@ -1,6 +1,6 @@
 use Rattle.std.proofs.Common.{length, refl, ap, ◌∙◌}
 use Rattle.mv_move_types.specs.declared.tables.Definition.{Definition}
-use Rattle.mv_interpreter.specs.Works.{Work, with_pack}
+use Rattle.mv_interpreter.specs.Works.{with_pack}
 use Rattle.mv_interpreter.proofs.Packs.{packed_so, packed-fine}
 use Rattle.mv_interpreter.proofs.Packing.{no_struct, too_few, no_leaves, packed}
 use Rattle.mv_interpreter.proofs.instructions.pack.Goals as goal

@@ -1,4 +1,4 @@
-use Rattle.std.proofs.Common.{◌≡◌, map, take, ◌++◌, replicate, Some, None}
+use Rattle.std.proofs.Common.{◌≡◌, map, take, Some}
 use Rattle.mv_frames.specs.declared.operand.Operand.TheVariants.{Leaf}
 use Rattle.mv_interpreter.specs.declared.Arg.{Arg}
 use Rattle.mv_interpreter.specs.Works.{locals_for}

@@ -1,8 +1,5 @@
-use Rattle.std.proofs.Common.{ap, sym, ◌∙◌, List, Some, None, length, []}
+use Rattle.std.proofs.Common.{ap, sym, ◌∙◌, []}
 use Rattle.std.specs.Prelude.{slice_get}
-use Rattle.mv_interpreter.specs.declared.Arg.{Arg}
-use Rattle.mv_frames.specs.Frames.{FrameState}
-use Rattle.mv_interpreter.specs.Works.{locals_for}
 use Rattle.mv_interpreter.proofs.Beginning.{function_there, no_others, begins_at}
 use Rattle.mv_interpreter.proofs.starting.start.Goals as goal
 
