@@ -5,12 +5,32 @@ mod rows;
 
 use crate::engine::{EngineError, engine};
 use fakes::{Pieces, Room};
-use mv_ledger::Ledger;
-use rows::{REFUSED, RUNS, Row};
+use mv_ledger::{Ledger, Reply};
+use rows::{NUMBERED, NUMBERED_REST, REFUSED, RUNS, Row};
 use std::alloc::Global;
+use std::io::ErrorKind;
 use std::test::Fail;
 
 const MANY: usize = usize::MAX;
+
+// Errors of readers and writers, one that other programs would try again among them.
+const KINDS: [ErrorKind; 6] = [
+    ErrorKind::Interrupted,
+    ErrorKind::WouldBlock,
+    ErrorKind::UnexpectedEof,
+    ErrorKind::BrokenPipe,
+    ErrorKind::OutOfMemory,
+    ErrorKind::Other,
+];
+
+// What a writer without room does: it takes nothing, or fails.
+const FULL: [Option<ErrorKind>; 5] = [
+    None,
+    Some(ErrorKind::Interrupted),
+    Some(ErrorKind::WouldBlock),
+    Some(ErrorKind::OutOfMemory),
+    Some(ErrorKind::Other),
+];
 
 // The bytes of an input.
 fn bytes_of(alloc: Global, row: &Row) -> Result<Vec<u8>, Fail> {
@@ -26,6 +46,7 @@ fn whole(bytes: &[u8]) -> Pieces<'_> {
         bytes,
         each: MANY,
         until: MANY,
+        error: ErrorKind::Other,
     }
 }
 
@@ -34,7 +55,7 @@ fn room(alloc: Global) -> Room {
         taken: Vec::new(alloc),
         each: MANY,
         room: MANY,
-        fails: true,
+        error: None,
     }
 }
 
@@ -77,18 +98,21 @@ fn failed_reads_end_it(rt: HostRuntime) -> Result<(), Fail> {
     let row = &RUNS[1];
     let bytes = bytes_of(rt.alloc(), row)?;
     for (until, written) in [(0, 0), (123, 0), (124, 14), (125, 14), (176, 27)] {
-        let mut reader = Pieces {
-            until,
-            ..whole(bytes.as_slice())
-        };
-        let mut writer = room(rt.alloc());
-        let mut ledger = Ledger::new(rt.alloc());
-        let result = engine(rt.alloc(), &mut reader, &mut writer, &mut ledger);
-        assert_eq!(rt; result, Err(EngineError::Read));
-        assert_eq!(rt;
-            Some(writer.taken.as_slice()),
-            row.report.as_bytes().get(..written)
-        );
+        for error in KINDS {
+            let mut reader = Pieces {
+                until,
+                error,
+                ..whole(bytes.as_slice())
+            };
+            let mut writer = room(rt.alloc());
+            let mut ledger = Ledger::new(rt.alloc());
+            let result = engine(rt.alloc(), &mut reader, &mut writer, &mut ledger);
+            assert_eq!(rt; result, Err(EngineError::Read));
+            assert_eq!(rt;
+                Some(writer.taken.as_slice()),
+                row.report.as_bytes().get(..written)
+            );
+        }
     }
     Ok(())
 }
@@ -98,11 +122,11 @@ fn failed_writes_end_it(rt: HostRuntime) -> Result<(), Fail> {
     let row = &RUNS[1];
     let bytes = bytes_of(rt.alloc(), row)?;
     for left in [0, 3, 16] {
-        for fails in [false, true] {
+        for error in FULL {
             let mut reader = whole(bytes.as_slice());
             let mut writer = Room {
                 room: left,
-                fails,
+                error,
                 ..room(rt.alloc())
             };
             let mut ledger = Ledger::new(rt.alloc());
@@ -113,6 +137,27 @@ fn failed_writes_end_it(rt: HostRuntime) -> Result<(), Fail> {
                 row.report.as_bytes().get(..left)
             );
         }
+    }
+    Ok(())
+}
+
+#[test]
+fn full_ledgers_take_no_module(rt: HostRuntime) -> Result<(), Fail> {
+    let start = hex::decode(rt.alloc(), NUMBERED)?;
+    let rest = hex::decode(rt.alloc(), NUMBERED_REST)?;
+    let mut ledger = Ledger::new(rt.alloc());
+    for n in 0..=4096 {
+        let digits = format!(in rt.alloc(); "{n:04}")?;
+        let mut payload = start.clone()?;
+        payload.extend_from_slice(digits.as_bytes())?;
+        payload.extend_from_slice(rest.as_slice())?;
+        let reply = ledger.publish(payload.as_slice());
+        let wanted = if n < 4096 {
+            Reply::Published(1)
+        } else {
+            Reply::Refused(14)
+        };
+        assert_eq!(rt; reply, wanted, "at {n}");
     }
     Ok(())
 }

@@ -5,12 +5,13 @@ ghost use Rattle.std.specs.Prelude.{Some};
 use std::io;
 use std::io::{ErrorKind, Read, Write};
 
-/// A reader over memory that gives at most `each` bytes a call, and fails once it has given `until`.
+/// A reader over memory that gives at most `each` bytes a call, and fails with `error` once it has given `until`.
 #[derive(Drop)]
 pub struct Pieces<'a> {
     pub bytes: &'a [u8],
     pub each: usize,
     pub until: usize,
+    pub error: ErrorKind,
 }
 
 impl Read for Pieces<'_> {
@@ -19,7 +20,7 @@ impl Read for Pieces<'_> {
 
     fn read(&mut self, buf: &mut [u8]) -> io::Result<usize> {
         if self.until == 0 {
-            return Err(io::Error::from(ErrorKind::Other));
+            return Err(io::Error::from(self.error));
         }
         let most = self
             .each
@@ -35,13 +36,14 @@ impl Read for Pieces<'_> {
     }
 }
 
-/// A writer into memory that takes at most `each` bytes a call and `room` bytes in all. Then it fails, or takes nothing.
+/// A writer into memory that takes at most `each` bytes a call and `room` bytes in all. Then it fails with `error`, or
+/// takes nothing.
 #[derive(Drop)]
 pub struct Room {
     pub taken: Vec<u8>,
     pub each: usize,
     pub room: usize,
-    pub fails: bool,
+    pub error: Option<ErrorKind>,
 }
 
 impl Write for Room {
@@ -49,10 +51,10 @@ impl Write for Room {
 
     fn write(&mut self, buf: &[u8]) -> io::Result<usize> {
         if self.room == 0 {
-            if self.fails {
-                return Err(io::Error::from(ErrorKind::Other));
-            }
-            return Ok(0);
+            return match self.error {
+                Some(kind) => Err(io::Error::from(kind)),
+                None => Ok(0),
+            };
         }
         let most = self.each.min(self.room).min(buf.len());
         self.taken.extend_from_slice(&buf[..most])?;

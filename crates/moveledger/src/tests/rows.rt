@@ -40,8 +40,20 @@ const TWO_ONES: &str = "00000000000000000000000000000001000000000000000000000000
 // What mint is called with: the signer and the number 7.
 const SEVEN: &str = "01030700000000000000";
 
+// The payload of a record that publishes a module with nothing in it, whose name is M and four digits: the bytes before
+// the digits and behind them.
+pub const NUMBERED: &str =
+    "00000000000000000000000000000001012ba11ceb0b05000000030100020702060808100000054d";
+
+pub const NUMBERED_REST: &str = "000000000000000000000000000000010000";
+
+// Sixteen types u64, and thirteen zeros.
+const U64S: &str = "03030303030303030303030303030303";
+
+const ZEROS: &str = "00000000000000000000000000";
+
 /// Inputs that are published, run, rejected and exhausted.
-pub const RUNS: [Row; 5] = [
+pub const RUNS: [Row; 11] = [
     Row {
         input: &[PUBLISH_39, NAME_ALONE, NAME_ALONE_REST, "0000"],
         report: "1 published 1\n",
@@ -148,10 +160,110 @@ pub const RUNS: [Row; 5] = [
         ],
         report: "1 published 1\n2 refused 1\n",
     },
+    // Nothing, and an input that ends where a record does.
+    Row {
+        input: &[],
+        report: "",
+    },
+    Row {
+        input: &[
+            PUBLISH_99,
+            TABLES,
+            HANDLES,
+            SIGNATURES,
+            NAMES,
+            COIN,
+            MINT,
+            MINT_CODE,
+            ITSELF,
+            CERTIFICATE,
+        ],
+        report: "1 published 1\n",
+    },
+    // A kind that no record has, one that none has yet, and a run without a payload.
+    Row {
+        input: &["0902aabb04000200"],
+        report: "1 refused 1\n2 refused 1\n3 rejected 1\n",
+    },
+    // Payloads of runs: a byte more, a bool that is none, a signer as an argument, seventeen arguments.
+    Row {
+        input: &[
+            PUBLISH_99,
+            TABLES,
+            HANDLES,
+            SIGNATURES,
+            NAMES,
+            COIN,
+            MINT,
+            MINT_CODE,
+            ITSELF,
+            CERTIFICATE,
+            "0233",
+            TWO_ONES,
+            "014d046d696e7464",
+            SEVEN,
+            "00",
+            "022b",
+            TWO_ONES,
+            "014d046d696e7464",
+            "010102",
+            "023a",
+            TWO_ONES,
+            "014d046d696e7464",
+            "010c00000000000000000000000000000001",
+            "024b",
+            TWO_ONES,
+            "014d046d696e7464",
+            "1101000100010001000100010001000100010001000100010001000100010001000100",
+        ],
+        report: "1 published 1\n2 rejected 1\n3 rejected 1\n4 rejected 1\n5 rejected 1\n",
+    },
+    // A function that is no entry.
+    Row {
+        input: &[
+            PUBLISH_99,
+            TABLES,
+            HANDLES,
+            SIGNATURES,
+            NAMES,
+            COIN,
+            "000100000005",
+            MINT_CODE,
+            ITSELF,
+            CERTIFICATE,
+            "0232",
+            TWO_ONES,
+            "014d046d696e7464",
+            SEVEN,
+        ],
+        report: "1 published 1\n2 rejected 5\n",
+    },
+    // As many locals as a function may have.
+    Row {
+        input: &[
+            "01d60100000000000000000000000000000001018001",
+            "a11ceb0b0500000006010002030205050742074904084d100c5d07",
+            "000000010000000040",
+            U64S,
+            U64S,
+            U64S,
+            U64S,
+            "014d01660000000000000000000000000000000100010400010102004201",
+            ZEROS,
+            ZEROS,
+            ZEROS,
+            ZEROS,
+            ZEROS,
+            "0226",
+            TWO_ONES,
+            "014d01666400",
+        ],
+        report: "1 published 1\n2 returned 1\n",
+    },
 ];
 
 /// Inputs whose records are refused, each for another reason.
-pub const REFUSED: [Row; 21] = [
+pub const REFUSED: [Row; 25] = [
     // No module, and two.
     Row {
         input: &["01110000000000000000000000000000000100"],
@@ -180,6 +292,15 @@ pub const REFUSED: [Row; 21] = [
     // The longest payload that a record may have, and none of it.
     Row {
         input: &["0180808010"],
+        report: "1 refused 1\n",
+    },
+    // A payload too long, and a length that isn't the shortest: each ends the report.
+    Row {
+        input: &["01818080100400"],
+        report: "1 refused 1\n",
+    },
+    Row {
+        input: &["0181000400"],
         report: "1 refused 1\n",
     },
     // Kinds that no record has.
@@ -298,6 +419,25 @@ pub const REFUSED: [Row; 21] = [
         ],
         report: "1 refused 5\n",
     },
+    // A local more than a function may have.
+    Row {
+        input: &[
+            "01d90100000000000000000000000000000001018201",
+            "a11ceb0b0500000006010002030205050744074b04084f100c5f07",
+            "0000000100010001030040",
+            U64S,
+            U64S,
+            U64S,
+            U64S,
+            "014d0166000000000000000000000000000000010001040002010200430101",
+            ZEROS,
+            ZEROS,
+            ZEROS,
+            ZEROS,
+            ZEROS,
+        ],
+        report: "1 refused 5\n",
+    },
     // Code that ends without a return.
     Row {
         input: &[
@@ -358,6 +498,22 @@ pub const REFUSED: [Row; 21] = [
             MINT_CODE,
             ITSELF,
             "050101010000",
+        ],
+        report: "1 refused 9\n",
+    },
+    // A certificate with an edge, to a local that is no reference.
+    Row {
+        input: &[
+            "018001000000000000000000000000000000010163",
+            TABLES,
+            HANDLES,
+            SIGNATURES,
+            NAMES,
+            COIN,
+            MINT,
+            MINT_CODE,
+            ITSELF,
+            "0a01010101010000010000",
         ],
         report: "1 refused 9\n",
     },
