@@ -1,0 +1,44 @@
+/* Loaded before a program: counts its requests for memory, and refuses some. REFUSE_FROM is the number of the first that is
+   refused, counted from 1, and REFUSE_TO that of the last. With REFUSE_FROM=0 none is, and at the end their count goes to
+   standard error. */
+#include <errno.h>
+#include <stdio.h>
+#include <stdlib.h>
+
+extern void *__libc_malloc(size_t);
+extern void *__libc_calloc(size_t, size_t);
+extern void *__libc_realloc(void *, size_t);
+extern void *__libc_memalign(size_t, size_t);
+
+static long from, to, met;
+
+static long given(const char *name) {
+    char *text = getenv(name);
+    return text ? atol(text) : -1;
+}
+
+static void __attribute__((constructor)) begin(void) {
+    from = given("REFUSE_FROM");
+    to = given("REFUSE_TO");
+    met = 0;
+}
+
+static void __attribute__((destructor)) end(void) {
+    long count = met;
+    if (from == 0) dprintf(2, "%ld\n", count);
+}
+
+static int is_refused(void) {
+    ++met;
+    return from > 0 && from <= met && met <= to;
+}
+
+void *malloc(size_t n) { return is_refused() ? NULL : __libc_malloc(n); }
+void *calloc(size_t n, size_t size) { return is_refused() ? NULL : __libc_calloc(n, size); }
+void *realloc(void *old, size_t n) { return is_refused() ? NULL : __libc_realloc(old, n); }
+void *aligned_alloc(size_t alignment, size_t n) { return is_refused() ? NULL : __libc_memalign(alignment, n); }
+int posix_memalign(void **out, size_t alignment, size_t n) {
+    void *made = is_refused() ? NULL : __libc_memalign(alignment, n);
+    if (made) *out = made;
+    return made ? 0 : ENOMEM;
+}
