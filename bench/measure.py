@@ -1,5 +1,5 @@
-"""Writes the inputs of the measurements into a folder, or measures there. Each number is the best of several tries, since
-whatever else the machine does only makes a try slower."""
+"""Writes the inputs of the measurements into a folder, or measures there. Each time is the least of several tries, since
+whatever else the machine does only makes a try slower; the tries of all measurements take turns."""
 
 import subprocess
 import sys
@@ -8,26 +8,42 @@ from pathlib import Path
 
 import inputs
 
+ROUNDS = 15
+
 # The steps of the longest run, those of them before anything is stored, and so many runs that a million are made.
 STEPS, STEPS_THAT_STORE_NOTHING = 61, 45
 RUNS = -(-1_000_000 // STEPS)
-TRIES = 15
+
+# The streams with the number of lines in their reports, and how the last of these ends.
+STREAMS = {
+    "nothing": (0, ""),
+    "small": (1, "published 1"),
+    "large": (1, "published 1"),
+    "mints1000": (1_001, "returned 5"),
+    "mints10000": (10_001, "returned 5"),
+    "modules400": (400, "published 1"),
+    "modules4000": (4_000, "published 1"),
+    "modules4000mints10000": (14_001, "returned 5"),
+}
 
 
 def write(folder):
-    modules = {"large": inputs.many_functions(255), "small": inputs.many_functions(28)}
-    files = {f"{size}.module": module for size, (module, _) in modules.items()}
-    for size, bundle in modules.items():
-        files[f"{size}.stream"] = inputs.record(1, inputs.publish_payload(*bundle))
-    files["longest.bundle"] = inputs.publish_payload(*inputs.longest_run())
+    small, large = inputs.many_functions(28), inputs.many_functions(255)
+    files = {
+        "small.module": small[0],
+        "large.module": large[0],
+        "longest.bundle": inputs.publish_payload(*inputs.longest_run()),
+        "nothing.stream": b"",
+        "small.stream": inputs.record(1, inputs.publish_payload(*small)),
+        "large.stream": inputs.record(1, inputs.publish_payload(*large)),
+        "mints1000.stream": inputs.mints(1_000),
+        "mints10000.stream": inputs.mints(10_000),
+        "modules400.stream": inputs.modules(400),
+        "modules4000.stream": inputs.modules(4_000),
+        "modules4000mints10000.stream": inputs.modules(4_000) + inputs.mints(10_000),
+    }
     for budget in 0, STEPS_THAT_STORE_NOTHING, STEPS:
         files[f"budget{budget}.run"] = inputs.run_payload(0, "fill", budget, 15)
-    files["none.stream"] = b""
-    for count in 1_000, 10_000:
-        files[f"mints{count}.stream"] = inputs.mints(count)
-    for count in 400, 4_000:
-        files[f"modules{count}.stream"] = inputs.modules(count)
-    files["behind.stream"] = inputs.modules(4_000) + inputs.mints(10_000)
     for name, data in files.items():
         (folder / name).write_bytes(data)
 
@@ -39,60 +55,74 @@ def clocked(folder, *words):
     return [tuple(map(int, line.split())) for line in out.splitlines()]
 
 
-def decoding(folder):
-    best, size = {}, {}
-    for kind, times in ("large", 300), ("small", 3000):
-        size[kind] = (folder / f"{kind}.module").stat().st_size
-        best[kind] = min(clocked(folder, "decode", f"{kind}.module", str(times)))[0]
-        print(f"decode: {size[kind]} bytes in {best[kind] / 1e3:.1f} us, {size[kind] / best[kind] * 1e3:.1f} MB/s")
-    print(f"decode: {size['large'] / size['small']:.2f} times the bytes take {best['large'] / best['small']:.2f} times the time")
+def decode(folder, size, times):
+    """The least seconds of so many decodings of a module."""
+    return min(clocked(folder, "decode", f"{size}.module", str(times)))[0] / 1e9
 
 
-def running(folder):
-    best = {}
+def run(folder, budget):
+    """The seconds that the runs take, each with this budget."""
+    ((spent, steps),) = clocked(folder, "run", "longest.bundle", f"budget{budget}.run", str(RUNS))
+    assert steps == budget * RUNS
+    return spent / 1e9
+
+
+def apply(folder, stream):
+    """The least seconds that the program takes for a stream. The report goes to a file."""
+    program, (lines, last) = folder / "crates/moveledger/out/moveledger", STREAMS[stream]
+    tries = []
+    for _ in range(5):
+        with open(folder / "report.txt", "wb") as out:
+            start = time.perf_counter()
+            subprocess.run([program, "apply", f"{stream}.stream"], check=True, stdout=out, cwd=folder)
+            tries.append(time.perf_counter() - start)
+    report = (folder / "report.txt").read_text().splitlines()
+    assert len(report) == lines and (not lines or report[-1] == f"{lines} {last}"), report[-1:]
+    return min(tries)
+
+
+def measure(folder):
+    tasks = {("decode", "large"): lambda: decode(folder, "large", 50), ("decode", "small"): lambda: decode(folder, "small", 500)}
     for budget in 0, STEPS_THAT_STORE_NOTHING, STEPS:
-        tries = [clocked(folder, "run", "longest.bundle", f"budget{budget}.run", str(RUNS))[0] for _ in range(TRIES)]
-        best[budget], steps = min(tries)
-        assert steps == budget * RUNS
-        print(f"run: {RUNS} runs with {steps} steps in {best[budget] / 1e6:.1f} ms, {best[budget] / RUNS / 1e3:.2f} us a run")
-    start = best[0]
-    for budget, what in (STEPS, "all"), (STEPS_THAT_STORE_NOTHING, "those before the first is stored"):
-        rate = budget * RUNS / (best[budget] - start) * 1e3
-        print(f"run: {rate:.1f} million steps a second, of {what}, less the runs without a step")
-    print(f"run: {STEPS * RUNS / best[STEPS] * 1e3:.1f} million steps a second, with what a run is beside its steps")
-
-
-def applied(folder, stream, lines, last):
-    """The least seconds that applying a stream takes. Its report has so many lines and ends so."""
-    program = folder / "crates/moveledger/out/moveledger"
-    best = None
-    for _ in range(TRIES):
-        start = time.perf_counter()
-        ended = subprocess.run([program, "apply", stream], check=True, capture_output=True, text=True, cwd=folder)
-        spent = time.perf_counter() - start
-        report = ended.stdout.splitlines()
-        assert len(report) == lines and (not lines or report[-1] == f"{lines} {last}"), report[-1:]
-        best = min(best or spent, spent)
+        tasks["run", budget] = lambda budget=budget: run(folder, budget)
+    for stream in STREAMS:
+        tasks["apply", stream] = lambda stream=stream: apply(folder, stream)
+    best = {}
+    for _ in range(ROUNDS):
+        for task, take in tasks.items():
+            best[task] = min(best.get(task, float("inf")), take())
     return best
 
 
-def applying(folder):
-    start = applied(folder, "none.stream", 0, "")
-    print(f"apply: nothing in {start * 1e3:.2f} ms, taken off what follows")
-    for size in "small", "large":
-        spent = applied(folder, f"{size}.stream", 1, "published 1") - start
-        print(f"apply: the {size} module is published in {spent * 1e3:.2f} ms")
-    kinds = ("mints", (1_000, 10_000), 1, "returned 5"), ("modules", (400, 4_000), 0, "published 1")
-    for kind, counts, others, last in kinds:
-        each = []
-        for count in counts:
-            spent = applied(folder, f"{kind}{count}.stream", count + others, last) - start
-            each.append(spent / count)
-            print(f"apply: {count} {kind} in {spent * 1e3:.1f} ms, {count / spent:.0f} a second")
-        print(f"apply: one of {counts[1]} {kind} takes {each[1] / each[0]:.2f} times one of {counts[0]}")
-    before = applied(folder, "modules4000.stream", 4_000, "published 1")
-    spent = applied(folder, "behind.stream", 14_001, "returned 5") - before
-    print(f"apply: 10000 mints behind 4000 modules in {spent * 1e3:.1f} ms, {10_000 / spent:.0f} a second")
+def tell_decoding(folder, best):
+    size = {kind: (folder / f"{kind}.module").stat().st_size for kind in ("large", "small")}
+    for kind, count in size.items():
+        spent = best["decode", kind]
+        print(f"decode: {count} bytes in {spent * 1e6:.1f} us, {count / spent / 1e6:.0f} MB/s")
+    times = best["decode", "large"] / best["decode", "small"]
+    print(f"decode: {size['large'] / size['small']:.1f} times the bytes take {times:.1f} times the time")
+
+
+def tell_running(best):
+    start = best["run", 0]
+    print(f"run: {RUNS} runs of no step in {start * 1e3:.1f} ms, {start / RUNS * 1e6:.2f} us each")
+    for budget, what in (STEPS_THAT_STORE_NOTHING, "that store nothing"), (STEPS, "with all that they store"):
+        spent, steps = best["run", budget], budget * RUNS
+        print(f"run: {RUNS} runs of {budget} steps {what} in {spent * 1e3:.1f} ms: {steps / spent / 1e6:.1f} million steps a "
+              f"second, {steps / (spent - start) / 1e6:.1f} million less the runs of no step")
+
+
+def tell_applying(best):
+    spent = {stream: best["apply", stream] - best["apply", "nothing"] for stream in STREAMS}
+    print(f"apply: {best['apply', 'nothing'] * 1e3:.2f} ms for nothing, taken off what follows")
+    print(f"apply: the small module published in {spent['small'] * 1e3:.2f} ms, the large one in {spent['large'] * 1e3:.2f} ms")
+    for kind, few, many in ("mints", 1_000, 10_000), ("modules", 400, 4_000):
+        each = {count: spent[f"{kind}{count}"] / count for count in (few, many)}
+        for count, one in each.items():
+            print(f"apply: {count} {kind}, {1 / one:.0f} a second, {one * 1e6:.2f} us each")
+        print(f"apply: one of {many} {kind} takes {each[many] / each[few]:.2f} times one of {few}")
+    behind = (spent["modules4000mints10000"] - spent["modules4000"]) / 10_000
+    print(f"apply: 10000 mints behind 4000 modules, {1 / behind:.0f} a second, {behind * 1e6:.2f} us each")
 
 
 def main():
@@ -100,9 +130,10 @@ def main():
     if task == "write":
         write(folder)
         return
-    decoding(folder)
-    running(folder)
-    applying(folder)
+    best = measure(folder)
+    tell_decoding(folder, best)
+    tell_running(best)
+    tell_applying(best)
 
 
 main()
