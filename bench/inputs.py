@@ -38,8 +38,9 @@ def module(tables):
 
 
 def module_of(parameters, structs, functions, identifiers):
-    """The module M at the address 1. A struct has the names of its u64 fields; a function has its code, as a list of
-    instructions, and takes `parameters` after a signer. All are named by their places behind the first identifier."""
+    """A module at the address 1. A struct has the places of its u64 fields' names; a function has its code, as a list of
+    instructions, and takes `parameters` u64s after a signer. The identifiers are the names of the module, the structs and
+    the functions in this order, and others."""
     first_function = 1 + len(structs)
     return module({
         0x01: number(0) + number(0),
@@ -66,11 +67,11 @@ def store(struct):
     return [bytes([MOVE_TO]) + number(struct)]
 
 
-def many_functions(count):
-    """A module of so many structs and functions, some 250 bytes for each pair, and its certificate. Only the first of a
-    function's fourteen blocks is reached."""
+def many_functions(count, own="M"):
+    """A module of this name with so many structs and functions, some 250 bytes for each pair, and its certificate. Only
+    the first of a function's fourteen blocks is reached."""
     blocks = 14
-    identifiers = ["M"] + [f"S{i}" for i in range(count)] + [f"f{i}" for i in range(count)] + ["a", "b", "c"]
+    identifiers = [own] + [f"S{i}" for i in range(count)] + [f"f{i}" for i in range(count)] + ["a", "b", "c"]
     a = len(identifiers) - 3
     functions = [(pack(i, [1, 2, 3]) + store(i) + [bytes([RET])]) * blocks for i in range(count)]
     certificate = (b"\1" + b"\1" * 4 + b"\0" + b"\0" * (blocks - 1)) * count
@@ -117,3 +118,9 @@ def modules(count):
     """A stream that publishes so many modules with nothing in them."""
     texts = (module({1: b"\0\0", 7: name(f"M{n}"), 8: ONE}) for n in range(count))
     return join(record(1, publish_payload(text, b"")) for text in texts)
+
+
+def large_modules(count):
+    """A stream that publishes so many modules with 255 structs and functions each."""
+    bundles = (many_functions(255, f"M{n}") for n in range(count))
+    return join(record(1, publish_payload(*bundle)) for bundle in bundles)

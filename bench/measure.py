@@ -24,6 +24,8 @@ STREAMS = {
     "modules400": (400, "published 1"),
     "modules4000": (4_000, "published 1"),
     "modules4000mints10000": (14_001, "returned 5"),
+    "large100": (100, "published 1"),
+    "large100mints10000": (10_101, "returned 5"),
 }
 
 
@@ -41,6 +43,8 @@ def write(folder):
         "modules400.stream": inputs.modules(400),
         "modules4000.stream": inputs.modules(4_000),
         "modules4000mints10000.stream": inputs.modules(4_000) + inputs.mints(10_000),
+        "large100.stream": inputs.large_modules(100),
+        "large100mints10000.stream": inputs.large_modules(100) + inputs.mints(10_000),
     }
     for budget in 0, STEPS_THAT_STORE_NOTHING, STEPS:
         files[f"budget{budget}.run"] = inputs.run_payload(0, "fill", budget, 15)
@@ -82,7 +86,9 @@ def apply(folder, stream):
 
 
 def measure(folder):
-    tasks = {("decode", "large"): lambda: decode(folder, "large", 50), ("decode", "small"): lambda: decode(folder, "small", 500)}
+    tasks = {}
+    for size, times in ("large", 50), ("small", 500):
+        tasks["decode", size] = lambda size=size, times=times: decode(folder, size, times)
     for budget in 0, STEPS_THAT_STORE_NOTHING, STEPS:
         tasks["run", budget] = lambda budget=budget: run(folder, budget)
     for stream in STREAMS:
@@ -121,8 +127,9 @@ def tell_applying(best):
         for count, one in each.items():
             print(f"apply: {count} {kind}, {1 / one:.0f} a second, {one * 1e6:.2f} us each")
         print(f"apply: one of {many} {kind} takes {each[many] / each[few]:.2f} times one of {few}")
-    behind = (spent["modules4000mints10000"] - spent["modules4000"]) / 10_000
-    print(f"apply: 10000 mints behind 4000 modules, {1 / behind:.0f} a second, {behind * 1e6:.2f} us each")
+    for before, what in ("modules4000", "4000 empty modules"), ("large100", "100 large modules"):
+        one = (spent[f"{before}mints10000"] - spent[before]) / 10_000
+        print(f"apply: 10000 mints behind {what}, {1 / one:.0f} a second, {one * 1e6:.2f} us each")
 
 
 def main():
