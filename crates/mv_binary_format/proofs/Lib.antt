@@ -9,3 +9,4 @@ pub mod OfTables
 pub mod Complete
 pub mod Back
 pub mod Ordered
+pub mod Fitting

@@ -2,7 +2,7 @@
 
 ghost use Rattle.std.specs.Prelude.{◌≡◌, ◌≤◌, ◌-◌, ◌++◌, ◌∷◌, [], List, nat_lt, cond, OnOk, IfOk, Ok, Err, Some, map, flat_map};
 ghost use Rattle.mv_module_text.specs.Entries.{module_handle_text, struct_handle_text, function_handle_text, signature_text, identifier_text, address_text, struct_definition_text, function_definition_text};
-ghost use Rattle.mv_binary_format.specs.ModuleText.{Table, table, header_text, ordered_text, HasText, IsModuleText};
+ghost use Rattle.mv_binary_format.specs.ModuleText.{Table, table, header_text, ordered_text, IsModuleText};
 ghost use Rattle.mv_module_text.specs.Laws.{AreBytes};
 ghost use Rattle.mv_binary_format.specs.Parsing.{module_of};
 ghost use Rattle.mv_binary_format.specs.Kinds.{table_code};
@@ -217,15 +217,16 @@ fn write(alloc: Global, m: &Module<'_>) -> Result<Vec<u8>, AllocError>
 }
 
 /// The text of a module whose headers and tables stand in ascending order of kind; tables without entries are left out.
-/// Where the module may be written at all, as each that `decode` answered, `decode` reads it again.
+/// `decode` reads it again as the same module.
 ///
 /// # Errors
 /// Where memory runs out.
 pub fn encode(alloc: Global, m: &Module<'_>) -> Result<Vec<u8>, AllocError>
     ensures ordered { IfOk result (λ v. v.items ≡ ordered_text m.now) }
-    ensures text { IfOk result (λ v. HasText m.now → IsModuleText v.items m.now) }
-    ensures read_back { IfOk result (λ v. HasText m.now → module_of v.items ≡ Some m.now) }
+    ensures text { IfOk result (λ v. IsModuleText v.items m.now) }
+    ensures read_back { IfOk result (λ v. module_of v.items ≡ Some m.now) }
 {
+    m.has_text();
     modules_are_read_by_text();
     write(alloc, m)
 }

@@ -55,6 +55,7 @@ fn read<'a>(alloc: Global, bytes: &'a [u8]) -> Result<Module<'a>, Refusal>
     if !reader.is_empty() {
         return Err(Refusal::Phase(2));
     }
+    modules_are_read_by_text();
     Module::read(alloc, own, tables)
 }
 

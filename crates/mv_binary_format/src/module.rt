@@ -1,8 +1,10 @@
 // A module as its tables.
-ghost use Rattle.std.specs.Prelude.{◌≡◌, ◌<◌, ℕ, List, length, slice_get, map, option_map, Option, Some, None, OnSome, IfSome, IsTrue, nat_le, Ok, Err, IfOk, IfErr, ◌⊎◌};
+ghost use Rattle.std.specs.Prelude.{◌≡◌, ◌<◌, ◌≤◌, ℕ, List, length, slice_get, map, option_map, Option, Some, None, OnSome, IfSome, IsTrue, nat_le, Ok, Err, IfOk, IfErr, ◌⊎◌};
 ghost use Rattle.std.specs.List.{list_all};
 ghost use Rattle.mv_binary_format.specs.Parsing.{module_from};
 ghost use Rattle.mv_binary_format.specs.Tables.{tables_of};
+ghost use Rattle.mv_binary_format.specs.ModuleText.{HasText};
+ghost use Rattle.mv_move_types.specs.Module.{Module as Tables};
 ghost use Rattle.mv_module_text.specs.Fits.{signature_fits, struct_definition_fits, function_definition_fits};
 
 use super::contents::Table;
@@ -14,7 +16,8 @@ use std::marker::Model;
 // The most functions that a module defines.
 const MOST_FUNCTIONS: usize = 256;
 
-/// A module as `decode` answered it. Names and code are slices of its bytes; its model is the record of its tables.
+/// A module as `decode` answered it. Names and code are slices of its bytes; its model is the record of its tables,
+/// each part of which has a text.
 #[derive(Drop)]
 pub struct Module<'a> {
     module_handles: Vec<ModuleHandle>,
@@ -29,10 +32,9 @@ pub struct Module<'a> {
 }
 
 impl<'a> Model for Module<'a> {
-    ghost use Rattle.std.specs.Prelude.{map, length, IsTrue, nat_le};
-    ghost use Rattle.std.specs.List.{list_all};
-    ghost use Rattle.mv_module_text.specs.Fits.{signature_fits, struct_definition_fits, function_definition_fits};
+    ghost use Rattle.std.specs.Prelude.{map};
     ghost use Rattle.mv_move_types.specs.Module.{Module as Tables};
+    ghost use Rattle.mv_binary_format.specs.ModuleText.{HasText};
 
     ghost Value = { Tables };
 
@@ -48,16 +50,14 @@ impl<'a> Model for Module<'a> {
       own = m.own;
     } };
 
-    ghost invariant = { λ m. IsTrue (list_all struct_definition_fits m.structs.items)
-        × IsTrue (list_all function_definition_fits m.functions.items)
-        × IsTrue (nat_le (length m.functions.items) 256)
-        × IsTrue (list_all signature_fits (map (λ s. s.items) m.signatures.items)) };
+    ghost invariant = { λ m. HasText (view m) };
 }
 
 impl<'a> Module<'a> {
-    // Reads the entries of its tables, of which no kind stands twice.
+    // Reads the entries of its tables, of which no kind stands twice. The module that they spell has to have a text.
     #[tactic(auto, unfolding(crate::specs::Parsing::module_from))]
     pub(crate) fn read(alloc: Global, own: u16, mut tables: Vec<Table<'a>>) -> Result<Self, Refusal>
+        requires { (m : Tables) → module_from own (tables_of tables.items) ≡ Some m → HasText m }
         ensures ok { IfOk result (λ m. module_from own (tables_of tables.entry.items) ≡ Some m) }
         ensures refused { result ≡ Err (Refusal.Phase 2) → module_from own (tables_of tables.entry.items) ≡ None }
         ensures errors { IfErr result (λ e. (e ≡ Refusal.Phase 2) ⊎ (e ≡ Refusal.Memory)) }
@@ -157,10 +157,11 @@ impl<'a> Module<'a> {
         &self.addresses
     }
 
-    /// The structs that it defines.
+    /// The structs that it defines, at most 65,536.
     pub fn structs(&self) -> &[StructDefinition]
         ensures value { result.now ≡ self.now.structs }
         ensures fits { IsTrue (list_all struct_definition_fits self.now.structs) }
+        ensures few { length self.now.structs ≤ 65536 }
     {
         &self.structs
     }
@@ -172,6 +173,13 @@ impl<'a> Module<'a> {
         ensures few { IsTrue (nat_le (length self.now.functions) 256) }
     {
         &self.functions
+    }
+
+    /// Each of its parts has a text, and so the whole module has one.
+    pub fn has_text(&self)
+        ensures { HasText self.now }
+    {
+        let _own = &self.own;
     }
 
     /// The index of its own module handle.

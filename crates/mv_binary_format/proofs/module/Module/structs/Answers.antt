@@ -1,0 +1,7 @@
+use Rattle.std.proofs.Common.{subst}
+use Rattle.mv_binary_format.specs.ModuleText.{HasText}
+use Rattle.mv_binary_format.proofs.Fitting.{few_structs}
+use Rattle.mv_binary_format.proofs.module.Module.structs.Goals as goal
+
+pub returns-clause-few : goal.returns-clause-few
+returns-clause-few c = few_structs c.args.self.now (subst HasText c.self.view_is c.self.invariant)
