@@ -2,6 +2,7 @@
 
 use super::{code, decode, encode};
 use mv_move_types::{Instruction, Refusal};
+use std::alloc::AllocError;
 use std::test::Fail;
 
 // A module with a name alone, at the address 1.
@@ -103,5 +104,100 @@ fn writes_what_it_read(rt: HostRuntime) -> Result<(), Fail> {
     assert_eq!(rt; encode(rt.alloc(), &empty)?.as_slice(), EMPTY.as_slice());
     let coin = decode(rt.alloc(), &COIN)?;
     assert_eq!(rt; encode(rt.alloc(), &coin)?.as_slice(), COIN.as_slice());
+    Ok(())
+}
+
+// The text of a module whose headers and contents are a front and so many copies of a part, and whose own handle is 0.
+fn text_of(
+    rt: &HostRuntime,
+    front: &[u8],
+    part: &[u8],
+    copies: usize,
+) -> Result<Vec<u8>, AllocError> {
+    let mut text = Vec::from_slice(rt.alloc(), &EMPTY[..8])?;
+    text.extend_from_slice(front)?;
+    for _ in 0..copies {
+        text.extend_from_slice(part)?;
+    }
+    text.push(0x00)?;
+    Ok(text)
+}
+
+// Whether the module that the bytes are the text of is written as these bytes.
+fn is_read_back(rt: &HostRuntime, bytes: &[u8]) -> Result<bool, Fail> {
+    let m = decode(rt.alloc(), bytes)?;
+    Ok(encode(rt.alloc(), &m)?.as_slice() == bytes)
+}
+
+#[test]
+fn takes_contents_of_65536_bytes_at_most(rt: HostRuntime) -> Result<(), Fail> {
+    // Signatures of no types, a byte each.
+    let most = text_of(&rt, &[1, 0x05, 0x00, 0x80, 0x80, 0x04], &[0x00], 65536)?;
+    assert!(rt; is_read_back(&rt, &most)?);
+    let more = text_of(&rt, &[1, 0x05, 0x00, 0x81, 0x80, 0x04], &[0x00], 65537)?;
+    assert!(rt; is_refused(&rt, &more));
+    // The same behind a module handle of two bytes.
+    let front = [2, 0x01, 0x00, 0x02, 0x05, 0x02, 0xFE, 0xFF, 0x03];
+    let most = text_of(&rt, &front, &[0x00], 65536)?;
+    assert!(rt; is_read_back(&rt, &most)?);
+    let front = [2, 0x01, 0x00, 0x02, 0x05, 0x02, 0xFF, 0xFF, 0x03];
+    let more = text_of(&rt, &front, &[0x00], 65537)?;
+    assert!(rt; is_refused(&rt, &more));
+    Ok(())
+}
+
+#[test]
+fn takes_256_functions_of_4096_instructions_at_most(rt: HostRuntime) -> Result<(), Fail> {
+    // Functions without instructions, six bytes each.
+    let most = text_of(&rt, &[1, 0x0C, 0x00, 0x80, 0x0C], &[0x00; 6], 256)?;
+    assert!(rt; is_read_back(&rt, &most)?);
+    let more = text_of(&rt, &[1, 0x0C, 0x00, 0x86, 0x0C], &[0x00; 6], 257)?;
+    assert!(rt; is_refused(&rt, &more));
+    // A function of so many `Ret`.
+    let front = [1, 0x0C, 0x00, 0x87, 0x20, 0, 0, 0, 0, 0, 0x80, 0x20];
+    let most = text_of(&rt, &front, &[0x02], 4096)?;
+    assert!(rt; is_read_back(&rt, &most)?);
+    let front = [1, 0x0C, 0x00, 0x88, 0x20, 0, 0, 0, 0, 0, 0x81, 0x20];
+    let more = text_of(&rt, &front, &[0x02], 4097)?;
+    assert!(rt; is_refused(&rt, &more));
+    Ok(())
+}
+
+#[test]
+fn takes_names_of_128_bytes_at_most(rt: HostRuntime) -> Result<(), Fail> {
+    let most = text_of(&rt, &[1, 0x07, 0x00, 0x82, 0x01, 0x80, 0x01], b"a", 128)?;
+    assert!(rt; is_read_back(&rt, &most)?);
+    let more = text_of(&rt, &[1, 0x07, 0x00, 0x83, 0x01, 0x81, 0x01], b"a", 129)?;
+    assert!(rt; is_refused(&rt, &more));
+    Ok(())
+}
+
+#[test]
+fn takes_32_fields_and_64_types_at_most(rt: HostRuntime) -> Result<(), Fail> {
+    let front = [1, 0x0A, 0x00, 0x43, 0x00, 0x02, 32];
+    let most = text_of(&rt, &front, &[0x00, 0x03], 32)?;
+    assert!(rt; is_read_back(&rt, &most)?);
+    let front = [1, 0x0A, 0x00, 0x45, 0x00, 0x02, 33];
+    let more = text_of(&rt, &front, &[0x00, 0x03], 33)?;
+    assert!(rt; is_refused(&rt, &more));
+    let most = text_of(&rt, &[1, 0x05, 0x00, 0x41, 64], &[0x03], 64)?;
+    assert!(rt; is_read_back(&rt, &most)?);
+    let more = text_of(&rt, &[1, 0x05, 0x00, 0x42, 65], &[0x03], 65)?;
+    assert!(rt; is_refused(&rt, &more));
+    Ok(())
+}
+
+#[test]
+fn takes_numbers_up_to_their_greatest(rt: HostRuntime) -> Result<(), Fail> {
+    // The name of a module handle, an index.
+    let most = text_of(&rt, &[1, 0x01, 0x00, 0x04, 0x00], &[0xFF, 0xFF, 0x03], 1)?;
+    assert!(rt; is_read_back(&rt, &most)?);
+    let more = text_of(&rt, &[1, 0x01, 0x00, 0x04, 0x00], &[0x80, 0x80, 0x04], 1)?;
+    assert!(rt; is_refused(&rt, &more));
+    // The abilities of a struct handle.
+    let most = text_of(&rt, &[1, 0x02, 0x00, 0x04, 0x00, 0x00], &[0x0F, 0x00], 1)?;
+    assert!(rt; is_read_back(&rt, &most)?);
+    let more = text_of(&rt, &[1, 0x02, 0x00, 0x04, 0x00, 0x00], &[0x10, 0x00], 1)?;
+    assert!(rt; is_refused(&rt, &more));
     Ok(())
 }
