@@ -119,8 +119,14 @@ block_goes rule m d b = option_map_or (λ known. is_some (through rule m d (inst
 abbrev pub flow_goes : {S : Type 0} → Rule S → Module → FunctionDefinition → List (Option S) → Bool
 flow_goes rule m d stated = list_all (block_goes rule m d) (zip (blocks d.code) stated)
 
+-- the stated availabilities meet every need in every function
+abbrev pub locals_needs_are_met : Module → Certificate → Bool
+locals_needs_are_met m c = each_function (λ d stated. flow_goes locals_after m d (map (option_map (λ k. k.locals)) stated)) m.functions c
+
+-- the stated edges meet every need in every function
+abbrev pub edges_needs_are_met : Module → Certificate → Bool
+edges_needs_are_met m c = each_function (λ d stated. flow_goes edges_after m d (map (option_map (λ k. k.edges)) stated)) m.functions c
+
 -- the stated availabilities and the stated edges meet every need in every function
 abbrev pub all_needs_are_met : Module → Certificate → Bool
-all_needs_are_met m c =
-    each_function (λ d stated. flow_goes locals_after m d (map (option_map (λ k. k.locals)) stated)) m.functions c
-    && each_function (λ d stated. flow_goes edges_after m d (map (option_map (λ k. k.edges)) stated)) m.functions c
+all_needs_are_met m c = locals_needs_are_met m c && edges_needs_are_met m c

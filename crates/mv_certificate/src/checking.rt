@@ -1,8 +1,11 @@
 // Whether what a certificate states of a module's functions holds.
 
-ghost use Rattle.std.specs.Prelude.{◌≡◌, ◌<◌, ◌⊎◌, length, map, option_map, slice_get, Some, IfOk, IfErr, OnOk};
+ghost use Rattle.std.specs.Prelude.{◌≡◌, ◌<◌, ◌⊎◌, length, map, option_map, slice_get, Some, IfOk, IfErr, OnOk, IsTrue};
+ghost use Rattle.mv_move_types.specs.Refusals.{IsRefusedIn};
 ghost use Rattle.mv_acquires.specs.Acquires.{AcquiresHold};
 ghost use Rattle.mv_certificate.specs.Answers.{IsRefusedByCertificate};
+ghost use Rattle.mv_certificate.specs.Certificate.{Certificate, locals_needs_are_met, edges_needs_are_met, all_needs_are_met};
+ghost use Rattle.mv_certificate.specs.Needs.{LocalsMetAt, EdgesMetAt, LocalsRestAt, EdgesRestAt, LocalsAtRest, EdgesAtRest};
 ghost use Rattle.mv_certificate.specs.Shape.{AllStatedFit};
 ghost use Rattle.mv_certificate.specs.Reads.{FitsAt};
 
@@ -18,7 +21,7 @@ use std::alloc::{AllocError, Global};
 
 /// A flow that is not accepted is refused in the phase.
 fn refusal_in(phase: u8, e: StepError) -> Refusal
-    ensures { (result ≡ Refusal.Phase phase) ⊎ (result ≡ Refusal.Memory) }
+    ensures { ((result ≡ Refusal.Phase phase) × (e ≡ StepError.Need)) ⊎ (result ≡ Refusal.Memory) }
 {
     match e {
         StepError::Need => Refusal::Phase(phase),
@@ -60,7 +63,8 @@ fn edges_of(alloc: Global, stated: &Stated) -> Result<Vec<Option<Edges>>, AllocE
 fn check_locals_of(alloc: Global, m: &Typed<'_>, f: usize, stated: &Stated) -> Result<(), Refusal>
     requires inside { f < length m.now.functions }
     requires fits { FitsAt m.now f stated.now }
-    ensures { IfErr result (λ e. (e ≡ Refusal.Phase 10) ⊎ (e ≡ Refusal.Memory)) }
+    ensures met { OnOk result (LocalsMetAt m.now f stated.now) }
+    ensures refused { IfErr result (IsRefusedIn 10 (LocalsRestAt m.now f stated.now)) }
 {
     let domain = LocalsDomain::of_function(alloc, m, f)?;
     let start = domain.start(alloc)?;
@@ -77,7 +81,8 @@ fn check_locals_of(alloc: Global, m: &Typed<'_>, f: usize, stated: &Stated) -> R
 fn check_edges_of(alloc: Global, m: &Typed<'_>, f: usize, stated: &Stated) -> Result<(), Refusal>
     requires inside { f < length m.now.functions }
     requires fits { FitsAt m.now f stated.now }
-    ensures { IfErr result (λ e. (e ≡ Refusal.Phase 11) ⊎ (e ≡ Refusal.Memory)) }
+    ensures met { OnOk result (EdgesMetAt m.now f stated.now) }
+    ensures refused { IfErr result (IsRefusedIn 11 (EdgesRestAt m.now f stated.now)) }
 {
     let domain = BorrowDomain::of_function(alloc, m, f)?;
     let start = domain.start(alloc);
@@ -102,7 +107,8 @@ fn stated_of(c: &Cert, f: usize) -> &Stated
 fn stated_at<'t>(m: &Typed<'_>, c: &'t Cert, f: usize) -> &'t Stated
     requires shape { AllStatedFit m.now m.now.functions c.now }
     requires inside { f < length m.now.functions }
-    ensures { FitsAt m.entry.now f result.now }
+    ensures at { slice_get c.entry.now f ≡ Some result.now }
+    ensures fits { FitsAt m.entry.now f result.now }
 {
     stated_of(c, f)
 }
@@ -110,7 +116,8 @@ fn stated_at<'t>(m: &Typed<'_>, c: &'t Cert, f: usize) -> &'t Stated
 /// Tries the stated availabilities of each function.
 fn try_locals(alloc: Global, m: &Typed<'_>, c: &Cert) -> Result<(), Refusal>
     requires { AllStatedFit m.now m.now.functions c.now }
-    ensures { IfErr result (λ e. (e ≡ Refusal.Phase 10) ⊎ (e ≡ Refusal.Memory)) }
+    ensures met { OnOk result (IsTrue (locals_needs_are_met m.now c.now)) }
+    ensures refused { IfErr result (IsRefusedIn 10 (LocalsAtRest m.now c.now)) }
 {
     let count = shape::function_count(m);
     for f in 0..count {
@@ -123,7 +130,8 @@ fn try_locals(alloc: Global, m: &Typed<'_>, c: &Cert) -> Result<(), Refusal>
 /// Tries the stated edges of each function.
 fn try_edges(alloc: Global, m: &Typed<'_>, c: &Cert) -> Result<(), Refusal>
     requires { AllStatedFit m.now m.now.functions c.now }
-    ensures { IfErr result (λ e. (e ≡ Refusal.Phase 11) ⊎ (e ≡ Refusal.Memory)) }
+    ensures met { OnOk result (IsTrue (edges_needs_are_met m.now c.now)) }
+    ensures refused { IfErr result (IsRefusedIn 11 (EdgesAtRest m.now c.now)) }
 {
     let count = shape::function_count(m);
     for f in 0..count {
@@ -136,15 +144,18 @@ fn try_edges(alloc: Global, m: &Typed<'_>, c: &Cert) -> Result<(), Refusal>
 /// Phase 10: the stated availabilities of each function are a flow of its locals.
 pub fn check_locals(alloc: Global, m: &Typed<'_>, c: &Cert) -> Result<(), Refusal>
     requires { AllStatedFit m.now m.now.functions c.now }
-    ensures { IfErr result (IsRefusedByCertificate m.now) }
+    ensures met { OnOk result (IsTrue (locals_needs_are_met m.now c.now)) }
+    ensures refused { IfErr result (IsRefusedByCertificate m.now c.now) }
 {
     try_locals(alloc, m, c)
 }
 
 /// Phase 11: the stated edges of each function are a flow of its borrow graph.
 pub fn check_edges(alloc: Global, m: &Typed<'_>, c: &Cert) -> Result<(), Refusal>
-    requires { AllStatedFit m.now m.now.functions c.now }
-    ensures { IfErr result (IsRefusedByCertificate m.now) }
+    requires shape { AllStatedFit m.now m.now.functions c.now }
+    requires locals { IsTrue (locals_needs_are_met m.now c.now) }
+    ensures met { OnOk result (IsTrue (all_needs_are_met m.now c.now)) }
+    ensures refused { IfErr result (IsRefusedByCertificate m.now c.now) }
 {
     try_edges(alloc, m, c)
 }
@@ -152,7 +163,7 @@ pub fn check_edges(alloc: Global, m: &Typed<'_>, c: &Cert) -> Result<(), Refusal
 /// Phase 12: the acquires list of each function is right.
 pub fn check_acquires(m: &Typed<'_>) -> Result<(), Refusal>
     ensures ok { OnOk result (AcquiresHold m.now) }
-    ensures refused { IfErr result (IsRefusedByCertificate m.now) }
+    ensures refused { IfErr result (λ e. (c : Certificate) → IsTrue (all_needs_are_met m.now c) → IsRefusedByCertificate m.now c e) }
 {
     mv_acquires::check(m.bounded())
 }

@@ -7,8 +7,9 @@ mod reading;
 mod shape;
 mod writing;
 
-ghost use Rattle.std.specs.Prelude.{◌≡◌, IfOk, IfErr, ◌⊎◌};
+ghost use Rattle.std.specs.Prelude.{◌≡◌, IfOk, IfErr, OnOk, IsTrue, ◌⊎◌};
 ghost use Rattle.mv_certificate.specs.Shape.{AllStatedFit};
+ghost use Rattle.mv_certificate.specs.Certificate.{all_needs_are_met};
 ghost use Rattle.mv_certificate.specs.CertificateText.{certificate_text, IsCertificateText};
 ghost use Rattle.mv_certificate.specs.Answers.{IsRefusedByCertificate};
 
@@ -80,7 +81,8 @@ pub fn encode(alloc: Global, c: &Cert) -> Result<Vec<u8>, AllocError>
 pub fn check<'a>(alloc: Global, m: Typed<'a>, c: &Cert) -> Result<Verified<'a>, Refusal>
     requires shape { AllStatedFit m m.functions c.now }
     ensures ok { IfOk result (λ v. v ≡ m.entry) }
-    ensures refused { IfErr result (IsRefusedByCertificate m.entry) }
+    ensures needs { OnOk result (IsTrue (all_needs_are_met m.entry c.now)) }
+    ensures refused { IfErr result (IsRefusedByCertificate m.entry c.now) }
 {
     checking::check_locals(alloc, &m, c)?;
     checking::check_edges(alloc, &m, c)?;

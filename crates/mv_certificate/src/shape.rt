@@ -1,10 +1,11 @@
 // What a certificate's edges may lead from and to.
 
-ghost use Rattle.std.specs.Prelude.{◌≡◌, length, ◌<◌, Some, slice_get, option_map, nat_lt};
+ghost use Rattle.std.specs.Prelude.{◌≡◌, length, ◌<◌, Some, slice_get, option_map, nat_lt, IsTrue};
 ghost use Rattle.std.specs.List.{list_all};
 ghost use Rattle.mv_cfg.specs.FlowGraph.{IsFlowGraph};
 ghost use Rattle.mv_move_types.specs.Module.{local_tokens};
 ghost use Rattle.mv_type_states.specs.TypeRules.{local_type as type_of_local};
+ghost use Rattle.mv_type_states.specs.TypesHold.{function_is_typed};
 ghost use Rattle.mv_borrow_graph.specs.BorrowRules.{is_mutable_token, is_reference_token};
 ghost use Rattle.mv_certificate.specs.Shape.{is_source, is_target, edge_fits};
 
@@ -21,10 +22,11 @@ pub fn function_count(m: &Typed<'_>) -> usize
     m.module().functions().len()
 }
 
-/// The definition of function `f`.
+/// The definition of function `f`, which is well typed.
 pub fn function_at<'t, 'm>(m: &'t Typed<'m>, f: usize) -> &'t FunctionDefinition<'m>
     requires { f < length m.now.functions }
-    ensures { slice_get m.entry.now.functions f ≡ Some result.now }
+    ensures at { slice_get m.entry.now.functions f ≡ Some result.now }
+    ensures typed { IsTrue (function_is_typed m.entry.now result.now) }
 {
     &m.module().functions()[f]
 }

@@ -6,5 +6,5 @@ pub returns-clause-ok : goal.returns-clause-ok
 returns-clause-ok c =
     IfOk-weaker c.read_stated.result _ _
     (λ ks h. function-at c.args.m.now c.module-module.result.now c.args.f c.function_at-function.result.now c.graph_of-graph.result.now c.deref.result.now c.args.reader.now c.read_stated.new.reader ks
-    c.module-module.ensures.value c.deref.ensures.value c.function_at-function.ensures c.graph_of-graph.ensures h)
+    c.module-module.ensures.value c.deref.ensures.value c.function_at-function.ensures.at c.graph_of-graph.ensures h)
     c.read_stated.ensures.ok
