@@ -6,3 +6,5 @@ pub mod Refusals
 pub mod Carried
 pub mod SameEdges
 pub mod Needs
+pub mod Whole
+pub mod Functions

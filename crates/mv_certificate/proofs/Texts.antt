@@ -27,11 +27,11 @@ use Rattle.mv_certificate.specs.CertificateText.{availability_code, node_text, e
 use Rattle.mv_certificate.specs.Parsing.{availability_of, availability_from, node_of, node_from, openness_of, openness_from, label_from, edge_from, edges_from, known_from, block_from, stated_from}
 
 -- an availability's byte alone
-abbrev availability_text : Availability → List ℕ
+abbrev pub availability_text : Availability → List ℕ
 availability_text a = availability_code a ∷ []
 
 -- whatever it is
-abbrev any : {A : Type 0} → A → Bool
+abbrev pub any : {A : Type 0} → A → Bool
 any x = true
 
 availability_of-parts : (code : ℕ) (a : Availability) → availability_of code ≡ Some a → code ∷ [] ≡ availability_text a
@@ -86,7 +86,7 @@ node-parts bytes rest v ok e =
     (subst (λ z. Front z bytes index.1) r.0 (Front-join (kind.0 ∷ []) (uleb index.0) bytes kind.1 index.1 p q.0)) r.1)))
 
 -- a field position
-abbrev is_small : ℕ → Bool
+abbrev pub is_small : ℕ → Bool
 is_small i = nat_lt i 32
 
 position-parts : Parts (number_from 31) uleb is_small
@@ -95,14 +95,14 @@ position-parts bytes rest n ok e =
     (p.0, le-leb (suc n) 32 (omega (arith, p.1)))
 
 -- field positions
-abbrev path_fits : List ℕ → Bool
+abbrev pub path_fits : List ℕ → Bool
 path_fits path = nat_le (length path) 8 && list_all is_small path
 
 path-parts : Parts (counted_from 8 (number_from 31)) (counted uleb) path_fits
 path-parts = counted-parts 8 (number_from 31) uleb is_small (omega arith) position-parts
 
 -- a label's openness
-abbrev openness_text : Bool → List ℕ
+abbrev pub openness_text : Bool → List ℕ
 openness_text b = cond b 1 0 ∷ []
 
 openness_of-parts : (code : ℕ) (b : Bool) → openness_of code ≡ Some b → code ∷ [] ≡ openness_text b
@@ -123,10 +123,10 @@ openness-parts bytes rest v ok e =
     Front-as openness_text any bytes code.1 rest b v e2 (subst (λ z. Front z bytes code.1) (openness_of-parts code.0 b b_is) p) refl))
 
 -- a label's bytes, and whether it may be written
-abbrev label_text : Label → List ℕ
+abbrev pub label_text : Label → List ℕ
 label_text l = counted uleb l.path ++ openness_text l.is_open
 
-abbrev label_fits : Label → Bool
+abbrev pub label_fits : Label → Bool
 label_fits l = path_fits l.path
 
 label-parts : Parts label_from label_text label_fits
@@ -139,7 +139,7 @@ label-parts bytes rest v ok e =
     (Front-join (counted uleb path.0) (openness_text b.0) bytes path.1 b.1 p.0 q.0) p.1))
 
 -- an edge's text, part by part
-edge_as : (e : Edge) → (node_text e.from ++ node_text e.to) ++ label_text e.label ≡ edge_text e
+pub edge_as : (e : Edge) → (node_text e.from ++ node_text e.to) ++ label_text e.label ≡ edge_text e
 edge_as e = sym (append_assoc (node_text e.from ++ node_text e.to) (counted uleb e.label.path) (openness_text e.label.is_open))
 
 pub edge-parts : (m : Module) (d : FunctionDefinition) → Parts (edge_from m d) edge_text (edge_fits m d)
@@ -157,7 +157,7 @@ edge-parts m d bytes rest v ok e =
     Front-as edge_text (edge_fits m d) bytes l.1 rest edge v (ap Some s.1) (subst (λ z. Front z bytes l.1) (edge_as edge) whole) s.0)))
 
 -- edges that are few, fit and ascend
-abbrev edges_fit : Module → FunctionDefinition → List Edge → Bool
+abbrev pub edges_fit : Module → FunctionDefinition → List Edge → Bool
 edges_fit m d es = (nat_le (length es) 1024 && list_all (edge_fits m d) es) && are_ascending es
 
 pub edges-parts : (m : Module) (d : FunctionDefinition) → Parts (edges_from m d) (counted edge_text) (edges_fit m d)

@@ -7,9 +7,9 @@ mod reading;
 mod shape;
 mod writing;
 
-ghost use Rattle.std.specs.Prelude.{◌≡◌, IfOk, IfErr, OnOk, IsTrue, ◌⊎◌};
+ghost use Rattle.std.specs.Prelude.{◌≡◌, Err, IfOk, IfErr, OnOk, IsTrue, ◌⊎◌};
 ghost use Rattle.mv_certificate.specs.Shape.{AllStatedFit};
-ghost use Rattle.mv_certificate.specs.Certificate.{all_needs_are_met};
+ghost use Rattle.mv_certificate.specs.Certificate.{Certificate, all_needs_are_met};
 ghost use Rattle.mv_certificate.specs.CertificateText.{certificate_text, IsCertificateText};
 ghost use Rattle.mv_certificate.specs.Answers.{IsRefusedByCertificate};
 
@@ -53,9 +53,10 @@ impl<'a> Verified<'a> {
     }
 }
 
-/// Reads a certificate of the module; whatever is no text of one is refused in phase 9.
+/// Reads a certificate of the module. Bytes are refused in phase 9 exactly where they are no text of one.
 pub fn decode(alloc: Global, m: &Typed<'_>, bytes: &[u8]) -> Result<Cert, Refusal>
     ensures ok { IfOk result (λ c. IsCertificateText m.now bytes.now c) }
+    ensures none { result ≡ Err (Refusal.Phase 9) → (c : Certificate) → IsCertificateText m.now bytes.now c → ⊥ }
     ensures errors { IfErr result (λ e. (e ≡ Refusal.Phase 9) ⊎ (e ≡ Refusal.Memory)) }
 {
     match reading::read_certificate(alloc, m, bytes) {

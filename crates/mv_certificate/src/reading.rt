@@ -1,10 +1,12 @@
 // Reading the parts of a certificate.
 
-ghost use Rattle.std.specs.Prelude.{◌≡◌, ◌<◌, length, ◌⊎◌, map, Some, None, Err, IfOk, IfErr};
+ghost use Rattle.std.specs.Prelude.{◌≡◌, ◌<◌, ◌++◌, ◌∷◌, [], false, length, ◌⊎◌, map, Some, None, Err, IfOk, IfErr, OnOk, IsTrue};
+ghost use Rattle.mv_edges.specs.Ascending.{are_ascending};
 ghost use Rattle.mv_uleb.specs.Parsing.{number_from};
 ghost use Rattle.mv_module_text.specs.Parsing.{entries_from, counted_from};
 ghost use Rattle.mv_certificate.specs.CertificateText.{IsCertificateText};
-ghost use Rattle.mv_certificate.specs.Reads.{IsReadAt};
+ghost use Rattle.mv_certificate.specs.Certificate.{Certificate};
+ghost use Rattle.mv_certificate.specs.Reads.{IsReadAt, IsUnreadAt};
 ghost use Rattle.mv_certificate.specs.Parsing.{availability_from, node_from, openness_from, label_from, edge_from, edges_from, known_from, block_from, stated_from};
 
 use super::certificate::{Cert, Known, Stated};
@@ -130,6 +132,20 @@ fn read_edge(
     }
 }
 
+/// Adds an edge behind the others, which it has to come after.
+fn add_last(edges: &mut Edges, edge: Edge) -> Result<(), Refusal>
+    ensures edges { OnOk result (edges.new ≡ edges.old ++ edge ∷ []) }
+    ensures ascend { OnOk result (IsTrue (are_ascending edges.new)) }
+    ensures refused { result ≡ Err (Refusal.Phase 2) → are_ascending (edges.old ++ edge ∷ []) ≡ false }
+    ensures errors { IfErr result (λ e. (e ≡ Refusal.Phase 2) ⊎ (e ≡ Refusal.Memory)) }
+{
+    if edges.push_last(edge)? {
+        Ok(())
+    } else {
+        Err(MALFORMED)
+    }
+}
+
 /// Reads edges, of which there are at most 1024 and which have to ascend.
 fn read_edges(
     alloc: Global,
@@ -145,10 +161,7 @@ fn read_edges(
     let mut edges = Edges::new(alloc);
     'edges: for _ in 0..count {
         let edge = read_edge(alloc, reader, m, d)?;
-        let ascend = edges.push_last(edge)?;
-        if !ascend {
-            return Err(MALFORMED);
-        }
+        add_last(&mut edges, edge)?;
     }
     Ok(edges)
 }
@@ -226,8 +239,10 @@ fn read_function(
 ) -> Result<Stated, Refusal>
     requires { f < length m.now.functions }
     ensures ok { IfOk result (λ v. IsReadAt m.now f reader.old reader.new v) }
+    ensures refused { result ≡ Err (Refusal.Phase 2) → IsUnreadAt m.now f reader.old }
     ensures errors { IfErr result (λ e. (e ≡ Refusal.Phase 2) ⊎ (e ≡ Refusal.Memory)) }
 {
+    shape::has_few_structs(m);
     let module = m.module();
     let function = shape::function_at(m, f);
     let graph = shape::graph_of(m, f, function);
@@ -237,6 +252,7 @@ fn read_function(
 /// Reads a certificate of the module, which has to end where the bytes do.
 pub fn read_certificate(alloc: Global, m: &Typed<'_>, bytes: &[u8]) -> Result<Cert, Refusal>
     ensures ok { IfOk result (λ v. IsCertificateText m.now bytes.now v) }
+    ensures none { result ≡ Err (Refusal.Phase 2) → (c : Certificate) → IsCertificateText m.now bytes.now c → ⊥ }
     ensures errors { IfErr result (λ e. (e ≡ Refusal.Phase 2) ⊎ (e ≡ Refusal.Memory)) }
 {
     let count = shape::function_count(m);

@@ -1,7 +1,8 @@
 // What a certificate's edges may lead from and to.
 
-ghost use Rattle.std.specs.Prelude.{◌≡◌, length, ◌<◌, Some, slice_get, option_map, nat_lt, IsTrue};
+ghost use Rattle.std.specs.Prelude.{◌≡◌, length, ◌<◌, ◌≤◌, Some, slice_get, option_map, nat_lt, IsTrue};
 ghost use Rattle.std.specs.List.{list_all};
+ghost use Rattle.mv_bounds.specs.Bounds.{local_count as function_locals};
 ghost use Rattle.mv_cfg.specs.FlowGraph.{IsFlowGraph};
 ghost use Rattle.mv_move_types.specs.Module.{local_tokens};
 ghost use Rattle.mv_type_states.specs.TypeRules.{local_type as type_of_local};
@@ -22,13 +23,21 @@ pub fn function_count(m: &Typed<'_>) -> usize
     m.module().functions().len()
 }
 
-/// The definition of function `f`, which is well typed.
+/// The definition of function `f`, which is well typed and has few locals.
 pub fn function_at<'t, 'm>(m: &'t Typed<'m>, f: usize) -> &'t FunctionDefinition<'m>
     requires { f < length m.now.functions }
     ensures at { slice_get m.entry.now.functions f ≡ Some result.now }
     ensures typed { IsTrue (function_is_typed m.entry.now result.now) }
+    ensures small { function_locals m.entry.now result.now ≤ 64 }
 {
     &m.module().functions()[f]
+}
+
+/// The module defines no more structs than an index can name.
+pub fn has_few_structs(m: &Typed<'_>)
+    ensures { length m.now.structs ≤ 65536 }
+{
+    let _structs = m.module().structs();
 }
 
 /// The flow graph of function `f`, whose definition is given.

@@ -1,4 +1,4 @@
-use Rattle.mv_certificate.proofs.Marks.{CertOn}
+use Rattle.mv_certificate.proofs.Functions.{CertOn}
 use Rattle.mv_certificate.proofs.reading.read_certificate.Given as goal
 
 abbrev pub invariant-functions : goal.invariant-functions

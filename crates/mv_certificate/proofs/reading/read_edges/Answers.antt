@@ -1,4 +1,4 @@
-use Rattle.std.proofs.Common.{◌≡◌, ◌+◌, ◌++◌, ◌∷◌, [], Err, ap, arith, subst, sym, ◌∙◌, false, cond, None, inl, inr}
+use Rattle.std.proofs.Common.{◌≡◌, ◌+◌, ◌++◌, ◌∷◌, [], Err, ap, arith, subst, sym, false, None, inl, inr}
 use Rattle.std.proofs.lemmas.Grind.{common_steps}
 use Rattle.mv_edges.specs.Ascending.{are_ascending}
 use Rattle.mv_certificate.specs.Parsing.{edge_from}
@@ -12,23 +12,21 @@ returns-in_err-edge-clause-refused c is =
     edges-break c.args.m.now c.args.d.now c.in_ok-count.count c.edges.counter c.args.reader.now c.number.new.self c.edges.edges c.edges.reader
     c.in_ok-count.ensures.ok (omega arith) none c.edges.invariant.reads
 
-pub returns-then-not-ascend-clause-refused : goal.returns-then-not-ascend-clause-refused
-returns-then-not-ascend-clause-refused c is =
-    let out : are_ascending (c.edges.edges ++ c.in_ok-edge.edge ∷ []) ≡ false = sym c.in_ok-ascend.ensures.answer ∙ c.if-not-ascend.true in
+pub returns-in_err-add_last-clause-refused : goal.returns-in_err-add_last-clause-refused
+returns-in_err-add_last-clause-refused c is =
+    let out : are_ascending (c.edges.edges ++ c.in_ok-edge.edge ∷ []) ≡ false = elim c.in_err-add_last.ensures.errors [ inl p ↦ c.in_err-add_last.ensures.refused (ap Err p) | inr q ↦ absurd (grind (arith, common_steps, q, is)) ] in
     edges-fail c.args.m.now c.args.d.now c.in_ok-count.count (c.edges.counter + 1) c.args.reader.now c.number.new.self (c.edges.edges ++ c.in_ok-edge.edge ∷ []) c.read_edge.new.reader
     c.in_ok-count.ensures.ok
     (ReadsOn-next (edge_from c.args.m.now c.args.d.now) c.in_ok-count.count c.edges.counter c.number.new.self c.edges.edges c.edges.reader c.read_edge.new.reader c.in_ok-edge.edge
     (omega arith) c.in_ok-edge.ensures.ok c.edges.invariant.reads) out
 
 pub edges-preserved : goal.edges-preserved
-edges-preserved c =
-    let pushed : c.push_last.new.self ≡ c.edges.edges ++ c.in_ok-edge.edge ∷ [] = c.in_ok-ascend.ensures.edges ∙ ap (λ b. cond b (c.edges.edges ++ c.in_ok-edge.edge ∷ []) c.edges.edges) c.if-not-ascend.false in
-    record {
-      reads = subst (λ z. ReadsOn (edge_from c.args.m.now c.args.d.now) c.in_ok-count.count (c.edges.counter + 1) c.number.new.self z c.read_edge.new.reader) (sym pushed)
-          (ReadsOn-next (edge_from c.args.m.now c.args.d.now) c.in_ok-count.count c.edges.counter c.number.new.self c.edges.edges c.edges.reader c.read_edge.new.reader c.in_ok-edge.edge
-          (omega arith) c.in_ok-edge.ensures.ok c.edges.invariant.reads);
-      ascend = ap are_ascending pushed ∙ sym c.in_ok-ascend.ensures.answer ∙ c.if-not-ascend.false;
-    }
+edges-preserved c = record {
+  reads = subst (λ z. ReadsOn (edge_from c.args.m.now c.args.d.now) c.in_ok-count.count (c.edges.counter + 1) c.number.new.self z c.read_edge.new.reader) (sym c.in_ok-add_last.ensures.edges)
+      (ReadsOn-next (edge_from c.args.m.now c.args.d.now) c.in_ok-count.count c.edges.counter c.number.new.self c.edges.edges c.edges.reader c.read_edge.new.reader c.in_ok-edge.edge
+      (omega arith) c.in_ok-edge.ensures.ok c.edges.invariant.reads);
+  ascend = c.in_ok-add_last.ensures.ascend;
+}
 
 pub returns-clause-ok : goal.returns-clause-ok
 returns-clause-ok c =
