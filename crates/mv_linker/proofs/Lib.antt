@@ -1,4 +1,5 @@
-pub mod Places
+pub mod Adding
+pub mod Keyed
 pub mod Named
 pub mod ListTests
 pub mod Joins

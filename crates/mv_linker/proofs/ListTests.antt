@@ -1,5 +1,5 @@
 -- The rules, of modules and of their entries.
-use Rattle.std.proofs.Common.{◌≡◌, ℕ, zero, suc, Bool, true, false, cond, List, [], ◌∷◌, Option, Some, None, option_map, refl, sym, ap, ◌∙◌, subst}
+use Rattle.std.proofs.Common.{◌≡◌, ℕ, suc, Bool, true, false, cond, List, [], ◌∷◌, Option, Some, None, option_map, refl, ap, ◌∙◌}
 use Rattle.std.specs.Prelude.{map, not, ◌&&◌, ◌||◌, is_some}
 use Rattle.std.specs.List.{list_all, list_any}
 use Rattle.mv_move_types.specs.Options.{find_index}

@@ -1,55 +1,61 @@
-// A published module as the store keeps it: its texts, with its name beside them.
+// A published module as the store keeps it: its name, by which it is found, and its texts.
 ghost use Rattle.std.specs.Prelude.{◌≡◌, List, length, map, Option, Some, option_map, IfOk};
 ghost use Rattle.mv_move_types.specs.Module.{own_name};
-ghost use Rattle.mv_move_types.specs.Named.{is_module, module_place};
-ghost use Rattle.mv_linker.specs.Link.{tables_in};
-ghost use Rattle.mv_linker.specs.Kept.{published_in};
+ghost use Rattle.mv_move_types.specs.Named.{is_module};
+ghost use Rattle.mv_linker.specs.Kept.{name_in, published_as, published_in};
 ghost use Rattle.mv_binary_format.specs.Parsing.{module_of};
 ghost use Rattle.mv_linker.specs.News.{AreTexts, published_of, published_one};
 
 use crate::New;
 use mv_binary_format::Module;
 use std::alloc::{AllocError, Global};
+use std::borrow::CowSlice;
 use std::marker::Model;
 
-/// A module that the store keeps. Its model has the texts, the tables that they spell, and the name.
+/// A module's name: the store owns the identifiers of its modules, and a question borrows one.
+#[derive(PartialEq, Eq, Hash, Drop)]
+pub struct Name<'a> {
+    /// The address that the module is published at.
+    pub address: u128,
+    /// The bytes of its identifier.
+    pub identifier: CowSlice<'a, u8>,
+}
+
+/// What a published module came in.
+#[derive(Drop)]
+pub struct Texts {
+    /// The bytes of the module.
+    pub module: Vec<u8>,
+    /// The bytes of the certificate that it was checked with.
+    pub certificate: Vec<u8>,
+}
+
+/// A module that may join a store. Its model has the texts, the tables that they spell, and the name.
 #[derive(Drop)]
 pub struct Entry {
-    text: Vec<u8>,
-    certificate: Vec<u8>,
-    address: u128,
-    name: Vec<u8>,
+    name: Name<'static>,
+    texts: Texts,
 }
 
 impl Model for Entry {
     ghost use Rattle.std.specs.Prelude.{◌≡◌, Some};
     ghost use Rattle.mv_move_types.specs.Module.{own_name};
     ghost use Rattle.mv_binary_format.specs.Parsing.{tables_of};
-    ghost use Rattle.mv_linker.specs.Kept.{Kept};
+    ghost use Rattle.mv_linker.specs.Kept.{Kept, name_in, published_as};
 
     ghost Value = { Kept };
 
-    ghost view = { λ e. record {
-      published = record { text = e.text.items; certificate = e.certificate.items; tables = tables_of e.text.items };
-      name = record { address = e.address; name = e.name.items };
-    } };
+    ghost view = { λ e. record { published = published_as e.texts; name = name_in e.name } };
 
-    ghost invariant = { λ e. own_name (tables_of e.text.items) ≡ Some (record { address = e.address; name = e.name.items }) };
+    ghost invariant = { λ e. own_name (tables_of e.texts.module.items) ≡ Some (name_in e.name) };
 }
 
 impl Entry {
-    /// The bytes of the module.
-    pub fn text(&self) -> &[u8]
-        ensures { result.now ≡ self.now.published.text }
-    {
-        &self.text
-    }
-
     /// The address that it is published at.
     pub fn address(&self) -> u128
         ensures { result ≡ self.now.name.address }
     {
-        self.address
+        self.name.address
     }
 
     /// Its identifier.
@@ -57,27 +63,25 @@ impl Entry {
         ensures value { result.now ≡ self.now.name.name }
         ensures own { own_name self.now.published.tables ≡ Some self.now.name }
     {
-        &self.name
+        self.name.identifier.as_slice()
     }
 
     /// Whether it is the module of this address and name.
     pub fn is_named(&self, address: u128, name: &[u8]) -> bool
         ensures { result ≡ is_module (record { address = address; name = name.now }) self.now.published.tables }
     {
-        self.address == address && self.name.as_slice() == name
+        self.name.address == address && self.name.identifier.as_slice() == name
     }
-}
 
-/// The place of the module of this address and name.
-pub fn place_of(entries: &[Entry], address: u128, name: &[u8]) -> Option<usize>
-    ensures { result ≡ module_place (tables_in (published_in entries.now)) (record { address = address; name = name.now }) }
-{
-    for (i, e) in entries.iter().enumerate() {
-        if e.is_named(address, name) {
-            return Some(i);
-        }
+    /// The name and the texts apart.
+    pub fn into_parts(self) -> (Name<'static>, Texts)
+        ensures name { name_in result.0 ≡ self.name }
+        ensures texts { published_as result.1 ≡ self.published }
+        ensures own { own_name (published_as result.1).tables ≡ Some (name_in result.0) }
+    {
+        let Entry { name, texts } = self;
+        (name, texts)
     }
-    None
 }
 
 /// The address and the identifier of a module, if its own handle is there.
@@ -99,10 +103,14 @@ fn entry_of(alloc: Global, new: &New<'_>) -> Result<Entry, AllocError>
         unreachable!();
     };
     Ok(Entry {
-        text: new.text.to_vec(alloc)?,
-        certificate: new.certificate.to_vec(alloc)?,
-        address,
-        name: name.to_vec(alloc)?,
+        name: Name {
+            address,
+            identifier: CowSlice::Owned(name.to_vec(alloc)?),
+        },
+        texts: Texts {
+            module: new.text.to_vec(alloc)?,
+            certificate: new.certificate.to_vec(alloc)?,
+        },
     })
 }
 

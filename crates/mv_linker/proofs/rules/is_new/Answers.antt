@@ -1,8 +1,5 @@
-use Rattle.std.proofs.Common.{◌≡◌, Some, subst, sym, ap, ◌∙◌}
-use Rattle.std.specs.Prelude.{is_some, not}
-use Rattle.mv_move_types.specs.Names.{ModuleName}
-use Rattle.mv_move_types.specs.Module.{own_name}
-use Rattle.mv_move_types.specs.Named.{module_place}
+use Rattle.std.proofs.Common.{◌≡◌, Some, sym, ap, ◌∙◌}
+use Rattle.std.specs.Prelude.{is_some}
 use Rattle.mv_linker.specs.Link.{tables_in}
 use Rattle.mv_linker.proofs.Joins.{is_new-found}
 use Rattle.mv_linker.proofs.rules.is_new.Goals as goal

@@ -1,4 +1,4 @@
-use Rattle.std.proofs.Common.{◌≡◌, true, false, refl}
+use Rattle.std.proofs.Common.{refl}
 use Rattle.std.specs.List.{list_all}
 use Rattle.mv_bounds.specs.Definitions.{all_differ}
 use Rattle.mv_linker.specs.Link.{tables_in, have_one_name}

@@ -1,0 +1,108 @@
+-- A map from names to texts finds and takes what the list of its modules says.
+use Rattle.std.proofs.Common.{◌≡◌, ℕ, suc, ◌+◌, Bool, true, false, cond, List, [], ◌∷◌, ◌++◌, map, length, Option, Some, None, option_map, refl, sym, ap, ◌∙◌, subst, arith}
+use Rattle.std.specs.Prelude.{◌&&◌, ◌||◌, not, ◌==◌, nat_lt, position, slice_get, unwrap_or, IfSome}
+use Rattle.std.specs.List.{list_any, prefix_len}
+use Rattle.std.specs.Map.{keys_of, values_of}
+use Rattle.std.specs.Option.{option_map_or}
+use Rattle.std.specs.Cmp.{first_so, second_so, nat_eq_equiv}
+use Rattle.std.specs.Cmp.Lexicographic.{nat_list_eq_equiv}
+use Rattle.std.specs.Str.{bytes_eq}
+use Rattle.std.proofs.lemmas.Bool.Decides.{nat_tests}
+use Rattle.std.proofs.lemmas.List.Folds.{list_any-append}
+use Rattle.std.proofs.lemmas.Option.{slice_get-map}
+use Rattle.mv_move_types.specs.Options.{find_index}
+use Rattle.mv_move_types.specs.Names.{ModuleName, same_module}
+use Rattle.mv_move_types.specs.Module.{Module, own_name}
+use Rattle.mv_move_types.specs.Named.{is_module, module_place}
+use Rattle.mv_move_types.specs.Published.{PublishedModule}
+use Rattle.mv_binary_format.specs.Parsing.{module_of, no_tables}
+use Rattle.mv_bounds.specs.Definitions.{all_differ}
+use Rattle.indexmap.specs.IndexMap.{insert_entry}
+use Rattle.mv_linker.specs.declared.entry.Name.{Name}
+use Rattle.mv_linker.specs.declared.entry.Texts.{Texts}
+use Rattle.mv_linker.specs.Kept.{name_in, published_as, published_under, AreKeyed}
+use Rattle.mv_linker.specs.Link.{tables_in, have_one_name}
+
+-- the first place where a test passes, by the map's word and by the modules'
+pub position-find_index : {A : Type 0} (p : A → Bool) (xs : List A) → position p xs ≡ find_index p xs
+position-find_index p [] = refl
+position-find_index p (x ∷ xs) = step (p x) (prefix_len (λ y. not (p y)) xs) (length xs) (find_index p xs) (position-find_index p xs)
+  where
+    later : (b : Bool) (n : ℕ) → cond b (Some (1 + n)) None ≡ option_map suc (cond b (Some n) None)
+    later true n = ap Some (omega arith)
+    later false n = refl
+
+    shifted : (n len : ℕ) → nat_lt (1 + n) (suc len) ≡ nat_lt n len
+    shifted n len = grind (arith, nat_tests)
+
+    first : (len : ℕ) → nat_lt 0 (suc len) ≡ true
+    first len = grind (arith, nat_tests)
+
+    step : (b : Bool) (n len : ℕ) (rest : Option ℕ) → cond (nat_lt n len) (Some n) None ≡ rest
+        → cond (nat_lt (cond (not b) (1 + n) 0) (suc len)) (Some (cond (not b) (1 + n) 0)) None ≡ cond b (Some 0) (option_map suc rest)
+    step true n len rest e = ap (λ b. cond b (Some 0) None) (first len)
+    step false n len rest e = ap (λ b. cond b (Some (1 + n)) None) (shifted n len) ∙ later (nat_lt n len) n ∙ ap (option_map suc) e
+
+-- two names are one whichever comes first
+same_module-turns : (a b : ModuleName) → same_module a b ≡ same_module b a
+same_module-turns a b = ap (λ t. t && bytes_eq a.name b.name) (nat_eq_equiv.symm a.address b.address) ∙ ap (λ t. (b.address == a.address) && t) (nat_list_eq_equiv.symm a.name b.name)
+
+-- what is said of each entry is said of the first, and of the others
+first_keyed : (e : Name × Texts) (es : List (Name × Texts)) → AreKeyed (e ∷ es) → own_name (published_as e.1).tables ≡ Some (name_in e.0)
+first_keyed e es keyed = keyed 0 e (omega arith)
+
+rest_keyed : (e : Name × Texts) (es : List (Name × Texts)) → AreKeyed (e ∷ es) → AreKeyed es
+rest_keyed e es keyed k d lt = keyed (suc k) d (omega (arith, lt))
+
+-- the key that stands for a name is that of the module that has it
+found-keyed : (test : Name → Bool) (name : ModuleName) → ((k : Name) → test k ≡ same_module name (name_in k)) → (es : List (Name × Texts)) → AreKeyed es
+    → find_index test (keys_of es) ≡ module_place (tables_in (published_under es)) name
+found-keyed test name is [] keyed = refl
+found-keyed test name is (e ∷ es) keyed =
+    let here : test e.0 ≡ is_module name (published_as e.1).tables =
+    is e.0 ∙ same_module-turns name (name_in e.0) ∙ sym (ap (λ o. option_map_or (λ own. same_module own name) o false) (first_keyed e es keyed)) in
+    ap (λ b. cond b (Some 0) (option_map suc (find_index test (keys_of es)))) here
+    ∙ ap (λ o. cond (is_module name (published_as e.1).tables) (Some 0) (option_map suc o)) (found-keyed test name is es (rest_keyed e es keyed))
+
+-- so a map's lookup gives the place of the module that has the name
+pub place-keyed : (test : Name → Bool) (name : ModuleName) → ((k : Name) → test k ≡ same_module name (name_in k)) → (es : List (Name × Texts)) → AreKeyed es
+    → position test (keys_of es) ≡ module_place (tables_in (published_under es)) name
+place-keyed test name is es keyed = position-find_index test (keys_of es) ∙ found-keyed test name is es keyed
+
+-- no module before another has its name, where no two have one
+differs : (t y : Module) (ts rest : List Module) → not (list_any (have_one_name t) (ts ++ y ∷ rest)) ≡ true → have_one_name t y ≡ false
+differs t y ts rest h = step (list_any (have_one_name t) ts) (have_one_name t y) (list_any (have_one_name t) rest) (ap not (sym (list_any-append (have_one_name t) ts (y ∷ rest))) ∙ h)
+  where
+    step : (a b c : Bool) → not (a || (b || c)) ≡ true → b ≡ false
+    step true b c h = cc
+    step false true c h = cc
+    step false false c h = refl
+
+-- a name that no module has goes last
+pub insert_entry-fresh : (eq : Name → Name → Bool) → ((a b : Name) → eq a b ≡ same_module (name_in a) (name_in b)) → (es : List (Name × Texts)) (name : Name) (texts : Texts) (rest : List Module)
+    → AreKeyed es → own_name (published_as texts).tables ≡ Some (name_in name) → all_differ have_one_name (tables_in (published_under es) ++ (published_as texts).tables ∷ rest) ≡ true
+    → insert_entry eq es name texts ≡ es ++ (name, texts) ∷ []
+insert_entry-fresh eq is [] name texts rest keyed own once = refl
+insert_entry-fresh eq is (e ∷ es) name texts rest keyed own once =
+    let t = (published_as e.1).tables in
+    let y = (published_as texts).tables in
+    let others = tables_in (published_under es) ++ y ∷ rest in
+    let apart : have_one_name t y ≡ false = differs t y (tables_in (published_under es)) rest (first_so (not (list_any (have_one_name t) others)) (all_differ have_one_name others) once) in
+    let named : have_one_name t y ≡ same_module (name_in name) (name_in e.0) =
+    ap (λ o. option_map_or (λ n. is_module n y) o false) (first_keyed e es keyed) ∙ ap (λ o. option_map_or (λ n. same_module n (name_in e.0)) o false) own in
+    let other : eq name e.0 ≡ false = is name e.0 ∙ sym named ∙ apart in
+    ap (λ b. cond b ((e.0, texts) ∷ es) (e ∷ insert_entry eq es name texts)) other
+    ∙ ap (λ l. e ∷ l) (insert_entry-fresh eq is es name texts rest (rest_keyed e es keyed) own (second_so (not (list_any (have_one_name t) others)) (all_differ have_one_name others) once))
+
+-- the tables of the module at an index are those that its text spells
+pub module-at : (es : List (Name × Texts)) (i : ℕ) (texts : Texts) (m : Module) → slice_get (values_of es) i ≡ Some texts → module_of texts.module.items ≡ Some m
+    → IfSome (slice_get (published_under es) i) (λ p. m ≡ p.tables)
+module-at es i texts m at decoded =
+    let P : Option PublishedModule → Type 0 = λ o. IfSome o (λ p. m ≡ p.tables) in
+    let there : slice_get (published_under es) i ≡ Some (published_as texts) =
+    ap (λ l. slice_get l i) (published-values es) ∙ slice_get-map published_as (values_of es) i ∙ ap (option_map published_as) at in
+    subst P (sym there) (sym (ap (λ o. unwrap_or o no_tables) decoded))
+  where
+    published-values : (es : List (Name × Texts)) → published_under es ≡ map published_as (values_of es)
+    published-values [] = refl
+    published-values (e ∷ es) = ap (λ l. published_as e.1 ∷ l) (published-values es)

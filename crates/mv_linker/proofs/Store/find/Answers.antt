@@ -1,0 +1,11 @@
+use Rattle.std.proofs.Common.{refl, ap, ◌∙◌}
+use Rattle.mv_move_types.specs.Names.{ModuleName}
+use Rattle.mv_move_types.specs.Named.{module_place}
+use Rattle.mv_linker.specs.Link.{tables_in}
+use Rattle.mv_linker.proofs.Keyed.{place-keyed}
+use Rattle.mv_linker.proofs.Store.find.Goals as goal
+
+pub returns : goal.returns
+returns c =
+    let name : ModuleName = record { address = c.args.address; name = c.args.name.now } in
+    c.get_index_of.ensures.index ∙ place-keyed _ name (λ k. refl) c.self.inside.modules.entries c.self.invariant.1 ∙ ap (λ s. module_place (tables_in s) name) c.self.view_is
