@@ -1,7 +1,7 @@
 -- Where the length of a record ends.
-use Rattle.std.proofs.Common.{◌≡◌, ℕ, ◌+◌, ◌*◌, ◌≤◌, ◌<◌, List, [], ◌∷◌, ◌++◌, length, take, drop, arith, refl, sym, ap, ◌∙◌, subst, zero, suc, append_assoc, append-nil, take-append-drop, take_all, le_refl, length-append}
+use Rattle.std.proofs.Common.{◌≡◌, ℕ, ◌+◌, ◌*◌, ◌≤◌, ◌<◌, List, [], ◌∷◌, ◌++◌, length, take, drop, arith, sym, ap, ◌∙◌, subst, zero, suc, append-nil, take-append-drop, take_all, le_refl, length-append}
 use Rattle.mv_uleb.specs.Uleb.{IsUleb}
-use Rattle.std.specs.Prelude.{Option, Some, None, ⊤}
+use Rattle.std.specs.Prelude.{Some, None}
 use Rattle.mv_uleb.specs.Parsing.{number_from}
 use Rattle.mv_uleb.proofs.Spelled.{spelled-front, number_from-some}
 use Rattle.moveledger.specs.Records.{payload_limit}

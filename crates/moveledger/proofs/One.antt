@@ -1,10 +1,9 @@
 -- An input is one list of records.
-use Rattle.std.proofs.Common.{◌≡◌, ◌≢◌, ℕ, ◌+◌, List, [], ◌∷◌, ◌++◌, length, take, drop, arith, refl, sym, ap, ap₂, ◌∙◌, subst, append_assoc}
+use Rattle.std.proofs.Common.{◌≡◌, ℕ, List, [], ◌∷◌, ◌++◌, length, take, drop, refl, sym, ap, ap₂, ◌∙◌, subst, append_assoc}
 use Rattle.std.proofs.lemmas.List.{append_cancel_left}
 use Rattle.std.proofs.Math.Seq.{take-append_seam, drop-append_seam}
-use Rattle.mv_uleb.specs.Uleb.{IsUleb}
 use Rattle.mv_uleb.proofs.Spelled.{one_form}
-use Rattle.moveledger.specs.Records.{Record, Whole, Cut, IsText, NoWhole, Begins, AreRecords}
+use Rattle.moveledger.specs.Records.{Record, Whole, Cut, IsText, Begins, AreRecords}
 
 same_split : (p q x y : List ℕ) → length p ≡ length q → p ++ x ≡ q ++ y → (p ≡ q) × (x ≡ y)
 same_split p q x y n e =

@@ -1,12 +1,11 @@
 -- From one record to the next.
-use Rattle.std.proofs.Common.{◌≡◌, ◌≢◌, ℕ, ◌+◌, ◌-◌, ◌≤◌, ◌<◌, ◌^◌, List, [], ◌∷◌, ◌++◌, length, take, drop, arith, refl, sym, ap, ◌∙◌, subst, zero, suc, append_assoc, append-nil, length-append, take_all, le_refl, Option, Some, None, inl, inr, flat_map}
-use Rattle.std.proofs.Math.Seq.{take-append_seam, take-append-add}
+use Rattle.std.proofs.Common.{◌≡◌, ◌≢◌, ℕ, ◌+◌, ◌-◌, ◌^◌, List, [], ◌∷◌, ◌++◌, length, arith, refl, sym, ap, ◌∙◌, subst, append_assoc, append-nil, length-append, Option, Some, None, inl, inr, flat_map}
 use Rattle.std.specs.Io.{StartsWith}
-use Rattle.std.specs.Io.KnownBytes.{Consumes, Appends, IsAtEnd}
+use Rattle.std.specs.Io.KnownBytes.{Consumes, Appends}
 use Rattle.std.proofs.KnownBytes.{Consumes-nil, Appends-nil, Consumes-trans, Appends-trans}
 use Rattle.mv_ledger.specs.View.{LedgerView}
-use Rattle.mv_machine.specs.Lines.{Refused, numbered, reply_lines, reply_text}
-use Rattle.moveledger.specs.Records.{Record, Whole, Cut, IsText, NoWhole, Begins, AreRecords, AreWhole}
+use Rattle.mv_machine.specs.Lines.{numbered}
+use Rattle.moveledger.specs.Records.{Record, Whole, Cut, IsText, NoWhole, Begins, AreRecords}
 use Rattle.moveledger.specs.Report.{Step, Reports}
 use Rattle.moveledger.specs.Outcome.{Tells, left_of, Answers, Stops, StopsReading}
 use Rattle.moveledger.specs.Progress.{Progress}

@@ -1,7 +1,7 @@
 -- The task of the matches.
-use Rattle.std.proofs.Common.{◌≡◌, ℕ, List, [], Option, Some, None, codes, option_map, unwrap_or, true, false, Bool, refl, sym, ap, ◌∙◌, Bor}
+use Rattle.std.proofs.Common.{◌≡◌, List, [], Option, Some, None, codes, option_map, unwrap_or, true, false, Bool, refl, Bor}
 use Rattle.clap.specs.Words.{Row, Text}
-use Rattle.moveledger.specs.Line.{task_in, given_as, Seen, Applies}
+use Rattle.moveledger.specs.Line.{task_in, given_as, Applies}
 
 pub now_of : (o : Option (Bor Text)) (d : Bor Text) → (unwrap_or o d).now ≡ unwrap_or (option_map (λ s. s.now) o) d.now
 now_of None d = refl

@@ -1,5 +1,5 @@
 -- Where no whole record stands.
-use Rattle.std.proofs.Common.{◌≡◌, ◌≢◌, ℕ, ◌+◌, ◌≤◌, ◌<◌, List, [], ◌∷◌, ◌++◌, length, arith, refl, sym, ap, ◌∙◌, append_assoc, length-append, subst, append-nil}
+use Rattle.std.proofs.Common.{◌≡◌, ℕ, ◌+◌, ◌≤◌, ◌<◌, List, [], ◌∷◌, ◌++◌, length, arith, refl, sym, ap, ◌∙◌, append_assoc, length-append, subst, append-nil}
 use Rattle.mv_uleb.specs.Uleb.{IsUleb}
 use Rattle.mv_uleb.proofs.Spelled.{one_form}
 use Rattle.moveledger.specs.Records.{IsText, NoWhole, payload_limit}

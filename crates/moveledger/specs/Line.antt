@@ -1,5 +1,5 @@
 -- The command line, and the task that its matches have.
-use Rattle.std.specs.Prelude.{ℕ, List, [], true, Option, Some, None, codes, unwrap_or, ⊤}
+use Rattle.std.specs.Prelude.{List, [], true, Option, Some, None, codes, unwrap_or, ⊤}
 use Rattle.clap.specs.Words.{App, Rule, Row, Text, new_app, new_rule, with_rule, with_subcommand, first_of}
 use Rattle.moveledger.specs.declared.command.Task.{Task}
 use Rattle.moveledger.specs.declared.command.Task.TheVariants.{Apply}

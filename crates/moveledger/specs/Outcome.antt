@@ -1,9 +1,9 @@
 -- How a run of the engine ends.
-use Rattle.std.specs.Prelude.{◌≡◌, ◌≢◌, ℕ, ◌+◌, ◌-◌, ◌^◌, ◌≤◌, ◌<◌, List, [], ◌∷◌, ◌++◌, length, take, Option, Some, None, ⊤, ◌⊎◌, flat_map, MatchOption, MatchResult, Result, Ok, Err}
+use Rattle.std.specs.Prelude.{◌≡◌, ℕ, ◌+◌, ◌-◌, ◌^◌, List, [], ◌++◌, length, Option, Some, None, ⊤, ◌⊎◌, flat_map}
 use Rattle.std.specs.Io.{StartsWith}
-use Rattle.std.specs.Io.KnownBytes.{Appends, Consumes, IsAtEnd}
+use Rattle.std.specs.Io.KnownBytes.{Appends, Consumes}
 use Rattle.mv_ledger.specs.View.{LedgerView}
-use Rattle.moveledger.specs.Records.{Record, Whole, Cut, AreRecords, AreWhole, NoWhole, Begins}
+use Rattle.moveledger.specs.Records.{Record, AreRecords, AreWhole, NoWhole, Begins}
 use Rattle.mv_machine.specs.Lines.{numbered}
 use Rattle.moveledger.specs.Report.{Step, Reports}
 

@@ -1,5 +1,5 @@
 -- Where a run of the engine stands between two records.
-use Rattle.std.specs.Prelude.{◌≡◌, ℕ, List, [], ◌∷◌, ◌++◌, length, Option}
+use Rattle.std.specs.Prelude.{◌≡◌, ℕ, List, length, Option}
 use Rattle.std.specs.Io.KnownBytes.{Appends, Consumes}
 use Rattle.mv_ledger.specs.View.{LedgerView}
 use Rattle.moveledger.specs.Records.{Record, AreWhole}

@@ -1,7 +1,7 @@
 -- What was read of a record.
-use Rattle.std.specs.Prelude.{◌≡◌, ◌≢◌, ℕ, ◌≤◌, List, [], ◌∷◌, ◌++◌, length}
+use Rattle.std.specs.Prelude.{◌≡◌, ℕ, ◌≤◌, List, [], ◌∷◌, ◌++◌}
 use Rattle.mv_uleb.specs.Uleb.{IsUleb}
-use Rattle.moveledger.specs.Records.{IsText, NoWhole, payload_limit}
+use Rattle.moveledger.specs.Records.{payload_limit}
 
 -- no length stands at the front
 abbrev pub NoLength : List ℕ → Type 0

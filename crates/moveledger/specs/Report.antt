@@ -1,20 +1,16 @@
 -- What the report says of records.
-use Rattle.std.specs.Prelude.{◌≡◌, ◌≢◌, ◌⊎◌, ℕ, ◌+◌, List, [], ◌∷◌, ◌++◌, Some, flat_map}
+use Rattle.std.specs.Prelude.{◌≡◌, ℕ, ◌+◌, List, [], ◌∷◌, ◌++◌, flat_map}
 use Rattle.mv_ledger.specs.View.{LedgerView}
 use Rattle.mv_machine.specs.Lines.{Reply, Refused, reply_lines, numbered}
-use Rattle.mv_ledger.specs.Changes.{MayAnswer}
+use Rattle.mv_ledger.specs.Answering.{IsReplied}
 use Rattle.moveledger.specs.Records.{Record, Whole, Cut}
 
--- a record of this kind may be answered so: by the ledger, or, where the kind is none, by a refusal that changes nothing
-abbrev pub MayReply : ℕ → Reply → LedgerView → LedgerView → Type 0
-MayReply kind reply old new =
-    MayAnswer kind (Some reply) old new ⊎ ((kind ≢ 1) × (kind ≢ 2) × (reply ≡ Refused 1) × (new ≡ old))
-
--- the ledger may answer a record by these lines, without number and line end, and go on to new; a cut record is refused
+-- The ledger answers a record by these lines, without number and line end, and goes on to new: it is the machine's answer. A
+-- cut record is refused.
 abbrev pub Step : LedgerView → Record → List (List ℕ) → LedgerView → Type 0
 Step old Cut lines new = (lines ≡ reply_lines (Refused 1)) × (new ≡ old)
 Step old (Whole kind payload) lines new =
-    (reply : Reply) × (MayReply kind reply old new × (lines ≡ reply_lines reply))
+    (reply : Reply) × (IsReplied kind payload reply old new × (lines ≡ reply_lines reply))
 
 -- The text has the lines of the records, the first of which has this number, and the state after them is new.
 abbrev pub Reports : ℕ → LedgerView → List Record → List ℕ → LedgerView → Type 0

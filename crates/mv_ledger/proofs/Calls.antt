@@ -1,10 +1,12 @@
 -- What stands at the places that a run record's names lead to.
-use Rattle.std.proofs.Common.{◌≡◌, ℕ, zero, suc, ◌<◌, Bool, true, false, cond, List, [], ◌∷◌, map, length, Option, Some, None, option_map, get_or, refl, sym, ap, ◌∙◌, subst, arith}
+use Rattle.std.proofs.Common.{◌≡◌, ℕ, zero, suc, ◌+◌, ◌<◌, Bool, true, false, cond, List, [], ◌∷◌, length, take, Option, Some, None, option_map, get_or, add-one, refl, sym, ap, ◌∙◌, subst, arith}
 use Rattle.std.specs.Prelude.{slice_get, IfSome}
+use Rattle.std.specs.Option.{option_map_or}
+use Rattle.std.specs.Str.{bytes_eq}
 use Rattle.mv_move_types.specs.Options.{find_index}
 use Rattle.mv_move_types.specs.Names.{ModuleName}
-use Rattle.mv_move_types.specs.Module.{Module}
-use Rattle.mv_move_types.specs.Named.{is_module, module_place}
+use Rattle.mv_move_types.specs.Module.{Module, name_of_function}
+use Rattle.mv_move_types.specs.Named.{is_module, module_place, function_place}
 use Rattle.mv_move_types.specs.Published.{PublishedModule}
 use Rattle.mv_linker.specs.Link.{tables_in}
 
@@ -18,9 +20,38 @@ find_index-below p (x ∷ xs) k e = step (p x) (find_index p xs) k e (λ j. find
     step false None k e below = cc
     step false (Some j) k e below = let lt : j < length xs = below j refl in let s : suc j ≡ k = cc in omega arith
 
+-- the first that passes stands at the index, where those before it fail
+pub find-first : {A : Type 0} (p : A → Bool) (xs : List A) (k : ℕ) (x : A) → k < length xs → x ≡ get_or xs k x → find_index p (take k xs) ≡ None → p x ≡ true → find_index p xs ≡ Some k
+find-first p [] k x lt e none is = absurd (omega (arith, lt))
+find-first p (y ∷ xs) zero x lt e none is = let first : p y ≡ true = subst (λ z. p z ≡ true) e is in ap (λ b. cond b (Some 0) (option_map suc (find_index p xs))) first
+find-first p (y ∷ xs) (suc k) x lt e none is = later (p y) (find_index p (take k xs)) (find_index p xs) none (λ before. find-first p xs k x (omega (arith, lt)) e before is)
+  where
+    later : (b : Bool) (old new : Option ℕ) → cond b (Some 0) (option_map suc old) ≡ None → (old ≡ None → new ≡ Some k) → cond b (Some 0) (option_map suc new) ≡ Some (suc k)
+    later true old new none go = cc
+    later false None new none go = ap (option_map suc) (go refl)
+    later false (Some j) new none go = cc
+
+-- one more that fails
+pub find-none : {A : Type 0} (p : A → Bool) (xs : List A) (k : ℕ) (x : A) → k < length xs → x ≡ get_or xs k x → find_index p (take k xs) ≡ None → p x ≡ false → find_index p (take (k + 1) xs) ≡ None
+find-none p xs k x lt e none is = ap (λ n. find_index p (take n xs)) (add-one k) ∙ more p xs k x lt e none is
+  where
+    more : {A : Type 0} (p : A → Bool) (xs : List A) (k : ℕ) (x : A) → k < length xs → x ≡ get_or xs k x → find_index p (take k xs) ≡ None → p x ≡ false → find_index p (take (suc k) xs) ≡ None
+    more p [] k x lt e none is = refl
+    more p (y ∷ xs) zero x lt e none is = let first : p y ≡ false = subst (λ z. p z ≡ false) e is in ap (λ b. cond b (Some 0) None) first
+    more p (y ∷ xs) (suc k) x lt e none is = later (p y) (find_index p (take k xs)) (find_index p (take (suc k) xs)) none (λ before. more p xs k x (omega (arith, lt)) e before is)
+      where
+        later : (b : Bool) (old new : Option ℕ) → cond b (Some 0) (option_map suc old) ≡ None → (old ≡ None → new ≡ None) → cond b (Some 0) (option_map suc new) ≡ None
+        later true old new none go = none
+        later false None new none go = ap (option_map suc) (go refl)
+        later false (Some j) new none go = cc
+
 tables-length : (published : List PublishedModule) → length (tables_in published) ≡ length published
 tables-length [] = refl
 tables-length (p ∷ published) = ap suc (tables-length published)
+
+-- a function that is found is one of its module's
+pub function-below : (m : Module) (name : List ℕ) (k : ℕ) → function_place m name ≡ Some k → k < length m.functions
+function-below m name k is = find_index-below (λ d. option_map_or (bytes_eq name) (name_of_function m d) false) m.functions k is
 
 -- a module that is found is one of the store's
 pub place-below : (published : List PublishedModule) (name : ModuleName) (o : Option ℕ) (k : ℕ) → o ≡ module_place (tables_in published) name → o ≡ Some k → k < length published
@@ -42,8 +73,3 @@ there xs ys k x same lt is = found ys k x lt (is ∙ ap (λ l. get_or l k x) sam
     found [] k x lt e = absurd (omega (arith, lt))
     found (y ∷ xs) zero x lt e = ap Some (sym e)
     found (y ∷ xs) (suc k) x lt e = found xs k x (omega (arith, lt)) e
-
--- a fact of what is found
-pub at_some : {A : Type 0} (P : A → Type 0) (o : Option A) (x : A) → o ≡ Some x → IfSome o P → P x
-at_some P None x e h = cc
-at_some P (Some y) x e h = let same : y ≡ x = cc in subst P same h

@@ -3,3 +3,13 @@ pub mod Stores
 pub mod Calls
 pub mod Ledgers
 pub mod Phases
+pub mod Stored
+pub mod Replying
+pub mod ShapesOfArguments
+pub mod Shapes
+pub mod TalliesAfter
+pub mod TalliesAdding
+pub mod TalliesFresh
+pub mod Admissions
+pub mod AdmissionsAnswered
+pub mod StoredRuns

@@ -1,8 +1,7 @@
 -- What is said of values over some modules is said over these with more behind them.
-use Rattle.std.proofs.Common.{◌≡◌, ℕ, zero, suc, Bool, true, false, cond, List, [], ◌∷◌, ◌++◌, map, Option, Some, None, option_map, refl, sym, ap, ◌∙◌, subst}
-use Rattle.std.specs.Prelude.{◌&&◌, slice_get, option_and_then, All, IsTrue}
+use Rattle.std.proofs.Common.{◌≡◌, ℕ, zero, suc, Bool, true, false, cond, List, [], ◌∷◌, ◌++◌, Option, Some, None, option_map, refl, ap, ◌∙◌}
+use Rattle.std.specs.Prelude.{◌&&◌, slice_get, option_and_then}
 use Rattle.std.specs.Option.{option_map_or}
-use Rattle.std.specs.Cmp.{first_so, second_so}
 use Rattle.mv_move_types.specs.declared.tables.Field.{Field}
 use Rattle.mv_move_types.specs.declared.token.Abilities.{Abilities}
 use Rattle.mv_move_types.specs.declared.token.Token.{Token}
@@ -48,7 +47,7 @@ module _ (old more : List Module) where
   found_in name m = find_index (is_struct m name) m.structs >>= λ i. slice_get m.structs i >>= λ (s : StructDefinition). Some (m, s.fields)
 
   -- so does a struct's definition
-  definition-more : (name : StructName) (d : Module × List Field) → definition_of old name ≡ Some d → definition_of (old ++ more) name ≡ Some d
+  pub definition-more : (name : StructName) (d : Module × List Field) → definition_of old name ≡ Some d → definition_of (old ++ more) name ≡ Some d
   definition-more name d e = step (module_named old name.home) refl e
     where
       step : (o : Option Module) → module_named old name.home ≡ o → (o >>= found_in name) ≡ Some d → definition_of (old ++ more) name ≡ Some d
@@ -72,7 +71,7 @@ module _ (old more : List Module) where
       step None is e = cc
       step (Some m) is e = ap (λ o. o >>= f) (slice_get-more old more place m is) ∙ e
 
-  name-more : (place index : ℕ) (name : StructName) → name_at old place index ≡ Some name → name_at (old ++ more) place index ≡ Some name
+  pub name-more : (place index : ℕ) (name : StructName) → name_at old place index ≡ Some name → name_at (old ++ more) place index ≡ Some name
   name-more place index name = at_place place (λ m. slice_get m.structs index >>= λ d. name_of_struct m d) name
 
   abilities-more : (place index : ℕ) (a : Abilities) → abilities_at old place index ≡ Some a → abilities_at (old ++ more) place index ≡ Some a

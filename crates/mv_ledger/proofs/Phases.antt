@@ -1,6 +1,5 @@
 -- Each refusal is the first phase that an offer fails, and what a bundle of one offer is refused for.
-use Rattle.std.proofs.Common.{◌≡◌, ℕ, ◌+◌, ◌≤◌, ◌<◌, List, [], ◌∷◌, ◌++◌, length, Some, None, ◌⊎◌, inl, inr, refl, sym, ap, ◌∙◌, subst, arith}
-use Rattle.std.specs.Prelude.{IsTrue, map}
+use Rattle.std.proofs.Common.{◌≡◌, ℕ, ◌+◌, ◌≤◌, ◌<◌, List, [], ◌∷◌, ◌++◌, length, Some, None, ◌⊎◌, inl, inr, refl, sym, ap, subst, arith}
 use Rattle.mv_move_types.specs.declared.refusal.Refusal.{Refusal}
 use Rattle.mv_move_types.specs.declared.refusal.Refusal.TheVariants.{Phase, Memory}
 use Rattle.mv_move_types.specs.Refusals.{IsRefusedIn}
@@ -14,13 +13,14 @@ use Rattle.mv_type_states.specs.Sound.{IsSound, IsRefusedByTypes, FailsTypes, il
 use Rattle.mv_certificate.specs.Certificate.{Certificate}
 use Rattle.mv_certificate.specs.CertificateText.{IsCertificateText}
 use Rattle.mv_certificate.specs.Answers.{IsRefusedByCertificate, FailsCertificate, bad_locals, bad_borrows, bad_acquires}
-use Rattle.mv_machine.specs.Ledger.{Offer, LedgerState, modules_of}
+use Rattle.mv_machine.specs.Ledger.{Offer, LedgerState, Publish, modules_of}
 use Rattle.mv_linker.specs.declared.New.{New}
 use Rattle.mv_linker.specs.News.{published_one, published_of}
 use Rattle.mv_linker.specs.Link.{MayJoin, tables_in}
-use Rattle.mv_ledger.specs.Payloads.{bundle_from}
-use Rattle.mv_ledger.specs.Publishing.{Passes, FailsAt, no_text, no_bounds, not_defined, not_signed, not_able, no_flow, not_typed, no_certificate, no_locals, no_edges, no_acquires, IsRefusedOffer, AllPass, IsRefusedAt, in_offer, in_linking, in_room}
-use Rattle.mv_ledger.specs.Judging.{IsAccepted, IsRefusedFor, no_bundle, failing, IsRefusal, IsAcceptedBy, IsRefusedBy}
+use Rattle.mv_ledger.specs.RecordText.{IsShaped}
+use Rattle.mv_ledger.specs.Publishing.{Passes, FailsAt, no_text, no_bounds, not_defined, not_signed, not_able, no_flow, not_typed, no_certificate, no_locals, no_edges, no_acquires, IsRefusedOffer, AllPass, in_offer, in_linking, in_room}
+use Rattle.mv_ledger.specs.Exact.{IsRefused, failing}
+use Rattle.mv_ledger.specs.Judging.{IsAcceptedBy, IsRefusedBy}
 
 module _ (o : Offer) where
   pub refused_text : (e : Refusal) → (e ≡ Phase 2) ⊎ (e ≡ Memory) → (e ≡ Phase 2 → module_of o.text ≡ None) → IsRefusedOffer o e
@@ -46,25 +46,25 @@ module _ (o : Offer) where
       fails (endless signed able out) = no_flow m text bounds defined signed able out
       fails (ill_typed signed able flow out) = not_typed m text bounds defined signed able flow out
 
-  pub refused_stated : (m : Module) (e : Refusal) → module_of o.text ≡ Some m → IsSound m → (e ≡ Phase 9) ⊎ (e ≡ Memory) → IsRefusedOffer o e
-  refused_stated m Memory text sound is = tt
-  refused_stated m (Phase p) text sound (inl is) = let same : p ≡ 9 = cc in subst (λ (n : ℕ). FailsAt o n) (sym same) (no_certificate m text sound)
-  refused_stated m (Phase p) text sound (inr is) = cc
+  pub refused_stated : (m : Module) (e : Refusal) → module_of o.text ≡ Some m → IsSound m → (e ≡ Phase 9) ⊎ (e ≡ Memory) → (e ≡ Phase 9 → (c : Certificate) → IsCertificateText m o.certificate c → ⊥) → IsRefusedOffer o e
+  refused_stated m Memory text sound is none = tt
+  refused_stated m (Phase p) text sound (inl is) none = let same : p ≡ 9 = cc in subst (λ (n : ℕ). FailsAt o n) (sym same) (no_certificate m text sound (none is))
+  refused_stated m (Phase p) text sound (inr is) none = cc
 
-  pub refused_check : (m : Module) (c : Certificate) (e : Refusal) → module_of o.text ≡ Some m → IsSound m → IsCertificateText m o.certificate c → IsRefusedByCertificate m e → IsRefusedOffer o e
+  pub refused_check : (m : Module) (c : Certificate) (e : Refusal) → module_of o.text ≡ Some m → IsSound m → IsCertificateText m o.certificate c → IsRefusedByCertificate m c e → IsRefusedOffer o e
   refused_check m c Memory text sound stated h = tt
   refused_check m c (Phase p) text sound stated h = fails h
     where
-      fails : {n : ℕ} → FailsCertificate m n → FailsAt o n
-      fails bad_locals = no_locals m c text sound stated
-      fails bad_borrows = no_edges m c text sound stated
-      fails (bad_acquires out) = no_acquires m c text sound stated out
+      fails : {n : ℕ} → FailsCertificate m c n → FailsAt o n
+      fails (bad_locals out) = no_locals m c text sound stated out
+      fails (bad_borrows needs out) = no_edges m c text sound stated needs out
+      fails (bad_acquires needs out) = no_acquires m c text sound stated needs out
 
-module _ (old : List PublishedModule) (payload : List ℕ) (sender : ℕ) (o : Offer) (asked : bundle_from payload ≡ Some (sender, o)) where
+module _ (old : List PublishedModule) (payload : List ℕ) (sender : ℕ) (o : Offer) (asked : IsShaped 1 payload (Publish sender (o ∷ []))) where
   -- the offer fails
   pub refused_offer : (e : Refusal) → IsRefusedOffer o e → IsRefusedBy old payload e
   refused_offer Memory h s is = tt
-  refused_offer (Phase p) h s is = failing sender o p asked (in_offer [] o [] [] p refl tt h)
+  refused_offer (Phase p) h s is = failing sender (o ∷ []) p asked (in_offer [] o [] [] p refl tt h)
 
   module _ (n : New) (text : n.text.now ≡ o.text) (certificate : n.certificate.now ≡ o.certificate) (passed : (c : Certificate) × Passes o n.module c) where
     all : AllPass (o ∷ []) (published_one n ∷ [])
@@ -82,8 +82,8 @@ module _ (old : List PublishedModule) (payload : List ℕ) (sender : ℕ) (o : O
     refused_link news Memory same h s is = tt
     refused_link news (Phase p) same h s is =
         let out : MayJoin (Some sender) (tables_in old) (n.module ∷ []) → ⊥ = subst (λ (l : List New). MayJoin (Some sender) (tables_in old) (tables_in (published_of l)) → ⊥) same h.1 in
-        subst (λ (k : ℕ). IsRefusedFor s payload k) (sym h.0)
-        (failing sender o 13 asked (in_linking (published_one n ∷ []) all (λ join. out (linked s is join))))
+        subst (λ (k : ℕ). IsRefused s payload k) (sym h.0)
+        (failing sender (o ∷ []) 13 asked (in_linking (published_one n ∷ []) all (λ join. out (linked s is join))))
 
     module _ (news : List New) (same : news ≡ n ∷ []) (join : MayJoin (Some sender) (tables_in old) (tables_in (published_of news))) where
       may : MayJoin (Some sender) (tables_in old) (n.module ∷ [])
@@ -92,16 +92,11 @@ module _ (old : List PublishedModule) (payload : List ℕ) (sender : ℕ) (o : O
       -- there is no room
       pub refused_room : 4096 ≤ length old → IsRefusedBy old payload (Phase 14)
       refused_room full s is =
-          failing sender o 14 asked (in_room (published_one n ∷ []) all (joined s is may)
+          failing sender (o ∷ []) 14 asked (in_room (published_one n ∷ []) all (joined s is may)
           (λ room. let room' : length s.published + 1 ≤ 4096 = room in let e : length s.published ≡ length old = ap length is in omega arith))
 
       -- the bundle is accepted
       pub accepted : (new : List PublishedModule) → length old < 4096 → new ≡ old ++ published_one n ∷ [] → IsAcceptedBy old payload new
-      accepted new room added s is = record {
-        sender = sender;
-        offer = o;
-        bundle = published_one n ∷ [];
-        asked = asked;
-        published = (all, joined s is may, (let e : length s.published ≡ length old = ap length is in let room' : length s.published + 1 ≤ 4096 = omega arith in room'));
-        added = added ∙ ap (λ l. l ++ published_one n ∷ []) (sym is);
-      }
+      accepted new room added s is =
+          let room' : length s.published + 1 ≤ 4096 = (let e : length s.published ≡ length old = ap length is in omega arith) in
+          (published_one n ∷ [], (record { sender = sender; offers = o ∷ []; asked = asked; published = (all, joined s is may, room') }, added))

@@ -1,6 +1,6 @@
 -- A store with one more module that may join it is a store.
-use Rattle.std.proofs.Common.{◌≡◌, ℕ, zero, suc, Bool, true, false, List, [], ◌∷◌, ◌++◌, map, Option, Some, None, refl, sym, ap, ◌∙◌, subst, arith}
-use Rattle.std.specs.Prelude.{◌&&◌, ◌||◌, not, ◌==◌, All, IsTrue}
+use Rattle.std.proofs.Common.{◌≡◌, ℕ, zero, suc, Bool, true, false, List, [], ◌∷◌, ◌++◌, Option, Some, None, refl, sym, ap, ◌∙◌, subst, arith}
+use Rattle.std.specs.Prelude.{◌&&◌, ◌||◌, not, ◌==◌, All}
 use Rattle.std.specs.List.{list_all, list_any}
 use Rattle.std.specs.Option.{option_map_or}
 use Rattle.std.specs.Cmp.{first_so, second_so}
@@ -18,7 +18,7 @@ use Rattle.mv_machine.specs.Ledger.{Offer}
 use Rattle.mv_linker.specs.declared.New.{New}
 use Rattle.mv_linker.specs.News.{published_one}
 use Rattle.mv_ledger.specs.Publishing.{Passes}
-use Rattle.mv_linker.specs.Link.{MayJoin, IsStore, IsPublishable, tables_in, have_one_name, is_new, stands_alone, AreSentBy}
+use Rattle.mv_linker.specs.Link.{MayJoin, IsStore, IsPublishable, tables_in, have_one_name, is_new, stands_alone}
 
 -- equality of bytes is symmetric
 nat-turns : (a b : ℕ) → (a == b) ≡ (b == a)

@@ -1,14 +1,15 @@
 -- What the ledger's replies say, and when a call of the ledger answers a record.
-use Rattle.std.specs.Prelude.{◌≡◌, ℕ, List, Option, Some, None, ⊤}
+use Rattle.std.specs.Prelude.{◌≡◌, ℕ, List, Option, Some, None}
 use Rattle.mv_move_types.specs.Module.{Module}
 use Rattle.mv_binary_format.specs.Parsing.{module_of}
-use Rattle.mv_machine.specs.declared.Outcome.{Outcome}
 use Rattle.mv_machine.specs.declared.Ending.{Ending}
 use Rattle.mv_machine.specs.declared.Ending.TheVariants.{Returned as HasReturned, Aborted as HasAborted, Exhausted as HasExhausted}
 use Rattle.mv_machine.specs.Lines.{Reply as Told, Published as ToldPublished, Refused as ToldRefused, Rejected as ToldRejected, Returned as ToldReturned, Aborted as ToldAborted, Exhausted as ToldExhausted, Broken as ToldBroken}
 use Rattle.mv_machine.specs.Ledger.{LedgerState, Request, Answers}
 use Rattle.mv_ledger.specs.View.{LedgerView, state_of}
 use Rattle.mv_ledger.specs.RecordText.{Asks}
+use Rattle.mv_ledger.specs.Changes.{Leaves}
+use Rattle.mv_ledger.specs.Exact.{IsRightly}
 use Rattle.mv_ledger.specs.declared.Reply.{Reply}
 use Rattle.mv_ledger.specs.declared.Reply.TheVariants.{Published, Refused, Rejected, Ran, Broken, Memory}
 
@@ -35,7 +36,14 @@ told Memory = None
 abbrev pub AnswersRecord : ℕ → List ℕ → Told → LedgerState → LedgerState → Type 0
 AnswersRecord kind payload reply old new = (request : Request) × (Asks kind payload request × Answers Spells old request reply new)
 
--- the reply answers a record, or memory ran out and the ledger stays as it was
+-- The reply answers a record as the machine's ledger may, leaves what it has to leave, and to a publish record it is the
+-- right one.
+pub record IsReplied (kind : ℕ) (payload : List ℕ) (reply : Told) (old new : LedgerView) : Type 0 where
+  pub answers : AnswersRecord kind payload reply (state_of old) (state_of new)
+  pub leaves : Leaves reply old new
+  pub rightly : kind ≡ 1 → IsRightly (state_of old) payload reply (state_of new)
+
+-- so does what was told; where memory ran out the ledger stays as it was
 abbrev pub Replies : ℕ → List ℕ → Option Told → LedgerView → LedgerView → Type 0
 Replies kind payload None old new = new ≡ old
-Replies kind payload (Some reply) old new = AnswersRecord kind payload reply (state_of old) (state_of new)
+Replies kind payload (Some reply) old new = IsReplied kind payload reply old new

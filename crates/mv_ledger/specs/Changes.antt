@@ -1,5 +1,5 @@
--- What a reply says today of what a ledger held and holds.
-use Rattle.std.specs.Prelude.{◌≡◌, ℕ, ◌+◌, List, [], ◌∷◌, ◌++◌, Option, Some, None, ⊤}
+-- What a reply leaves as it was.
+use Rattle.std.specs.Prelude.{◌≡◌, ◌+◌, List, [], ◌∷◌, ◌++◌, Option, Some, None, ⊤}
 use Rattle.mv_move_types.specs.Published.{PublishedModule}
 use Rattle.mv_machine.specs.Flat.{FlatEntry}
 use Rattle.mv_machine.specs.Lines.{Reply as Told, Published as ToldPublished, Refused as ToldRefused, Rejected as ToldRejected, Returned as ToldReturned, Aborted as ToldAborted, Exhausted as ToldExhausted, Broken as ToldBroken}
@@ -15,17 +15,16 @@ AddsOne old new = (p : PublishedModule) × (IsPublishable p × (new ≡ old ++ p
 abbrev pub with_run_had : LedgerView → LedgerView
 with_run_had v = record v { runs = v.runs + 1 }
 
--- what a call with a reply to a record of this kind changes
-abbrev pub MayAnswer : ℕ → Option Told → LedgerView → LedgerView → Type 0
-MayAnswer kind None old new = new ≡ old
-MayAnswer kind (Some (ToldPublished n)) old new =
-    (kind ≡ 1) × (n ≡ 1) × AddsOne old.published new.published × (new.stored ≡ old.stored) × (new.runs ≡ old.runs)
-MayAnswer kind (Some (ToldRefused phase)) old new = (kind ≡ 1) × (new ≡ old)
-MayAnswer kind (Some (ToldRejected reason)) old new = (kind ≡ 2) × (new ≡ old)
-MayAnswer kind (Some (ToldReturned steps)) old new = (kind ≡ 2) × (new.published ≡ old.published) × (new.runs ≡ old.runs + 1)
-MayAnswer kind (Some (ToldAborted k n steps)) old new = (kind ≡ 2) × (new ≡ with_run_had old)
-MayAnswer kind (Some (ToldExhausted stop steps)) old new = (kind ≡ 2) × (new ≡ with_run_had old)
-MayAnswer kind (Some ToldBroken) old new = (kind ≡ 2) × (new ≡ with_run_had old)
+-- what a reply leaves as it was: a refusal and a rejection leave everything, a bundle what is stored and the runs, and a run
+-- that didn't return all but the number of runs
+abbrev pub Leaves : Told → LedgerView → LedgerView → Type 0
+Leaves (ToldPublished n) old new = (new.stored ≡ old.stored) × (new.runs ≡ old.runs)
+Leaves (ToldRefused phase) old new = new ≡ old
+Leaves (ToldRejected reason) old new = new ≡ old
+Leaves (ToldReturned steps) old new = ⊤
+Leaves (ToldAborted kind n steps) old new = new ≡ with_run_had old
+Leaves (ToldExhausted stop steps) old new = new ≡ with_run_had old
+Leaves ToldBroken old new = new ≡ with_run_had old
 
 -- storage and tallies stay
 abbrev pub IsKept : List FlatEntry → List FlatEntry → List Tally → List Tally → Type 0

@@ -1,4 +1,7 @@
 pub mod View
+pub mod Asking
+pub mod Running
+pub mod Tallying
 pub mod RecordText
 pub mod Publishing
 pub mod Answering

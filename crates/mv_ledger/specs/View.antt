@@ -1,5 +1,5 @@
 -- What a ledger holds, and the machine's state that it stands for.
-use Rattle.std.specs.Prelude.{ℕ, ◌≤◌, List, [], map, length, All, unwrap_or}
+use Rattle.std.specs.Prelude.{ℕ, ◌*◌, ◌^◌, ◌≤◌, List, [], map, length, All, IsSome, unwrap_or}
 use Rattle.mv_move_types.specs.Module.{Module, name_at}
 use Rattle.mv_move_types.specs.Names.{StructName}
 use Rattle.mv_move_types.specs.Published.{PublishedModule}
@@ -43,8 +43,19 @@ abbrev pub view_of : List PublishedModule → List FlatEntry → List Tally → 
 view_of published stored tallies runs =
     record { published = published; stored = stored; tallies = map (tallied (tables_in published)) tallies; runs = runs }
 
--- a ledger's modules and runs are within their limits, and each stored value is one of its key's struct
-pub record IsLedger (published : List PublishedModule) (stored : List FlatEntry) (runs : ℕ) : Type 0 where
+-- a struct of the modules has this tally
+abbrev pub IsNamed : List Module → Tally → Type 0
+IsNamed modules t = IsSome (name_at modules t.place t.index)
+
+-- in so many runs, each made fewer than 2^64 values of the struct and took fewer apart
+abbrev pub IsSmall : ℕ → Tally → Type 0
+IsSmall runs t = (t.packs ≤ runs * 2 ^ 64) × (t.unpacks ≤ runs * 2 ^ 64)
+
+-- A ledger's modules and runs are within their limits, each stored value is one of its key's struct, and each tally one of a
+-- struct in its range.
+pub record IsLedger (published : List PublishedModule) (stored : List FlatEntry) (tallies : List Tally) (runs : ℕ) : Type 0 where
   pub few : length published ≤ 4096
   pub fine : All (IsFineWords (tables_in published)) stored
+  pub named : All (IsNamed (tables_in published)) tallies
+  pub small : All (IsSmall runs) tallies
   pub counted : runs ≤ 4294967296

@@ -1,14 +1,20 @@
 // Runs: which are begun, and what they change.
-ghost use Rattle.std.specs.Prelude.{◌≡◌, ◌<◌, ◌≤◌, ℕ, All, IsTrue, length, map, Some, None, option_map, IfOk, IfSome, OnOk};
+ghost use Rattle.std.specs.Prelude.{◌≡◌, ◌<◌, ◌≤◌, ◌+◌, ℕ, All, IsTrue, length, map, Some, None, false, option_map, IfOk, OnOk};
 ghost use Rattle.std.specs.List.{list_all};
-ghost use Rattle.mv_move_types.specs.Module.{parameter_tokens};
+ghost use Rattle.std.specs.Option.{option_map_or};
+ghost use Rattle.std.specs.Str.{bytes_eq};
+ghost use Rattle.mv_move_types.specs.Module.{parameter_tokens, name_of_function};
 ghost use Rattle.mv_move_types.specs.Named.{function_place};
 ghost use Rattle.mv_machine.specs.Ledger.{is_argument, are_arguments, with_signer as with_sender};
-ghost use Rattle.mv_linker.specs.Link.{tables_in};
+ghost use Rattle.mv_linker.specs.Link.{IsStore, tables_in};
 ghost use Rattle.mv_interpreter.specs.declared.Arg.{Arg as Argument};
 ghost use Rattle.mv_interpreter.specs.Runs.{IsCall, IsFineWords, number_fits, arg_value};
 ghost use Rattle.mv_ledger.specs.Changes.{RunsTo};
 ghost use Rattle.mv_ledger.specs.Answering.{told};
+ghost use Rattle.mv_ledger.specs.Asking.{request_of};
+ghost use Rattle.mv_ledger.specs.Running.{IsAdmitted, IsSettled};
+ghost use Rattle.mv_ledger.specs.Tallying.{HasRoomLeft};
+ghost use Rattle.mv_ledger.specs.View.{IsNamed, IsSmall};
 
 use crate::Reply;
 use crate::payload::RunRecord;
@@ -57,21 +63,24 @@ impl From<AllocError> for Barred {
 }
 
 /// Whether a function has an identifier.
-fn is_named(m: &Module<'_>, d: &FunctionDefinition<'_>, name: &[u8]) -> bool {
+fn is_named(m: &Module<'_>, d: &FunctionDefinition<'_>, name: &[u8]) -> bool
+    ensures { result ≡ option_map_or (bytes_eq name.now) (name_of_function m.now d.now) false }
+{
     let Some(handle) = m.function_handles().get(d.handle() as usize) else {
         return false;
     };
     match m.identifier(handle.name as usize) {
-        Some(own) => own == name,
+        Some(own) => name == own,
         None => false,
     }
 }
 
-/// The index of a module's function with an identifier.
+/// The index of a module's first function with an identifier.
 fn function_of(m: &Module<'_>, name: &[u8]) -> Option<usize>
-    ensures { IfSome result (λ i. i < length m.now.functions) }
+    ensures { result ≡ function_place m.now name.now }
 {
-    for (i, d) in m.functions().iter().enumerate() {
+    let functions = m.functions();
+    for (i, d) in functions.iter().enumerate() {
         if is_named(m, d, name) {
             return Some(i);
         }
@@ -149,6 +158,9 @@ pub fn admitted(
     requires range { IsTrue (list_all (λ (a : Argument). number_fits a.kind a.number) asked.arguments.items) }
     ensures call { IfOk result (λ c. IsCall (tables_in store.now) c.function c.arguments.items) }
     ensures runs { OnOk result (runs < 4294967296) }
+    ensures budget { IfOk result (λ c. c.budget ≤ 10000000) }
+    ensures admitted { IsAdmitted store.now runs (request_of asked.entry) result }
+    ensures store { OnOk result (IsStore store.now) }
 {
     if asked.budget > MOST_STEPS {
         return Err(Barred::Rejected(2));
@@ -188,9 +200,15 @@ pub fn execute(
     tallies: &mut Vec<Tally>,
     call: &Call,
 ) -> Reply
+    requires store { IsStore store.now }
     requires call { IsCall (tables_in store.now) call.now.function call.now.arguments.items }
     requires stored { All (IsFineWords (tables_in store.now)) storage.old }
+    requires named { All (IsNamed (tables_in store.now)) tallies.old.items }
+    requires room { All HasRoomLeft tallies.old.items }
     ensures stored { All (IsFineWords (tables_in store.now)) storage.new }
+    ensures named { All (IsNamed (tables_in store.now)) tallies.new.items }
+    ensures small { (runs : ℕ) → All (IsSmall runs) tallies.old.items → All (IsSmall (runs + 1)) tallies.new.items }
+    ensures settled { IsSettled store.now call.now (told result) storage.old storage.new tallies.old.items tallies.new.items }
     ensures kept { RunsTo (told result) storage.old storage.new tallies.old.items tallies.new.items }
 {
     let mut overlay = mem::replace(storage, Storage::new(alloc)).overlay();

@@ -6,11 +6,9 @@ mod payload;
 mod publishing;
 mod tallies;
 
-ghost use Rattle.std.specs.Prelude.{◌≡◌};
-ghost use Rattle.mv_ledger.specs.View.{empty_view, state_of};
-ghost use Rattle.mv_ledger.specs.Answering.{told};
-ghost use Rattle.mv_ledger.specs.Judging.{IsJudged};
-ghost use Rattle.mv_ledger.specs.Changes.{MayAnswer};
+ghost use Rattle.std.specs.Prelude.{◌≡◌, is_some};
+ghost use Rattle.mv_ledger.specs.View.{empty_view};
+ghost use Rattle.mv_ledger.specs.Answering.{told, Replies};
 
 use executing::{Barred, admitted};
 use mv_linker::Store;
@@ -39,6 +37,15 @@ pub enum Reply {
     Memory,
 }
 
+impl Reply {
+    /// Whether it says something of the record; want of memory doesn't.
+    fn is_told(&self) -> bool
+        ensures { result ≡ is_some (told self.now) }
+    {
+        !matches!(self, Reply::Memory)
+    }
+}
+
 /// The published modules, the stored values, the tallies of the structs with neither copy nor drop, and the number of runs
 /// had. Its model is what it holds, with values as their
 /// words; `state_of` is the state of the machine's ledger that it stands for.
@@ -58,7 +65,7 @@ impl Model for Ledger {
 
     ghost view = { λ l. view_of l.store l.storage l.tallies.items l.runs };
 
-    ghost invariant = { λ l. IsLedger l.store l.storage l.runs };
+    ghost invariant = { λ l. IsLedger l.store l.storage l.tallies.items l.runs };
 }
 
 impl Ledger {
@@ -77,8 +84,7 @@ impl Ledger {
 
     /// Answers a publish record with this payload.
     pub fn publish(&mut self, payload: &[u8]) -> Reply
-        ensures answers { MayAnswer 1 (told result) self.old self.new }
-        ensures judged { IsJudged (state_of self.old) payload.now (told result) self.new.published }
+        ensures { Replies 1 payload.now (told result) self.old self.new }
     {
         match publishing::publish(self.alloc, &mut self.store, &mut self.tallies, payload) {
             Ok(()) => Reply::Published(1),
@@ -89,7 +95,7 @@ impl Ledger {
 
     /// Answers a run record with this payload.
     pub fn execute(&mut self, payload: &[u8]) -> Reply
-        ensures answers { MayAnswer 2 (told result) self.old self.new }
+        ensures { Replies 2 payload.now (told result) self.old self.new }
     {
         let asked = match read_run(self.alloc, payload) {
             Ok(asked) => asked,
@@ -105,7 +111,7 @@ impl Ledger {
                     &mut self.tallies,
                     &call,
                 );
-                if reply != Reply::Memory {
+                if reply.is_told() {
                     self.runs += 1;
                 }
                 reply

@@ -1,15 +1,22 @@
 // The payloads of publish and run records.
-ghost use Rattle.std.specs.Prelude.{◌≡◌, ℕ, ◌⊎◌, ◌≤◌, None, Some, Err, IfOk, IfErr, IsTrue};
+ghost use Rattle.std.specs.Prelude.{◌≡◌, ◌⊎◌, [], ◌∷◌, None, Some, Err, IfOk, IfErr, OnErr, IsTrue};
 ghost use Rattle.std.specs.List.{list_all};
 ghost use Rattle.mv_interpreter.specs.declared.Arg.{Arg as Argument};
 ghost use Rattle.mv_interpreter.specs.Runs.{number_fits};
-ghost use Rattle.mv_ledger.specs.Payloads.{sized_from, bundle_from, kind_of, leaf_from, argument_from, run_from, AskedRun};
+ghost use Rattle.mv_machine.specs.Ledger.{Publish, Run};
+ghost use Rattle.mv_module_text.specs.Parsing.{counted_from};
+ghost use Rattle.mv_ledger.specs.Asking.{offer_of, request_of};
+ghost use Rattle.mv_ledger.specs.RecordText.{IsShaped, IsShapeless};
+ghost use Rattle.mv_ledger.specs.Payloads.{sized_from, bundle_from, kind_of, leaf_from, argument_from, run_from};
 
 use byteorder::{ByteOrder, LittleEndian};
 use mv_interpreter::Arg;
 use mv_module_text::Reader;
 use mv_move_types::{LeafKind, Refusal, Width};
-use std::alloc::{AllocError, Global};
+use std::alloc::Global;
+
+// What the reader refuses malformed bytes with. So do the functions here.
+const MALFORMED: Refusal = Refusal::Phase(2);
 
 /// A module that is to be published, with its certificate and its sender.
 #[derive(Drop)]
@@ -40,25 +47,40 @@ fn sized<'a>(reader: &mut Reader<'a>, most: u64) -> Result<&'a [u8], Refusal>
     reader.bytes(count as usize)
 }
 
-/// Reads the payload of a publish record: a sender and one module with its certificate.
-pub fn read_bundle<'a>(payload: &'a [u8]) -> Result<Bundle<'a>, Refusal>
-    ensures ok { IfOk result (λ b. bundle_from payload.entry.now ≡ Some (b.sender, record { text = b.text.now; certificate = b.certificate.now })) }
-    ensures refused { result ≡ Err (Refusal.Phase 2) → bundle_from payload.entry.now ≡ None }
+/// Reads a sender and one module with its certificate.
+fn next_bundle<'a>(reader: &mut Reader<'a>) -> Result<Bundle<'a>, Refusal>
+    ensures ok { IfOk result (λ b. bundle_from reader.old ≡ Some ((b.sender, offer_of b), reader.new)) }
+    ensures refused { result ≡ Err (Refusal.Phase 2) → bundle_from reader.old ≡ None }
     ensures errors { IfErr result (λ e. e ≡ Refusal.Phase 2) }
 {
-    let mut reader = Reader::new(payload);
     let sender = reader.address()?;
     reader.mark(1)?;
-    let text = sized(&mut reader, 65_536)?;
-    let certificate = sized(&mut reader, 1_048_576)?;
-    if !reader.is_empty() {
-        return Err(Refusal::Phase(2));
-    }
+    let text = sized(reader, 65_536)?;
+    let certificate = sized(reader, 1_048_576)?;
     Ok(Bundle {
         sender,
         text,
         certificate,
     })
+}
+
+/// Reads the payload of a publish record: a sender and one module with its certificate, and nothing behind them.
+///
+/// # Errors
+///
+/// The phase of malformed bytes, where the payload is no such record's.
+pub fn read_bundle<'a>(payload: &'a [u8]) -> Result<Bundle<'a>, Refusal>
+    ensures ok { IfOk result (λ b. IsShaped 1 payload.entry.now (Publish b.sender (offer_of b ∷ []))) }
+    ensures refused { OnErr result (IsShapeless 1 payload.entry.now) }
+    ensures errors { IfErr result (λ e. e ≡ Refusal.Phase 2) }
+{
+    let mut reader = Reader::new(payload);
+    let offered = next_bundle(&mut reader)?;
+    if reader.is_empty() {
+        Ok(offered)
+    } else {
+        Err(MALFORMED)
+    }
 }
 
 /// The kind of leaf that an argument's token stands for.
@@ -88,14 +110,14 @@ fn leaf(reader: &mut Reader<'_>, kind: LeafKind) -> Result<u128, Refusal>
             if byte < 2 {
                 Ok(u128::from(byte))
             } else {
-                Err(Refusal::Phase(2))
+                Err(MALFORMED)
             }
         }
         LeafKind::Number(Width::U8) => Ok(u128::from(reader.byte()?)),
         LeafKind::Number(Width::U64) => Ok(u128::from(LittleEndian::read_u64(reader.bytes(8)?))),
         LeafKind::Number(Width::U128) => Ok(LittleEndian::read_u128(reader.bytes(16)?)),
         LeafKind::Address => reader.address(),
-        LeafKind::Signer => Err(Refusal::Phase(2)),
+        LeafKind::Signer => Err(MALFORMED),
     }
 }
 
@@ -108,7 +130,7 @@ fn argument(reader: &mut Reader<'_>) -> Result<Arg, Refusal>
 {
     let code = reader.byte()?;
     match kind_by(code) {
-        None => Err(Refusal::Phase(2)),
+        None => Err(MALFORMED),
         Some(kind) => {
             let number = leaf(reader, kind)?;
             Ok(Arg { kind, number })
@@ -116,33 +138,35 @@ fn argument(reader: &mut Reader<'_>) -> Result<Arg, Refusal>
     }
 }
 
-/// Reads so many arguments.
-fn arguments(alloc: Global, reader: &mut Reader<'_>, count: usize) -> Result<Vec<Arg>, Refusal>
+/// Reads arguments, of which there are at most 16, behind their number.
+fn arguments(alloc: Global, reader: &mut Reader<'_>) -> Result<Vec<Arg>, Refusal>
+    ensures ok { IfOk result (λ v. counted_from 16 argument_from reader.old ≡ Some (v.items, reader.new)) }
     ensures range { IfOk result (λ v. IsTrue (list_all (λ (a : Argument). number_fits a.kind a.number) v.items)) }
+    ensures refused { result ≡ Err (Refusal.Phase 2) → counted_from 16 argument_from reader.old ≡ None }
+    ensures errors { IfErr result (λ e. (e ≡ Refusal.Phase 2) ⊎ (e ≡ Refusal.Memory)) }
 {
+    let count = reader.number(16)?;
     let mut all = Vec::new(alloc);
-    for _ in 0..count {
+    'each: for _ in 0..count {
         let next = argument(reader)?;
-        all.push(next).map_err(AllocError::from)?;
+        all.push(next).map_err(|_| Refusal::Memory)?;
     }
     Ok(all)
 }
 
-/// Reads the payload of a run record.
-pub fn read_run<'a>(alloc: Global, payload: &'a [u8]) -> Result<RunRecord<'a>, Refusal>
+/// Reads a run that is asked for.
+fn next_run<'a>(alloc: Global, reader: &mut Reader<'a>) -> Result<RunRecord<'a>, Refusal>
+    ensures ok { IfOk result (λ r. run_from reader.old ≡ Some (request_of r, reader.new)) }
     ensures range { IfOk result (λ r. IsTrue (list_all (λ (a : Argument). number_fits a.kind a.number) r.arguments.items)) }
+    ensures refused { result ≡ Err (Refusal.Phase 2) → run_from reader.old ≡ None }
+    ensures errors { IfErr result (λ e. (e ≡ Refusal.Phase 2) ⊎ (e ≡ Refusal.Memory)) }
 {
-    let mut reader = Reader::new(payload);
     let sender = reader.address()?;
     let home = reader.address()?;
     let module = reader.identifier()?;
     let function = reader.identifier()?;
     let budget = reader.number(u64::MAX)?;
-    let count = reader.number(16)?;
-    let arguments = arguments(alloc, &mut reader, count as usize)?;
-    if !reader.is_empty() {
-        return Err(Refusal::Phase(2));
-    }
+    let arguments = arguments(alloc, reader)?;
     Ok(RunRecord {
         sender,
         home,
@@ -151,4 +175,24 @@ pub fn read_run<'a>(alloc: Global, payload: &'a [u8]) -> Result<RunRecord<'a>, R
         budget,
         arguments,
     })
+}
+
+/// Reads the payload of a run record: a run that is asked for, and nothing behind it.
+///
+/// # Errors
+///
+/// The phase of malformed bytes, where the payload is no such record's; `Memory`, where a growth was refused.
+pub fn read_run<'a>(alloc: Global, payload: &'a [u8]) -> Result<RunRecord<'a>, Refusal>
+    ensures ok { IfOk result (λ r. IsShaped 2 payload.entry.now (Run (request_of r))) }
+    ensures refused { result ≡ Err (Refusal.Phase 2) → IsShapeless 2 payload.entry.now }
+    ensures errors { IfErr result (λ e. (e ≡ Refusal.Phase 2) ⊎ (e ≡ Refusal.Memory)) }
+    ensures range { IfOk result (λ r. IsTrue (list_all (λ (a : Argument). number_fits a.kind a.number) r.arguments.items)) }
+{
+    let mut reader = Reader::new(payload);
+    let asked = next_run(alloc, &mut reader)?;
+    if reader.is_empty() {
+        Ok(asked)
+    } else {
+        Err(MALFORMED)
+    }
 }

@@ -1,10 +1,12 @@
 // Publishing a bundle: its phases in order, and what it changes.
-ghost use Rattle.std.specs.Prelude.{◌≡◌, ◌≤◌, ◌++◌, List, length, IfOk, IfErr, OnOk, OnErr};
+ghost use Rattle.std.specs.Prelude.{◌≡◌, ℕ, ◌≤◌, [], ◌∷◌, ◌++◌, All, length, IfOk, IfErr, OnOk, OnErr};
 ghost use Rattle.mv_certificate.specs.Certificate.{Certificate};
-ghost use Rattle.mv_linker.specs.Link.{IsStore};
+ghost use Rattle.mv_linker.specs.Link.{IsStore, tables_in};
 ghost use Rattle.mv_ledger.specs.Publishing.{Passes, IsRefusedOffer};
 ghost use Rattle.mv_ledger.specs.Judging.{IsAcceptedBy, IsRefusedBy};
 ghost use Rattle.mv_ledger.specs.Changes.{AddsOne};
+ghost use Rattle.mv_ledger.specs.Tallying.{AddsTallies};
+ghost use Rattle.mv_ledger.specs.View.{IsNamed, IsSmall};
 
 use crate::payload::{Bundle, read_bundle};
 use crate::tallies::{Tally, scarce_structs, untouched};
@@ -35,6 +37,13 @@ fn verified<'a>(alloc: Global, bundle: &Bundle<'a>) -> Result<New<'a>, Refusal>
         text: bundle.text,
         certificate: bundle.certificate,
     })
+}
+
+/// The module alone.
+fn alone<'a>(alloc: Global, new: New<'a>) -> Result<Vec<New<'a>>, AllocError>
+    ensures { IfOk result (λ v. v.items ≡ new.entry ∷ []) }
+{
+    Ok(vec![in alloc; new]?)
 }
 
 /// Adds a bundle and its tallies, or nothing.
@@ -72,24 +81,25 @@ pub fn publish(
     tallies: &mut Vec<Tally>,
     payload: &[u8],
 ) -> Result<(), Refusal>
+    requires named { All (IsNamed (tables_in store.old)) tallies.old.items }
     ensures ok { OnOk result (AddsOne store.old store.new) }
+    ensures store { OnOk result (IsStore store.old) }
     ensures room { OnOk result (length store.new ≤ 4096) }
     ensures err { OnErr result (store.new ≡ store.old) }
     ensures kept { OnErr result (tallies.new.items ≡ tallies.old.items) }
     ensures accepted { OnOk result (IsAcceptedBy store.old payload.now store.new) }
     ensures refused { IfErr result (IsRefusedBy store.old payload.now) }
+    ensures named { OnOk result (All (IsNamed (tables_in store.new)) tallies.new.items) }
+    ensures small { (runs : ℕ) → All (IsSmall runs) tallies.old.items → All (IsSmall runs) tallies.new.items }
+    ensures tallied { OnOk result (AddsTallies store.old store.new tallies.old.items tallies.new.items) }
 {
     let Ok(bundle) = read_bundle(payload) else {
         return Err(Refusal::Phase(1));
     };
     let new = verified(alloc, &bundle)?;
     let structs = scarce_structs(alloc, new.module.module())?;
-    let linked = link(
-        alloc,
-        store,
-        Some(bundle.sender),
-        vec![in alloc; new].map_err(AllocError::from)?,
-    )?;
+    let news = alone(alloc, new)?;
+    let linked = link(alloc, store, Some(bundle.sender), news)?;
     let count = store.len();
     if count >= MOST_MODULES {
         return Err(Refusal::Phase(14));

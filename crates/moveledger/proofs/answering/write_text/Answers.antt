@@ -1,4 +1,4 @@
-use Rattle.std.proofs.Common.{◌≤◌, arith, rules}
+use Rattle.std.proofs.Common.{arith}
 use Rattle.std.proofs.lemmas.Grind.{common_steps}
 use Rattle.moveledger.proofs.Taken.{Appends-more}
 use Rattle.moveledger.proofs.answering.write_text.Goals as goal

@@ -1,4 +1,4 @@
-use Rattle.std.proofs.Common.{◌≡◌, ap, ◌∙◌, map, false, true, List, refl, Bor, ℕ}
+use Rattle.std.proofs.Common.{◌≡◌, ap, ◌∙◌, map, false, true, List, refl, Bor}
 use Rattle.clap.specs.Words.{takes, App, Text, app_of}
 use Rattle.moveledger.proofs.Tasks.{not_true}
 use Rattle.moveledger.proofs.command.command.Goals as goal

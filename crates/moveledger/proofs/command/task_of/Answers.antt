@@ -1,6 +1,5 @@
-use Rattle.std.proofs.Common.{◌≡◌, ap, ◌∙◌, codes}
 use Rattle.clap.specs.Words.{found_of, rows_of, subcommand_rows_of}
-use Rattle.moveledger.proofs.Tasks.{task_of_apply, task_of_none}
+use Rattle.moveledger.proofs.Tasks.{task_of_apply}
 use Rattle.moveledger.proofs.command.task_of.Goals as goal
 
 pub returns-in-Some : goal.returns-in-Some

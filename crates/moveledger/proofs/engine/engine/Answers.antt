@@ -1,6 +1,6 @@
-use Rattle.std.proofs.Common.{rules, ◌≡◌, ℕ, Err, ◌+◌, ◌-◌, ◌<◌, ◌≤◌, length, List, [], ◌∷◌, ◌++◌, sym, ap, ◌∙◌, refl, arith, subst, inl, inr}
+use Rattle.std.proofs.Common.{◌≡◌, ℕ, ◌+◌, List, [], ◌++◌, sym, ◌∙◌, refl, arith, subst, inl, inr}
 use Rattle.std.proofs.lemmas.Result.{err_from_is_err_and}
-use Rattle.moveledger.specs.Outcome.{Answers, Stops, StopsReading, left_of}
+use Rattle.moveledger.specs.Outcome.{Stops, left_of}
 use Rattle.moveledger.specs.Records.{Whole, Cut, IsText}
 use Rattle.mv_machine.specs.Lines.{Refused, reply_lines}
 use Rattle.std.proofs.KnownBytes.{Appends-nil}

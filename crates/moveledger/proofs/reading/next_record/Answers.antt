@@ -1,11 +1,9 @@
-use Rattle.std.proofs.Common.{rules, ◌≡◌, ◌≢◌, ℕ, ◌+◌, ◌-◌, ◌≤◌, ◌<◌, List, [], ◌∷◌, ◌++◌, length, take, arith, subst, sym, refl, ◌∙◌, ap, append-nil}
-use Rattle.std.specs.Io.KnownBytes.{Consumes, IsAtEnd}
+use Rattle.std.proofs.Common.{◌∷◌, ◌++◌}
 use Rattle.std.proofs.KnownBytes.{Consumes-trans}
 use Rattle.std.proofs.lemmas.Result.{err_from_is_err_and}
-use Rattle.moveledger.specs.Records.{NoWhole}
 use Rattle.moveledger.specs.Outcome.{left_of}
 use Rattle.moveledger.proofs.Taken.{left_of-end}
-use Rattle.moveledger.proofs.Whole.{NoWhole-nil, NoWhole-length, NoWhole-payload, NoWhole-payload-end, IsText-from, read_not_write}
+use Rattle.moveledger.proofs.Whole.{NoWhole-length, NoWhole-payload, NoWhole-payload-end, IsText-from, read_not_write}
 use Rattle.moveledger.proofs.reading.next_record.Goals as goal
 
 pub returns-in_err-len-clause-err : goal.returns-in_err-len-clause-err

@@ -1,11 +1,7 @@
-use Rattle.std.proofs.Common.{rules, ◌≡◌, ℕ, ◌+◌, ◌-◌, ◌≤◌, ◌<◌, List, [], ◌∷◌, ◌++◌, length, take, arith, subst, sym, refl, ◌∙◌, ap, append-nil, length-take-le}
-use Rattle.std.specs.Io.KnownBytes.{Consumes, IsAtEnd}
+use Rattle.std.proofs.Common.{◌≡◌, ◌<◌, [], ◌∷◌, ◌++◌, length, take, arith, refl, ◌∙◌, append-nil, length-take-le}
 use Rattle.std.proofs.KnownBytes.{Consumes-trans}
-use Rattle.std.proofs.lemmas.Grind.{common_steps}
 use Rattle.std.proofs.lemmas.List.{take_more_set, length-set}
 use Rattle.std.proofs.lemmas.Result.{err_from_is_err_and}
-use Rattle.moveledger.specs.Outcome.{left_of}
-use Rattle.moveledger.specs.Reading.{NoLength, AreHigh}
 use Rattle.moveledger.proofs.Taken.{Consumes-none, left_of-end}
 use Rattle.moveledger.proofs.Lengths.{NoLength-high, NoLength-ten, NoLength-bad, IsUleb-whole, AreHigh-push, none_from}
 use Rattle.moveledger.proofs.reading.read_length.Goals as goal

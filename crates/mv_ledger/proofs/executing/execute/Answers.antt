@@ -1,9 +1,17 @@
-use Rattle.std.proofs.Common.{◌≡◌, List, rules, sym, subst}
+use Rattle.std.proofs.Common.{◌≡◌, ◌+◌, ◌^◌, ◌≤◌, Err, List, map, rules, sym, ap, ◌∙◌, subst, arith}
 use Rattle.std.specs.Prelude.{All}
+use Rattle.std.specs.List.{sum_by}
 use Rattle.mv_machine.specs.declared.Ending.TheVariants.{Returned}
 use Rattle.mv_machine.specs.Flat.{FlatEntry}
+use Rattle.mv_machine.specs.Run.{RunOutcome}
 use Rattle.mv_linker.specs.Link.{tables_in}
-use Rattle.mv_interpreter.specs.Runs.{IsFineWords}
+use Rattle.mv_interpreter.specs.declared.StructTally.{StructTally}
+use Rattle.mv_interpreter.specs.Runs.{IsFineWords, Agrees, IsFaulted}
+use Rattle.mv_ledger.specs.declared.tallies.Tally.{Tally}
+use Rattle.mv_ledger.specs.Tallying.{tally_after}
+use Rattle.mv_ledger.specs.View.{IsNamed, IsSmall}
+use Rattle.mv_ledger.proofs.StoredRuns.{run-same, tallied-after, settled-returned, settled-kept, settled-broken, small-kept}
+use Rattle.mv_ledger.proofs.TalliesAfter.{named-after, small-after}
 use Rattle.mv_ledger.proofs.executing.execute.Goals as goal
 use Rattle.mv_ledger.proofs.executing.execute.Goals.{then-eq, else-eq}
 
@@ -28,3 +36,52 @@ pub returns-in-Memory-clause-stored : goal.returns-in-Memory-clause-stored
 returns-in-Memory-clause-stored c =
     let e : c.discard-in-Err.result ≡ c.args.storage.now = cc in
     subst (λ (z : List FlatEntry). All (IsFineWords (tables_in c.args.store.now)) z) (sym e) c.requires.stored
+
+pub returns-after-eq-clause-named : goal.returns-after-eq-clause-named
+returns-after-eq-clause-named c =
+    elim c.if-eq.branch [
+      | then-eq w ↦
+          let after : c.if-eq.tallies.items ≡ map (tally_after c.in-Ok.tally.items) c.args.tallies.now.items =
+          ap (λ v. v.items) w.tallies-is
+          ∙ tallied-after c.args.tallies.now c.in-Ok.tally.items w.deref-then-eq.result.now w.deref_mut.result.now w.add_run.new.tallies w.add_run.ensures w.deref-then-eq.ensures.value w.deref_mut.ensures.value w.deref_mut.ensures.len in
+          subst (λ (ts : List Tally). All (IsNamed (tables_in c.args.store.now)) ts) (sym after) (named-after (tables_in c.args.store.now) c.in-Ok.tally.items c.args.tallies.now.items c.requires.named)
+      | else-eq w ↦ rw w.tallies-is c.requires.named
+    ]
+
+pub returns-after-eq-clause-small : goal.returns-after-eq-clause-small
+returns-after-eq-clause-small c = λ runs small.
+    elim c.if-eq.branch [
+      | then-eq w ↦
+          let after : c.if-eq.tallies.items ≡ map (tally_after c.in-Ok.tally.items) c.args.tallies.now.items =
+          ap (λ v. v.items) w.tallies-is
+          ∙ tallied-after c.args.tallies.now c.in-Ok.tally.items w.deref-then-eq.result.now w.deref_mut.result.now w.add_run.new.tallies w.add_run.ensures w.deref-then-eq.ensures.value w.deref_mut.ensures.value w.deref_mut.ensures.len in
+          let few : sum_by (λ (t : StructTally). t.packs + t.unpacks) c.in-Ok.tally.items ≤ 2 ^ 64 = omega (arith, c.in-Ok.ensures.few) in
+          subst (λ (ts : List Tally). All (IsSmall (runs + 1)) ts) (sym after) (small-after runs c.in-Ok.tally.items c.args.tallies.now.items few small)
+      | else-eq w ↦ rw w.tallies-is (small-kept runs c.args.tallies.now.items small)
+    ]
+
+pub returns-after-eq-clause-settled : goal.returns-after-eq-clause-settled
+returns-after-eq-clause-settled c =
+    elim c.if-eq.branch [
+      | then-eq w ↦
+          let after : c.if-eq.tallies.items ≡ map (tally_after c.in-Ok.tally.items) c.args.tallies.now.items =
+          ap (λ v. v.items) w.tallies-is
+          ∙ tallied-after c.args.tallies.now c.in-Ok.tally.items w.deref-then-eq.result.now w.deref_mut.result.now w.add_run.new.tallies w.add_run.ensures w.deref-then-eq.ensures.value w.deref_mut.ensures.value w.deref_mut.ensures.len in
+          let agrees = subst (λ (o : RunOutcome). Agrees (tables_in c.args.store.now) o c.in-Ok.outcome c.in-Ok.tally.items c.run.new.o)
+          (run-same c.args.store.now c.args.call.now c.args.storage.now c.if-eq.storage c.args.tallies.now.items c.if-eq.tallies.items c.overlay-overlay.result.current c.deref.result.now (c.overlay-overlay.ensures.current ∙ c.replace.ensures.value) c.deref.ensures.value) c.in-Ok.ensures.machine in
+          let ended : c.in-Ok.outcome.ending ≡ Returned = search rules in
+          let e : c.if-eq.storage ≡ c.run.new.o.current = cc in
+          settled-returned c.args.store.now c.args.call.now c.args.storage.now c.if-eq.storage c.args.tallies.now.items c.if-eq.tallies.items c.in-Ok.outcome c.in-Ok.tally.items c.run.new.o c.requires.store c.requires.named agrees ended e after
+      | else-eq w ↦
+          let agrees = subst (λ (o : RunOutcome). Agrees (tables_in c.args.store.now) o c.in-Ok.outcome c.in-Ok.tally.items c.run.new.o)
+          (run-same c.args.store.now c.args.call.now c.args.storage.now c.if-eq.storage c.args.tallies.now.items c.if-eq.tallies.items c.overlay-overlay.result.current c.deref.result.now (c.overlay-overlay.ensures.current ∙ c.replace.ensures.value) c.deref.ensures.value) c.in-Ok.ensures.machine in
+          let other : c.in-Ok.outcome.ending ≡ Returned → ⊥ = search rules in
+          let e : c.if-eq.storage ≡ c.args.storage.now = cc in
+          settled-kept c.args.store.now c.args.call.now c.args.storage.now c.if-eq.storage c.args.tallies.now.items c.if-eq.tallies.items c.in-Ok.outcome c.in-Ok.tally.items c.run.new.o agrees other e (ap (λ v. v.items) w.tallies-is)
+    ]
+
+pub returns-in-Broken-clause-settled : goal.returns-in-Broken-clause-settled
+returns-in-Broken-clause-settled c =
+    settled-broken c.args.store.now c.args.call.now c.args.storage.now c.discard-in-Err.result c.args.tallies.now.items c.args.tallies.now.items
+    (subst IsFaulted (run-same c.args.store.now c.args.call.now c.args.storage.now c.discard-in-Err.result c.args.tallies.now.items c.args.tallies.now.items c.overlay-overlay.result.current c.deref.result.now (c.overlay-overlay.ensures.current ∙ c.replace.ensures.value) c.deref.ensures.value)
+    (c.in-Err.ensures.broken (ap (λ e. Err e) c.in-Broken.is)))

@@ -25,7 +25,7 @@ returns-in_err-stated-clause-refused c =
     let p = err_from_is_err_and c.from_residual-in_err-stated.result c.from_residual-in_err-stated.ensures.1 in
     rw (p.1, p.2)
     (refused_stated _ c.in_ok-typed.typed c.in_err-stated.field-0.0 (c.in_ok-module.ensures.ok ∙ ap Some (sym c.in_ok-bounded.ensures.ok) ∙ ap Some (sym c.in_ok-typed.ensures.ok))
-    c.module-sound.ensures.sound c.in_err-stated.ensures.errors)
+    c.module-sound.ensures.sound c.in_err-stated.ensures.errors (λ is. c.in_err-stated.ensures.none (ap Err is)))
 
 pub returns-in_err-module-2-clause-refused : goal.returns-in_err-module-2-clause-refused
 returns-in_err-module-2-clause-refused c =

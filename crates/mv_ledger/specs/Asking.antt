@@ -1,0 +1,20 @@
+-- What a payload that was read asks.
+use Rattle.std.specs.Prelude.{map}
+use Rattle.mv_machine.specs.Ledger.{Offer, RunRequest}
+use Rattle.mv_interpreter.specs.Runs.{arg_value}
+use Rattle.mv_ledger.specs.declared.payload.Bundle.{Bundle}
+use Rattle.mv_ledger.specs.declared.payload.RunRecord.{RunRecord}
+
+-- the module that is offered, with its certificate
+abbrev pub offer_of : Bundle → Offer
+offer_of b = record { text = b.text.now; certificate = b.certificate.now }
+
+-- the run that is asked for
+abbrev pub request_of : RunRecord → RunRequest
+request_of r = record {
+  sender = r.sender;
+  home = record { address = r.home; name = r.«module».now };
+  function = r.function.now;
+  budget = r.budget;
+  arguments = map arg_value r.arguments.items;
+}

@@ -1,0 +1,38 @@
+-- What a run that is asked for comes to.
+use Rattle.std.specs.Prelude.{◌≡◌, ℕ, ◌+◌, List, Result, Ok, Err, Option, Some, None, ⊤}
+use Rattle.mv_move_types.specs.Published.{PublishedModule}
+use Rattle.mv_machine.specs.Flat.{FlatEntry, storage_of}
+use Rattle.mv_machine.specs.Run.{FunctionCall, RunOutcome, run}
+use Rattle.mv_machine.specs.Lines.{Reply as Told}
+use Rattle.mv_machine.specs.Ledger.{LedgerState, RunRequest, Settles, admitted}
+use Rattle.mv_linker.specs.Link.{tables_in}
+use Rattle.mv_interpreter.specs.Runs.{call_of}
+use Rattle.mv_ledger.specs.declared.executing.Call.{Call}
+use Rattle.mv_ledger.specs.declared.executing.Barred.{Barred}
+use Rattle.mv_ledger.specs.declared.executing.Barred.TheVariants.{Rejected, Memory}
+use Rattle.mv_ledger.specs.declared.tallies.Tally.{Tally}
+use Rattle.mv_ledger.specs.View.{state_of, view_of}
+
+-- the call that is admitted is the machine's, and the reason against one; want of memory stands for neither
+abbrev pub IsAdmission : ℕ → Result FunctionCall ℕ → Result Call Barred → Type 0
+IsAdmission budget (Ok call) (Ok c) = (call_of c.function c.arguments.items ≡ call) × (c.budget ≡ budget)
+IsAdmission budget (Ok call) (Err (Rejected reason)) = ⊥
+IsAdmission budget (Err reason) (Ok c) = ⊥
+IsAdmission budget (Err reason) (Err (Rejected own)) = own ≡ reason
+IsAdmission budget _ (Err Memory) = ⊤
+
+-- the admission of a run to a ledger with these modules and so many runs, whatever else it holds
+abbrev pub IsAdmitted : List PublishedModule → ℕ → RunRequest → Result Call Barred → Type 0
+IsAdmitted published runs r result =
+    (s : LedgerState) → s.published ≡ published → s.runs ≡ runs → IsAdmission r.budget (admitted s r) result
+
+-- the machine's run of a call
+abbrev pub run_of : List PublishedModule → List FlatEntry → Call → RunOutcome
+run_of published stored call =
+    run (tables_in published) (storage_of (tables_in published) stored) (call_of call.function call.arguments.items) call.budget
+
+-- what a call changed, and what was told of it, is what the machine's run asks for; nothing is asked where memory ran out
+abbrev pub IsSettled : List PublishedModule → Call → Option Told → List FlatEntry → List FlatEntry → List Tally → List Tally → Type 0
+IsSettled published call None stored new before after = ⊤
+IsSettled published call (Some reply) stored new before after =
+    (runs : ℕ) → Settles (state_of (view_of published stored before runs)) (run_of published stored call) reply (state_of (view_of published new after (runs + 1)))
