@@ -33,9 +33,11 @@ Alike R (Some s) (Some t) = R s t
 pub record Stands {A : Type 0} (xs whole : List A) (at : ℕ) : Type 0 where
   pub each : (j : ℕ) (x : A) → slice_get xs j ≡ Some x → slice_get whole (at + j) ≡ Some x
 
+-- its first element stands there
 Stands-head : {A : Type 0} (x : A) (xs whole : List A) (at : ℕ) → Stands (x ∷ xs) whole at → slice_get whole at ≡ Some x
 Stands-head x xs whole at s = let e : at + 0 ≡ at = omega arith in subst (λ (n : ℕ). slice_get whole n ≡ Some x) e (s.each 0 x refl)
 
+-- and the others stand behind it
 Stands-tail : {A : Type 0} (x : A) (xs whole : List A) (at : ℕ) → Stands (x ∷ xs) whole at → Stands xs whole (suc at)
 Stands-tail x xs whole at s = record {
   each = λ j y e. let n : at + suc j ≡ suc at + j = omega arith in subst (λ (n : ℕ). slice_get whole n ≡ Some y) n (s.each (suc j) y e);
@@ -54,9 +56,11 @@ at_take (suc n) [] j x e = absurd (none-some x e)
 at_take (suc n) (y ∷ ys) zero x e = e
 at_take (suc n) (y ∷ ys) (suc j) x e = at_take n ys j x e
 
+-- a part of a list stands where it begins
 Stands-range : {A : Type 0} (xs : List A) (first behind : ℕ) → Stands (slice_range xs first behind) xs first
 Stands-range xs first behind = record { each = λ j x e. sym (at_drop first xs j) ∙ at_take (behind - first) (drop first xs) j x e }
 
+-- how long it is
 length-range : {A : Type 0} (xs : List A) (first behind : ℕ) → behind ≤ length xs → length (slice_range xs first behind) ≡ behind - first
 length-range xs first behind le = omega (arith, length-take (behind - first) (drop first xs), length-drop first xs)
 
@@ -123,6 +127,7 @@ module _ (m : Module) (d : FunctionDefinition) where
       slice_get-second (types_in m d c) (flat_map (types_in m d) bs) n (n - length (types_in m d c)) sum
       ∙ types_there bs (c.last + 1) t.1.1 p.1 k b e (n - length (types_in m d c)) j x next found
 
+  -- the same of the block at a place
   Stands-types : (k : ℕ) (b : Stretch) → IsTrue (function_is_typed m d) → slice_get (blocks d.code) k ≡ Some b → Stands (types_in m d b) (types_before m d) b.first
   Stands-types k b typed e = record {
     each = λ j x found. types_there (blocks d.code) 0 (blocks-tile d.code) typed k b e (b.first + j) j x (omega arith) found;
@@ -134,6 +139,7 @@ zip_all p [] ys h = refl
 zip_all p (x ∷ xs) [] h = refl
 zip_all p (x ∷ xs) (y ∷ ys) h = and_from (p (x, y)) (list_all p (zip xs ys)) (h 0 x y refl refl) (zip_all p xs ys (λ k a b ea eb. h (suc k) a b ea eb))
 
+-- the test of one pair, where all pass
 pub zip_at : {A B : Type 0} (p : A × B → Bool) (xs : List A) (ys : List B) (k : ℕ) (x : A) (y : B) → list_all p (zip xs ys) ≡ true → slice_get xs k ≡ Some x → slice_get ys k ≡ Some y → p (x, y) ≡ true
 zip_at p [] ys k x y h ex ey = absurd (none-some x ex)
 zip_at p (a ∷ xs) [] k x y h ex ey = absurd (none-some y ey)

@@ -40,6 +40,7 @@ types_free m d types (ImmBorrowLoc l) s = refl
 types_free m d types (Pack i) s = refl
 types_free m d types (MoveTo i) s = refl
 
+-- an option is like itself
 Alike-self : {S : Type 0} (o : Option S) → Alike (λ s t. s ≡ t) o o
 Alike-self None = tt
 Alike-self (Some s) = refl
@@ -113,6 +114,7 @@ module _ (m m' : Module) (f : ℕ) (d d' : FunctionDefinition) (g : Cfg) (stated
         let goes : IsTrue (flow_goes edges_after m d all) = goes_from_carried (List Edge) edges_after (edges_step m d) SameEdges m d (edges_do m d) SameEdges-self g fg typed all here in
         subst (λ z. IsTrue (flow_goes edges_after m z (map (option_map (λ k. k.edges)) stated))) same (subst (λ z. IsTrue (flow_goes edges_after m d z)) is goes)
 
+    -- the same of edges
     pub edges_rest : (equals : List Edge → List Edge → Bool) → ((s : List Edge) → equals s s ≡ true) → EdgesRestAt m f stated → IsAtRest (λ a b. IsTrue (edges_leq a b)) equals (edges_step m' d') g all
     edges_rest equals self rest =
         let here = subst (λ z. AreAtRest edges_after edges_leq m d z) (sym is) (rest d at) in

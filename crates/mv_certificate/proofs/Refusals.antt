@@ -9,6 +9,7 @@ use Rattle.mv_certificate.specs.Certificate.{Certificate, locals_needs_are_met, 
 use Rattle.mv_certificate.specs.Needs.{LocalsAtRest, EdgesAtRest}
 use Rattle.mv_certificate.specs.Answers.{FailsCertificate, bad_locals, bad_borrows, bad_acquires, IsRefusedByCertificate}
 
+-- a refusal in phase 10, 11 or 12 is one of the certificate
 pub locals-refused : (m : Module) (c : Certificate) (r : Refusal) → IsRefusedIn 10 (LocalsAtRest m c) r → IsRefusedByCertificate m c r
 locals-refused m c (Phase p) h = subst (FailsCertificate m c) (sym h.0) (bad_locals h.1)
 locals-refused m c Memory h = tt

@@ -23,6 +23,7 @@ use Rattle.mv_certificate.proofs.Carried.{Alike}
 pub record SameEdges (es fs : List Edge) : Type 0 where
   pub any : (p : Edge → Bool) → list_any p es ≡ list_any p fs
 
+-- edges are the same as themselves
 pub SameEdges-self : (es : List Edge) → SameEdges es es
 SameEdges-self es = record { any = λ p. refl }
 
@@ -30,6 +31,7 @@ SameEdges-self es = record { any = λ p. refl }
 passed_on : (p : Edge → Bool) (es fs : List Edge) → ((e : Edge) → Contains es e → Contains fs e) → Any (λ e. p e ≡ true) es → Any (λ e. p e ≡ true) fs
 passed_on p es fs on a = let c = on a.1 (a.0, a.2, a.3) in (c.0, a.1, c.1, c.2, a.4)
 
+-- a test decides whether one of the edges passes it
 any_decides : (p : Edge → Bool) (es : List Edge) → Decides (list_any p es) (Any (λ e. p e ≡ true) es)
 any_decides p es = (Any-from_list_any p es, list_any-from_Any p es)
 
@@ -43,6 +45,7 @@ SameEdges-sorted es fs r = record {
       ) ∙ r.any p;
 }
 
+-- the same where one side is put in order
 pub Alike-ordered : (o1 o2 : Option (List Edge)) → Alike SameEdges o1 o2 → Alike SameEdges (ordered o1) o2
 Alike-ordered None None a = tt
 Alike-ordered None (Some fs) a = absurd a
@@ -60,16 +63,20 @@ Alike-tested false false es fs e r = tt
 SameEdges-filter : (q : Edge → Bool) (es fs : List Edge) → SameEdges es fs → SameEdges (filter q es) (filter q fs)
 SameEdges-filter q es fs r = record { any = λ p. any_filter q p es ∙ r.any (λ e. q e && p e) ∙ sym (any_filter q p fs) }
 
+-- a test of what a function gives
 any-map : (f : Edge → Edge) (p : Edge → Bool) (es : List Edge) → list_any p (map f es) ≡ list_any (λ e. p (f e)) es
 any-map f p [] = refl
 any-map f p (e ∷ es) = ap (λ b. p (f e) || b) (any-map f p es)
 
+-- what a function gives of the same edges
 SameEdges-map : (f : Edge → Edge) (es fs : List Edge) → SameEdges es fs → SameEdges (map f es) (map f fs)
 SameEdges-map f es fs r = record { any = λ p. any-map f p es ∙ r.any (λ e. p (f e)) ∙ sym (any-map f p fs) }
 
+-- the same edges before others
 SameEdges-append : (more es fs : List Edge) → SameEdges es fs → SameEdges (es ++ more) (fs ++ more)
 SameEdges-append more es fs r = record { any = λ p. list_any-append p es more ∙ ap (λ b. b || list_any p more) (r.any p) ∙ sym (list_any-append p fs more) }
 
+-- two answers whose opposites are one
 same_not : (b c : Bool) → not b ≡ not c → b ≡ c
 same_not true true e = refl
 same_not true false e = cc
@@ -81,6 +88,7 @@ none-same : (q : Edge → Bool) (es fs : List Edge) → SameEdges es fs → eqb 
 none-same q es fs r = same_not (eqb (length (filter q es)) 0) (eqb (length (filter q fs)) 0) (sym (any_passes q es) ∙ r.any q ∙ any_passes q fs)
 
 module _ (p : Point) (es fs : List Edge) (r : SameEdges es fs) where
+  -- a move of a local of a known type, and of any local
   move_alike : (l : ℕ) (t : Token) → Alike SameEdges (move_edges p l t es) (move_edges p l t fs)
   move_alike l (Plain t) = Alike-tested (no_edge_out (Own l) es) (no_edge_out (Own l) fs) es fs (none-same (λ e. same_node e.from (Own l)) es fs r) r
   move_alike l (Reference t) = SameEdges-map (λ e. record { from = renamed_node (Slot l) (next_temp p) e.from; label = e.label; to = renamed_node (Slot l) (next_temp p) e.to }) es fs r

@@ -37,6 +37,7 @@ use Rattle.mv_certificate.proofs.Texts.{availability_text, any, node_fits, is_sm
 bind_is : {A B : Type 0} (o : Option A) (f : A → Option B) (x : A) → o ≡ Some x → (o >>= f) ≡ f x
 bind_is o f x e = ap (λ z. z >>= f) e
 
+-- an availability, a node, a position, positions, an openness and a label are read where their texts stand
 availability-whole : Whole availability_from availability_text any
 availability-whole rest Unavailable ok = refl
 availability-whole rest Available ok = refl
@@ -78,12 +79,14 @@ module _ (m : Module) (d : FunctionDefinition) (few : length m.structs ≤ 65536
       by_tokens None le h = absurd (false≢true h)
       by_tokens (Some tokens) le h = by_token tokens le (slice_get tokens l) refl h
 
+  -- a node from which an edge may lead has an index
   source_fits : (n : Node) → is_source m d n ≡ true → node_fits n ≡ true
   source_fits (Slot l) h = local_small is_mutable_token l h
   source_fits (Own l) h = local_small (λ t. not (is_reference_token t)) l h
   source_fits (Glob t) h = le-leb (suc t) 65536 (omega (arith, ltb-true t (length m.structs) h))
   source_fits (Temp k) h = absurd (false≢true h)
 
+  -- and one to which it may
   target_fits : (n : Node) → is_target m d n ≡ true → node_fits n ≡ true
   target_fits (Slot l) h = local_small is_reference_token l h
   target_fits (Own l) h = absurd (false≢true h)
@@ -95,6 +98,7 @@ module _ (m : Module) (d : FunctionDefinition) (few : length m.structs ≤ 65536
       → edge_from m d bytes ≡ Some (e, rest)
   edge-read bytes one two rest e from to label ok = rw (from, to, label) (ap (λ b. then_some b (e, rest)) ok)
 
+  -- an edge that fits is read, and so are edges that fit and ascend
   edge-whole : Whole (edge_from m d) edge_text (edge_fits m d)
   edge-whole rest e ok =
       let p = and_parts (is_source m d e.from && is_target m d e.to && not (same_node e.from e.to) && nat_le (length e.label.path) 8) (list_all is_small e.label.path) ok in
@@ -119,6 +123,7 @@ module _ (m : Module) (d : FunctionDefinition) (few : length m.structs ≤ 65536
   tokens_of locals None h = absurd (false≢true h)
   tokens_of locals (Some t) h = (t, (refl, eqb-true (length locals) (length t) h))
 
+  -- all pass
   any_all : {A : Type 0} (xs : List A) → list_all any xs ≡ true
   any_all [] = refl
   any_all (x ∷ xs) = any_all xs
@@ -131,6 +136,7 @@ module _ (m : Module) (d : FunctionDefinition) (few : length m.structs ≤ 65536
       ∙ bind_is (entries_from availability_from (length tokens) bytes) (λ l. edges_from m d l.1 >>= λ es. Some (record { locals = l.0; edges = es.0 }, es.1)) (k.locals, more) locals
       ∙ bind_is (edges_from m d more) (λ es. Some (record { locals = k.locals; edges = es.0 }, es.1)) (k.edges, rest) edges
 
+  -- a state that fits is read
   known-whole : Whole (known_from m d) known_text (known_fits m d)
   known-whole rest k ok =
       let p = and_parts (option_map_or (λ tokens. length k.locals == length tokens) (local_tokens m d) false && nat_le (length k.edges) 1024 && list_all (edge_fits m d) k.edges) (are_ascending k.edges) ok in
@@ -147,6 +153,7 @@ module _ (m : Module) (d : FunctionDefinition) (few : length m.structs ≤ 65536
       let fit = and_from (nat_le (length k.edges) 1024 && list_all (edge_fits m d) k.edges) (are_ascending k.edges) (and_from (nat_le (length k.edges) 1024) (list_all (edge_fits m d) k.edges) r.1 q.1) p.1 in
       known-read bytes more rest k t.0 t.1.0 locals (edges-whole rest k.edges fit)
 
+  -- what is stated of a block is read, and of blocks
   block-whole : (rest : List ℕ) (k : Option Known) → IsTrue (block_fits m d k) → block_from m d (is_some k) (stated_text k ++ rest) ≡ Some (k, rest)
   block-whole rest None ok = refl
   block-whole rest (Some known) ok = ap (λ o. o >>= λ k. Some (Some k.0, k.1)) (known-whole rest known ok)
@@ -167,6 +174,7 @@ same_marks f h [] (y ∷ ys) long each = absurd (omega arith)
 same_marks f h (x ∷ xs) [] long each = absurd (omega arith)
 same_marks f h (x ∷ xs) (y ∷ ys) long each = (λ i. each 0 x y refl refl i ∷ same_marks f h xs ys (omega arith) (λ j a b ea eb. each (suc j) a b ea eb) i)
 
+-- two tests of which each passes where the other does
 same_bools : (a b : Bool) → (a ≡ true → b ≡ true) → (b ≡ true → a ≡ true) → a ≡ b
 same_bools true b f g = sym (f refl)
 same_bools false true f g = g refl

@@ -1,7 +1,9 @@
 -- Which needs are met by what is stated of functions, and when it is at rest.
 --
 -- A join promises today only to be above its left argument, which is what is stated, and not to be the least such
--- state. So of a refusal in phase 10 or 11 no more can be said than that what is stated isn't at rest.
+-- state. So of a refusal in phase 10 or 11 no more can be said than that what is stated isn't at rest. Of availabilities
+-- the highest are those that are all Maybe. No list of edges is the highest, so that of a module with functions a refusal
+-- in phase 11 says no more than that every need of the stated availabilities is met.
 use Rattle.std.specs.Prelude.{◌≡◌, ℕ, Bool, List, Option, Some, slice_get, map, option_map, IsTrue}
 use Rattle.mv_move_types.specs.Module.{Module, FunctionDefinition}
 use Rattle.mv_edges.specs.Edges.{edges_leq}
