@@ -6,7 +6,6 @@ ghost use Rattle.moveledger.specs.Outcome.{Answers, Stops, StopsReading};
 use crate::answering::{answer, line_text, write_text};
 use crate::reading::{Next, next_record};
 use mv_ledger::{Ledger, Reply};
-use std::alloc::Global;
 use std::io::{Read, Write};
 use thiserror::Error;
 
@@ -26,7 +25,6 @@ pub enum EngineError {
 
 /// Answers the records of an input, each before the next is read, and says how many they were.
 pub fn engine<R: Read, W: Write>(
-    alloc: Global,
     reader: &mut R,
     writer: &mut W,
     ledger: &mut Ledger,
@@ -41,6 +39,7 @@ pub fn engine<R: Read, W: Write>(
     ensures read { result ≡ Err EngineError.Read → StopsReading (R.remaining reader.old)
         (R.remaining reader.new) (W.contents writer.old) (W.contents writer.new) ledger.old ledger.new }
 {
+    let alloc = ledger.allocator();
     for n in 0..u64::MAX {
         match next_record(alloc, reader)? {
             Next::End => return Ok(n),

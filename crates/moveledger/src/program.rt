@@ -60,7 +60,7 @@ fn apply(rt: &HostRuntime, alloc: Global, path: &str) -> End {
     };
     let mut writer = io::writer(rt);
     let mut ledger = Ledger::new(alloc);
-    match engine(alloc, &mut reader, &mut writer, &mut ledger) {
+    match engine(&mut reader, &mut writer, &mut ledger) {
         Ok(_) => End::Done,
         Err(EngineError::Read) => End::Read,
         Err(EngineError::Write) => End::Write,

@@ -66,7 +66,7 @@ fn records_are_answered(rt: HostRuntime) -> Result<(), Fail> {
         let mut reader = whole(bytes.as_slice());
         let mut writer = room(rt.alloc());
         let mut ledger = Ledger::new(rt.alloc());
-        engine(rt.alloc(), &mut reader, &mut writer, &mut ledger)?;
+        engine(&mut reader, &mut writer, &mut ledger)?;
         assert_eq!(rt; writer.taken.as_slice(), row.report.as_bytes());
     }
     Ok(())
@@ -86,7 +86,7 @@ fn pieces_make_no_difference(rt: HostRuntime) -> Result<(), Fail> {
             ..room(rt.alloc())
         };
         let mut ledger = Ledger::new(rt.alloc());
-        let count = engine(rt.alloc(), &mut reader, &mut writer, &mut ledger)?;
+        let count = engine(&mut reader, &mut writer, &mut ledger)?;
         assert_eq!(rt; count, 3);
         assert_eq!(rt; writer.taken.as_slice(), row.report.as_bytes());
     }
@@ -106,7 +106,7 @@ fn failed_reads_end_it(rt: HostRuntime) -> Result<(), Fail> {
             };
             let mut writer = room(rt.alloc());
             let mut ledger = Ledger::new(rt.alloc());
-            let result = engine(rt.alloc(), &mut reader, &mut writer, &mut ledger);
+            let result = engine(&mut reader, &mut writer, &mut ledger);
             assert_eq!(rt; result, Err(EngineError::Read));
             assert_eq!(rt;
                 Some(writer.taken.as_slice()),
@@ -130,7 +130,7 @@ fn failed_writes_end_it(rt: HostRuntime) -> Result<(), Fail> {
                 ..room(rt.alloc())
             };
             let mut ledger = Ledger::new(rt.alloc());
-            let result = engine(rt.alloc(), &mut reader, &mut writer, &mut ledger);
+            let result = engine(&mut reader, &mut writer, &mut ledger);
             assert_eq!(rt; result, Err(EngineError::Write));
             assert_eq!(rt;
                 Some(writer.taken.as_slice()),

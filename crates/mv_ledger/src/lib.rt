@@ -82,6 +82,11 @@ impl Ledger {
         }
     }
 
+    /// The allocator that it takes memory from.
+    pub fn allocator(&self) -> Global {
+        self.alloc
+    }
+
     /// Answers a publish record with this payload.
     pub fn publish(&mut self, payload: &[u8]) -> Reply
         ensures { Replies 1 payload.now (told result) self.old self.new }
