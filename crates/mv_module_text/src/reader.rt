@@ -277,18 +277,22 @@ impl<'a> Reader<'a> {
     /// Reads a signature: its types, of which there are at most 64.
     ///
     /// # Errors
-    /// [`Refusal::Memory`] where memory runs out. The same holds of the functions below.
+    /// [`Refusal::Memory`] where memory runs out, and then the reader is as before. The same holds of the functions
+    /// below.
     pub fn signature(&mut self, alloc: Global) -> Result<Vec<Token>, Refusal>
         ensures ok { IfOk result (λ v. signature_from self.old ≡ Some (v.items, self.new)) }
         ensures refused { result ≡ Err (Refusal.Phase 2) → signature_from self.old ≡ None }
         ensures errors { IfErr result (λ e. (e ≡ Refusal.Phase 2) ⊎ (e ≡ Refusal.Memory)) }
+        ensures kept { result ≡ Err Refusal.Memory → self.new ≡ self.old }
     {
-        let count = self.number(64)?;
+        let mut ahead = Reader { rest: self.rest };
+        let count = ahead.number(64)?;
         let mut tokens = Vec::with_capacity(alloc, count as usize)?;
         'tokens: for _ in 0..count {
-            let token = self.token()?;
+            let token = ahead.token()?;
             tokens.push(token).map_err(|_| Refusal::Memory)?;
         }
+        self.rest = ahead.rest;
         Ok(tokens)
     }
 
@@ -297,13 +301,16 @@ impl<'a> Reader<'a> {
         ensures ok { IfOk result (λ v. counted_from 32 field_from self.old ≡ Some (v.items, self.new)) }
         ensures refused { result ≡ Err (Refusal.Phase 2) → counted_from 32 field_from self.old ≡ None }
         ensures errors { IfErr result (λ e. (e ≡ Refusal.Phase 2) ⊎ (e ≡ Refusal.Memory)) }
+        ensures kept { result ≡ Err Refusal.Memory → self.new ≡ self.old }
     {
-        let count = self.number(32)?;
+        let mut ahead = Reader { rest: self.rest };
+        let count = ahead.number(32)?;
         let mut fields = Vec::with_capacity(alloc, count as usize)?;
         'fields: for _ in 0..count {
-            let field = self.field()?;
+            let field = ahead.field()?;
             fields.push(field).map_err(|_| Refusal::Memory)?;
         }
+        self.rest = ahead.rest;
         Ok(fields)
     }
 
@@ -312,13 +319,16 @@ impl<'a> Reader<'a> {
         ensures ok { IfOk result (λ v. counted_from 65535 index_from self.old ≡ Some (v.items, self.new)) }
         ensures refused { result ≡ Err (Refusal.Phase 2) → counted_from 65535 index_from self.old ≡ None }
         ensures errors { IfErr result (λ e. (e ≡ Refusal.Phase 2) ⊎ (e ≡ Refusal.Memory)) }
+        ensures kept { result ≡ Err Refusal.Memory → self.new ≡ self.old }
     {
-        let count = self.number(65535)?;
+        let mut ahead = Reader { rest: self.rest };
+        let count = ahead.number(65535)?;
         let mut indices = Vec::with_capacity(alloc, count as usize)?;
         'indices: for _ in 0..count {
-            let index = self.index()?;
+            let index = ahead.index()?;
             indices.push(index).map_err(|_| Refusal::Memory)?;
         }
+        self.rest = ahead.rest;
         Ok(indices)
     }
 }

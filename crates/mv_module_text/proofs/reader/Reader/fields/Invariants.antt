@@ -3,4 +3,4 @@ use Rattle.mv_module_text.proofs.Entries.{ReadsOn}
 use Rattle.mv_module_text.proofs.reader.Reader.fields.Given as goal
 
 abbrev pub invariant-fields : goal.invariant-fields
-invariant-fields l = ReadsOn field_from l.count l.counter l.initial.self l.fields.items l.self
+invariant-fields l = ReadsOn field_from l.count l.counter l.initial.ahead l.fields.items l.ahead

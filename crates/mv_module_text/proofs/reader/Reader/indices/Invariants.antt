@@ -3,4 +3,4 @@ use Rattle.mv_module_text.proofs.Entries.{ReadsOn}
 use Rattle.mv_module_text.proofs.reader.Reader.indices.Given as goal
 
 abbrev pub invariant-indices : goal.invariant-indices
-invariant-indices l = ReadsOn index_from l.count l.counter l.initial.self l.indices.items l.self
+invariant-indices l = ReadsOn index_from l.count l.counter l.initial.ahead l.indices.items l.ahead

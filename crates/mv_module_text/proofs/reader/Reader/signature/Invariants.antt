@@ -3,4 +3,4 @@ use Rattle.mv_module_text.proofs.Entries.{ReadsOn}
 use Rattle.mv_module_text.proofs.reader.Reader.signature.Given as goal
 
 abbrev pub invariant-tokens : goal.invariant-tokens
-invariant-tokens l = ReadsOn token_from l.count l.counter l.initial.self l.tokens.items l.self
+invariant-tokens l = ReadsOn token_from l.count l.counter l.initial.ahead l.tokens.items l.ahead
