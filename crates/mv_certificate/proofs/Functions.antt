@@ -24,7 +24,7 @@ module _ (m : Module) (d : FunctionDefinition) (g : Cfg) (few : length m.structs
   -- what fits the function is read, whatever follows
   fitting-read : (rest : List ℕ) (ks : Stated) → StatedFits m d ks → stated_from m d (map (λ p. p.reached) g.blocks.items) (flat_map stated_text ks ++ rest) ≡ Some (ks, rest)
   fitting-read rest ks sf =
-      ap (λ marks. stated_from m d marks (flat_map stated_text ks ++ rest)) (sym (marks-fit m d g ks fg sf)) ∙ stated-whole m d few small rest ks sf.fits
+      ap (λ marks. stated_from m d marks (flat_map stated_text ks ++ rest)) (sym (marks-fit m d g ks fg sf)) ∙ stated-whole m d few (omega arith) rest ks sf.fits
 
   -- what is read of a function
   function-read : (bytes rest : List ℕ) (ks : Stated) → stated_from m d (map (λ p. p.reached) g.blocks.items) bytes ≡ Some (ks, rest) → AreBytes bytes → IsFunctionRead m d bytes rest ks

@@ -8,3 +8,4 @@ pub mod SameEdges
 pub mod Needs
 pub mod Whole
 pub mod Functions
+pub mod OneCertificate

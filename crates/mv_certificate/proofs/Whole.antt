@@ -66,16 +66,16 @@ label-whole rest l ok =
     (l.path, openness_text l.is_open ++ rest) (path-whole (openness_text l.is_open ++ rest) l.path ok)
     ∙ bind_is (openness_from (openness_text l.is_open ++ rest)) (λ is_open. Some (record { path = l.path; is_open = is_open.0 }, is_open.1)) (l.is_open, rest) (openness-whole rest l.is_open refl)
 
-module _ (m : Module) (d : FunctionDefinition) (few : length m.structs ≤ 65536) (small : local_count m d ≤ 64) where
+module _ (m : Module) (d : FunctionDefinition) (few : length m.structs ≤ 65536) (small : local_count m d ≤ 65536) where
   -- a local that is there has an index
   local_small : (test : Token → Bool) (l : ℕ) → is_typed_local test m d l ≡ true → nat_lt l 65536 ≡ true
   local_small test l h = by_tokens (local_tokens m d) small h
     where
-      by_token : (tokens : List Token) → length tokens ≤ 64 → (o : Option Token) → slice_get tokens l ≡ o → option_map_or test o false ≡ true → nat_lt l 65536 ≡ true
+      by_token : (tokens : List Token) → length tokens ≤ 65536 → (o : Option Token) → slice_get tokens l ≡ o → option_map_or test o false ≡ true → nat_lt l 65536 ≡ true
       by_token tokens le None e h = absurd (false≢true h)
       by_token tokens le (Some t) e h = le-leb (suc l) 65536 (omega (arith, slice_get_within tokens l t e))
 
-      by_tokens : (o : Option (List Token)) → option_map_or length o 0 ≤ 64 → option_map_or test (o >>= λ tokens. slice_get tokens l) false ≡ true → nat_lt l 65536 ≡ true
+      by_tokens : (o : Option (List Token)) → option_map_or length o 0 ≤ 65536 → option_map_or test (o >>= λ tokens. slice_get tokens l) false ≡ true → nat_lt l 65536 ≡ true
       by_tokens None le h = absurd (false≢true h)
       by_tokens (Some tokens) le h = by_token tokens le (slice_get tokens l) refl h
 
@@ -168,14 +168,14 @@ module _ (m : Module) (d : FunctionDefinition) (few : length m.structs ≤ 65536
       ∙ bind_is (stated_from m d (map is_some ks) more) (λ others. Some (k ∷ others.0, others.1)) (ks, rest) (stated-whole rest ks p.1)
 
 -- two tests that pass alike
-same_marks : {A B : Type 0} (f : A → Bool) (h : B → Bool) (xs : List A) (ys : List B) → length xs ≡ length ys → ((i : ℕ) (x : A) (y : B) → slice_get xs i ≡ Some x → slice_get ys i ≡ Some y → f x ≡ h y) → map f xs ≡ map h ys
+pub same_marks : {A B : Type 0} (f : A → Bool) (h : B → Bool) (xs : List A) (ys : List B) → length xs ≡ length ys → ((i : ℕ) (x : A) (y : B) → slice_get xs i ≡ Some x → slice_get ys i ≡ Some y → f x ≡ h y) → map f xs ≡ map h ys
 same_marks f h [] [] long each = refl
 same_marks f h [] (y ∷ ys) long each = absurd (omega arith)
 same_marks f h (x ∷ xs) [] long each = absurd (omega arith)
 same_marks f h (x ∷ xs) (y ∷ ys) long each = (λ i. each 0 x y refl refl i ∷ same_marks f h xs ys (omega arith) (λ j a b ea eb. each (suc j) a b ea eb) i)
 
 -- two tests of which each passes where the other does
-same_bools : (a b : Bool) → (a ≡ true → b ≡ true) → (b ≡ true → a ≡ true) → a ≡ b
+pub same_bools : (a b : Bool) → (a ≡ true → b ≡ true) → (b ≡ true → a ≡ true) → a ≡ b
 same_bools true b f g = sym (f refl)
 same_bools false true f g = g refl
 same_bools false false f g = refl

@@ -5,3 +5,5 @@ pub mod Needs
 pub mod Answers
 pub mod Parsing
 pub mod Reads
+pub mod Verified
+pub mod Laws

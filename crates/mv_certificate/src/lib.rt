@@ -3,6 +3,7 @@
 
 mod certificate;
 mod checking;
+mod laws;
 mod reading;
 mod shape;
 mod writing;
@@ -12,8 +13,10 @@ ghost use Rattle.mv_certificate.specs.Shape.{AllStatedFit};
 ghost use Rattle.mv_certificate.specs.Certificate.{Certificate, all_needs_are_met};
 ghost use Rattle.mv_certificate.specs.CertificateText.{certificate_text, IsCertificateText};
 ghost use Rattle.mv_certificate.specs.Answers.{IsRefusedByCertificate};
+ghost use Rattle.mv_certificate.specs.Laws.{IsReadBackAs};
 
 pub use certificate::{Cert, Known, Stated};
+pub use laws::texts_are_of_one_certificate;
 use mv_binary_format::Module;
 use mv_move_types::Refusal;
 use mv_type_states::Typed;
@@ -30,24 +33,27 @@ impl<'a> Model for Verified<'a> {
     ghost use Rattle.mv_move_types.specs.Module.{Module as Tables};
     ghost use Rattle.mv_type_states.specs.Sound.{IsSound};
     ghost use Rattle.mv_acquires.specs.Acquires.{AcquiresHold};
+    ghost use Rattle.mv_certificate.specs.Verified.{HasCertificate};
 
     ghost Value = { Tables };
 
     ghost view = { λ v. v.typed };
 
-    ghost invariant = { λ v. IsSound v.typed × AcquiresHold v.typed };
+    ghost invariant = { λ v. IsSound v.typed × AcquiresHold v.typed × HasCertificate v.typed };
 }
 
 impl<'a> Verified<'a> {
     ghost use Rattle.std.specs.Prelude.{◌≡◌};
     ghost use Rattle.mv_type_states.specs.Sound.{IsSound};
     ghost use Rattle.mv_acquires.specs.Acquires.{AcquiresHold};
+    ghost use Rattle.mv_certificate.specs.Verified.{HasCertificate};
 
     /// The module.
     pub fn module(&self) -> &Module<'a>
         ensures value { result.now ≡ self.now }
         ensures sound { IsSound self.now }
         ensures acquires { AcquiresHold self.now }
+        ensures certificate { HasCertificate self.now }
     {
         self.typed.module()
     }
@@ -66,10 +72,13 @@ pub fn decode(alloc: Global, m: &Typed<'_>, bytes: &[u8]) -> Result<Cert, Refusa
     }
 }
 
-/// The text of a certificate.
+/// The text of a certificate. Of bytes that it wrote, `decode` gives back the certificate: for a module of whose shape that
+/// is, the bytes are a text of it and of no other.
 pub fn encode(alloc: Global, c: &Cert) -> Result<Vec<u8>, AllocError>
-    ensures { IfOk result (λ text. text.items ≡ certificate_text c.now) }
+    ensures text { IfOk result (λ text. text.items ≡ certificate_text c.now) }
+    ensures back { IfOk result (λ text. IsReadBackAs text.items c.now) }
 {
+    texts_are_of_one_certificate();
     let mut out = Vec::new(alloc);
     for stated in &c.functions {
         writing::write_stated(stated, &mut out)?;
