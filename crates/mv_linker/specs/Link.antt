@@ -9,6 +9,7 @@ use Rattle.mv_binary_format.specs.Parsing.{module_of}
 use Rattle.mv_bounds.specs.Definitions.{all_differ}
 use Rattle.mv_type_states.specs.Sound.{IsSound}
 use Rattle.mv_acquires.specs.Acquires.{AcquiresHold}
+use Rattle.mv_certificate.specs.Verified.{IsCertifiedBy}
 
 -- a: the module's own address is the sender
 abbrev pub is_sent_by : ℕ → Module → Bool
@@ -47,6 +48,7 @@ pub record IsPublishable (p : PublishedModule) : Type 0 where
   pub text : module_of p.text ≡ Some p.tables
   pub sound : IsSound p.tables
   pub acquires : AcquiresHold p.tables
+  pub certificate : IsCertifiedBy p.tables p.certificate
 
 -- a store of modules: each passed its phases, and no two have one name
 pub record IsStore (store : List PublishedModule) : Type 0 where

@@ -2,11 +2,17 @@
 use Rattle.std.specs.Prelude.{◌≡◌, List, Some, All, map}
 use Rattle.mv_move_types.specs.Published.{PublishedModule}
 use Rattle.mv_binary_format.specs.Parsing.{module_of}
+use Rattle.mv_certificate.specs.Verified.{IsCertifiedBy}
 use Rattle.mv_linker.specs.declared.New.{New}
 
--- the bytes of each module are the text that it was read from
+-- a new module's bytes are the text that it was read from, and its certificate's are the text of one that it was checked with
+pub record HasItsTexts (n : New) : Type 0 where
+  pub text : module_of n.text.now ≡ Some n.module
+  pub certificate : IsCertifiedBy n.module n.certificate.now
+
+-- each has its texts
 abbrev pub AreTexts : List New → Type 0
-AreTexts news = All (λ (n : New). module_of n.text.now ≡ Some n.module) news
+AreTexts news = All HasItsTexts news
 
 -- a module with its texts
 abbrev pub published_one : New → PublishedModule

@@ -1,10 +1,10 @@
 // A published module as the store keeps it: its name, by which it is found, and its texts.
-ghost use Rattle.std.specs.Prelude.{◌≡◌, List, length, map, Option, Some, option_map, IfOk};
+ghost use Rattle.std.specs.Prelude.{◌≡◌, List, length, map, Option, Some, option_map, All, IfOk, OnOk};
 ghost use Rattle.mv_move_types.specs.Module.{own_name};
 ghost use Rattle.mv_move_types.specs.Named.{is_module};
 ghost use Rattle.mv_linker.specs.Kept.{name_in, published_as, published_in};
-ghost use Rattle.mv_binary_format.specs.Parsing.{module_of};
-ghost use Rattle.mv_linker.specs.News.{AreTexts, published_of, published_one};
+ghost use Rattle.mv_linker.specs.News.{HasItsTexts, AreTexts, published_of, published_one};
+ghost use Rattle.mv_linker.specs.Link.{IsPublishable};
 
 use crate::New;
 use mv_binary_format::Module;
@@ -96,8 +96,9 @@ pub fn name_of<'a>(m: &Module<'a>) -> Option<(u128, &'a [u8])>
 
 /// A new module with its texts copied.
 fn entry_of(alloc: Global, new: &New<'_>) -> Result<Entry, AllocError>
-    requires { module_of new.now.text.now ≡ Some new.now.module }
-    ensures { IfOk result (λ e. e.published ≡ published_one new.now) }
+    requires { HasItsTexts new.now }
+    ensures value { IfOk result (λ e. e.published ≡ published_one new.now) }
+    ensures passed { OnOk result (IsPublishable (published_one new.now)) }
 {
     let Some((address, name)) = name_of(new.module.module()) else {
         unreachable!();
@@ -117,7 +118,8 @@ fn entry_of(alloc: Global, new: &New<'_>) -> Result<Entry, AllocError>
 /// New modules with their texts copied.
 pub fn entries_of(alloc: Global, new: &[New<'_>]) -> Result<Vec<Entry>, AllocError>
     requires { AreTexts new.now }
-    ensures { IfOk result (λ entries. published_in entries.items ≡ published_of new.now) }
+    ensures value { IfOk result (λ entries. published_in entries.items ≡ published_of new.now) }
+    ensures passed { OnOk result (All IsPublishable (published_of new.now)) }
 {
     let mut entries = Vec::new(alloc);
     for n in new {
