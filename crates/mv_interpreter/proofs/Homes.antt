@@ -20,7 +20,7 @@ use Rattle.mv_bounds.specs.Bounds.{InBounds, below, struct_in, field_in, struct_
 use Rattle.mv_bounds.specs.Definitions.{WellDefined, all_differ, struct_home}
 use Rattle.mv_linker.specs.Link.{IsStore, IsPublishable, tables_in, have_one_name}
 use Rattle.mv_interpreter.specs.Works.{IsOwn, IsHome}
-use Rattle.mv_interpreter.proofs.Tests.{some_is, eqb-same, bytes-same, same_module-same, same_module-is, same_struct-same, same_struct-is, both}
+use Rattle.mv_interpreter.proofs.Names.{some_is, eqb-same, bytes-same, same_module-same, same_module-is, same_struct-same, same_struct-is, both}
 use Rattle.mv_interpreter.proofs.Lists.{each, there_at, on_some, then_found, mapped_at, All-at}
 use Rattle.mv_interpreter.proofs.Owns.{find_first, differ_at, one_place, defined_own, defined_alone}
 

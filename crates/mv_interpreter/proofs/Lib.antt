@@ -1,7 +1,7 @@
 pub mod Binds
 pub mod Tags
 pub mod Locals
-pub mod Tests
+pub mod Names
 pub mod Lists
 pub mod Owns
 pub mod Homes
@@ -15,3 +15,5 @@ pub mod Owning
 pub mod Packing
 pub mod Storing
 pub mod Counting
+pub mod Computed
+pub mod Coin

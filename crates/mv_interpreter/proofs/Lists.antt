@@ -8,7 +8,7 @@ use Rattle.std.proofs.lemmas.List.{get_or-reverse, length-reverse, reverse-appen
 use Rattle.std.proofs.lemmas.List.Elements.{All-head, All-tail}
 use Rattle.mv_move_types.specs.Options.{◌>>=◌}
 use Rattle.mv_bounds.specs.Bounds.{below}
-use Rattle.mv_interpreter.proofs.Tests.{some_is}
+use Rattle.mv_interpreter.proofs.Names.{some_is}
 
 pub each : {A : Type 0} (p : A → Bool) (xs : List A) (k : ℕ) (x : A) → list_all p xs ≡ true → slice_get xs k ≡ Some x → p x ≡ true
 each p [] k x h e = absurd cc

@@ -7,7 +7,7 @@ use Rattle.std.proofs.lemmas.Bool.{ltb-true, eqb-true, ltb-false}
 use Rattle.std.proofs.lemmas.List.Recursion.{is_count_by}
 use Rattle.mv_move_types.specs.Options.{find_index}
 use Rattle.mv_bounds.specs.Definitions.{all_differ, defined_once}
-use Rattle.mv_interpreter.proofs.Tests.{eqb-same, eqb-apart, some_is}
+use Rattle.mv_interpreter.proofs.Names.{eqb-same, eqb-apart, some_is}
 use Rattle.mv_interpreter.proofs.Lists.{some_passes}
 
 -- the first that passes is at k, if it passes and none before does

@@ -36,7 +36,7 @@ use Rattle.mv_interpreter.specs.Works.{Work, IsHome, IsFine, IsFineOperand, Repr
 use Rattle.mv_interpreter.proofs.Binds.{on_need, on_part, goes_so}
 use Rattle.mv_interpreter.proofs.Tags.{tag_named-faults}
 use Rattle.mv_interpreter.proofs.Lists.{map-turned}
-use Rattle.mv_interpreter.proofs.Tests.{some_is}
+use Rattle.mv_interpreter.proofs.Names.{some_is}
 use Rattle.mv_interpreter.proofs.Owning.{own-faults, own-is, on_bind, ok_is}
 use Rattle.mv_interpreter.proofs.Stepping.{operands-faults, each-faults}
 use Rattle.mv_interpreter.proofs.Values.{made, taken-fine, leaf_fields, is_leaf_type}

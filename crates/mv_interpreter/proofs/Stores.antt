@@ -22,7 +22,7 @@ use Rattle.mv_frames.specs.declared.operand.Operand.TheVariants.{Leaf as LeafOpe
 use Rattle.mv_interpreter.specs.declared.StructTally.{StructTally}
 use Rattle.mv_interpreter.specs.Runs.{IsFineWords}
 use Rattle.mv_interpreter.specs.Works.{Work, IsHome, IsFine, IsFineOperand, IsFineLocal, AreOfStruct, struct_on, signer_of, signer_on}
-use Rattle.mv_interpreter.proofs.Tests.{both, some_is}
+use Rattle.mv_interpreter.proofs.Names.{both, some_is}
 use Rattle.mv_interpreter.proofs.Locals.{held-fine}
 
 -- the words under a key are put among fine ones

@@ -31,7 +31,7 @@ use Rattle.mv_interpreter.specs.declared.RunError.TheVariants.{Broken}
 use Rattle.mv_interpreter.specs.Works.{Work, IsHome, IsFine, IsFineOperand, IsFineLocal, Represents, Matches, value_of, struct_on, signer_of, signer_on}
 use Rattle.mv_interpreter.proofs.Binds.{OnlyFaults, on_need, on_found, on_part, goes_so}
 use Rattle.mv_interpreter.proofs.Lists.{on_some}
-use Rattle.mv_interpreter.proofs.Tests.{some_is, same_struct-is, eqb-same}
+use Rattle.mv_interpreter.proofs.Names.{some_is, same_struct-is, eqb-same}
 use Rattle.mv_interpreter.proofs.Locals.{local_held, held-fine}
 use Rattle.mv_interpreter.proofs.Owning.{OwnIs, keyed-faults, keyed-is, found_is, ok_is}
 use Rattle.mv_interpreter.proofs.Stores.{key_test}

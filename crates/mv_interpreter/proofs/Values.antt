@@ -25,7 +25,7 @@ use Rattle.mv_frames.specs.declared.operand.Operand.{Operand}
 use Rattle.mv_frames.specs.declared.operand.Operand.TheVariants.{Leaf as LeafOperand, Struct as StructOperand, Reference as ReferenceOperand}
 use Rattle.mv_interpreter.specs.Runs.{number_fits}
 use Rattle.mv_interpreter.specs.Works.{IsHome, IsOwn, IsFineOperand, AreOfStruct, value_of, is_leaf_of, are_leaves_of, number_of}
-use Rattle.mv_interpreter.proofs.Tests.{same_kind-is, same_struct-same, both}
+use Rattle.mv_interpreter.proofs.Names.{same_kind-is, same_struct-same, both}
 use Rattle.mv_interpreter.proofs.Lists.{then_found, each, All-reverse}
 
 -- whether a type is a leaf that a field may have
