@@ -8,13 +8,13 @@ ghost use Rattle.mv_move_types.specs.declared.instruction.Instruction.TheVariant
 ghost use Rattle.mv_machine.specs.Flat.{FlatEntry as Stored};
 ghost use Rattle.mv_interpreter.specs.Works.{Follows, Keeps, with_pack, is_tally_at, AtMost};
 
-use crate::leaves::{are_leaves, numbers, pop_signer, pop_struct};
+use crate::leaves::{are_leaves, pop_signer, pop_struct, value_of_leaves};
 use crate::{RunError, StructTally};
 use mv_binary_format::{Module, StructDefinition};
 use mv_frames::{Frame, Operand, Reference};
 use mv_machine::{Ending, Kind};
 use mv_move_types::Key;
-use mv_storage::{Overlay, Value};
+use mv_storage::Overlay;
 use std::alloc::{AllocError, Global};
 
 /// Takes a local's value and puts it on top.
@@ -92,10 +92,10 @@ pub(crate) fn pack(
     if !are_leaves(operands, fields) {
         return Err(RunError::Broken);
     }
-    let words = numbers(alloc, operands)?;
+    let value = value_of_leaves(alloc, operands)?;
     count_pack(tally, frame.function().place, index)?;
     frame.discard(fields.len());
-    frame.push(Operand::Struct(index, Value::words(words)))?;
+    frame.push(Operand::Struct(index, value))?;
     frame.advance();
     Ok(None)
 }

@@ -42,10 +42,20 @@ fn number(operand: &Operand) -> u128
 }
 
 // The numbers of leaves.
-pub(crate) fn numbers(alloc: Global, operands: &[Operand]) -> Result<Vec<u128>, AllocError>
+fn numbers(alloc: Global, operands: &[Operand]) -> Result<Vec<u128>, AllocError>
     ensures { IfOk result (λ v. v.items ≡ map number_of operands.now) }
 {
     operands.iter().map(number).collect(alloc)
+}
+
+// The value whose leaves these are. One leaf takes no memory of its own.
+pub(crate) fn value_of_leaves(alloc: Global, operands: &[Operand]) -> Result<Value, AllocError>
+    ensures { IfOk result (λ v. v ≡ map number_of operands.now) }
+{
+    match operands {
+        [operand] => Ok(Value::leaf(number(operand))),
+        _ => Ok(Value::words(numbers(alloc, operands)?)),
+    }
 }
 
 // Takes the topmost operand if it is a struct value of this definition.
