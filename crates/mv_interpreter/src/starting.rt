@@ -48,7 +48,7 @@ pub(crate) fn start<'a>(
     requires { IsCall (tables_in s.now) f args.now }
     ensures { Starts (tables_in s.now) f args.now result }
 {
-    let home = s.module(alloc, f.place as usize)?;
+    let home = s.module(f.place as usize)?;
     let Some(function) = function_at(&home, f.index) else {
         return Err(RunError::Broken);
     };
