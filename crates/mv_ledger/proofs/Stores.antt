@@ -14,9 +14,10 @@ use Rattle.mv_move_types.specs.Module.{Module, own_name}
 use Rattle.mv_binary_format.specs.Parsing.{module_of}
 use Rattle.mv_bounds.specs.Definitions.{all_differ}
 use Rattle.mv_certificate.specs.Certificate.{Certificate}
+use Rattle.mv_certificate.specs.CertificateText.{IsCertificateText}
 use Rattle.mv_machine.specs.Ledger.{Offer}
 use Rattle.mv_linker.specs.declared.New.{New}
-use Rattle.mv_linker.specs.News.{published_one}
+use Rattle.mv_linker.specs.News.{HasItsTexts, AreTexts, published_one}
 use Rattle.mv_ledger.specs.Publishing.{Passes}
 use Rattle.mv_linker.specs.Link.{MayJoin, IsStore, IsPublishable, tables_in, have_one_name, is_new, stands_alone}
 
@@ -86,6 +87,23 @@ store-push old p sender store passed join = record {
     ends : (a b : Bool) → a ≡ true → b ≡ true → a && b ≡ true
     ends a b p q = cc
 
--- a module that passed may be published
-pub publishable : (n : New) (o : Offer) → n.text.now ≡ o.text → (c : Certificate) × Passes o n.module c → IsPublishable (published_one n)
-publishable n o same passed = record { text = ap module_of same ∙ passed.1.text; sound = passed.1.sound; acquires = passed.1.acquires }
+-- a module that passed has the texts of its offer
+pub has_its_texts : (n : New) (o : Offer) → n.text.now ≡ o.text → n.certificate.now ≡ o.certificate → (c : Certificate) × Passes o n.module c → HasItsTexts n
+has_its_texts n o text certificate passed = record {
+  text = ap module_of text ∙ passed.1.text;
+  certificate = (passed.0, (subst (λ bytes. IsCertificateText n.module bytes passed.0) (sym certificate) passed.1.certificate, passed.1.needs));
+}
+
+-- so it may be published
+pub publishable : (n : New) (o : Offer) → n.text.now ≡ o.text → n.certificate.now ≡ o.certificate → (c : Certificate) × Passes o n.module c → IsPublishable (published_one n)
+publishable n o text certificate passed =
+    let texts = has_its_texts n o text certificate passed in
+    record { text = texts.text; sound = passed.1.sound; acquires = passed.1.acquires; certificate = texts.certificate }
+
+-- and linked alone
+pub texts-alone : (news : List New) (n : New) → news ≡ n ∷ [] → HasItsTexts n → AreTexts news
+texts-alone news n is h = subst AreTexts (sym is) alone
+  where
+    alone : AreTexts (n ∷ [])
+    alone zero d lt = h
+    alone (suc k) d lt = absurd (omega (arith, lt))

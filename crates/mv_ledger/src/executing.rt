@@ -148,12 +148,7 @@ fn are_passed(tokens: &[Token], arguments: &[Arg]) -> bool
 /// `Rejected` with the first reason against it: 2, a budget above 10,000,000; 3, no such module; 4, no such function in
 /// it; 5, a function that is no entry; 6, arguments that are not of its parameters' types; 7, no further run may be had.
 /// `Memory`, where a growth was refused.
-pub fn admitted(
-    alloc: Global,
-    store: &Store,
-    runs: u64,
-    asked: RunRecord<'_>,
-) -> Result<Call, Barred>
+pub fn admitted(store: &Store, runs: u64, asked: RunRecord<'_>) -> Result<Call, Barred>
     requires few { length store.now ≤ 4096 }
     requires range { IsTrue (list_all (λ (a : Argument). number_fits a.kind a.number) asked.arguments.items) }
     ensures call { IfOk result (λ c. IsCall (tables_in store.now) c.function c.arguments.items) }
@@ -168,7 +163,7 @@ pub fn admitted(
     let place = store
         .find(asked.home, asked.module)
         .ok_or(Barred::Rejected(3))?;
-    let home = store.module(alloc, place)?;
+    let home = store.module(place)?;
     let index = function_of(&home, asked.function).ok_or(Barred::Rejected(4))?;
     let d = &home.functions()[index];
     if !d.is_entry() {

@@ -107,7 +107,7 @@ impl Ledger {
             Err(Refusal::Phase(_)) => return Reply::Rejected(1),
             Err(Refusal::Memory) => return Reply::Memory,
         };
-        match admitted(self.alloc, &self.store, self.runs, asked) {
+        match admitted(&self.store, self.runs, asked) {
             Ok(call) => {
                 let reply = executing::execute(
                     self.alloc,

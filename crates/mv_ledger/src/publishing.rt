@@ -99,7 +99,7 @@ pub fn publish(
     let new = verified(alloc, &bundle)?;
     let structs = scarce_structs(alloc, new.module.module())?;
     let news = alone(alloc, new)?;
-    let linked = link(alloc, store, Some(bundle.sender), news)?;
+    let linked = link(store, Some(bundle.sender), news)?;
     let count = store.len();
     if count >= MOST_MODULES {
         return Err(Refusal::Phase(14));

@@ -6,23 +6,28 @@ use Rattle.mv_linker.specs.Link.{IsStore, MayJoin, tables_in}
 use Rattle.mv_linker.specs.News.{published_of, published_one}
 use Rattle.mv_ledger.specs.Exact.{no_bundle}
 use Rattle.mv_ledger.proofs.Phases.{refused_offer, refused_link, refused_room, accepted}
-use Rattle.mv_ledger.proofs.Stores.{store-push, publishable}
+use Rattle.mv_ledger.proofs.Stores.{store-push, has_its_texts, publishable, texts-alone}
 use Rattle.mv_ledger.specs.Tallying.{fresh_tally, scarce_indices}
 use Rattle.mv_ledger.proofs.TalliesFresh.{fresh-items, named-added, small-added, tallies-added}
 use Rattle.mv_ledger.proofs.publishing.publish.Goals as goal
+
+pub link-requires : goal.link-requires
+link-requires c =
+    let its = has_its_texts c.in_ok-new.new _ c.in_ok-new.ensures.text c.in_ok-new.ensures.certificate c.in_ok-new.ensures.passes in
+    record { texts = texts-alone c.in_ok-news.news.items c.in_ok-new.new c.in_ok-news.ensures its }
 
 pub join-requires : goal.join-requires
 join-requires c =
     let added : c.in_ok-linked.linked ≡ published_one c.in_ok-new.new ∷ [] = c.in_ok-linked.ensures.ok ∙ ap published_of c.in_ok-news.ensures in
     subst (λ (l : List PublishedModule). IsStore (c.args.store.now ++ l)) (sym added)
     (store-push c.args.store.now (published_one c.in_ok-new.new) c.in-Ok.bundle.sender c.len-count.ensures.store
-    (publishable c.in_ok-new.new _ c.in_ok-new.ensures.text c.in_ok-new.ensures.passes)
+    (publishable c.in_ok-new.new _ c.in_ok-new.ensures.text c.in_ok-new.ensures.certificate c.in_ok-new.ensures.passes)
     (subst (λ (l : List New). MayJoin (Some c.in-Ok.bundle.sender) (tables_in c.args.store.now) (tables_in (published_of l))) c.in_ok-news.ensures c.in_ok-linked.ensures.joins))
 
 pub returns-clause-ok : goal.returns-clause-ok
 returns-clause-ok c =
     let added : c.in_ok-linked.linked ≡ published_one c.in_ok-new.new ∷ [] = c.in_ok-linked.ensures.ok ∙ ap published_of c.in_ok-news.ensures in
-    (published_one c.in_ok-new.new, (publishable c.in_ok-new.new _ c.in_ok-new.ensures.text c.in_ok-new.ensures.passes, c.in_ok-join.ensures.ok ∙ ap (λ l. c.args.store.now ++ l) added))
+    (published_one c.in_ok-new.new, (publishable c.in_ok-new.new _ c.in_ok-new.ensures.text c.in_ok-new.ensures.certificate c.in_ok-new.ensures.passes, c.in_ok-join.ensures.ok ∙ ap (λ l. c.args.store.now ++ l) added))
 
 pub returns-in_default-clause-refused : goal.returns-in_default-clause-refused
 returns-in_default-clause-refused c = λ s is. no_bundle c.in_default.ensures.refused

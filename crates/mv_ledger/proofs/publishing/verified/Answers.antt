@@ -1,5 +1,9 @@
-use Rattle.std.proofs.Common.{Some, Err, sym, ap, ◌∙◌}
+use Rattle.std.proofs.Common.{Some, Err, sym, ap, ◌∙◌, subst}
 use Rattle.std.proofs.lemmas.Result.{err_from_is_err_and}
+use Rattle.mv_acquires.specs.Acquires.{AcquiresHold}
+use Rattle.mv_certificate.specs.Certificate.{Certificate}
+use Rattle.mv_machine.specs.Ledger.{Offer}
+use Rattle.mv_ledger.specs.Publishing.{Passes}
 use Rattle.mv_ledger.proofs.Phases.{refused_text, refused_bounds, refused_types, refused_stated, refused_check}
 use Rattle.mv_ledger.proofs.publishing.verified.Goals as goal
 
@@ -33,3 +37,18 @@ returns-in_err-module-2-clause-refused c =
     rw (p.1, p.2)
     (refused_check _ c.in_ok-typed.typed c.in_ok-stated.stated c.in_err-module-2.field-0.0 (c.in_ok-module.ensures.ok ∙ ap Some (sym c.in_ok-bounded.ensures.ok) ∙ ap Some (sym c.in_ok-typed.ensures.ok))
     c.module-sound.ensures.sound c.in_ok-stated.ensures.ok c.in_err-module-2.ensures.refused)
+
+pub returns-clause-passes : goal.returns-clause-passes
+returns-clause-passes c =
+    let offer : Offer = record { text = c.args.bundle.now.text.now; certificate = c.args.bundle.now.certificate.now } in
+    let same = c.in_ok-module-2.ensures.ok in
+    subst (λ m. (stated : Certificate) × Passes offer m stated) (sym same) (
+      c.in_ok-stated.stated,
+      record {
+        text = c.in_ok-module.ensures.ok ∙ ap Some (sym c.in_ok-bounded.ensures.ok) ∙ ap Some (sym c.in_ok-typed.ensures.ok);
+        sound = c.module-sound.ensures.sound;
+        certificate = c.in_ok-stated.ensures.ok;
+        needs = c.in_ok-module-2.ensures.needs;
+        acquires = subst AcquiresHold same c.module-acquires.ensures.acquires;
+      },
+    )
