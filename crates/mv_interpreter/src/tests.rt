@@ -5,6 +5,7 @@ ghost use Rattle.mv_machine.specs.Flat.{storage_of};
 ghost use Rattle.mv_binary_format.specs.Parsing.{module_of};
 ghost use Rattle.mv_type_states.specs.Sound.{IsSound};
 ghost use Rattle.mv_acquires.specs.Acquires.{AcquiresHold};
+ghost use Rattle.mv_certificate.specs.Verified.{IsCertifiedBy};
 ghost use Rattle.mv_linker.specs.Link.{tables_in};
 ghost use Rattle.mv_interpreter.specs.Runs.{IsFineWords};
 ghost use Rattle.mv_interpreter.specs.Coin.{coin_module, coin_modules, mint, one_coin, CameTo};
@@ -117,6 +118,7 @@ fn verified_coin(alloc: Global) -> Result<New<'static>, Refusal>
     ensures module { IfOk result (λ n. n.module ≡ coin_module) }
     ensures sound { IfOk result (λ n. IsSound n.module) }
     ensures acquires { IfOk result (λ n. AcquiresHold n.module) }
+    ensures certificate { IfOk result (λ n. IsCertifiedBy n.module n.certificate.now) }
 {
     let text = coin_text();
     let module = mv_binary_format::decode(alloc, text)?;
@@ -139,7 +141,7 @@ fn coin_store(alloc: Global) -> Result<Store, Refusal>
     let new = verified_coin(alloc)?;
     let mut store = Store::new(alloc);
     let bundle = vec![in alloc; new].map_err(AllocError::from)?;
-    let linked = link(alloc, &store, Some(1), bundle)?;
+    let linked = link(&store, Some(1), bundle)?;
     add(&mut store, linked)?;
     Ok(store)
 }
@@ -207,7 +209,7 @@ fn run_case(alloc: Global, store: &Store, case: Case) -> Result<Settled, RunErro
         },
     ];
     let mut overlay = stored_before(alloc, case)?;
-    let (outcome, tally) = run(alloc, store, &mut overlay, MINT, &args, budget(case))?;
+    let (outcome, tally) = run(store, &mut overlay, MINT, &args, budget(case))?;
     let left = if outcome.ending == Ending::Returned {
         left_by(overlay, &tally)
     } else {

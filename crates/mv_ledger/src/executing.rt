@@ -208,7 +208,6 @@ pub fn execute(
 {
     let mut overlay = mem::replace(storage, Storage::new(alloc)).overlay();
     match run(
-        alloc,
         store,
         &mut overlay,
         call.function,

@@ -90,6 +90,11 @@ impl Model for Overlay {
 }
 
 impl Overlay {
+    /// The allocator that it takes memory from.
+    pub fn allocator(&self) -> Global {
+        self.alloc
+    }
+
     /// Whether the run sees a value under a key.
     pub fn exists(&self, key: &Key) -> bool
         ensures { result ≡ is_some (words_at self.now.current key.now) }
