@@ -1,12 +1,14 @@
 // Inputs through the engine, and the reports that come out.
 
 mod fakes;
+mod limits;
+mod line;
 mod rows;
 
 use crate::engine::{EngineError, engine};
 use fakes::{Pieces, Room};
 use mv_ledger::{Ledger, Reply};
-use rows::{NUMBERED, NUMBERED_REST, REFUSED, RUNS, Row};
+use rows::{NUMBERED, NUMBERED_REST, REFUSED, RUNS};
 use std::alloc::Global;
 use std::io::ErrorKind;
 use std::test::Fail;
@@ -32,10 +34,10 @@ const FULL: [Option<ErrorKind>; 5] = [
     Some(ErrorKind::Other),
 ];
 
-// The bytes of an input.
-fn bytes_of(alloc: Global, row: &Row) -> Result<Vec<u8>, Fail> {
+// The bytes that stand in hex, in parts.
+fn bytes_of(alloc: Global, parts: &[&str]) -> Result<Vec<u8>, Fail> {
     let mut bytes = Vec::new(alloc);
-    for part in row.input {
+    for part in parts {
         bytes.extend_from_slice(hex::decode(alloc, *part)?.as_slice())?;
     }
     Ok(bytes)
@@ -59,36 +61,49 @@ fn room(alloc: Global) -> Room {
     }
 }
 
-#[test]
-fn records_are_answered(rt: HostRuntime) -> Result<(), Fail> {
-    for row in RUNS.iter().chain(REFUSED.iter()) {
-        let bytes = bytes_of(rt.alloc(), row)?;
-        let mut reader = whole(bytes.as_slice());
-        let mut writer = room(rt.alloc());
-        let mut ledger = Ledger::new(rt.alloc());
-        engine(&mut reader, &mut writer, &mut ledger)?;
-        assert_eq!(rt; writer.taken.as_slice(), row.report.as_bytes());
-    }
-    Ok(())
+// How many records were answered.
+fn answered(
+    alloc: Global,
+    mut reader: Pieces<'_>,
+    writer: &mut Room,
+    ledger: &mut Ledger,
+) -> Result<u64, EngineError> {
+    engine(&mut reader, writer, ledger)
+}
+
+// How many records an input has, and the report on them.
+fn report(
+    alloc: Global,
+    input: Option<&[u8]>,
+    ledger: &mut Ledger,
+) -> Result<(u64, Vec<u8>), Fail> {
+    let Some(bytes) = input else {
+        return Err(Fail::from("the input is shorter"));
+    };
+    let mut writer = room(alloc);
+    let count = answered(alloc, whole(bytes), &mut writer, ledger)?;
+    Ok((count, writer.taken))
 }
 
 #[test]
-fn pieces_make_no_difference(rt: HostRuntime) -> Result<(), Fail> {
-    let row = &RUNS[1];
-    let bytes = bytes_of(rt.alloc(), row)?;
-    for each in [1, 7] {
-        let mut reader = Pieces {
-            each,
-            ..whole(bytes.as_slice())
-        };
-        let mut writer = Room {
-            each,
-            ..room(rt.alloc())
-        };
-        let mut ledger = Ledger::new(rt.alloc());
-        let count = engine(&mut reader, &mut writer, &mut ledger)?;
-        assert_eq!(rt; count, 3);
-        assert_eq!(rt; writer.taken.as_slice(), row.report.as_bytes());
+fn records_are_answered(rt: HostRuntime) -> Result<(), Fail> {
+    for row in RUNS.iter().chain(REFUSED.iter()) {
+        let wanted = row.report;
+        let bytes = bytes_of(rt.alloc(), row.input)?;
+        for each in [MANY, 7, 1] {
+            let reader = Pieces {
+                each,
+                ..whole(bytes.as_slice())
+            };
+            let mut writer = Room {
+                each,
+                ..room(rt.alloc())
+            };
+            let mut ledger = Ledger::new(rt.alloc());
+            let count = answered(rt.alloc(), reader, &mut writer, &mut ledger)?;
+            assert_eq!(rt; count, row.count, "for {wanted}");
+            assert_eq!(rt; writer.taken.as_slice(), wanted.as_bytes());
+        }
     }
     Ok(())
 }
@@ -96,17 +111,17 @@ fn pieces_make_no_difference(rt: HostRuntime) -> Result<(), Fail> {
 #[test]
 fn failed_reads_end_it(rt: HostRuntime) -> Result<(), Fail> {
     let row = &RUNS[1];
-    let bytes = bytes_of(rt.alloc(), row)?;
+    let bytes = bytes_of(rt.alloc(), row.input)?;
     for (until, written) in [(0, 0), (123, 0), (124, 14), (125, 14), (176, 27)] {
         for error in KINDS {
-            let mut reader = Pieces {
+            let reader = Pieces {
                 until,
                 error,
                 ..whole(bytes.as_slice())
             };
             let mut writer = room(rt.alloc());
             let mut ledger = Ledger::new(rt.alloc());
-            let result = engine(&mut reader, &mut writer, &mut ledger);
+            let result = answered(rt.alloc(), reader, &mut writer, &mut ledger);
             assert_eq!(rt; result, Err(EngineError::Read));
             assert_eq!(rt;
                 Some(writer.taken.as_slice()),
@@ -120,17 +135,16 @@ fn failed_reads_end_it(rt: HostRuntime) -> Result<(), Fail> {
 #[test]
 fn failed_writes_end_it(rt: HostRuntime) -> Result<(), Fail> {
     let row = &RUNS[1];
-    let bytes = bytes_of(rt.alloc(), row)?;
+    let bytes = bytes_of(rt.alloc(), row.input)?;
     for left in [0, 3, 16] {
         for error in FULL {
-            let mut reader = whole(bytes.as_slice());
             let mut writer = Room {
                 room: left,
                 error,
                 ..room(rt.alloc())
             };
             let mut ledger = Ledger::new(rt.alloc());
-            let result = engine(&mut reader, &mut writer, &mut ledger);
+            let result = answered(rt.alloc(), whole(&bytes), &mut writer, &mut ledger);
             assert_eq!(rt; result, Err(EngineError::Write));
             assert_eq!(rt;
                 Some(writer.taken.as_slice()),
@@ -138,6 +152,38 @@ fn failed_writes_end_it(rt: HostRuntime) -> Result<(), Fail> {
             );
         }
     }
+    Ok(())
+}
+
+// After a fault a ledger answers the records behind those that it was changed by. They count from 1 again.
+#[test]
+fn ledgers_go_on_after_faults(rt: HostRuntime) -> Result<(), Fail> {
+    let bytes = bytes_of(rt.alloc(), RUNS[1].input)?;
+    // A read that fails within the second record: the module is published, and no coin minted.
+    let mut ledger = Ledger::new(rt.alloc());
+    let reader = Pieces {
+        until: 150,
+        ..whole(bytes.as_slice())
+    };
+    let result = answered(rt.alloc(), reader, &mut room(rt.alloc()), &mut ledger);
+    assert_eq!(rt; result, Err(EngineError::Read));
+    let (count, next) = report(rt.alloc(), bytes.get(124..), &mut ledger)?;
+    assert_eq!(rt; count, 2);
+    assert_eq!(rt;
+        next.as_slice(),
+        "1 returned 5\n2 aborted exists 0 4\n".as_bytes()
+    );
+    // A write that fails within the second line: the coin is minted.
+    let mut ledger = Ledger::new(rt.alloc());
+    let mut writer = Room {
+        room: 16,
+        ..room(rt.alloc())
+    };
+    let result = answered(rt.alloc(), whole(&bytes), &mut writer, &mut ledger);
+    assert_eq!(rt; result, Err(EngineError::Write));
+    let (count, next) = report(rt.alloc(), bytes.get(176..), &mut ledger)?;
+    assert_eq!(rt; count, 1);
+    assert_eq!(rt; next.as_slice(), "1 aborted exists 0 4\n".as_bytes());
     Ok(())
 }
 
