@@ -63,7 +63,6 @@ fn room(alloc: Global) -> Room {
 
 // How many records were answered.
 fn answered(
-    alloc: Global,
     mut reader: Pieces<'_>,
     writer: &mut Room,
     ledger: &mut Ledger,
@@ -81,7 +80,7 @@ fn report(
         return Err(Fail::from("the input is shorter"));
     };
     let mut writer = room(alloc);
-    let count = answered(alloc, whole(bytes), &mut writer, ledger)?;
+    let count = answered(whole(bytes), &mut writer, ledger)?;
     Ok((count, writer.taken))
 }
 
@@ -100,7 +99,7 @@ fn records_are_answered(rt: HostRuntime) -> Result<(), Fail> {
                 ..room(rt.alloc())
             };
             let mut ledger = Ledger::new(rt.alloc());
-            let count = answered(rt.alloc(), reader, &mut writer, &mut ledger)?;
+            let count = answered(reader, &mut writer, &mut ledger)?;
             assert_eq!(rt; count, row.count, "for {wanted}");
             assert_eq!(rt; writer.taken.as_slice(), wanted.as_bytes());
         }
@@ -121,7 +120,7 @@ fn failed_reads_end_it(rt: HostRuntime) -> Result<(), Fail> {
             };
             let mut writer = room(rt.alloc());
             let mut ledger = Ledger::new(rt.alloc());
-            let result = answered(rt.alloc(), reader, &mut writer, &mut ledger);
+            let result = answered(reader, &mut writer, &mut ledger);
             assert_eq!(rt; result, Err(EngineError::Read));
             assert_eq!(rt;
                 Some(writer.taken.as_slice()),
@@ -144,7 +143,7 @@ fn failed_writes_end_it(rt: HostRuntime) -> Result<(), Fail> {
                 ..room(rt.alloc())
             };
             let mut ledger = Ledger::new(rt.alloc());
-            let result = answered(rt.alloc(), whole(&bytes), &mut writer, &mut ledger);
+            let result = answered(whole(&bytes), &mut writer, &mut ledger);
             assert_eq!(rt; result, Err(EngineError::Write));
             assert_eq!(rt;
                 Some(writer.taken.as_slice()),
@@ -165,7 +164,7 @@ fn ledgers_go_on_after_faults(rt: HostRuntime) -> Result<(), Fail> {
         until: 150,
         ..whole(bytes.as_slice())
     };
-    let result = answered(rt.alloc(), reader, &mut room(rt.alloc()), &mut ledger);
+    let result = answered(reader, &mut room(rt.alloc()), &mut ledger);
     assert_eq!(rt; result, Err(EngineError::Read));
     let (count, next) = report(rt.alloc(), bytes.get(124..), &mut ledger)?;
     assert_eq!(rt; count, 2);
@@ -179,7 +178,7 @@ fn ledgers_go_on_after_faults(rt: HostRuntime) -> Result<(), Fail> {
         room: 16,
         ..room(rt.alloc())
     };
-    let result = answered(rt.alloc(), whole(&bytes), &mut writer, &mut ledger);
+    let result = answered(whole(&bytes), &mut writer, &mut ledger);
     assert_eq!(rt; result, Err(EngineError::Write));
     let (count, next) = report(rt.alloc(), bytes.get(176..), &mut ledger)?;
     assert_eq!(rt; count, 1);
