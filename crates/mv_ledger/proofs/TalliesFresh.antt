@@ -46,9 +46,9 @@ module _ (m : Module) where
       chosen false = refl
 
   -- that is scarce
-  pub scarce-found : (i n : ℕ) (ds : List StructDefinition) (d : StructDefinition) (b : Bool) → ds ≡ m.structs → i < length ds → d ≡ get_or ds i d → b ≡ is_scarce_struct m d → b ≡ true → n ≡ i → scarce_before i ++ n ∷ [] ≡ scarce_before (i + 1)
-  scarce-found i n ds d b whole lt at is passes same =
-      ap (λ (k : ℕ). scarce_before i ++ k ∷ []) same ∙ ap (λ (t : Bool). scarce_before i ++ cond t (i ∷ []) []) (sym passes) ∙ sym (scarce-more i ds d b whole lt at is)
+  pub scarce-found : (i : ℕ) (ds : List StructDefinition) (d : StructDefinition) (b : Bool) → ds ≡ m.structs → i < length ds → d ≡ get_or ds i d → b ≡ is_scarce_struct m d → b ≡ true → scarce_before i ++ i ∷ [] ≡ scarce_before (i + 1)
+  scarce-found i ds d b whole lt at is passes =
+      ap (λ (t : Bool). scarce_before i ++ cond t (i ∷ []) []) (sym passes) ∙ sym (scarce-more i ds d b whole lt at is)
 
   -- that isn't
   pub scarce-passed : (i : ℕ) (ds : List StructDefinition) (d : StructDefinition) (b : Bool) → ds ≡ m.structs → i < length ds → d ≡ get_or ds i d → b ≡ is_scarce_struct m d → b ≡ false → scarce_before i ≡ scarce_before (i + 1)

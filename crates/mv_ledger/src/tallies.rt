@@ -34,10 +34,7 @@ pub fn scarce_structs(alloc: Global, m: &Module<'_>) -> Result<Vec<u16>, AllocEr
     let mut indices = Vec::new(alloc);
     for (i, d) in m.structs().iter().enumerate() {
         if is_scarce(m, d) {
-            let Ok(index) = u16::try_from(i) else {
-                return Err(AllocError);
-            };
-            indices.push(index)?;
+            indices.push(i as u16)?;
         }
     }
     Ok(indices)
