@@ -9,6 +9,7 @@ pub mod ShapesOfArguments
 pub mod Shapes
 pub mod TalliesAfter
 pub mod TalliesAdding
+pub mod TalliesByModule
 pub mod TalliesFresh
 pub mod Admissions
 pub mod AdmissionsAnswered

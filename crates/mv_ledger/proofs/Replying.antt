@@ -1,6 +1,6 @@
 -- What the ledger's calls reply, from what their parts say.
 use Rattle.std.specs.Prelude.{is_some}
-use Rattle.std.proofs.Common.{◌≡◌, ℕ, suc, ◌+◌, true, false, List, [], ◌∷◌, ◌++◌, length, Option, Some, None, Ok, Err, refl, sym, ap, ◌∙◌, arith}
+use Rattle.std.proofs.Common.{◌≡◌, ℕ, suc, ◌+◌, true, false, All, List, [], ◌∷◌, ◌++◌, length, Option, Some, None, Ok, Err, refl, sym, ap, ◌∙◌, arith}
 use Rattle.mv_move_types.specs.declared.refusal.Refusal.TheVariants.{Phase}
 use Rattle.mv_move_types.specs.Module.{Module}
 use Rattle.mv_move_types.specs.Published.{PublishedModule}
@@ -9,10 +9,11 @@ use Rattle.mv_machine.specs.Flat.{FlatEntry, storage_of}
 use Rattle.mv_machine.specs.Lines.{Tallied, Reply as Told, Published as ToldPublished, Refused as ToldRefused, Rejected as ToldRejected, Returned as ToldReturned, Aborted as ToldAborted, Exhausted as ToldExhausted, Broken as ToldBroken}
 use Rattle.mv_machine.specs.Ledger.{Offer, LedgerState, RunRequest, Publish, Run, BadRun, Bad, AreRead, with_bundle}
 use Rattle.mv_linker.specs.Link.{IsStore, tables_in}
+use Rattle.mv_interpreter.specs.Runs.{IsFineWords}
 use Rattle.mv_ledger.specs.declared.tallies.Tally.{Tally}
 use Rattle.mv_ledger.specs.declared.executing.Call.{Call}
 use Rattle.mv_ledger.specs.declared.executing.Barred.TheVariants.{Rejected as BarredRejected}
-use Rattle.mv_ledger.specs.View.{LedgerView, state_of, view_of, IsLedger}
+use Rattle.mv_ledger.specs.View.{LedgerView, state_of, view_of}
 use Rattle.mv_ledger.specs.RecordText.{IsShaped, IsShapeless}
 use Rattle.mv_ledger.specs.Answering.{Spells, AnswersRecord, Replies}
 use Rattle.mv_ledger.specs.Changes.{AddsOne, IsKept, RunsTo, Leaves}
@@ -58,14 +59,14 @@ module _ (old new : List PublishedModule) (payload : List ℕ) (stored : List Fl
   second = view_of new stored after runs
 
   -- the ledger with the bundle behind what it had
-  with_it : (bundle : List PublishedModule) → new ≡ old ++ bundle → IsStore old → IsLedger old stored before runs → AddsTallies old new before after → state_of second ≡ with_bundle (state_of first) bundle
-  with_it bundle added store is tallies =
+  with_it : (bundle : List PublishedModule) → new ≡ old ++ bundle → IsStore old → All (IsFineWords (tables_in old)) stored → AddsTallies old new before after → state_of second ≡ with_bundle (state_of first) bundle
+  with_it bundle added store fine tallies =
       let tables : tables_in new ≡ tables_in old ++ tables_in bundle = ap tables_in added ∙ tables-append old bundle in
       same_state new (old ++ bundle) (storage_of (tables_in new) stored) (storage_of (tables_in old) stored) _ _ runs added
-      (ap (λ (l : List Module). storage_of l stored) tables ∙ stored-more (tables_in old) (tables_in bundle) stored (store-flat old store) is.fine) (tallies bundle added)
+      (ap (λ (l : List Module). storage_of l stored) tables ∙ stored-more (tables_in old) (tables_in bundle) stored (store-flat old store) fine) (tallies bundle added)
 
-  pub published_replies : AddsOne old new → IsAcceptedBy old payload new → IsStore old → IsLedger old stored before runs → AddsTallies old new before after → Replies 1 payload (Some (ToldPublished 1)) first second
-  published_replies one accepted store is tallies = with_bundle_of (accepted (state_of first) refl)
+  pub published_replies : AddsOne old new → IsAcceptedBy old payload new → IsStore old → All (IsFineWords (tables_in old)) stored → AddsTallies old new before after → Replies 1 payload (Some (ToldPublished 1)) first second
+  published_replies one accepted store fine tallies = with_bundle_of (accepted (state_of first) refl)
     where
       with_bundle_of : (bundle : List PublishedModule) × (IsAccepted (state_of first) payload bundle × (new ≡ old ++ bundle)) → Replies 1 payload (Some (ToldPublished 1)) first second
       with_bundle_of b =
@@ -73,7 +74,7 @@ module _ (old new : List PublishedModule) (payload : List ℕ) (stored : List Fl
           let a : IsAccepted (state_of first) payload bundle = b.1.0 in
           let long : length (one.0 ∷ []) ≡ length bundle = as_long old (one.0 ∷ []) bundle (sym one.1.1 ∙ b.1.1) in
           let all : AllPass a.offers bundle = a.published.0 in
-          let state : state_of second ≡ with_bundle (state_of first) bundle = with_it bundle b.1.1 store is tallies in
+          let state : state_of second ≡ with_bundle (state_of first) bundle = with_it bundle b.1.1 store fine tallies in
           record {
             answers = (Publish a.sender a.offers, (a.asked, (bundle, read_as a.offers bundle all, long ∙ as_many a.offers bundle all, state)));
             leaves = (refl, refl);

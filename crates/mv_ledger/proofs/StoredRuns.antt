@@ -1,10 +1,6 @@
 -- What a run leaves is what the machine's run asks for.
-use Rattle.std.proofs.Common.{◌≡◌, ℕ, ◌+◌, ◌*◌, ◌^◌, ◌≤◌, List, map, length, refl, sym, ap, ap₂, ◌∙◌, arith}
+use Rattle.std.proofs.Common.{◌≡◌, ℕ, ◌+◌, ◌*◌, ◌^◌, ◌≤◌, List, map, refl, sym, ap, ap₂, ◌∙◌, arith}
 use Rattle.std.specs.Prelude.{All}
-use Rattle.std.specs.Vec.{with_items}
-use Rattle.std.specs.declared.vec.Vec.{Vec}
-use Rattle.std.specs.declared.alloc.Global.{Global}
-use Rattle.std.proofs.lemmas.List.{with_items_is, length-map}
 use Rattle.std.proofs.lemmas.List.Elements.{All-weaker}
 use Rattle.mv_move_types.specs.Module.{Module}
 use Rattle.mv_move_types.specs.Published.{PublishedModule}
@@ -26,8 +22,9 @@ use Rattle.mv_ledger.specs.declared.Reply.TheVariants.{Ran, Broken}
 use Rattle.mv_ledger.specs.Answering.{told, told_ending}
 use Rattle.mv_ledger.specs.Running.{IsSettled, run_of}
 use Rattle.mv_ledger.specs.Tallying.{tally_after}
-use Rattle.mv_ledger.specs.View.{IsNamed, IsSmall, state_of, view_of, tallied}
+use Rattle.mv_ledger.specs.View.{all_of, IsNamed, IsSmall, state_of, view_of, tallied}
 use Rattle.mv_ledger.proofs.TalliesAfter.{tallies-after}
+use Rattle.mv_ledger.proofs.TalliesByModule.{all-map}
 
 -- tallies that are small after some runs are so after one more
 pub small-kept : (runs : ℕ) (ts : List Tally) → All (IsSmall runs) ts → All (IsSmall (runs + 1)) ts
@@ -39,10 +36,9 @@ small-kept runs ts small = All-weaker (IsSmall runs) (IsSmall (runs + 1)) one ts
     one : (t : Tally) → IsSmall runs t → IsSmall (runs + 1) t
     one t h = (part t.packs h.0, part t.unpacks h.1)
 
--- the tallies of a Vec that a run was added to
-pub tallied-after : (v : Vec Tally Global) (tally own : List StructTally) (before after : List Tally) → after ≡ map (tally_after own) before → own ≡ tally → before ≡ v.items → length before ≡ v.len → (with_items v after).items ≡ map (tally_after tally) v.items
-tallied-after v tally own before after after_is own_is before_is len =
-    with_items_is v after (ap length after_is ∙ length-map before (tally_after own) ∙ len) ∙ after_is ∙ ap₂ (λ (t : List StructTally) (ts : List Tally). map (tally_after t) ts) own_is before_is
+-- the tallies of all modules after a run
+pub tallied-after : (tally own : List StructTally) (before after : List (List Tally)) → after ≡ map (map (tally_after own)) before → own ≡ tally → all_of after ≡ map (tally_after tally) (all_of before)
+tallied-after tally own before after after_is own_is = ap all_of (after_is ∙ ap (λ (t : List StructTally). map (map (tally_after t)) before) own_is) ∙ all-map (tally_after tally) before
 
 module _ (published : List PublishedModule) (call : Call) (stored new : List FlatEntry) (before after : List Tally) where
   abbrev modules : List Module

@@ -17,9 +17,10 @@ use Rattle.mv_machine.specs.Ledger.{scarce_name, scarce_structs, untouched_tally
 use Rattle.mv_linker.specs.Link.{tables_in}
 use Rattle.mv_interpreter.proofs.Lists.{then_found, there_at, each}
 use Rattle.mv_ledger.specs.declared.tallies.Tally.{Tally}
-use Rattle.mv_ledger.specs.View.{IsNamed, IsSmall, tallied, no_struct}
+use Rattle.mv_ledger.specs.View.{all_of, IsNamed, IsSmall, tallied, no_struct}
 use Rattle.mv_ledger.specs.Tallying.{AddsTallies, is_scarce_struct, scarce_indices, fresh_tally}
 use Rattle.mv_ledger.proofs.Stores.{tables-push}
+use Rattle.mv_ledger.proofs.TalliesByModule.{all-push}
 use Rattle.mv_ledger.proofs.TalliesAfter.{module_there, tallies-more, named-more}
 
 module _ (m : Module) where
@@ -124,10 +125,15 @@ module _ (m : Module) where
             All-cons (IsNamed modules) (fresh_tally place n) (fresh_from (n + 1) ds) (subst (λ (o : Option StructName). IsSome o) (sym (first n d ds there).2) refl) rest
 
 -- the tallies of the code
-pub fresh-items : (before after fresh : List Tally) (place count : ℕ) (m own : Module) (indices structs : List ℕ) → after ≡ before ++ fresh → fresh ≡ map (fresh_tally place) indices → indices ≡ structs → structs ≡ scarce_indices own → own ≡ m
-    → place ≡ count → after ≡ before ++ map (fresh_tally count) (scarce_indices m)
+pub fresh-items : (before after : List (List Tally)) (fresh : List Tally) (place count : ℕ) (m own : Module) (indices structs : List ℕ) → after ≡ before ++ fresh ∷ [] → fresh ≡ map (fresh_tally place) indices → indices ≡ structs → structs ≡ scarce_indices own → own ≡ m
+    → place ≡ count → all_of after ≡ all_of before ++ map (fresh_tally count) (scarce_indices m)
 fresh-items before after fresh place count m own indices structs joined made listed found same at =
-    joined ∙ ap (λ (ts : List Tally). before ++ ts) (made ∙ ap₂ (λ (n : ℕ) (is : List ℕ). map (fresh_tally n) is) at (listed ∙ found ∙ ap scarce_indices same))
+    ap all_of joined ∙ all-push before fresh ∙ ap (λ (ts : List Tally). all_of before ++ ts) (made ∙ ap₂ (λ (n : ℕ) (is : List ℕ). map (fresh_tally n) is) at (listed ∙ found ∙ ap scarce_indices same))
+
+-- and each is of its module
+pub fresh-placed : (fresh : List Tally) (place count : ℕ) (indices : List ℕ) → fresh ≡ map (fresh_tally place) indices → place ≡ count → All (λ t. t.place ≡ count) fresh
+fresh-placed fresh place count indices made at =
+    subst (λ (ts : List Tally). All (λ (t : Tally). t.place ≡ count) ts) (sym made) (All-map (λ (t : Tally). t.place ≡ count) (fresh_tally place) indices (λ k d lt. at))
 
 -- the module behind others
 behind : (old : List PublishedModule) (m : Module) → slice_get (tables_in old ++ m ∷ []) (length old) ≡ Some m

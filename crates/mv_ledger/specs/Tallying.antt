@@ -45,3 +45,7 @@ tally_after run t = record t { packs = t.packs + packs_at t.place t.index run; u
 -- a tally has room in 128 bits for one more run
 abbrev pub HasRoomLeft : Tally → Type 0
 HasRoomLeft t = (t.packs + 2 ^ 64 < 2 ^ 128) × (t.unpacks + 2 ^ 64 < 2 ^ 128)
+
+-- a tally has room in 128 bits for what a run did with values of one struct
+abbrev pub HasRoomFor : StructTally → Tally → Type 0
+HasRoomFor e t = (t.packs + e.packs < 2 ^ 128) × (t.unpacks + e.unpacks < 2 ^ 128)

@@ -1,5 +1,6 @@
 -- What a ledger holds, and the machine's state that it stands for.
-use Rattle.std.specs.Prelude.{ℕ, ◌*◌, ◌^◌, ◌≤◌, List, [], map, length, All, IsSome, unwrap_or}
+use Rattle.std.specs.Prelude.{◌≡◌, ℕ, ◌+◌, ◌*◌, ◌^◌, ◌≤◌, List, [], ◌∷◌, map, length, All, IsSome, unwrap_or}
+use Rattle.std.specs.List.{flat_map}
 use Rattle.mv_move_types.specs.Module.{Module, name_at}
 use Rattle.mv_move_types.specs.Names.{StructName}
 use Rattle.mv_move_types.specs.Published.{PublishedModule}
@@ -38,6 +39,15 @@ no_struct = record { home = record { address = 0; name = [] }; name = [] }
 abbrev pub tallied : List Module → Tally → Tallied
 tallied modules t = record { struct = unwrap_or (name_at modules t.place t.index) no_struct; packs = t.packs; unpacks = t.unpacks }
 
+-- the tallies of all modules, in the order of publication
+abbrev pub all_of : List (List Tally) → List Tally
+all_of = flat_map (λ ts. ts)
+
+-- the tallies of the modules at this place and on are each with the module of its place
+abbrev pub ArePlaced : ℕ → List (List Tally) → Type 0
+ArePlaced place [] = Unit {0}
+ArePlaced place (ts ∷ tss) = All (λ t. t.place ≡ place) ts × ArePlaced (place + 1) tss
+
 -- what a ledger with these parts holds
 abbrev pub view_of : List PublishedModule → List FlatEntry → List Tally → ℕ → LedgerView
 view_of published stored tallies runs =
@@ -52,10 +62,11 @@ abbrev pub IsSmall : ℕ → Tally → Type 0
 IsSmall runs t = (t.packs ≤ runs * 2 ^ 64) × (t.unpacks ≤ runs * 2 ^ 64)
 
 -- A ledger's modules and runs are within their limits, each stored value is one of its key's struct, and each tally one of a
--- struct in its range.
-pub record IsLedger (published : List PublishedModule) (stored : List FlatEntry) (tallies : List Tally) (runs : ℕ) : Type 0 where
+-- struct in its range; each module has its tallies.
+pub record IsLedger (published : List PublishedModule) (stored : List FlatEntry) (tallies : List (List Tally)) (runs : ℕ) : Type 0 where
   pub few : length published ≤ 4096
   pub fine : All (IsFineWords (tables_in published)) stored
-  pub named : All (IsNamed (tables_in published)) tallies
-  pub small : All (IsSmall runs) tallies
+  pub placed : length tallies ≡ length published
+  pub named : All (IsNamed (tables_in published)) (all_of tallies)
+  pub small : All (IsSmall runs) (all_of tallies)
   pub counted : runs ≤ 4294967296

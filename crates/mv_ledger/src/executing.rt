@@ -14,11 +14,11 @@ ghost use Rattle.mv_ledger.specs.Answering.{told};
 ghost use Rattle.mv_ledger.specs.Asking.{request_of};
 ghost use Rattle.mv_ledger.specs.Running.{IsAdmitted, IsSettled};
 ghost use Rattle.mv_ledger.specs.Tallying.{HasRoomLeft};
-ghost use Rattle.mv_ledger.specs.View.{IsNamed, IsSmall};
+ghost use Rattle.mv_ledger.specs.View.{all_of, IsNamed, IsSmall};
 
 use crate::Reply;
 use crate::payload::RunRecord;
-use crate::tallies::{Tally, add_run};
+use crate::tallies::Tallies;
 use mv_binary_format::{FunctionDefinition, Module};
 use mv_interpreter::{Arg, RunError, run};
 use mv_linker::Store;
@@ -192,19 +192,20 @@ pub fn execute(
     alloc: Global,
     store: &Store,
     storage: &mut Storage,
-    tallies: &mut Vec<Tally>,
+    tallies: &mut Tallies,
     call: &Call,
 ) -> Reply
     requires store { IsStore store.now }
     requires call { IsCall (tables_in store.now) call.now.function call.now.arguments.items }
     requires stored { All (IsFineWords (tables_in store.now)) storage.old }
-    requires named { All (IsNamed (tables_in store.now)) tallies.old.items }
-    requires room { All HasRoomLeft tallies.old.items }
+    requires named { All (IsNamed (tables_in store.now)) (all_of tallies.old) }
+    requires room { All HasRoomLeft (all_of tallies.old) }
     ensures stored { All (IsFineWords (tables_in store.now)) storage.new }
-    ensures named { All (IsNamed (tables_in store.now)) tallies.new.items }
-    ensures small { (runs : ℕ) → All (IsSmall runs) tallies.old.items → All (IsSmall (runs + 1)) tallies.new.items }
-    ensures settled { IsSettled store.now call.now (told result) storage.old storage.new tallies.old.items tallies.new.items }
-    ensures kept { RunsTo (told result) storage.old storage.new tallies.old.items tallies.new.items }
+    ensures placed { length tallies.new ≡ length tallies.old }
+    ensures named { All (IsNamed (tables_in store.now)) (all_of tallies.new) }
+    ensures small { (runs : ℕ) → All (IsSmall runs) (all_of tallies.old) → All (IsSmall (runs + 1)) (all_of tallies.new) }
+    ensures settled { IsSettled store.now call.now (told result) storage.old storage.new (all_of tallies.old) (all_of tallies.new) }
+    ensures kept { RunsTo (told result) storage.old storage.new (all_of tallies.old) (all_of tallies.new) }
 {
     let mut overlay = mem::replace(storage, Storage::new(alloc)).overlay();
     match run(
@@ -217,7 +218,7 @@ pub fn execute(
         Ok((outcome, tally)) => {
             if outcome.ending == Ending::Returned {
                 *storage = overlay.commit();
-                add_run(tallies, &tally);
+                tallies.add_run(&tally);
             } else {
                 *storage = overlay.discard();
             }

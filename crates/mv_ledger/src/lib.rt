@@ -18,7 +18,7 @@ use mv_storage::Storage;
 use payload::read_run;
 use std::alloc::Global;
 use std::marker::Model;
-use tallies::Tally;
+use tallies::Tallies;
 
 /// What the ledger answers to a record.
 #[derive(Clone, Copy, PartialEq, Eq, Debug)]
@@ -54,18 +54,18 @@ pub struct Ledger {
     alloc: Global,
     store: Store,
     storage: Storage,
-    tallies: Vec<Tally>,
+    tallies: Tallies,
     runs: u64,
 }
 
 impl Model for Ledger {
-    ghost use Rattle.mv_ledger.specs.View.{LedgerView, view_of, IsLedger};
+    ghost use Rattle.mv_ledger.specs.View.{LedgerView, view_of, all_of, IsLedger};
 
     ghost Value = { LedgerView };
 
-    ghost view = { λ l. view_of l.store l.storage l.tallies.items l.runs };
+    ghost view = { λ l. view_of l.store l.storage (all_of l.tallies) l.runs };
 
-    ghost invariant = { λ l. IsLedger l.store l.storage l.tallies.items l.runs };
+    ghost invariant = { λ l. IsLedger l.store l.storage l.tallies l.runs };
 }
 
 impl Ledger {
@@ -77,7 +77,7 @@ impl Ledger {
             alloc,
             store: Store::new(alloc),
             storage: Storage::new(alloc),
-            tallies: Vec::new(alloc),
+            tallies: Tallies::new(alloc),
             runs: 0,
         }
     }

@@ -6,10 +6,10 @@ ghost use Rattle.mv_ledger.specs.Publishing.{Passes, IsRefusedOffer};
 ghost use Rattle.mv_ledger.specs.Judging.{IsAcceptedBy, IsRefusedBy};
 ghost use Rattle.mv_ledger.specs.Changes.{AddsOne};
 ghost use Rattle.mv_ledger.specs.Tallying.{AddsTallies};
-ghost use Rattle.mv_ledger.specs.View.{IsNamed, IsSmall};
+ghost use Rattle.mv_ledger.specs.View.{all_of, IsNamed, IsSmall};
 
 use crate::payload::{Bundle, read_bundle};
-use crate::tallies::{Tally, scarce_structs, untouched};
+use crate::tallies::{Tallies, Tally, scarce_structs, untouched};
 use mv_linker::{Linked, New, Store, add, link};
 use mv_move_types::Refusal;
 use std::alloc::{AllocError, Global};
@@ -46,21 +46,22 @@ fn alone<'a>(alloc: Global, new: New<'a>) -> Result<Vec<New<'a>>, AllocError>
     Ok(vec![in alloc; new]?)
 }
 
-/// Adds a bundle and its tallies, or nothing.
+/// Adds a bundle of one module and its tallies, or nothing.
 fn join(
     store: &mut Store,
     linked: Linked,
-    tallies: &mut Vec<Tally>,
-    mut fresh: Vec<Tally>,
+    tallies: &mut Tallies,
+    fresh: Vec<Tally>,
 ) -> Result<(), AllocError>
-    requires { IsStore (store.old ++ linked) }
+    requires store { IsStore (store.old ++ linked) }
+    requires placed { All (λ t. t.place ≡ length tallies.old) fresh.items }
     ensures ok { OnOk result (store.new ≡ store.old ++ linked) }
-    ensures tallied { OnOk result (tallies.new.items ≡ tallies.old.items ++ fresh.items) }
+    ensures tallied { OnOk result (tallies.new ≡ tallies.old ++ fresh.items ∷ []) }
     ensures err { OnErr result (store.new ≡ store.old) }
-    ensures kept { OnErr result (tallies.new.items ≡ tallies.old.items) }
+    ensures kept { OnErr result (tallies.new ≡ tallies.old) }
 {
     let count = tallies.len();
-    tallies.append(&mut fresh)?;
+    tallies.push(fresh)?;
     if let Err(e) = add(store, linked) {
         tallies.truncate(count);
         return Err(e);
@@ -78,20 +79,22 @@ fn join(
 pub fn publish(
     alloc: Global,
     store: &mut Store,
-    tallies: &mut Vec<Tally>,
+    tallies: &mut Tallies,
     payload: &[u8],
 ) -> Result<(), Refusal>
-    requires named { All (IsNamed (tables_in store.old)) tallies.old.items }
+    requires placed { length tallies.old ≡ length store.old }
+    requires named { All (IsNamed (tables_in store.old)) (all_of tallies.old) }
     ensures ok { OnOk result (AddsOne store.old store.new) }
     ensures store { OnOk result (IsStore store.old) }
     ensures room { OnOk result (length store.new ≤ 4096) }
     ensures err { OnErr result (store.new ≡ store.old) }
-    ensures kept { OnErr result (tallies.new.items ≡ tallies.old.items) }
+    ensures kept { OnErr result (tallies.new ≡ tallies.old) }
     ensures accepted { OnOk result (IsAcceptedBy store.old payload.now store.new) }
     ensures refused { IfErr result (IsRefusedBy store.old payload.now) }
-    ensures named { OnOk result (All (IsNamed (tables_in store.new)) tallies.new.items) }
-    ensures small { (runs : ℕ) → All (IsSmall runs) tallies.old.items → All (IsSmall runs) tallies.new.items }
-    ensures tallied { OnOk result (AddsTallies store.old store.new tallies.old.items tallies.new.items) }
+    ensures placed { length tallies.new ≡ length store.new }
+    ensures named { OnOk result (All (IsNamed (tables_in store.new)) (all_of tallies.new)) }
+    ensures small { (runs : ℕ) → All (IsSmall runs) (all_of tallies.old) → All (IsSmall runs) (all_of tallies.new) }
+    ensures tallied { OnOk result (AddsTallies store.old store.new (all_of tallies.old) (all_of tallies.new)) }
 {
     let Ok(bundle) = read_bundle(payload) else {
         return Err(Refusal::Phase(1));

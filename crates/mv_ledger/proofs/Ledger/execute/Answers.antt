@@ -5,7 +5,7 @@ use Rattle.mv_ledger.specs.Answering.{told, Replies}
 use Rattle.mv_ledger.specs.Asking.{request_of}
 use Rattle.mv_ledger.specs.Changes.{IsKept}
 use Rattle.mv_ledger.specs.Running.{IsAdmitted}
-use Rattle.mv_ledger.specs.View.{LedgerView, view_of}
+use Rattle.mv_ledger.specs.View.{LedgerView, view_of, all_of}
 use Rattle.mv_ledger.proofs.Ledgers.{ledger-run, ledger-kept}
 use Rattle.mv_ledger.proofs.Replying.{rejected_replies, had_replies, unchanged, untold_replies}
 use Rattle.mv_ledger.proofs.Ledger.execute.Goals as goal
@@ -13,32 +13,32 @@ use Rattle.mv_ledger.proofs.Ledger.execute.Goals.{then-is_told, else-is_told}
 
 pub invariant_of-self : goal.invariant_of-self
 invariant_of-self c =
-    ledger-run c.self.inside.store c.self.inside.storage c.execute-reply.new.storage c.self.inside.tallies.items c.execute-reply.new.tallies.items c.self.inside.runs
-    c.execute-reply.ensures.stored c.execute-reply.ensures.named (c.execute-reply.ensures.small c.self.inside.runs) c.in-Ok-admitted.ensures.runs c.self.invariant
+    ledger-run c.self.inside.store c.self.inside.storage c.execute-reply.new.storage c.self.inside.tallies c.execute-reply.new.tallies c.self.inside.runs
+    c.execute-reply.ensures.stored c.execute-reply.ensures.placed c.execute-reply.ensures.named (c.execute-reply.ensures.small c.self.inside.runs) c.in-Ok-admitted.ensures.runs c.self.invariant
 
 pub invariant_of-self-else-is_told : goal.invariant_of-self-else-is_told
 invariant_of-self-else-is_told c =
-    let kept : IsKept c.self.inside.storage c.execute-reply.new.storage c.self.inside.tallies.items c.execute-reply.new.tallies.items =
+    let kept : IsKept c.self.inside.storage c.execute-reply.new.storage (all_of c.self.inside.tallies) (all_of c.execute-reply.new.tallies) =
     unchanged (told c.execute-reply.result) _ _ _ _ (sym c.is_told.ensures ∙ c.if-is_told.false) c.execute-reply.ensures.kept in
-    ledger-kept c.self.inside.store c.self.inside.storage c.execute-reply.new.storage c.self.inside.tallies.items c.execute-reply.new.tallies.items c.self.inside.runs kept.0 kept.1 c.self.invariant
+    ledger-kept c.self.inside.store c.self.inside.storage c.execute-reply.new.storage c.self.inside.tallies c.execute-reply.new.tallies c.self.inside.runs kept.0 c.execute-reply.ensures.placed kept.1 c.self.invariant
 
 pub returns-after-is_told : goal.returns-after-is_told
 returns-after-is_told c =
     subst (λ (v : LedgerView). Replies 2 c.args.payload.now (told c.execute-reply.result) v c.if-is_told.self) c.self.view_is
     (elim c.if-is_told.branch [
       | then-is_told w ↦
-          subst (λ (v : LedgerView). Replies 2 c.args.payload.now (told c.execute-reply.result) (view_of c.self.inside.store c.self.inside.storage c.self.inside.tallies.items c.self.inside.runs) v) (sym w.self-is)
-          (had_replies c.self.inside.store c.args.payload.now c.self.inside.storage c.execute-reply.new.storage c.self.inside.tallies.items c.execute-reply.new.tallies.items c.self.inside.runs
+          subst (λ (v : LedgerView). Replies 2 c.args.payload.now (told c.execute-reply.result) (view_of c.self.inside.store c.self.inside.storage (all_of c.self.inside.tallies) c.self.inside.runs) v) (sym w.self-is)
+          (had_replies c.self.inside.store c.args.payload.now c.self.inside.storage c.execute-reply.new.storage (all_of c.self.inside.tallies) (all_of c.execute-reply.new.tallies) c.self.inside.runs
           (request_of c.in-Ok.asked) c.in-Ok.ensures.ok c.in-Ok-admitted.call c.in-Ok-admitted.ensures.admitted (told c.execute-reply.result)
           (sym c.is_told.ensures ∙ w.if-is_told.true) c.execute-reply.ensures.settled c.execute-reply.ensures.kept)
       | else-is_told w ↦
-          subst (λ (v : LedgerView). Replies 2 c.args.payload.now (told c.execute-reply.result) (view_of c.self.inside.store c.self.inside.storage c.self.inside.tallies.items c.self.inside.runs) v) (sym w.self-is)
-          (untold_replies c.self.inside.store c.args.payload.now c.self.inside.storage c.execute-reply.new.storage c.self.inside.tallies.items c.execute-reply.new.tallies.items c.self.inside.runs
+          subst (λ (v : LedgerView). Replies 2 c.args.payload.now (told c.execute-reply.result) (view_of c.self.inside.store c.self.inside.storage (all_of c.self.inside.tallies) c.self.inside.runs) v) (sym w.self-is)
+          (untold_replies c.self.inside.store c.args.payload.now c.self.inside.storage c.execute-reply.new.storage (all_of c.self.inside.tallies) (all_of c.execute-reply.new.tallies) c.self.inside.runs
           (told c.execute-reply.result) (sym c.is_told.ensures ∙ w.if-is_told.false) c.execute-reply.ensures.kept)
     ])
 
 pub returns-in-Err-Rejected : goal.returns-in-Err-Rejected
 returns-in-Err-Rejected c =
     subst (λ (v : LedgerView). Replies 2 c.args.payload.now (Some (ToldRejected c.in-Err-Rejected.reason)) v v) c.self.view_is
-    (rejected_replies c.self.inside.store c.args.payload.now c.self.inside.storage c.self.inside.tallies.items c.self.inside.runs (request_of c.in-Ok.asked) c.in-Ok.ensures.ok c.in-Err-Rejected.reason
+    (rejected_replies c.self.inside.store c.args.payload.now c.self.inside.storage (all_of c.self.inside.tallies) c.self.inside.runs (request_of c.in-Ok.asked) c.in-Ok.ensures.ok c.in-Err-Rejected.reason
     (subst (λ (b : Barred). IsAdmitted c.self.inside.store c.self.inside.runs (request_of c.in-Ok.asked) (Err b)) c.in-Err-Rejected.field-0-is c.in-Err-Rejected.ensures.admitted))

@@ -1,8 +1,8 @@
-use Rattle.std.proofs.Common.{subst}
+use Rattle.std.proofs.Common.{ap, subst}
 use Rattle.mv_move_types.specs.declared.refusal.Refusal.{Refusal}
 use Rattle.mv_ledger.specs.Answering.{told, Replies}
 use Rattle.mv_ledger.specs.Judging.{IsRefusedBy}
-use Rattle.mv_ledger.specs.View.{LedgerView, view_of}
+use Rattle.mv_ledger.specs.View.{LedgerView, view_of, all_of}
 use Rattle.mv_ledger.proofs.Ledgers.{ledger-published}
 use Rattle.mv_ledger.proofs.Replying.{published_replies, refused_replies, nothing_replies}
 use Rattle.mv_ledger.proofs.Ledger.publish.Goals as goal
@@ -10,26 +10,26 @@ use Rattle.mv_ledger.proofs.Ledger.publish.Goals.{in-Ok, in-Err-Phase, in-Err-Me
 
 pub invariant_of-self : goal.invariant_of-self
 invariant_of-self c =
-    ledger-published c.publish.result c.self.inside.store c.publish.new.store c.self.inside.storage c.self.inside.tallies.items c.publish.new.tallies.items c.self.inside.runs
-    c.publish.ensures.ok c.publish.ensures.room c.publish.ensures.err c.publish.ensures.kept c.publish.ensures.named
+    ledger-published c.publish.result c.self.inside.store c.publish.new.store c.self.inside.storage c.self.inside.tallies c.publish.new.tallies c.self.inside.runs
+    c.publish.ensures.ok c.publish.ensures.room c.publish.ensures.err c.publish.ensures.kept c.publish.ensures.placed c.publish.ensures.named
     (c.publish.ensures.small c.self.inside.runs c.self.invariant.small) c.self.invariant
 
 pub returns : goal.returns
 returns c =
-    let after : LedgerView = view_of c.publish.new.store c.self.inside.storage c.publish.new.tallies.items c.self.inside.runs in
+    let after : LedgerView = view_of c.publish.new.store c.self.inside.storage (all_of c.publish.new.tallies) c.self.inside.runs in
     subst (λ (v : LedgerView). Replies 1 c.args.payload.now (told c.match-publish.result) v after) c.self.view_is
     (elim c.match-publish.branch [
       | in-Ok w ↦
           rw w.result-is
-          (published_replies c.self.inside.store c.publish.new.store c.args.payload.now c.self.inside.storage c.self.inside.tallies.items c.publish.new.tallies.items c.self.inside.runs
-          w.in-Ok.ensures.ok w.in-Ok.ensures.accepted w.in-Ok.ensures.store c.self.invariant w.in-Ok.ensures.tallied)
+          (published_replies c.self.inside.store c.publish.new.store c.args.payload.now c.self.inside.storage (all_of c.self.inside.tallies) (all_of c.publish.new.tallies) c.self.inside.runs
+          w.in-Ok.ensures.ok w.in-Ok.ensures.accepted w.in-Ok.ensures.store c.self.invariant.fine w.in-Ok.ensures.tallied)
       | in-Err-Phase w ↦
           rw w.result-is
-          (refused_replies c.self.inside.store c.publish.new.store c.args.payload.now c.self.inside.storage c.self.inside.tallies.items c.publish.new.tallies.items c.self.inside.runs w.in-Err-Phase.phase
-          w.in-Err-Phase.ensures.err w.in-Err-Phase.ensures.kept
+          (refused_replies c.self.inside.store c.publish.new.store c.args.payload.now c.self.inside.storage (all_of c.self.inside.tallies) (all_of c.publish.new.tallies) c.self.inside.runs w.in-Err-Phase.phase
+          w.in-Err-Phase.ensures.err (ap all_of w.in-Err-Phase.ensures.kept)
           (subst (λ (e : Refusal). IsRefusedBy c.self.inside.store c.args.payload.now e) w.in-Err-Phase.field-0-is w.in-Err-Phase.ensures.refused))
       | in-Err-Memory w ↦
           rw w.result-is
-          (nothing_replies c.self.inside.store c.publish.new.store c.args.payload.now c.self.inside.storage c.self.inside.tallies.items c.publish.new.tallies.items c.self.inside.runs 1
-          w.in-Err-Memory.ensures.err w.in-Err-Memory.ensures.kept)
+          (nothing_replies c.self.inside.store c.publish.new.store c.args.payload.now c.self.inside.storage (all_of c.self.inside.tallies) (all_of c.publish.new.tallies) c.self.inside.runs 1
+          w.in-Err-Memory.ensures.err (ap all_of w.in-Err-Memory.ensures.kept))
     ])

@@ -9,7 +9,7 @@ use Rattle.mv_interpreter.specs.declared.StructTally.{StructTally}
 use Rattle.mv_interpreter.specs.Runs.{IsFineWords, Agrees, IsFaulted}
 use Rattle.mv_ledger.specs.declared.tallies.Tally.{Tally}
 use Rattle.mv_ledger.specs.Tallying.{tally_after}
-use Rattle.mv_ledger.specs.View.{IsNamed, IsSmall}
+use Rattle.mv_ledger.specs.View.{all_of, IsNamed, IsSmall}
 use Rattle.mv_ledger.proofs.StoredRuns.{run-same, tallied-after, settled-returned, settled-kept, settled-broken, small-kept}
 use Rattle.mv_ledger.proofs.TalliesAfter.{named-after, small-after}
 use Rattle.mv_ledger.proofs.executing.execute.Goals as goal
@@ -41,10 +41,9 @@ pub returns-after-eq-clause-named : goal.returns-after-eq-clause-named
 returns-after-eq-clause-named c =
     elim c.if-eq.branch [
       | then-eq w ↦
-          let after : c.if-eq.tallies.items ≡ map (tally_after c.in-Ok.tally.items) c.args.tallies.now.items =
-          ap (λ v. v.items) w.tallies-is
-          ∙ tallied-after c.args.tallies.now c.in-Ok.tally.items w.deref-then-eq.result.now w.deref_mut.result.now w.add_run.new.tallies w.add_run.ensures w.deref-then-eq.ensures.value w.deref_mut.ensures.value w.deref_mut.ensures.len in
-          subst (λ (ts : List Tally). All (IsNamed (tables_in c.args.store.now)) ts) (sym after) (named-after (tables_in c.args.store.now) c.in-Ok.tally.items c.args.tallies.now.items c.requires.named)
+          let after : all_of c.if-eq.tallies ≡ map (tally_after c.in-Ok.tally.items) (all_of c.args.tallies.now) =
+          ap all_of w.tallies-is ∙ tallied-after c.in-Ok.tally.items w.deref-then-eq.result.now c.args.tallies.now w.add_run.new.self w.add_run.ensures w.deref-then-eq.ensures.value in
+          subst (λ (ts : List Tally). All (IsNamed (tables_in c.args.store.now)) ts) (sym after) (named-after (tables_in c.args.store.now) c.in-Ok.tally.items (all_of c.args.tallies.now) c.requires.named)
       | else-eq w ↦ rw w.tallies-is c.requires.named
     ]
 
@@ -52,36 +51,34 @@ pub returns-after-eq-clause-small : goal.returns-after-eq-clause-small
 returns-after-eq-clause-small c = λ runs small.
     elim c.if-eq.branch [
       | then-eq w ↦
-          let after : c.if-eq.tallies.items ≡ map (tally_after c.in-Ok.tally.items) c.args.tallies.now.items =
-          ap (λ v. v.items) w.tallies-is
-          ∙ tallied-after c.args.tallies.now c.in-Ok.tally.items w.deref-then-eq.result.now w.deref_mut.result.now w.add_run.new.tallies w.add_run.ensures w.deref-then-eq.ensures.value w.deref_mut.ensures.value w.deref_mut.ensures.len in
+          let after : all_of c.if-eq.tallies ≡ map (tally_after c.in-Ok.tally.items) (all_of c.args.tallies.now) =
+          ap all_of w.tallies-is ∙ tallied-after c.in-Ok.tally.items w.deref-then-eq.result.now c.args.tallies.now w.add_run.new.self w.add_run.ensures w.deref-then-eq.ensures.value in
           let few : sum_by (λ (t : StructTally). t.packs + t.unpacks) c.in-Ok.tally.items ≤ 2 ^ 64 = omega (arith, c.in-Ok.ensures.few) in
-          subst (λ (ts : List Tally). All (IsSmall (runs + 1)) ts) (sym after) (small-after runs c.in-Ok.tally.items c.args.tallies.now.items few small)
-      | else-eq w ↦ rw w.tallies-is (small-kept runs c.args.tallies.now.items small)
+          subst (λ (ts : List Tally). All (IsSmall (runs + 1)) ts) (sym after) (small-after runs c.in-Ok.tally.items (all_of c.args.tallies.now) few small)
+      | else-eq w ↦ rw w.tallies-is (small-kept runs (all_of c.args.tallies.now) small)
     ]
 
 pub returns-after-eq-clause-settled : goal.returns-after-eq-clause-settled
 returns-after-eq-clause-settled c =
     elim c.if-eq.branch [
       | then-eq w ↦
-          let after : c.if-eq.tallies.items ≡ map (tally_after c.in-Ok.tally.items) c.args.tallies.now.items =
-          ap (λ v. v.items) w.tallies-is
-          ∙ tallied-after c.args.tallies.now c.in-Ok.tally.items w.deref-then-eq.result.now w.deref_mut.result.now w.add_run.new.tallies w.add_run.ensures w.deref-then-eq.ensures.value w.deref_mut.ensures.value w.deref_mut.ensures.len in
+          let after : all_of c.if-eq.tallies ≡ map (tally_after c.in-Ok.tally.items) (all_of c.args.tallies.now) =
+          ap all_of w.tallies-is ∙ tallied-after c.in-Ok.tally.items w.deref-then-eq.result.now c.args.tallies.now w.add_run.new.self w.add_run.ensures w.deref-then-eq.ensures.value in
           let agrees = subst (λ (o : RunOutcome). Agrees (tables_in c.args.store.now) o c.in-Ok.outcome c.in-Ok.tally.items c.run.new.o)
-          (run-same c.args.store.now c.args.call.now c.args.storage.now c.if-eq.storage c.args.tallies.now.items c.if-eq.tallies.items c.overlay-overlay.result.current c.deref.result.now (c.overlay-overlay.ensures.current ∙ c.replace.ensures.value) c.deref.ensures.value) c.in-Ok.ensures.machine in
+          (run-same c.args.store.now c.args.call.now c.args.storage.now c.if-eq.storage (all_of c.args.tallies.now) (all_of c.if-eq.tallies) c.overlay-overlay.result.current c.deref.result.now (c.overlay-overlay.ensures.current ∙ c.replace.ensures.value) c.deref.ensures.value) c.in-Ok.ensures.machine in
           let ended : c.in-Ok.outcome.ending ≡ Returned = search rules in
           let e : c.if-eq.storage ≡ c.run.new.o.current = cc in
-          settled-returned c.args.store.now c.args.call.now c.args.storage.now c.if-eq.storage c.args.tallies.now.items c.if-eq.tallies.items c.in-Ok.outcome c.in-Ok.tally.items c.run.new.o c.requires.store c.requires.named agrees ended e after
+          settled-returned c.args.store.now c.args.call.now c.args.storage.now c.if-eq.storage (all_of c.args.tallies.now) (all_of c.if-eq.tallies) c.in-Ok.outcome c.in-Ok.tally.items c.run.new.o c.requires.store c.requires.named agrees ended e after
       | else-eq w ↦
           let agrees = subst (λ (o : RunOutcome). Agrees (tables_in c.args.store.now) o c.in-Ok.outcome c.in-Ok.tally.items c.run.new.o)
-          (run-same c.args.store.now c.args.call.now c.args.storage.now c.if-eq.storage c.args.tallies.now.items c.if-eq.tallies.items c.overlay-overlay.result.current c.deref.result.now (c.overlay-overlay.ensures.current ∙ c.replace.ensures.value) c.deref.ensures.value) c.in-Ok.ensures.machine in
+          (run-same c.args.store.now c.args.call.now c.args.storage.now c.if-eq.storage (all_of c.args.tallies.now) (all_of c.if-eq.tallies) c.overlay-overlay.result.current c.deref.result.now (c.overlay-overlay.ensures.current ∙ c.replace.ensures.value) c.deref.ensures.value) c.in-Ok.ensures.machine in
           let other : c.in-Ok.outcome.ending ≡ Returned → ⊥ = search rules in
           let e : c.if-eq.storage ≡ c.args.storage.now = cc in
-          settled-kept c.args.store.now c.args.call.now c.args.storage.now c.if-eq.storage c.args.tallies.now.items c.if-eq.tallies.items c.in-Ok.outcome c.in-Ok.tally.items c.run.new.o agrees other e (ap (λ v. v.items) w.tallies-is)
+          settled-kept c.args.store.now c.args.call.now c.args.storage.now c.if-eq.storage (all_of c.args.tallies.now) (all_of c.if-eq.tallies) c.in-Ok.outcome c.in-Ok.tally.items c.run.new.o agrees other e (ap all_of w.tallies-is)
     ]
 
 pub returns-in-Broken-clause-settled : goal.returns-in-Broken-clause-settled
 returns-in-Broken-clause-settled c =
-    settled-broken c.args.store.now c.args.call.now c.args.storage.now c.discard-in-Err.result c.args.tallies.now.items c.args.tallies.now.items
-    (subst IsFaulted (run-same c.args.store.now c.args.call.now c.args.storage.now c.discard-in-Err.result c.args.tallies.now.items c.args.tallies.now.items c.overlay-overlay.result.current c.deref.result.now (c.overlay-overlay.ensures.current ∙ c.replace.ensures.value) c.deref.ensures.value)
+    settled-broken c.args.store.now c.args.call.now c.args.storage.now c.discard-in-Err.result (all_of c.args.tallies.now) (all_of c.args.tallies.now)
+    (subst IsFaulted (run-same c.args.store.now c.args.call.now c.args.storage.now c.discard-in-Err.result (all_of c.args.tallies.now) (all_of c.args.tallies.now) c.overlay-overlay.result.current c.deref.result.now (c.overlay-overlay.ensures.current ∙ c.replace.ensures.value) c.deref.ensures.value)
     (c.in-Err.ensures.broken (ap (λ e. Err e) c.in-Broken.is)))

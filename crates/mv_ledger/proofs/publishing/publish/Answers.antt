@@ -8,7 +8,8 @@ use Rattle.mv_ledger.specs.Exact.{no_bundle}
 use Rattle.mv_ledger.proofs.Phases.{refused_offer, refused_link, refused_room, accepted}
 use Rattle.mv_ledger.proofs.Stores.{store-push, has_its_texts, publishable, texts-alone}
 use Rattle.mv_ledger.specs.Tallying.{fresh_tally, scarce_indices}
-use Rattle.mv_ledger.proofs.TalliesFresh.{fresh-items, named-added, small-added, tallies-added}
+use Rattle.mv_ledger.specs.View.{all_of}
+use Rattle.mv_ledger.proofs.TalliesFresh.{fresh-items, fresh-placed, named-added, small-added, tallies-added}
 use Rattle.mv_ledger.proofs.publishing.publish.Goals as goal
 
 pub link-requires : goal.link-requires
@@ -16,13 +17,17 @@ link-requires c =
     let its = has_its_texts c.in_ok-new.new _ c.in_ok-new.ensures.text c.in_ok-new.ensures.certificate c.in_ok-new.ensures.passes in
     record { texts = texts-alone c.in_ok-news.news.items c.in_ok-new.new c.in_ok-news.ensures its }
 
-pub join-requires : goal.join-requires
-join-requires c =
+pub join-requires-clause-store : goal.join-requires-clause-store
+join-requires-clause-store c =
     let added : c.in_ok-linked.linked ≡ published_one c.in_ok-new.new ∷ [] = c.in_ok-linked.ensures.ok ∙ ap published_of c.in_ok-news.ensures in
     subst (λ (l : List PublishedModule). IsStore (c.args.store.now ++ l)) (sym added)
     (store-push c.args.store.now (published_one c.in_ok-new.new) c.in-Ok.bundle.sender c.len-count.ensures.store
     (publishable c.in_ok-new.new _ c.in_ok-new.ensures.text c.in_ok-new.ensures.certificate c.in_ok-new.ensures.passes)
     (subst (λ (l : List New). MayJoin (Some c.in-Ok.bundle.sender) (tables_in c.args.store.now) (tables_in (published_of l))) c.in_ok-news.ensures c.in_ok-linked.ensures.joins))
+
+pub join-requires-clause-placed : goal.join-requires-clause-placed
+join-requires-clause-placed c =
+    fresh-placed c.in_ok-fresh.fresh.items _ (length c.args.tallies.now) _ c.in_ok-fresh.ensures (c.len-count.ensures.count ∙ sym c.requires.placed)
 
 pub returns-clause-ok : goal.returns-clause-ok
 returns-clause-ok c =
@@ -60,21 +65,21 @@ returns-clause-accepted c =
 pub returns-clause-named : goal.returns-clause-named
 returns-clause-named c =
     let added : c.in_ok-linked.linked ≡ published_one c.in_ok-new.new ∷ [] = c.in_ok-linked.ensures.ok ∙ ap published_of c.in_ok-news.ensures in
-    let items : c.join.new.tallies.items ≡ c.args.tallies.now.items ++ map (fresh_tally (length c.args.store.now)) (scarce_indices c.in_ok-new.new.module) =
-    fresh-items c.args.tallies.now.items _ _ _ _ _ _ _ _ c.in_ok-join.ensures.tallied c.in_ok-fresh.ensures c.deref.ensures.value c.in_ok-structs.ensures c.module.ensures.value c.len-count.ensures.count in
-    named-added c.args.store.now c.join.new.store (published_one c.in_ok-new.new) c.args.tallies.now.items c.join.new.tallies.items c.in_ok-new.ensures.passes.1.sound.bounds
+    let items : all_of c.join.new.tallies ≡ all_of c.args.tallies.now ++ map (fresh_tally (length c.args.store.now)) (scarce_indices c.in_ok-new.new.module) =
+    fresh-items c.args.tallies.now _ _ _ _ _ _ _ _ c.in_ok-join.ensures.tallied c.in_ok-fresh.ensures c.deref.ensures.value c.in_ok-structs.ensures c.module.ensures.value c.len-count.ensures.count in
+    named-added c.args.store.now c.join.new.store (published_one c.in_ok-new.new) (all_of c.args.tallies.now) (all_of c.join.new.tallies) c.in_ok-new.ensures.passes.1.sound.bounds
     (c.in_ok-join.ensures.ok ∙ ap (λ l. c.args.store.now ++ l) added) items c.requires.named
 
 pub returns-clause-small : goal.returns-clause-small
 returns-clause-small c =
-    let items : c.join.new.tallies.items ≡ c.args.tallies.now.items ++ map (fresh_tally (length c.args.store.now)) (scarce_indices c.in_ok-new.new.module) =
-    fresh-items c.args.tallies.now.items _ _ _ _ _ _ _ _ c.in_ok-join.ensures.tallied c.in_ok-fresh.ensures c.deref.ensures.value c.in_ok-structs.ensures c.module.ensures.value c.len-count.ensures.count in
-    λ runs small. small-added runs (length c.args.store.now) (scarce_indices c.in_ok-new.new.module) c.args.tallies.now.items c.join.new.tallies.items items small
+    let items : all_of c.join.new.tallies ≡ all_of c.args.tallies.now ++ map (fresh_tally (length c.args.store.now)) (scarce_indices c.in_ok-new.new.module) =
+    fresh-items c.args.tallies.now _ _ _ _ _ _ _ _ c.in_ok-join.ensures.tallied c.in_ok-fresh.ensures c.deref.ensures.value c.in_ok-structs.ensures c.module.ensures.value c.len-count.ensures.count in
+    λ runs small. small-added runs (length c.args.store.now) (scarce_indices c.in_ok-new.new.module) (all_of c.args.tallies.now) (all_of c.join.new.tallies) items small
 
 pub returns-clause-tallied : goal.returns-clause-tallied
 returns-clause-tallied c =
     let added : c.in_ok-linked.linked ≡ published_one c.in_ok-new.new ∷ [] = c.in_ok-linked.ensures.ok ∙ ap published_of c.in_ok-news.ensures in
-    let items : c.join.new.tallies.items ≡ c.args.tallies.now.items ++ map (fresh_tally (length c.args.store.now)) (scarce_indices c.in_ok-new.new.module) =
-    fresh-items c.args.tallies.now.items _ _ _ _ _ _ _ _ c.in_ok-join.ensures.tallied c.in_ok-fresh.ensures c.deref.ensures.value c.in_ok-structs.ensures c.module.ensures.value c.len-count.ensures.count in
-    tallies-added c.args.store.now c.join.new.store (published_one c.in_ok-new.new) c.args.tallies.now.items c.join.new.tallies.items c.in_ok-new.ensures.passes.1.sound.bounds
+    let items : all_of c.join.new.tallies ≡ all_of c.args.tallies.now ++ map (fresh_tally (length c.args.store.now)) (scarce_indices c.in_ok-new.new.module) =
+    fresh-items c.args.tallies.now _ _ _ _ _ _ _ _ c.in_ok-join.ensures.tallied c.in_ok-fresh.ensures c.deref.ensures.value c.in_ok-structs.ensures c.module.ensures.value c.len-count.ensures.count in
+    tallies-added c.args.store.now c.join.new.store (published_one c.in_ok-new.new) (all_of c.args.tallies.now) (all_of c.join.new.tallies) c.in_ok-new.ensures.passes.1.sound.bounds
     (c.in_ok-join.ensures.ok ∙ ap (λ l. c.args.store.now ++ l) added) items c.requires.named

@@ -1,0 +1,188 @@
+-- A run's tally as it is added, entry by entry, each to the tallies of its module alone.
+use Rattle.std.proofs.Common.{◌≡◌, ℕ, zero, suc, ◌+◌, ◌-◌, ◌^◌, ◌<◌, ◌≤◌, Bool, true, false, cond, List, [], ◌∷◌, ◌++◌, map, length, take, get_or, refl, sym, ap, ap₂, ◌∙◌, subst, arith}
+use Rattle.std.specs.Prelude.{◌==◌, ◌&&◌, All, slice_set}
+use Rattle.std.specs.List.{sum_by}
+use Rattle.std.specs.declared.vec.Vec.{Vec}
+use Rattle.std.specs.Vec.{with_items}
+use Rattle.std.specs.declared.alloc.Global.{Global}
+use Rattle.std.proofs.lemmas.Bool.{eqb-true}
+use Rattle.std.proofs.lemmas.List.{append-nil, append_assoc, get_or-map, length-map, map-append, map-set, with_items_is}
+use Rattle.std.proofs.lemmas.List.Elements.{All-nil, All-cons, All-head, All-tail, All-map, All-weaker}
+use Rattle.std.proofs.lemmas.List.Sums.{sum_by-cons, sum_by_more}
+use Rattle.mv_interpreter.specs.declared.StructTally.{StructTally}
+use Rattle.mv_interpreter.specs.Works.{is_tally_at}
+use Rattle.mv_ledger.specs.declared.tallies.Tally.{Tally}
+use Rattle.mv_ledger.specs.Tallying.{tally_after, HasRoomFor, HasRoomLeft}
+use Rattle.mv_ledger.specs.View.{all_of, ArePlaced}
+use Rattle.mv_ledger.proofs.TalliesAdding.{packs-fit, unpacks-fit}
+
+-- a tally with other counts
+abbrev with_counts : Tally → ℕ → ℕ → Tally
+with_counts t m n = record t { packs = m; unpacks = n }
+
+-- a run without entries leaves a tally
+tally-first : (t : Tally) → t ≡ tally_after [] t
+tally-first t = ap₂ (with_counts t) (none t.packs) (none t.unpacks)
+  where
+    none : (n : ℕ) → n ≡ n + 0
+    none n = omega arith
+
+tallies-first : (ts : List Tally) → ts ≡ map (tally_after []) ts
+tallies-first [] = refl
+tallies-first (t ∷ ts) = ap₂ (λ x xs. x ∷ xs) (tally-first t) (tallies-first ts)
+
+-- and each module's
+pub all-first : (tss : List (List Tally)) → tss ≡ map (map (tally_after [])) tss
+all-first [] = refl
+all-first (ts ∷ tss) = ap₂ (λ x xs. x ∷ xs) (tallies-first ts) (all-first tss)
+
+-- one more entry of a run, behind those before it
+tally-more : (run : List StructTally) (i : ℕ) (d : StructTally) (t : Tally) → i < length run → tally_after (get_or run i d ∷ []) (tally_after (take i run) t) ≡ tally_after (take (i + 1) run) t
+tally-more run i d t h = ap₂ (with_counts t) (one (λ u. cond (is_tally_at t.place t.index u) u.packs 0) t.packs) (one (λ u. cond (is_tally_at t.place t.index u) u.unpacks 0) t.unpacks)
+  where
+    sum : (a b c alone more : ℕ) → alone ≡ c + 0 → more ≡ b + c → a + b + alone ≡ a + more
+    sum a b c alone more p q = omega arith
+
+    one : (f : StructTally → ℕ) (old : ℕ) → old + sum_by f (take i run) + sum_by f (get_or run i d ∷ []) ≡ old + sum_by f (take (i + 1) run)
+    one f old = sum old (sum_by f (take i run)) (f (get_or run i d)) _ _ (sum_by-cons f (get_or run i d) []) (sum_by_more f run i d h)
+
+-- an entry leaves the tallies of other modules
+tally-other : (e : StructTally) (t : Tally) → (e.place ≡ t.place → ⊥) → tally_after (e ∷ []) t ≡ t
+tally-other e t other = ap₂ (with_counts t) (one e.packs t.packs) (one e.unpacks t.unpacks)
+  where
+    not_here : (b : Bool) → (e.place == t.place) ≡ b → (n : ℕ) → cond (b && (e.index == t.index)) n 0 ≡ 0
+    not_here true is n = absurd (other (eqb-true e.place t.place is))
+    not_here false is n = refl
+
+    sum : (a c alone : ℕ) → alone ≡ c + 0 → c ≡ 0 → a + alone ≡ a
+    sum a c alone p q = omega arith
+
+    one : (n old : ℕ) → old + sum_by (λ (u : StructTally). cond (is_tally_at t.place t.index u) n 0) (e ∷ []) ≡ old
+    one n old = sum old _ _ (sum_by-cons (λ (u : StructTally). cond (is_tally_at t.place t.index u) n 0) e []) (not_here (e.place == t.place) refl n)
+
+-- all the tallies of a list of other modules
+tallies-other : (e : StructTally) (place : ℕ) (ts : List Tally) → (e.place ≡ place → ⊥) → All (λ t. t.place ≡ place) ts → map (tally_after (e ∷ [])) ts ≡ ts
+tallies-other e place [] other placed = refl
+tallies-other e place (t ∷ ts) other placed =
+    ap₂ (λ x xs. x ∷ xs) (tally-other e t (λ is. other (is ∙ All-head (λ (t : Tally). t.place ≡ place) t ts placed)))
+    (tallies-other e place ts other (All-tail (λ (t : Tally). t.place ≡ place) t ts placed))
+
+-- an entry of a place before these modules
+entry-before : (e : StructTally) (place : ℕ) (tss : List (List Tally)) → ArePlaced place tss → e.place < place → map (map (tally_after (e ∷ []))) tss ≡ tss
+entry-before e place [] placed h = refl
+entry-before e place (ts ∷ tss) placed h =
+    ap₂ (λ x xs. x ∷ xs) (tallies-other e place ts (λ is. omega (arith, is, h)) placed.0) (entry-before e (place + 1) tss placed.1 (omega (arith, h)))
+
+-- and of a place behind them
+pub entry-behind : (e : StructTally) (place : ℕ) (tss : List (List Tally)) → ArePlaced place tss → place + length tss ≤ e.place → map (map (tally_after (e ∷ []))) tss ≡ tss
+entry-behind e place [] placed h = refl
+entry-behind e place (ts ∷ tss) placed h =
+    ap₂ (λ x xs. x ∷ xs) (tallies-other e place ts (λ is. omega (arith, is, h)) placed.0) (entry-behind e (place + 1) tss placed.1 (omega (arith, h)))
+
+-- an entry of one of these modules changes its tallies alone
+entry-at : (e : StructTally) (place p : ℕ) (tss : List (List Tally)) (d : List Tally) → ArePlaced place tss → p < length tss → e.place ≡ place + p
+    → map (map (tally_after (e ∷ []))) tss ≡ slice_set tss p (map (tally_after (e ∷ [])) (get_or tss p d))
+entry-at e place p [] d placed h is = absurd (omega (arith, h))
+entry-at e place zero (ts ∷ tss) d placed h is = ap (λ xs. map (tally_after (e ∷ [])) ts ∷ xs) (entry-before e (place + 1) tss placed.1 (omega (arith, is)))
+entry-at e place (suc p) (ts ∷ tss) d placed h is =
+    ap₂ (λ x xs. x ∷ xs) (tallies-other e place ts (λ same. omega (arith, is, same)) placed.0) (entry-at e (place + 1) p tss d placed.1 (omega (arith, h)) (omega (arith, is)))
+
+-- tallies stay with their modules
+pub placed-after : (run : List StructTally) (place : ℕ) (tss : List (List Tally)) → ArePlaced place tss → ArePlaced place (map (map (tally_after run)) tss)
+placed-after run place [] placed = placed
+placed-after run place (ts ∷ tss) placed = (All-map (λ (t : Tally). t.place ≡ place) (tally_after run) ts placed.0, placed-after run (place + 1) tss placed.1)
+
+-- the first so many modules keep theirs
+pub placed-take : (count place : ℕ) (tss : List (List Tally)) → ArePlaced place tss → ArePlaced place (take count tss)
+placed-take zero place tss placed = tt
+placed-take (suc count) place [] placed = tt
+placed-take (suc count) place (ts ∷ tss) placed = (placed.0, placed-take count (place + 1) tss placed.1)
+
+-- a further module comes behind them
+pub placed-push : (place count : ℕ) (tss : List (List Tally)) (ts : List Tally) → ArePlaced place tss → count ≡ place + length tss → All (λ t. t.place ≡ count) ts → ArePlaced place (tss ++ ts ∷ [])
+placed-push place count [] ts placed is fresh = (subst (λ (n : ℕ). All (λ (t : Tally). t.place ≡ n) ts) (omega (arith, is)) fresh, tt)
+placed-push place count (us ∷ tss) ts placed is fresh = (placed.0, placed-push (place + 1) count tss ts placed.1 (omega (arith, is)) fresh)
+
+-- one more entry, for all tallies
+tallies-more-run : (run : List StructTally) (i : ℕ) (d : StructTally) (ts : List Tally) → i < length run
+    → map (tally_after (get_or run i d ∷ [])) (map (tally_after (take i run)) ts) ≡ map (tally_after (take (i + 1) run)) ts
+tallies-more-run run i d [] h = refl
+tallies-more-run run i d (t ∷ ts) h = ap₂ (λ x xs. x ∷ xs) (tally-more run i d t h) (tallies-more-run run i d ts h)
+
+-- and for all modules
+after-more : (run : List StructTally) (i : ℕ) (d : StructTally) (tss : List (List Tally)) → i < length run
+    → map (map (tally_after (get_or run i d ∷ []))) (map (map (tally_after (take i run))) tss) ≡ map (map (tally_after (take (i + 1) run))) tss
+after-more run i d [] h = refl
+after-more run i d (ts ∷ tss) h = ap₂ (λ x xs. x ∷ xs) (tallies-more-run run i d ts h) (after-more run i d tss h)
+
+-- the tallies of all modules after a change of each
+pub all-map : (f : Tally → Tally) (tss : List (List Tally)) → all_of (map (map f) tss) ≡ map f (all_of tss)
+all-map f [] = refl
+all-map f (ts ∷ tss) = ap (λ xs. map f ts ++ xs) (all-map f tss) ∙ sym (map-append f ts (all_of tss))
+
+-- and with those of a further module
+pub all-push : (tss : List (List Tally)) (ts : List Tally) → all_of (tss ++ ts ∷ []) ≡ all_of tss ++ ts
+all-push [] ts = append-nil ts
+all-push (us ∷ tss) ts = ap (λ xs. us ++ xs) (all-push tss ts) ∙ sym (append_assoc us (all_of tss) ts)
+
+-- what holds of all of them holds of a module's
+pub all-at : (P : Tally → Type 0) (tss : List (List Tally)) (p : ℕ) (d : List Tally) → All P (all_of tss) → p < length tss → All P (get_or tss p d)
+all-at P [] p d all h = absurd (omega (arith, h))
+all-at P (ts ∷ tss) zero d all h = All-front ts (all_of tss) all
+  where
+    All-front : (xs ys : List Tally) → All P (xs ++ ys) → All P xs
+    All-front [] ys both = All-nil P
+    All-front (x ∷ xs) ys both = All-cons P x xs (All-head P x (xs ++ ys) both) (All-front xs ys (All-tail P x (xs ++ ys) both))
+all-at P (ts ∷ tss) (suc p) d all h = all-at P tss p d (All-behind ts (all_of tss) all) (omega (arith, h))
+  where
+    All-behind : (xs ys : List Tally) → All P (xs ++ ys) → All P ys
+    All-behind [] ys both = both
+    All-behind (x ∷ xs) ys both = All-behind xs ys (All-tail P x (xs ++ ys) both)
+
+-- the tallies of a vector whose slice was changed
+pub written : (e : StructTally) (v : Vec Tally Global) (before after : List Tally) → after ≡ map (tally_after (e ∷ [])) before → before ≡ v.items → length before ≡ v.len → (with_items v after).items ≡ map (tally_after (e ∷ [])) v.items
+written e v before after after_is before_is len =
+    with_items_is v after (ap length after_is ∙ length-map before (tally_after (e ∷ [])) ∙ len) ∙ after_is ∙ ap (map (tally_after (e ∷ []))) before_is
+
+-- the lists of vectors
+abbrev pub lists : List (Vec Tally Global) → List (List Tally)
+lists vs = map (λ v. v.items) vs
+
+module _ (run : List StructTally) (i : ℕ) (d e : StructTally) (old : List (List Tally)) (vs : List (Vec Tally Global)) (h : i < length run) (e_is : e ≡ get_or run i d) (placed : ArePlaced 0 old) (is : lists vs ≡ map (map (tally_after (take i run))) old) where
+  placed-so : ArePlaced 0 (lists vs)
+  placed-so = subst (λ (tss : List (List Tally)). ArePlaced 0 tss) (sym is) (placed-after (take i run) 0 old placed)
+
+  next-is : map (map (tally_after (e ∷ []))) (lists vs) ≡ map (map (tally_after (take (i + 1) run))) old
+  next-is = ap₂ (λ (u : StructTally) (tss : List (List Tally)). map (map (tally_after (u ∷ []))) tss) e_is is ∙ after-more run i d old h
+
+  -- an entry of a place behind all modules changes nothing
+  pub step-behind : length vs ≤ e.place → lists vs ≡ map (map (tally_after (take (i + 1) run))) old
+  step-behind far =
+      let behind : 0 + length (lists vs) ≤ e.place = omega (arith, far, length-map vs (λ v. v.items)) in
+      sym (entry-behind e 0 (lists vs) placed-so behind) ∙ next-is
+
+  -- any other changes the tallies of its module
+  pub step-at : (v w : Vec Tally Global) → e.place < length vs → v ≡ get_or vs e.place v → w.items ≡ map (tally_after (e ∷ [])) v.items → lists (slice_set vs e.place w) ≡ map (map (tally_after (take (i + 1) run))) old
+  step-at v w near v_is w_is =
+      let short : e.place < length (lists vs) = omega (arith, near, length-map vs (λ v. v.items)) in
+      let here : v.items ≡ get_or (lists vs) e.place [] = ap (λ v. v.items) v_is ∙ sym (get_or-map (λ v. v.items) vs e.place v [] near) in
+      map-set (λ v. v.items) vs e.place w
+      ∙ ap (λ ts. slice_set (lists vs) e.place ts) (w_is ∙ ap (map (tally_after (e ∷ []))) here)
+      ∙ sym (entry-at e 0 e.place (lists vs) [] placed-so short (omega arith))
+      ∙ next-is
+
+  -- and there is room in them
+  pub room-at : All HasRoomLeft (all_of old) → sum_by (λ t. t.packs + t.unpacks) run ≤ 2 ^ 64 - 1 → (v : Vec Tally Global) → e.place < length vs → v ≡ get_or vs e.place v → All (HasRoomFor e) v.items
+  room-at room few v near v_is =
+      let short : e.place < length (lists vs) = omega (arith, near, length-map vs (λ v. v.items)) in
+      let here : v.items ≡ get_or (lists vs) e.place [] = ap (λ v. v.items) v_is ∙ sym (get_or-map (λ v. v.items) vs e.place v [] near) in
+      let each : All (HasRoomFor e) (map (tally_after (take i run)) (all_of old)) =
+      All-map (HasRoomFor e) (tally_after (take i run)) (all_of old) (All-weaker HasRoomLeft (λ t. HasRoomFor e (tally_after (take i run) t)) one (all_of old) room) in
+      let whole : All (HasRoomFor e) (all_of (lists vs)) = subst (λ (ts : List Tally). All (HasRoomFor e) ts) (sym (ap all_of is ∙ all-map (tally_after (take i run)) old)) each in
+      subst (λ (ts : List Tally). All (HasRoomFor e) ts) (sym here) (all-at (HasRoomFor e) (lists vs) e.place [] whole short)
+    where
+      one : (t : Tally) → HasRoomLeft t → HasRoomFor e (tally_after (take i run) t)
+      one t left = (
+        packs-fit run i d t (tally_after (take i run) t) h left few refl e.packs (ap (λ (u : StructTally). u.packs) e_is),
+        unpacks-fit run i d t (tally_after (take i run) t) h left few refl e.unpacks (ap (λ (u : StructTally). u.unpacks) e_is),
+      )

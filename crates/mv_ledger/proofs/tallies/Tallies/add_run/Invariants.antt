@@ -1,0 +1,7 @@
+use Rattle.std.proofs.Common.{◌≡◌, map, take}
+use Rattle.mv_ledger.specs.Tallying.{tally_after}
+use Rattle.mv_ledger.proofs.TalliesByModule.{lists}
+use Rattle.mv_ledger.proofs.tallies.Tallies.add_run.Given as goal
+
+abbrev pub invariant-loop-entry : goal.invariant-loop-entry
+invariant-loop-entry l = lists l.self-inside.modules.items ≡ map (map (tally_after (take l.entry-index l.run))) (lists l.initial.self-inside.modules.items)
