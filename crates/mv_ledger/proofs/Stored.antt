@@ -30,7 +30,7 @@ use Rattle.mv_machine.specs.Typed.{leaf_fits, is_of_type, are_of_types, is_of_st
 use Rattle.mv_machine.specs.Flat.{FlatEntry, flat, flat_fields, flat_storage, value_from, fields_from, struct_from, value_under, storage_of}
 use Rattle.mv_linker.specs.Link.{IsStore, IsPublishable, tables_in}
 use Rattle.mv_interpreter.specs.Runs.{IsFineWords}
-use Rattle.mv_interpreter.proofs.Tests.{same_kind-is, same_struct-is, both, some_is}
+use Rattle.mv_interpreter.proofs.Names.{same_kind-is, same_struct-is, both, some_is}
 use Rattle.mv_interpreter.proofs.Lists.{each, then_found, mapped_at, All-at}
 use Rattle.mv_ledger.proofs.Longer.{name-more, definition-more}
 

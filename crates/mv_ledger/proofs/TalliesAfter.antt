@@ -23,7 +23,7 @@ use Rattle.mv_linker.specs.Link.{IsStore, IsPublishable, tables_in, have_one_nam
 use Rattle.mv_interpreter.specs.declared.StructTally.{StructTally}
 use Rattle.mv_interpreter.specs.Runs.{Tallies, packs_in, unpacks_in, is_tally_of}
 use Rattle.mv_interpreter.specs.Works.{IsOwn, is_tally_at}
-use Rattle.mv_interpreter.proofs.Tests.{some_is, eqb-same, both, same_module-same, same_struct-same, same_struct-is}
+use Rattle.mv_interpreter.proofs.Names.{some_is, eqb-same, both, same_module-same, same_struct-same, same_struct-is}
 use Rattle.mv_interpreter.proofs.Lists.{on_some, then_found, there_at, each, mapped_at, All-at}
 use Rattle.mv_interpreter.proofs.Owns.{one_place}
 use Rattle.mv_interpreter.proofs.Homes.{home_of_store}
