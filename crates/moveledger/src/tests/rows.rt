@@ -65,7 +65,7 @@ const FOUR_U64S: &str = "0307000000000000000307000000000000000307000000000000000
 const TWO_NAMES: &str = "014d016600000000000000000000000000000001";
 
 /// Inputs that are published, run, rejected and exhausted.
-pub const RUNS: [Row; 13] = [
+pub const RUNS: [Row; 14] = [
     Row {
         input: &[PUBLISH_39, NAME_ALONE, NAME_ALONE_REST, "0000"],
         count: 1,
@@ -287,6 +287,27 @@ pub const RUNS: [Row; 13] = [
         ],
         count: 2,
         report: "1 published 1\n2 returned 1\n",
+    },
+    // The example's stream: one coin is published and minted.
+    Row {
+        input: &[
+            PUBLISH_99,
+            TABLES,
+            HANDLES,
+            SIGNATURES,
+            NAMES,
+            COIN,
+            MINT,
+            MINT_CODE,
+            ITSELF,
+            CERTIFICATE,
+            "0232",
+            TWO_ONES,
+            "014d046d696e7464",
+            SEVEN,
+        ],
+        count: 2,
+        report: "1 published 1\n2 returned 5\n",
     },
     // As many parameters as a function may have, which is as many values as a run may pass.
     Row {
