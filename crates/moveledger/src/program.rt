@@ -31,7 +31,7 @@ pub fn run(rt: &HostRuntime) -> End {
             faulted(rt, end)
         }
         Err(LineError::Words(error)) => {
-            let _ = rt.eprintln(error);
+            let _ = rt.eprint(error);
             End::Words
         }
         Err(LineError::Memory) => faulted(rt, End::Memory),
