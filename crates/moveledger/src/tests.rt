@@ -34,13 +34,25 @@ const FULL: [Option<ErrorKind>; 5] = [
     Some(ErrorKind::Other),
 ];
 
-// The bytes that stand in hex, in parts.
-fn bytes_of(alloc: Global, parts: &[&str]) -> Result<Vec<u8>, Fail> {
+// The bytes that stand in hex, in parts; nothing where memory runs out.
+fn decoded(alloc: Global, parts: &[&str]) -> Option<Vec<u8>> {
     let mut bytes = Vec::new(alloc);
     for part in parts {
-        bytes.extend_from_slice(hex::decode(alloc, *part)?.as_slice())?;
+        let Ok(decoded) = hex::decode(alloc, *part) else {
+            return None;
+        };
+        if bytes.extend_from_slice(decoded.as_slice()).is_err() {
+            return None;
+        }
     }
-    Ok(bytes)
+    Some(bytes)
+}
+
+fn bytes_of(alloc: Global, parts: &[&str]) -> Result<Vec<u8>, Fail> {
+    match decoded(alloc, parts) {
+        Some(bytes) => Ok(bytes),
+        None => Err(Fail::from("no bytes")),
+    }
 }
 
 fn whole(bytes: &[u8]) -> Pieces<'_> {
@@ -58,6 +70,17 @@ fn room(alloc: Global) -> Room {
         each: MANY,
         room: MANY,
         error: None,
+    }
+}
+
+// A writer that asks for no memory up to 64 bytes; none where memory runs out.
+fn roomy(alloc: Global) -> Option<Room> {
+    match Vec::with_capacity(alloc, 64) {
+        Ok(taken) => Some(Room {
+            taken,
+            ..room(alloc)
+        }),
+        Err(_) => None,
     }
 }
 
@@ -183,6 +206,45 @@ fn ledgers_go_on_after_faults(rt: HostRuntime) -> Result<(), Fail> {
     let (count, next) = report(rt.alloc(), bytes.get(176..), &mut ledger)?;
     assert_eq!(rt; count, 1);
     assert_eq!(rt; next.as_slice(), "1 aborted exists 0 4\n".as_bytes());
+    Ok(())
+}
+
+// What a ledger answers to the first run once so many of its records have changed it.
+fn answers_again(changes: usize) -> &'static str {
+    match changes {
+        0 => "1 published 1\n2 returned 5\n",
+        1 => "1 refused 13\n2 returned 5\n",
+        _ => "1 refused 13\n2 aborted exists 0 4\n",
+    }
+}
+
+// With any one request for memory refused, which scripts/refuse-each-growth tries for each: what was written is a beginning
+// of the report, and the ledger is as the records whose lines were written left it, or one more.
+#[test]
+fn ledgers_stand_where_memory_runs_out(rt: HostRuntime) -> Result<(), Fail> {
+    let (Some(bytes), Some(mut writer), Some(mut writer_again)) = (
+        decoded(rt.alloc(), RUNS[11].input),
+        roomy(rt.alloc()),
+        roomy(rt.alloc()),
+    ) else {
+        return Ok(());
+    };
+    let mut ledger = Ledger::new(rt.alloc());
+    let result = answered(whole(&bytes), &mut writer, &mut ledger);
+    let written = writer.taken.as_slice();
+    let lines = written.iter().filter(|byte| **byte == b'\n').count();
+    match result {
+        Ok(count) => assert_eq!(rt; (count, written), (2, RUNS[11].report.as_bytes())),
+        Err(error) => {
+            assert_eq!(rt; error, EngineError::Memory);
+            assert!(rt; RUNS[11].report.as_bytes().starts_with(written));
+        }
+    }
+    if answered(whole(&bytes), &mut writer_again, &mut ledger).is_ok() {
+        let again = writer_again.taken.as_slice();
+        let is_left = |changes: usize| again == answers_again(changes).as_bytes();
+        assert!(rt; is_left(lines) || is_left(lines + 1));
+    }
     Ok(())
 }
 
