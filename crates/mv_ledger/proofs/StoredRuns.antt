@@ -15,11 +15,14 @@ use Rattle.mv_storage.specs.Map.{Layers}
 use Rattle.mv_linker.specs.Link.{IsStore, tables_in}
 use Rattle.mv_interpreter.specs.declared.StructTally.{StructTally}
 use Rattle.mv_interpreter.specs.declared.Arg.{Arg}
+use Rattle.mv_interpreter.specs.declared.RunError.{RunError}
+use Rattle.mv_interpreter.specs.declared.RunError.TheVariants as error
 use Rattle.mv_interpreter.specs.Runs.{Agrees, IsFaulted, call_of}
 use Rattle.mv_ledger.specs.declared.executing.Call.{Call}
 use Rattle.mv_ledger.specs.declared.tallies.Tally.{Tally}
 use Rattle.mv_ledger.specs.declared.Reply.TheVariants.{Ran, Broken}
-use Rattle.mv_ledger.specs.Answering.{told, told_ending}
+use Rattle.mv_ledger.specs.Answering.{told, told_ending, reply_of}
+use Rattle.mv_ledger.specs.Changes.{RunsTo}
 use Rattle.mv_ledger.specs.Running.{IsSettled, run_of}
 use Rattle.mv_ledger.specs.Tallying.{tally_after}
 use Rattle.mv_ledger.specs.View.{all_of, IsNamed, IsSmall, state_of, view_of, tallied}
@@ -89,3 +92,13 @@ module _ (published : List PublishedModule) (call : Call) (stored new : List Fla
       by_outcome runs (Aborted kind n steps) h = absurd h
       by_outcome runs (Exhausted stop steps) h = absurd h
       by_outcome runs (Faulted fault steps) h = (refl, refl)
+
+  -- a run that was broken off is one that meets a fault, or nothing is said of it
+  pub settled-error : (e : RunError) → (e ≡ error.Broken → IsFaulted (run_of published stored call)) → IsSettled published call (told (reply_of e)) stored new before after
+  settled-error error.Broken faulted = settled-broken (faulted refl)
+  settled-error error.Memory faulted = tt
+
+  -- it keeps what was there
+  pub kept-error : (e : RunError) → new ≡ stored → after ≡ before → RunsTo (told (reply_of e)) stored new before after
+  kept-error error.Broken new_is after_is = (new_is, after_is)
+  kept-error error.Memory new_is after_is = (new_is, after_is)

@@ -6,6 +6,8 @@ use Rattle.mv_machine.specs.declared.Ending.{Ending}
 use Rattle.mv_machine.specs.declared.Ending.TheVariants.{Returned as HasReturned, Aborted as HasAborted, Exhausted as HasExhausted}
 use Rattle.mv_machine.specs.Lines.{Reply as Told, Published as ToldPublished, Refused as ToldRefused, Rejected as ToldRejected, Returned as ToldReturned, Aborted as ToldAborted, Exhausted as ToldExhausted, Broken as ToldBroken}
 use Rattle.mv_machine.specs.Ledger.{LedgerState, Request, Answers}
+use Rattle.mv_interpreter.specs.declared.RunError.{RunError}
+use Rattle.mv_interpreter.specs.declared.RunError.TheVariants as error
 use Rattle.mv_ledger.specs.View.{LedgerView, state_of}
 use Rattle.mv_ledger.specs.RecordText.{Asks}
 use Rattle.mv_ledger.specs.Changes.{Leaves}
@@ -31,6 +33,11 @@ told (Rejected reason) = Some (ToldRejected reason)
 told (Ran outcome) = Some (told_ending outcome.ending outcome.steps)
 told Broken = Some ToldBroken
 told Memory = None
+
+-- the reply to a run that was broken off
+abbrev pub reply_of : RunError → Reply
+reply_of error.Broken = Broken
+reply_of error.Memory = Memory
 
 -- a record of this kind with this payload may be answered by what was told, and the ledger goes on to new
 abbrev pub AnswersRecord : ℕ → List ℕ → Told → LedgerState → LedgerState → Type 0

@@ -10,7 +10,7 @@ ghost use Rattle.mv_linker.specs.Link.{IsStore, tables_in};
 ghost use Rattle.mv_interpreter.specs.declared.Arg.{Arg as Argument};
 ghost use Rattle.mv_interpreter.specs.Runs.{IsCall, IsFineWords, number_fits, arg_value};
 ghost use Rattle.mv_ledger.specs.Changes.{RunsTo};
-ghost use Rattle.mv_ledger.specs.Answering.{told};
+ghost use Rattle.mv_ledger.specs.Answering.{told, reply_of};
 ghost use Rattle.mv_ledger.specs.Asking.{request_of};
 ghost use Rattle.mv_ledger.specs.Running.{IsAdmitted, IsSettled};
 ghost use Rattle.mv_ledger.specs.Tallying.{HasRoomLeft};
@@ -187,6 +187,16 @@ pub fn admitted(store: &Store, runs: u64, asked: RunRecord<'_>) -> Result<Call, 
     })
 }
 
+/// The reply to a run that was broken off.
+fn reply_to(error: RunError) -> Reply
+    ensures { result ≡ reply_of error }
+{
+    match error {
+        RunError::Broken => Reply::Broken,
+        RunError::Memory => Reply::Memory,
+    }
+}
+
 /// Runs a call. A run that returns keeps what it made of the storage, and its tally is added; any other leaves both.
 pub fn execute(
     alloc: Global,
@@ -226,10 +236,7 @@ pub fn execute(
         }
         Err(e) => {
             *storage = overlay.discard();
-            match e {
-                RunError::Broken => Reply::Broken,
-                RunError::Memory => Reply::Memory,
-            }
+            reply_to(e)
         }
     }
 }
