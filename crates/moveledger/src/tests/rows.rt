@@ -348,7 +348,7 @@ pub const RUNS: [Row; 14] = [
 ];
 
 /// Inputs whose records are refused, each for another reason.
-pub const REFUSED: [Row; 27] = [
+pub const REFUSED: [Row; 28] = [
     // No module, and two.
     Row {
         input: &["01110000000000000000000000000000000100"],
@@ -668,6 +668,26 @@ pub const REFUSED: [Row; 27] = [
         ],
         count: 1,
         report: "1 refused 10\n",
+    },
+    // A local that isn't a parameter is Unavailable at the start, whatever is stated: here it is stated Available, and moved.
+    Row {
+        input: &[
+            "017b000000000000000000000000000000010164",
+            "a11ceb0b0500000008010002020204030605050b0507100e081e100a2e050c330f",
+            HANDLES,
+            "00010c0103",
+            NAMES,
+            COIN,
+            "000104000205",
+            MINT_CODE,
+            ITSELF,
+            CERTIFICATE,
+            "0229",
+            TWO_ONES,
+            "014d046d696e746400",
+        ],
+        count: 2,
+        report: "1 refused 10\n2 rejected 3\n",
     },
     // A resource that is said to be taken or borrowed, and only is stored.
     Row {
