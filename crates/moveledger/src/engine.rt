@@ -18,12 +18,19 @@ pub enum EngineError {
     /// A write failed, or took nothing before a line was whole.
     #[error("fault: write")]
     Write,
-    /// A growth was refused.
+    /// An allocation failed.
     #[error("fault: memory")]
     Memory,
 }
 
-/// Answers the records of an input, each before the next is read, and says how many they were.
+/// Answers the records of an input, each before the next is read, and says how many they were. Its lines are handed to the
+/// writer before the next record is read, too: a writer that keeps them for later has to be flushed afterwards.
+///
+/// # Errors
+///
+/// `Read` if a read failed; `Write` if a write failed or took nothing; `Memory` if an allocation failed. The ledger and the
+/// writer stand as the clauses say. After `Write` and `Memory` no clause says how much of the input was read: to go on, count
+/// the lines of the report.
 pub fn engine<R: Read, W: Write>(
     reader: &mut R,
     writer: &mut W,
@@ -32,7 +39,7 @@ pub fn engine<R: Read, W: Write>(
     // All records that the input begins with are answered.
     ensures ok { IfOk result (λ n. Answers (R.remaining reader.old)
         (W.contents writer.old) (W.contents writer.new) ledger.old ledger.new n) }
-    // Whatever the error: a beginning of the report, and the ledger as some records left it.
+    // Whatever the error: a prefix of the report, and the ledger as some records left it.
     ensures err { IfErr result (λ _. Stops (R.remaining reader.old)
         (W.contents writer.old) (W.contents writer.new) ledger.old ledger.new) }
     // A failed read: exactly the lines of the records that were read whole.

@@ -1,9 +1,9 @@
 // Reading records from a reader.
-ghost use Rattle.std.specs.Prelude.{◌≡◌, ◌≢◌, ℕ, ◌≤◌, ◌<◌, List, [], ◌∷◌, ◌++◌, length, take, IfOk, IfErr, MatchOption};
+ghost use Rattle.std.specs.Prelude.{◌≡◌, ◌≢◌, ℕ, ◌≤◌, ◌<◌, List, [], ◌∷◌, ◌++◌, length, min, take, IfOk, IfErr, MatchOption};
 ghost use Rattle.std.specs.Io.KnownBytes.{Consumes, IsAtEnd};
 ghost use Rattle.mv_uleb.specs.Uleb.{IsUleb};
 ghost use Rattle.moveledger.specs.Records.{IsText, NoWhole, payload_limit};
-ghost use Rattle.moveledger.specs.Reading.{NoLength};
+ghost use Rattle.moveledger.specs.Reading.{NoLength, piece_limit};
 ghost use Rattle.moveledger.specs.Next.{IsNext};
 ghost use Rattle.moveledger.specs.Outcome.{left_of};
 
@@ -75,8 +75,16 @@ fn read_length<R: Read>(reader: &mut R) -> Result<Option<u64>, EngineError>
     Ok(None)
 }
 
-/// The most bytes of a payload that room is asked for at once.
+/// The most bytes of a payload that room is made for before they are read.
 const PIECE: usize = 65_536;
+
+/// How many bytes of a payload are read next, where so many are missing. Room is made for these alone: what a record says of
+/// its length takes no memory before the bytes come.
+fn piece_of(missing: usize) -> usize
+    ensures { result ≡ min missing piece_limit }
+{
+    missing.min(PIECE)
+}
 
 /// A payload of this many bytes, or None where the input ends before.
 fn read_payload<R: Read>(
@@ -94,7 +102,7 @@ fn read_payload<R: Read>(
     let mut payload = Vec::new(alloc);
     while payload.len() < len {
         let start = payload.len();
-        let piece = (len - start).min(PIECE);
+        let piece = piece_of(len - start);
         if payload.resize(start + piece, 0).is_err() {
             return Err(EngineError::Memory);
         }

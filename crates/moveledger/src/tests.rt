@@ -61,6 +61,7 @@ fn whole(bytes: &[u8]) -> Pieces<'_> {
         each: MANY,
         until: MANY,
         error: ErrorKind::Other,
+        most_asked: 0,
     }
 }
 
@@ -127,6 +128,20 @@ fn records_are_answered(rt: HostRuntime) -> Result<(), Fail> {
             assert_eq!(rt; writer.taken.as_slice(), wanted.as_bytes());
         }
     }
+    Ok(())
+}
+
+// A record that is said to have 33,554,432 bytes and has five: no read asks for more than a piece of it.
+#[test]
+fn long_payloads_are_read_in_pieces(rt: HostRuntime) -> Result<(), Fail> {
+    let bytes = bytes_of(rt.alloc(), &["0180808010", "0102030405"])?;
+    let mut reader = whole(bytes.as_slice());
+    let mut writer = room(rt.alloc());
+    let mut ledger = Ledger::new(rt.alloc());
+    let count = engine(&mut reader, &mut writer, &mut ledger)?;
+    assert_eq!(rt; count, 1);
+    assert_eq!(rt; writer.taken.as_slice(), "1 refused 1\n".as_bytes());
+    assert_eq!(rt; reader.most_asked, 65_536);
     Ok(())
 }
 

@@ -5,13 +5,15 @@ ghost use Rattle.std.specs.Prelude.{Some};
 use std::io;
 use std::io::{ErrorKind, Read, Write};
 
-/// A reader over memory that gives at most `each` bytes a call, and fails with `error` once it has given `until`.
+/// A reader over memory that gives at most `each` bytes a call, and fails with `error` once it has given `until`. It notes
+/// the most bytes that a call asked for.
 #[derive(Drop)]
 pub struct Pieces<'a> {
     pub bytes: &'a [u8],
     pub each: usize,
     pub until: usize,
     pub error: ErrorKind,
+    pub most_asked: usize,
 }
 
 impl Read for Pieces<'_> {
@@ -19,6 +21,7 @@ impl Read for Pieces<'_> {
     ghost remaining = { λ r. Some r.bytes.now };
 
     fn read(&mut self, buf: &mut [u8]) -> io::Result<usize> {
+        self.most_asked = self.most_asked.max(buf.len());
         if self.until == 0 {
             return Err(io::Error::from(self.error));
         }
