@@ -1,7 +1,9 @@
 -- The task of the matches.
-use Rattle.std.proofs.Common.{◌≡◌, List, [], Option, Some, None, codes, option_map, unwrap_or, true, false, Bool, refl, Bor}
-use Rattle.clap.specs.Words.{Row, Text}
-use Rattle.moveledger.specs.Line.{task_in, given_as, Applies}
+use Rattle.std.proofs.Common.{◌≡◌, List, [], Option, Some, None, codes, option_map, unwrap_or, true, false, Bool, refl, ap, inl, inr, Bor}
+use Rattle.clap.specs.Words.{App, HasKind, IsAmong, Kinds, Row, Text, is_simple_and_free, kind_of}
+use Rattle.clap.specs.declared.error.Error.{Error}
+use Rattle.clap.specs.declared.error.kind.ErrorKind.TheVariants.{OutOfMemory}
+use Rattle.moveledger.specs.Line.{task_in, given_as, moveledger, Applies}
 
 pub now_of : (o : Option (Bor Text)) (d : Bor Text) → (unwrap_or o d).now ≡ unwrap_or (option_map (λ s. s.now) o) d.now
 now_of None d = refl
@@ -20,3 +22,12 @@ task_of_none (Some p) e = cc
 pub not_true : (b : Bool) → (b ≡ true → ⊥) → b ≡ false
 not_true true h = absurd (h refl)
 not_true false h = refl
+
+-- where memory didn't run out, the error has one of the kinds
+pub among : (kinds : Kinds) (e : Error) → HasKind kinds e → (kind_of e ≡ OutOfMemory → ⊥) → IsAmong (kind_of e) kinds
+among kinds e (inl memory) other = absurd (other memory)
+among kinds e (inr h) other = h
+
+-- clap says which kinds of error the definition gives
+pub is_defined : (a : App) → a ≡ moveledger → is_simple_and_free a ≡ true
+is_defined a same = ap is_simple_and_free same

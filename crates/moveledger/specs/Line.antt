@@ -1,6 +1,7 @@
 -- The command line, and the task that its matches have.
 use Rattle.std.specs.Prelude.{List, [], true, Option, Some, None, codes, unwrap_or, ⊤}
-use Rattle.clap.specs.Words.{App, Rule, Row, Text, new_app, new_rule, with_rule, with_subcommand, first_of}
+use Rattle.clap.specs.Values.{kind_of}
+use Rattle.clap.specs.Words.{App, IsAmong, Kinds, Rule, Row, Text, new_app, new_rule, with_rule, with_subcommand, first_of}
 use Rattle.moveledger.specs.declared.command.Task.{Task}
 use Rattle.moveledger.specs.declared.command.Task.TheVariants.{Apply}
 use Rattle.moveledger.specs.declared.command.LineError.{LineError}
@@ -38,6 +39,11 @@ given_as id rows = unwrap_or (first_of id rows) []
 abbrev pub task_in : Option (Text × List Row) → Seen
 task_in None = Applies []
 task_in (Some found) = Applies (given_as (codes "FILE") found.1)
+
+-- where the words are at fault, the error has one of these kinds
+abbrev pub IsOfKind : Kinds → LineError → Type 0
+IsOfKind kinds (Words e) = IsAmong (kind_of e) kinds
+IsOfKind kinds Memory = ⊤
 
 -- the words aren't understood
 abbrev pub IsWords : LineError → Type 0

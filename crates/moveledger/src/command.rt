@@ -1,8 +1,8 @@
 // The command line.
-ghost use Rattle.std.specs.Prelude.{◌≡◌, IfOk, IfErr, false, map};
-ghost use Rattle.clap.specs.Words.{app_of, found_of, rows_of, rule_of, subcommand_of, subcommand_rows_of, takes};
+ghost use Rattle.std.specs.Prelude.{◌≡◌, [], ◌∷◌, IfOk, IfErr, OnOk, false, map};
+ghost use Rattle.clap.specs.Words.{app_of, fault_of, found_of, rows_of, rule_of, subcommand_of, subcommand_rows_of, takes};
 ghost use Rattle.clap.specs.declared.builder.Command.TheViews.{out-Command};
-ghost use Rattle.moveledger.specs.Line.{apply, given_as, moveledger, name_of, task_in, seen, IsWords};
+ghost use Rattle.moveledger.specs.Line.{apply, given_as, moveledger, name_of, task_in, seen, IsOfKind, IsWords};
 
 use clap::error::ErrorKind;
 use clap::{Arg, ArgMatches, Command};
@@ -22,7 +22,7 @@ pub enum LineError {
     /// The words aren't understood, or ask for help.
     #[error("{0}")]
     Words(clap::Error),
-    /// A growth was refused.
+    /// An allocation failed.
     #[error("fault: memory")]
     Memory,
 }
@@ -69,9 +69,29 @@ fn task_of<'a>(matches: &ArgMatches<'a>) -> Task<'a>
     }
 }
 
+/// What is said of words that aren't UTF-8.
+pub fn not_text(alloc: Global) -> LineError
+    ensures { IsOfKind (ErrorKind.InvalidValue ∷ []) result }
+{
+    let Ok(mut command) = definition(alloc) else {
+        return LineError::Memory;
+    };
+    match command.error(
+        ErrorKind::InvalidValue,
+        "invalid UTF-8 was detected in one or more arguments",
+    ) {
+        Ok(e) => LineError::Words(e),
+        Err(_) => LineError::Memory,
+    }
+}
+
 /// The task that a command line asks for.
 pub fn command<'a>(alloc: Global, words: &'a [&'a str]) -> Result<Task<'a>, LineError>
     ensures task { IfOk result (λ task. seen task ≡ task_in (subcommand_of moveledger (map (λ w. w.now) words.entry.now))) }
+    // There is one only where the definition finds no fault in the words.
+    ensures taken { OnOk result (fault_of moveledger (map (λ w. w.now) words.entry.now) ≡ []) }
+    // An error of words has a kind of the first fault in them.
+    ensures kinds { IfErr result (IsOfKind (fault_of moveledger (map (λ w. w.now) words.entry.now))) }
     ensures words { IfErr result (λ e. IsWords e → takes moveledger (map (λ w. w.now) words.entry.now) ≡ false) }
 {
     let Ok(command) = definition(alloc) else {
