@@ -1,7 +1,25 @@
--- The exit status of the program.
-use Rattle.std.specs.Prelude.{ℕ}
+-- How the program ends: its fault's line, and its exit status.
+use Rattle.std.specs.Prelude.{ℕ, List, Bool, true, false, Result, Ok, Err, Option, Some, None, codes}
+use Rattle.moveledger.specs.declared.engine.EngineError.{EngineError}
+use Rattle.moveledger.specs.declared.engine.EngineError.TheVariants as error
 use Rattle.moveledger.specs.declared.status.End.{End}
 use Rattle.moveledger.specs.declared.status.End.TheVariants.{Done, Read, Write, Memory, Words}
+
+-- the end after the engine's, whose report was written out to the last byte or wasn't
+abbrev pub end_after : Result ℕ EngineError → Bool → End
+end_after answered false = Write
+end_after (Ok count) true = Done
+end_after (Err error.Read) true = Read
+end_after (Err error.Write) true = Write
+end_after (Err error.Memory) true = Memory
+
+-- the line of a fault
+abbrev pub fault_line : End → Option (List ℕ)
+fault_line Done = None
+fault_line Read = Some (codes "fault: read")
+fault_line Write = Some (codes "fault: write")
+fault_line Memory = Some (codes "fault: memory")
+fault_line Words = None
 
 -- 0 where it is done, 1 at a fault, 2 where the command line isn't understood
 abbrev pub status_of : End → ℕ

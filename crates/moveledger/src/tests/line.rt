@@ -1,7 +1,8 @@
 // The command line, and how the program ends.
 
-use crate::command::{LineError, Task, command};
-use crate::status::{End, status};
+use crate::command::{LineError, Task, command, not_text};
+use crate::engine::EngineError;
+use crate::status::{End, end_of, fault_text, status};
 use std::test::Fail;
 
 // Words that aren't understood or ask for help, and what is said of them, in the form of clap's texts.
@@ -54,14 +55,40 @@ fn other_words_are_refused(rt: HostRuntime) -> Result<(), Fail> {
 }
 
 #[test]
-fn ends_have_their_status(rt: HostRuntime) {
-    for (end, wanted) in [
-        (End::Done, 0),
-        (End::Read, 1),
-        (End::Write, 1),
-        (End::Memory, 1),
-        (End::Words, 2),
+fn words_that_are_no_text_are_refused(rt: HostRuntime) -> Result<(), Fail> {
+    let error = not_text(rt.alloc());
+    assert!(rt; matches!(error, LineError::Words(_)));
+    let text = format!(in rt.alloc(); "{error}")?;
+    assert_eq!(rt;
+        text.as_str(),
+        "error: invalid UTF-8 was detected in one or more arguments\n\nUsage: moveledger <COMMAND>\n\nFor more information, try '--help'.\n"
+    );
+    Ok(())
+}
+
+#[test]
+fn ends_have_their_line_and_status(rt: HostRuntime) {
+    for (end, line, wanted) in [
+        (End::Done, None, 0),
+        (End::Read, Some("fault: read"), 1),
+        (End::Write, Some("fault: write"), 1),
+        (End::Memory, Some("fault: memory"), 1),
+        (End::Words, None, 2),
     ] {
+        assert_eq!(rt; fault_text(&end), line);
         assert_eq!(rt; status(&end), wanted);
+    }
+}
+
+#[test]
+fn lost_reports_are_failed_writes(rt: HostRuntime) {
+    for (answered, wanted) in [
+        (Ok(3), End::Done),
+        (Err(EngineError::Read), End::Read),
+        (Err(EngineError::Write), End::Write),
+        (Err(EngineError::Memory), End::Memory),
+    ] {
+        assert_eq!(rt; end_of(answered, true), wanted);
+        assert_eq!(rt; end_of(answered, false), End::Write);
     }
 }
