@@ -1,5 +1,6 @@
 use Rattle.std.proofs.Common.{◌≡◌, [], ap, ◌∙◌, map, false, true, List, refl, sym, subst, Bor}
-use Rattle.clap.specs.Words.{takes, App, HasKind, Text, app_of, fault_of}
+use Rattle.clap.specs.Words.{takes, App, HasKind, IsAmong, Text, app_of, fault_of, kind_of}
+use Rattle.clap.specs.declared.error.Error.{Error}
 use Rattle.moveledger.specs.Line.{moveledger}
 use Rattle.moveledger.proofs.Tasks.{among, is_defined, not_true}
 use Rattle.moveledger.proofs.command.command.Goals as goal
@@ -19,13 +20,14 @@ pub returns-in-Err-2-clause-kinds : goal.returns-in-Err-2-clause-kinds
 returns-in-Err-2-clause-kinds c =
     let words : List Text = map (λ (s : Bor Text). s.now) c.args.words.now in
     let has = c.in-Err-2.ensures.kinds (is_defined (app_of c.in-Ok.command) c.in-Ok.ensures) in
-    among (fault_of moveledger words) c.in-Err-2.e (subst (λ (a : App). HasKind (fault_of a words) c.in-Err-2.e) c.in-Ok.ensures has) (λ m.
+    let found = among (fault_of moveledger words) c.in-Err-2.e (subst (λ (a : App). HasKind (fault_of a words) c.in-Err-2.e) c.in-Ok.ensures has) (λ m.
     let kind_is = c.kind.ensures ∙ ap (λ e. e.kind) c.in-Err-2.e-is ∙ m in
     let bad : false ≡ true = c.if-eq.ensures ∙ rw kind_is refl in
-    apart bad)
+    apart bad) in
+    subst (λ (e : Error). IsAmong (kind_of e) (fault_of moveledger words)) (sym c.in-Err-2.e-is) found
 
-pub returns-in-Ok-2-clause-taken : goal.returns-in-Ok-2-clause-taken
-returns-in-Ok-2-clause-taken c =
+pub returns-in-Ok-try_get_matches_from-clause-taken : goal.returns-in-Ok-try_get_matches_from-clause-taken
+returns-in-Ok-try_get_matches_from-clause-taken c =
     let words : List Text = map (λ (s : Bor Text). s.now) c.args.words.now in
-    let none = c.in-Ok-2.ensures.kinds (is_defined (app_of c.in-Ok.command) c.in-Ok.ensures) in
+    let none = c.in-Ok-try_get_matches_from.ensures.kinds (is_defined (app_of c.in-Ok.command) c.in-Ok.ensures) in
     ap (λ (a : App). fault_of a words) (sym c.in-Ok.ensures) ∙ none
