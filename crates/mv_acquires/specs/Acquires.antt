@@ -1,13 +1,17 @@
 -- Each acquires list is exactly the structs that its function reaches in the storage.
-use Rattle.std.specs.Prelude.{ℕ, ◌==◌, List, [], slice_get, Bool, ◌&&◌, false, flat_map, IsTrue}
-use Rattle.std.specs.Option.{option_map_or}
+use Rattle.std.specs.Prelude.{ℕ, ◌==◌, List, [], ◌∷◌, Bool, ◌&&◌, flat_map, IsTrue}
 use Rattle.std.specs.List.{list_any, list_all}
 use Rattle.mv_move_types.specs.declared.instruction.Instruction.{Instruction}
-use Rattle.mv_move_types.specs.Module.{Module, FunctionDefinition, struct_abilities}
+use Rattle.mv_move_types.specs.declared.instruction.Instruction.TheVariants.{Call, MutBorrowGlobal, ImmBorrowGlobal, MoveFrom}
+use Rattle.mv_move_types.specs.Module.{Module, FunctionDefinition, has_key, own_acquires}
 use Rattle.mv_bounds.specs.Definitions.{all_differ}
 
--- the struct definitions that an instruction reads in the storage; today no instruction does
+-- the struct definitions that an instruction reaches in the storage, itself or by a call in the own module
 abbrev pub reached_by : Module → Instruction → List ℕ
+reached_by m (MoveFrom i) = i ∷ []
+reached_by m (MutBorrowGlobal i) = i ∷ []
+reached_by m (ImmBorrowGlobal i) = i ∷ []
+reached_by m (Call i) = own_acquires m i
 reached_by m _ = []
 
 -- whether a number is in a list
@@ -17,10 +21,6 @@ has_member xs x = list_any (λ y. y == x) xs
 -- whether two lists have the same numbers
 abbrev pub same_members : List ℕ → List ℕ → Bool
 same_members xs ys = list_all (has_member ys) xs && list_all (has_member xs) ys
-
--- whether a struct definition has key
-abbrev pub has_key : Module → ℕ → Bool
-has_key m i = option_map_or (λ d. option_map_or (λ a. a.key) (struct_abilities m d) false) (slice_get m.structs i) false
 
 -- the list has no entry twice, only structs with key, and exactly those that the code reaches
 abbrev pub acquires_are_right : Module → FunctionDefinition → Bool

@@ -1,5 +1,5 @@
 -- The entries of a module's tables are read again, and so is the whole module.
-use Rattle.std.proofs.Common.{get_or, ◌≡◌, ℕ, suc, ◌+◌, ◌<◌, ◌≤◌, ◌==◌, nat_lt, Bool, true, false, not, cond, ◌&&◌, IsTrue, List, [], ◌∷◌, ◌++◌, length, Option, Some, None, refl, sym, ap, subst, ◌∙◌, arith, inl, inr, append_assoc, length-append, sum_by, lit<}
+use Rattle.std.proofs.Common.{get_or, ◌≡◌, ℕ, suc, ◌+◌, ◌<◌, ◌≤◌, ◌==◌, nat_lt, Bool, true, false, not, cond, ◌&&◌, ◌||◌, IsTrue, List, [], ◌∷◌, ◌++◌, length, Option, Some, None, refl, sym, ap, subst, ◌∙◌, arith, inl, inr, append_assoc, length-append, sum_by, lit<}
 use Rattle.std.specs.List.{find, list_all, list_any, flat_map, filter}
 use Rattle.std.specs.Str.{bytes_eq}
 use Rattle.std.proofs.lemmas.List.Sorted.{sum_by-IsPermutation}
@@ -11,13 +11,16 @@ use Rattle.std.proofs.lemmas.Option.{none-some}
 use Rattle.mv_uleb.specs.Uleb.{uleb}
 use Rattle.mv_uleb.specs.Laws.{StandsByForm}
 use Rattle.mv_move_types.specs.Module.{Module}
-use Rattle.mv_module_text.specs.Parsing.{Read, index_from, counted_from, all_from, module_handle_from, struct_handle_from, function_handle_from, signature_from, identifier_from, address_from, struct_definition_from, function_definition_from}
-use Rattle.mv_module_text.specs.Entries.{counted, module_handle_text, struct_handle_text, function_handle_text, signature_text, identifier_text, address_text, struct_definition_text, function_definition_text}
-use Rattle.mv_module_text.specs.Fits.{is_index, module_handle_fits, struct_handle_fits, function_handle_fits, signature_fits, identifier_fits, address_fits, struct_definition_fits, function_definition_fits}
+use Rattle.mv_module_text.specs.Parsing.{Read, index_from, counted_from, all_from, module_handle_from, struct_handle_from, function_handle_from, signature_from, constant_from, identifier_from, address_from, struct_definition_from, function_definition_from, field_handle_from}
+use Rattle.mv_module_text.specs.Entries.{counted, module_handle_text, struct_handle_text, function_handle_text, signature_text, constant_text, identifier_text, address_text, struct_definition_text, function_definition_text, field_handle_text}
+use Rattle.mv_module_text.specs.Fits.{is_index, module_handle_fits, struct_handle_fits, function_handle_fits, signature_fits, constant_fits, identifier_fits, address_fits, struct_definition_fits, function_definition_fits, field_handle_fits}
 use Rattle.mv_module_text.specs.Laws.{AreBytes, StandsByText, StandAsTexts}
-use Rattle.mv_binary_format.specs.ModuleText.{Table, table, tables, header_text, headers_from, HasText, IsModuleText}
-use Rattle.mv_binary_format.specs.Parsing.{kinds, header_from, contents_from, without, is_of, content_of, entries_of, module_from, module_of, marks_from, preamble}
-use Rattle.mv_binary_format.proofs.Shorter.{bind_some}
+use Rattle.mv_binary_format.specs.ModuleText.{Table, Header, table, tables, header_text, headers_from, HasText, IsModuleText}
+use Rattle.mv_binary_format.specs.Parsing.{kinds, header_from, contents_from, without, is_of, content_of, entries_of, module_from, module_of, marks_from, magic, version_from}
+use Rattle.mv_binary_format.specs.Written.{all_tables}
+use Rattle.mv_binary_format.proofs.Versions.{version-sound, version-complete}
+use Rattle.std.specs.Int.{w32, to_le_bytes}
+use Rattle.mv_binary_format.proofs.Binds.{bind_some}
 use Rattle.mv_binary_format.proofs.Taken.{without-none}
 use Rattle.mv_binary_format.proofs.Sums.{SameSums, SameSums-from_permutation, Tells, found-alone, found-none, others-in_all, all-SameSums, empty-SameSums, length-SameSums}
 use Rattle.mv_binary_format.proofs.Sound.{bytes-behind, bytes-before, rest-bytes, has_bytes, tells_bytes, header_fits, marks-sound, header-sound, counted-sound, contents-sound}
@@ -115,33 +118,39 @@ read-back kind each text fits law ts xs rest s apart fit bytes =
     }
 
 -- a module is read from the contents of its tables, in whatever order they are
-pub module-complete : TableLaws → (m : Module) (ts : List Table) → HasText m → SameSums ts (tables m) → list_all has_only_bytes ts ≡ true → module_from m.own ts ≡ Some m
+pub module-complete : (m : Module) → TableLaws m.version → (ts : List Table) → HasText m → SameSums ts (tables m) → list_all has_only_bytes ts ≡ true → module_from m.version m.own ts ≡ Some m
 unfolding module_from
-module-complete laws m ts has s bytes =
+module-complete m laws ts has s bytes =
+    let xj = table 0x0D field_handle_text m.field_handles in
     let xi = table 0x0C function_definition_text m.functions in
     let xh = table 0x0A struct_definition_text m.structs in
     let xg = table 0x08 address_text m.addresses in
     let xf = table 0x07 identifier_text m.identifiers in
+    let xe = table 0x06 constant_text m.constants in
     let xd = table 0x05 signature_text m.signatures in
     let xc = table 0x03 function_handle_text m.function_handles in
     let xb = table 0x02 struct_handle_text m.struct_handles in
-    let ra = read-back 0x01 module_handle_from module_handle_text module_handle_fits laws.module_handles ts m.module_handles (xb ∷ xc ∷ xd ∷ xf ∷ xg ∷ xh ∷ xi ∷ []) s refl has.module_handles bytes in
+    let ra = read-back 0x01 module_handle_from module_handle_text module_handle_fits laws.module_handles ts m.module_handles (xb ∷ xc ∷ xd ∷ xe ∷ xf ∷ xg ∷ xh ∷ xi ∷ xj ∷ []) s refl has.module_handles bytes in
     let ta = without (is_of 0x01) ts in
-    let rb = read-back 0x02 struct_handle_from struct_handle_text struct_handle_fits laws.struct_handles ta m.struct_handles (xc ∷ xd ∷ xf ∷ xg ∷ xh ∷ xi ∷ []) ra.others refl has.struct_handles ra.bytes in
+    let rb = read-back 0x02 struct_handle_from struct_handle_text struct_handle_fits laws.struct_handles ta m.struct_handles (xc ∷ xd ∷ xe ∷ xf ∷ xg ∷ xh ∷ xi ∷ xj ∷ []) ra.others refl has.struct_handles ra.bytes in
     let tb = without (is_of 0x02) ta in
-    let rc = read-back 0x03 function_handle_from function_handle_text function_handle_fits laws.function_handles tb m.function_handles (xd ∷ xf ∷ xg ∷ xh ∷ xi ∷ []) rb.others refl has.function_handles rb.bytes in
+    let rc = read-back 0x03 function_handle_from function_handle_text function_handle_fits laws.function_handles tb m.function_handles (xd ∷ xe ∷ xf ∷ xg ∷ xh ∷ xi ∷ xj ∷ []) rb.others refl has.function_handles rb.bytes in
     let tc = without (is_of 0x03) tb in
-    let rd = read-back 0x05 signature_from signature_text signature_fits laws.signatures tc m.signatures (xf ∷ xg ∷ xh ∷ xi ∷ []) rc.others refl has.signatures rc.bytes in
+    let rd = read-back 0x05 (signature_from m.version) signature_text (signature_fits m.version) laws.signatures tc m.signatures (xe ∷ xf ∷ xg ∷ xh ∷ xi ∷ xj ∷ []) rc.others refl has.signatures rc.bytes in
     let td = without (is_of 0x05) tc in
-    let rf = read-back 0x07 identifier_from identifier_text identifier_fits laws.identifiers td m.identifiers (xg ∷ xh ∷ xi ∷ []) rd.others refl has.identifiers rd.bytes in
-    let tf = without (is_of 0x07) td in
-    let rg = read-back 0x08 address_from address_text address_fits laws.addresses tf m.addresses (xh ∷ xi ∷ []) rf.others refl has.addresses rf.bytes in
+    let re = read-back 0x06 (constant_from m.version) constant_text (constant_fits m.version) laws.constants td m.constants (xf ∷ xg ∷ xh ∷ xi ∷ xj ∷ []) rd.others refl has.constants rd.bytes in
+    let te = without (is_of 0x06) td in
+    let rf = read-back 0x07 identifier_from identifier_text identifier_fits laws.identifiers te m.identifiers (xg ∷ xh ∷ xi ∷ xj ∷ []) re.others refl has.identifiers re.bytes in
+    let tf = without (is_of 0x07) te in
+    let rg = read-back 0x08 address_from address_text address_fits laws.addresses tf m.addresses (xh ∷ xi ∷ xj ∷ []) rf.others refl has.addresses rf.bytes in
     let tg = without (is_of 0x08) tf in
-    let rh = read-back 0x0A struct_definition_from struct_definition_text struct_definition_fits laws.structs tg m.structs (xi ∷ []) rg.others refl has.structs rg.bytes in
+    let rh = read-back 0x0A (struct_definition_from m.version) struct_definition_text (struct_definition_fits m.version) laws.structs tg m.structs (xi ∷ xj ∷ []) rg.others refl has.structs rg.bytes in
     let th = without (is_of 0x0A) tg in
-    let ri = read-back 0x0C function_definition_from function_definition_text function_definition_fits laws.functions th m.functions [] rh.others refl has.functions rh.bytes in
-    let none : without (is_of 0x0C) th ≡ [] = empty-SameSums (without (is_of 0x0C) th) ri.others in
-    rw (ra.read, rb.read, rc.read, rd.read, rf.read, rg.read, rh.read, ri.read, none, has.few_functions) refl
+    let ri = read-back 0x0C (function_definition_from m.version) function_definition_text (function_definition_fits m.version) laws.functions th m.functions (xj ∷ []) rh.others refl has.functions rh.bytes in
+    let ti = without (is_of 0x0C) th in
+    let rj = read-back 0x0D field_handle_from field_handle_text field_handle_fits laws.field_handles ti m.field_handles [] ri.others refl has.field_handles ri.bytes in
+    let none : without (is_of 0x0D) ti ≡ [] = empty-SameSums (without (is_of 0x0D) ti) rj.others in
+    rw (ra.read, rb.read, rc.read, rd.read, re.read, rf.read, rg.read, rh.read, ri.read, rj.read, none, has.few_functions) refl
 
 -- a weaker test
 all-weaker : {A : Type 0} (q r : A → Bool) → ((x : A) → q x ≡ true → r x ≡ true) → (xs : List A) → list_all q xs ≡ true → list_all r xs ≡ true
@@ -159,29 +168,39 @@ cond_parts false o y e = absurd (none-some y e)
 abbrev all_contents : List Table → List ℕ
 all_contents ts = flat_map (λ t. t.content) ts
 
+-- the parts after the mark, one by one
+parts : (v c f u : List ℕ) → ((v ++ c) ++ f) ++ u ≡ v ++ (c ++ (f ++ u))
+parts v c f u = simp append_assoc
+
 -- what is read as a module is a text of it
-pub whole-sound : StandsByForm → StandsByText index_from uleb is_index → TableLaws → (bytes : List ℕ) (m : Module) → AreBytes bytes → module_of bytes ≡ Some m → IsModuleText bytes m
+pub whole-sound : StandsByForm → StandsByText index_from uleb is_index → ((version : ℕ) → TableLaws version) → (bytes : List ℕ) (m : Module) → AreBytes bytes → module_of bytes ≡ Some m → IsModuleText bytes m
 unfolding module_of
 whole-sound numbers indices laws bytes m are e =
-    bind_some (marks_from preamble bytes) _ m e (λ rest rest_is e1.
-    bind_some (counted_from 8 header_from rest) _ m e1 (λ hs hs_is e2.
-    bind_some (contents_from (length hs.0) 0 hs.0 hs.1) _ m e2 (λ ts ts_is e3.
-    bind_some (index_from ts.1) _ m e3 (λ own own_is e4.
-    let q = cond_parts (length own.1 == 0) (module_from own.0 ts.0) m e4 in
-    let f = marks-sound preamble bytes rest rest_is in
-    let are1 = rest-bytes bytes preamble rest f are in
-    let h = counted-sound numbers 8 (lit< tt) header_from header_text header_fits (header-sound numbers) rest hs.0 hs.1 are1 hs_is in
-    let are2 = rest-bytes rest (counted header_text hs.0) hs.1 h.0 are1 in
+    bind_some (marks_from magic bytes) _ m e (λ rest rest_is e1.
+    bind_some (version_from rest) _ m e1 (λ version version_is e2.
+    bind_some (counted_from 10 header_from version.1) _ m e2 (λ hs hs_is e3.
+    bind_some (contents_from (length hs.0) 0 hs.0 hs.1) _ m e3 (λ ts ts_is e4.
+    bind_some (index_from ts.1) _ m e4 (λ own own_is e5.
+    let q = cond_parts (length own.1 == 0) (module_from version.0 own.0 ts.0) m e5 in
+    let f = marks-sound magic bytes rest rest_is in
+    let are1 = rest-bytes bytes magic rest f are in
+    let v = version-sound rest version.0 version.1 version_is in
+    let are2 = rest-bytes rest (to_le_bytes w32 version.0) version.1 v.0 are1 in
+    let h = counted-sound numbers 10 (lit< tt) header_from header_text header_fits (header-sound numbers) version.1 hs.0 hs.1 are2 hs_is in
+    let are3 = rest-bytes version.1 (counted header_text hs.0) hs.1 h.0 are2 in
     let tells = all-weaker header_fits tells_bytes (λ x fit. (and_parts (list_any (λ k. k == x.kind) kinds) (nat_lt 0 x.length) fit).1) hs.0 h.1 in
     let c = contents-sound (length hs.0) 0 hs.0 hs.1 ts.0 ts.1 tells ts_is in
-    let are3 : AreBytes (all_contents ts.0 ++ ts.1) = subst AreBytes c.stand are2 in
-    let are4 = bytes-behind (all_contents ts.0) ts.1 are3 in
-    let i = (indices ts.1 own.1 own.0 are4).0 own_is in
+    let are4 : AreBytes (all_contents ts.0 ++ ts.1) = subst AreBytes c.stand are3 in
+    let are5 = bytes-behind (all_contents ts.0) ts.1 are4 in
+    let i = (indices ts.1 own.1 own.0 are5).0 own_is in
     let none : own.1 ≡ [] = no_elements own.1 q.0 in
-    let o = module-sound laws own.0 ts.0 m c.full (contents-are_bytes ts.0 (bytes-before (all_contents ts.0) ts.1 are3)) q.1 in
+    let o = module-sound version.0 (laws version.0) own.0 ts.0 m c.full (contents-are_bytes ts.0 (bytes-before (all_contents ts.0) ts.1 are4)) q.1 in
     let last : ts.1 ≡ uleb m.own = i.0 ∙ ap (λ z. uleb own.0 ++ z) none ∙ append-nil (uleb own.0) ∙ ap uleb o.own_is in
-    let inner : rest ≡ (counted header_text hs.0 ++ all_contents ts.0) ++ uleb m.own =
-    h.0 ∙ ap (λ z. counted header_text hs.0 ++ z) (c.stand ∙ ap (λ z. all_contents ts.0 ++ z) last) ∙ sym (append_assoc (counted header_text hs.0) (all_contents ts.0) (uleb m.own)) in
+    let after : version.1 ≡ counted header_text hs.0 ++ (all_contents ts.0 ++ uleb m.own) =
+    h.0 ∙ ap (λ z. counted header_text hs.0 ++ z) (c.stand ∙ ap (λ z. all_contents ts.0 ++ z) last) in
+    let inner : rest ≡ ((to_le_bytes w32 m.version ++ counted header_text hs.0) ++ all_contents ts.0) ++ uleb m.own =
+    v.0 ∙ ap (λ z. to_le_bytes w32 z ++ version.1) o.version_is ∙ ap (λ z. to_le_bytes w32 m.version ++ z) after
+    ∙ sym (parts (to_le_bytes w32 m.version) (counted header_text hs.0) (all_contents ts.0) (uleb m.own)) in
     let total : length (all_contents ts.0) ≡ sum_by (λ t. length t.content) ts.0 = length-flat_map (λ (t : Table). t.content) ts.0 in
     let same : sum_by (λ t. length t.content) (tables m) ≡ sum_by (λ t. length t.content) ts.0 = sum_by-IsPermutation (λ (t : Table). length t.content) ts.0 (tables m) o.tiled in
     let small : sum_by (λ t. length t.content) (tables m) ≤ 65536 = (let le : 0 ≤ 65536 = omega arith in omega (arith, c.ends le)) in
@@ -190,34 +209,24 @@ whole-sound numbers indices laws bytes m are e =
       headers = hs.0;
       tiled = o.tiled;
       listed = c.listed;
-      text = f ∙ ap (λ z. preamble ++ z) inner;
+      text = f ∙ ap (λ z. magic ++ z) inner;
       fits = record {
+        version = subst (λ z. IsTrue ((z == 5) || (z == 6))) o.version_is v.1;
         module_handles = o.module_handles;
         struct_handles = o.struct_handles;
         function_handles = o.function_handles;
         signatures = o.signatures;
+        constants = o.constants;
         identifiers = o.identifiers;
         addresses = o.addresses;
         structs = o.structs;
         functions = o.functions;
         few_functions = o.few_functions;
+        field_handles = o.field_handles;
         own = subst (λ z. IsTrue (is_index z)) o.own_is i.1;
         size = le-leb (sum_by (λ t. length t.content) (tables m)) 65536 small;
       };
-    }))))
-
--- a module's tables, those without entries among them
-abbrev all_tables : Module → List Table
-all_tables m =
-    table 0x01 module_handle_text m.module_handles
-    ∷ table 0x02 struct_handle_text m.struct_handles
-    ∷ table 0x03 function_handle_text m.function_handles
-    ∷ table 0x05 signature_text m.signatures
-    ∷ table 0x07 identifier_text m.identifiers
-    ∷ table 0x08 address_text m.addresses
-    ∷ table 0x0A struct_definition_text m.structs
-    ∷ table 0x0C function_definition_text m.functions
-    ∷ []
+    })))))
 
 -- whether there is such a kind
 abbrev is_known : Table → Bool
@@ -239,8 +248,15 @@ length-headers : (offset : ℕ) (ts : List Table) → length (headers_from offse
 length-headers offset [] = refl
 length-headers offset (t ∷ ts) = ap suc (length-headers (offset + length t.content) ts)
 
+-- a module that is read part by part after its mark
+whole-read : (version : ℕ) (rest after behind last : List ℕ) (hs : List Header) (ts : List Table) (own : ℕ) (m : Module)
+    → version_from rest ≡ Some (version, after) → counted_from 10 header_from after ≡ Some (hs, behind) → contents_from (length hs) 0 hs behind ≡ Some (ts, last)
+    → index_from last ≡ Some (own, []) → module_from version own ts ≡ Some m → module_of (magic ++ rest) ≡ Some m
+unfolding module_of
+whole-read version rest after behind last hs ts own m a b c d e = rw (a, b, c, d) e
+
 -- a text of a module is read as it
-pub whole-complete : StandsByForm → StandsByText index_from uleb is_index → TableLaws → (bytes : List ℕ) (m : Module) → AreBytes bytes → IsModuleText bytes m → module_of bytes ≡ Some m
+pub whole-complete : StandsByForm → StandsByText index_from uleb is_index → ((version : ℕ) → TableLaws version) → (bytes : List ℕ) (m : Module) → AreBytes bytes → IsModuleText bytes m → module_of bytes ≡ Some m
 unfolding module_of
 whole-complete numbers indices laws bytes m are t =
     let ts = t.contents in
@@ -255,24 +271,26 @@ whole-complete numbers indices laws bytes m are t =
     let size : sum_by (λ t. length t.content) (tables m) ≤ 65536 = leb-true (sum_by (λ t. length t.content) (tables m)) 65536 has.size in
     let small : 0 + length (all_contents ts) ≤ 65536 = omega arith in
     let ok : list_all header_ok hs ≡ true = all-SameSums header_ok hs (headers_from 0 ts) s2 (headers-ok 0 ts full known small) in
-    let few : length (tables m) ≤ 8 = filter-shorter has_bytes (all_tables m) in
+    let few : length (tables m) ≤ 10 = filter-shorter has_bytes (all_tables m) in
     let n1 : length hs ≡ length (headers_from 0 ts) = length-SameSums hs (headers_from 0 ts) s2 in
     let n2 : length (headers_from 0 ts) ≡ length ts = length-headers 0 ts in
     let n3 : length ts ≡ length (tables m) = length-SameSums ts (tables m) s1 in
-    let count : length hs ≤ 8 = omega arith in
+    let count : length hs ≤ 10 = omega arith in
+    let V = to_le_bytes w32 m.version in
     let C = counted header_text hs in
     let F = all_contents ts in
     let U = uleb m.own in
-    let split : (C ++ F) ++ U ≡ C ++ (F ++ U) = append_assoc C F U in
-    let are0 : AreBytes ((C ++ F) ++ U) = rest-bytes bytes preamble ((C ++ F) ++ U) t.text are in
-    let are1 : AreBytes (C ++ (F ++ U)) = subst AreBytes split are0 in
+    let split : ((V ++ C) ++ F) ++ U ≡ V ++ (C ++ (F ++ U)) = parts V C F U in
+    let are0 : AreBytes (((V ++ C) ++ F) ++ U) = rest-bytes bytes magic (((V ++ C) ++ F) ++ U) t.text are in
+    let are1 : AreBytes (C ++ (F ++ U)) = bytes-behind V (C ++ (F ++ U)) (subst AreBytes split are0) in
     let are2 : AreBytes (F ++ U) = bytes-behind C (F ++ U) are1 in
     let are3 : AreBytes U = bytes-behind F U are2 in
-    let c1 : counted_from 8 header_from (C ++ (F ++ U)) ≡ Some (hs, F ++ U) = counted-complete numbers 8 (lit< tt) header_from header_text header_ok (header-complete numbers) hs (F ++ U) count ok are1 in
+    let c0 : version_from (V ++ (C ++ (F ++ U))) ≡ Some (m.version, C ++ (F ++ U)) = version-complete m.version (C ++ (F ++ U)) has.version in
+    let c1 : counted_from 10 header_from (C ++ (F ++ U)) ≡ Some (hs, F ++ U) = counted-complete numbers 10 (lit< tt) header_from header_text header_ok (header-complete numbers) hs (F ++ U) count ok are1 in
     let c2 : contents_from (length hs) 0 hs (F ++ U) ≡ Some (ts, U) = contents-complete ts hs 0 U s2 full small in
     let c3 : index_from U ≡ Some (m.own, []) = (indices U [] m.own are3).1 (sym (append-nil U), has.own) in
-    let c4 : module_from m.own ts ≡ Some m = module-complete laws m ts has s1 (contents-are_bytes ts (bytes-before F U are2)) in
-    ap module_of t.text ∙ rw (split, c1, c2, c3, c4) refl
+    let c4 : module_from m.version m.own ts ≡ Some m = module-complete m (laws m.version) ts has s1 (contents-are_bytes ts (bytes-before F U are2)) in
+    ap module_of t.text ∙ ap (λ z. module_of (magic ++ z)) split ∙ whole-read m.version (V ++ (C ++ (F ++ U))) (C ++ (F ++ U)) (F ++ U) U hs ts m.own m c0 c1 c2 c3 c4
 
 -- bytes, by each index
 pub all-are_bytes : (bytes : List ℕ) → ((k : ℕ) → get_or bytes k 0 < 256) → AreBytes bytes

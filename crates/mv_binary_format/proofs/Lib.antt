@@ -1,5 +1,5 @@
 pub mod Samples
-pub mod Shorter
+pub mod Binds
 pub mod Loops
 pub mod Taken
 pub mod Placed
@@ -7,6 +7,8 @@ pub mod Sums
 pub mod Sound
 pub mod OfTables
 pub mod Complete
+pub mod Versions
 pub mod Back
 pub mod Ordered
 pub mod Fitting
+pub mod Takings

@@ -4,12 +4,9 @@ use Rattle.std.proofs.lemmas.List.{append-nil}
 use Rattle.mv_move_types.specs.Options.{◌>>=◌}
 use Rattle.mv_module_text.specs.Parsing.{Read, entries_from, counted_from, all_from}
 use Rattle.mv_uleb.specs.Parsing.{number_from}
-use Rattle.mv_binary_format.specs.ModuleText.{Table}
-use Rattle.mv_binary_format.specs.Parsing.{entries_of, content_of, is_of, without}
-use Rattle.mv_binary_format.proofs.Shorter.{Reads, bind_some}
-use Rattle.std.specs.List.{list_all}
+use Rattle.mv_binary_format.proofs.Binds.{bind_some}
 use Rattle.std.specs.Option.{is_some, option_map_or}
-use Rattle.std.proofs.lemmas.Bool.{and_from, false≢true}
+use Rattle.std.proofs.lemmas.Bool.{false≢true}
 use Rattle.std.proofs.lemmas.Option.{same_Some, none-some, some_pair_parts}
 
 -- what was read before, and what is still read
@@ -86,89 +83,54 @@ skipped-is_done each count i bytes total le so_far =
     let one : rest_of (entries_from each (count - i) bytes) ≡ Some bytes = rw k refl in
     sym so_far ∙ one
 
--- two ways that go on alike behind what is read
-same_behind : {A : Type 0} (r : Read A) (f g : List ℕ → Option (List A)) → ((x : A) (rest : List ℕ) → r ≡ Some (x, rest) → f rest ≡ g rest)
-    → (r >>= λ x. f x.1 >>= λ xs. Some (x.0 ∷ xs)) ≡ (r >>= λ x. g x.1 >>= λ xs. Some (x.0 ∷ xs))
-same_behind None f g same = refl
-same_behind {A} (Some x) f g same = ap (λ (o : Option (List A)). o >>= λ xs. Some (x.0 ∷ xs)) (same x.0 x.1 refl)
+-- no bytes, no entries, in however many turns
+none-left : {A : Type 0} (each : List ℕ → Read A) (turns : ℕ) → all_from each turns [] ≡ Some []
+none-left each zero = refl
+none-left each (suc turns) = refl
 
--- turns enough are enough
-pub all_from-enough : {A : Type 0} (each : List ℕ → Read A) (fits : A → Bool) → Reads each fits → (turns more : ℕ) (bytes : List ℕ) → length bytes ≤ turns → length bytes ≤ more
-    → all_from each turns bytes ≡ all_from each more bytes
-all_from-enough each fits good zero zero bytes le le' = refl
-all_from-enough each fits good zero (suc more) [] le le' = refl
-all_from-enough each fits good zero (suc more) (b ∷ bytes) le le' = absurd (omega arith)
-all_from-enough each fits good (suc turns) zero [] le le' = refl
-all_from-enough each fits good (suc turns) zero (b ∷ bytes) le le' = absurd (omega arith)
-all_from-enough each fits good (suc turns) (suc more) [] le le' = refl
-all_from-enough {A} each fits good (suc turns) (suc more) (b ∷ bytes) le le' =
-    same_behind (each (b ∷ bytes)) (all_from each turns) (all_from each more) (λ x rest e.
-    let s = good (b ∷ bytes) x rest e in
-    all_from-enough each fits good turns more rest (omega (arith, s.1)) (omega (arith, s.1)))
-
--- all entries of the bytes
-abbrev pub all_of : {A : Type 0} → (List ℕ → Read A) → List ℕ → Option (List A)
-all_of each bytes = all_from each (length bytes) bytes
-
--- one more entry
-pub all-goes_on : {A : Type 0} (each : List ℕ → Read A) (fits : A → Bool) → Reads each fits → (front : List A) (bytes : List ℕ) (x : A) (rest : List ℕ) (total : Option (List A)) → (bytes ≡ [] → ⊥) → each bytes ≡ Some (x, rest)
-    → with_before front (all_of each bytes) ≡ total → with_before (front ++ x ∷ []) (all_of each rest) ≡ total
-all-goes_on each fits good front [] x rest total some h so_far = absurd (some refl)
-all-goes_on each fits good front (b ∷ bytes) x rest total some h so_far =
-    let s = good (b ∷ bytes) x rest h in
-    let k : all_from each (length bytes) rest ≡ all_of each rest = all_from-enough each fits good (length bytes) (length rest) rest (omega (arith, s.1)) (omega arith) in
-    let one : with_before front (all_of each (b ∷ bytes)) ≡ with_before (front ++ x ∷ []) (all_of each rest) = rw (h, k) (regroup_all front x (all_of each rest)) in
-    sym one ∙ so_far
-
--- an entry that is not there
-pub all-stops : {A : Type 0} (each : List ℕ → Read A) (front : List A) (bytes : List ℕ) (total : Option (List A)) → (bytes ≡ [] → ⊥) → each bytes ≡ None
-    → with_before front (all_of each bytes) ≡ total → total ≡ None
-all-stops each front [] total some h so_far = absurd (some refl)
-all-stops each front (b ∷ bytes) total some h so_far =
-    let one : with_before front (all_of each (b ∷ bytes)) ≡ None = rw h refl in
-    sym so_far ∙ one
-
--- no bytes are left
-pub all-is_done : {A : Type 0} (each : List ℕ → Read A) (front : List A) (bytes : List ℕ) (total : Option (List A)) → bytes ≡ []
-    → with_before front (all_of each bytes) ≡ total → total ≡ Some front
-all-is_done {A} each front bytes total none so_far =
-    let one : with_before front (all_of each bytes) ≡ Some front = rw none (ap Some (append-nil front)) in
-    sym so_far ∙ one
-
--- all entries pass the test
-pub all_of-fits : {A : Type 0} (each : List ℕ → Read A) (fits : A → Bool) → Reads each fits → (turns : ℕ) (bytes : List ℕ) (xs : List A) → all_from each turns bytes ≡ Some xs → list_all fits xs ≡ true
-all_of-fits each fits good zero [] xs e = rw (sym (same_Some _ _ e)) refl
-all_of-fits each fits good (suc turns) [] xs e = rw (sym (same_Some _ _ e)) refl
-all_of-fits each fits good zero (b ∷ bytes) xs e = absurd (none-some xs e)
-all_of-fits each fits good (suc turns) (b ∷ bytes) xs e =
-    bind_some (each (b ∷ bytes)) _ xs e (λ x x_is e1.
-    bind_some (all_from each turns x.1) _ xs e1 (λ ys ys_is e2.
-    rw (sym (same_Some _ _ e2)) (and_from _ _ (good (b ∷ bytes) x.0 x.1 x_is).0 (all_of-fits each fits good turns x.1 ys ys_is))))
-
--- what was read of the entries from the start
-pub record AllReads {A : Type 0} (each : List ℕ → Read A) (start : List ℕ) (items : List A) (cur : List ℕ) : Type 0 where
-  pub goes : with_before items (all_of each cur) ≡ all_of each start
+-- what was read of all entries in the first i of n turns
+pub record AllReads {A : Type 0} (each : List ℕ → Read A) (n i : ℕ) (start : List ℕ) (items : List A) (cur : List ℕ) : Type 0 where
+  pub goes : with_before items (all_from each (n - i) cur) ≡ all_from each n start
 
 before-nil : {A : Type 0} (o : Option (List A)) → with_before [] o ≡ o
 before-nil None = refl
 before-nil (Some xs) = refl
 
 -- none are read yet
-pub AllReads-start : {A : Type 0} (each : List ℕ → Read A) (start : List ℕ) → AllReads each start [] start
-AllReads-start each start = record { goes = before-nil (all_of each start) }
+pub AllReads-start : {A : Type 0} (each : List ℕ → Read A) (n : ℕ) (start : List ℕ) → AllReads each n 0 start [] start
+AllReads-start each n start = let z : n - 0 ≡ n = omega arith in record { goes = rw z (before-nil (all_from each n start)) }
 
 -- one more is read
-pub AllReads-next : {A : Type 0} (each : List ℕ → Read A) (fits : A → Bool) → Reads each fits → (start : List ℕ) (items : List A) (cur : List ℕ) (x : A) (next : List ℕ) → (cur ≡ [] → ⊥) → each cur ≡ Some (x, next)
-    → AllReads each start items cur → AllReads each start (items ++ x ∷ []) next
-AllReads-next each fits good start items cur x next some e g = record { goes = all-goes_on each fits good items cur x next (all_of each start) some e g.goes }
+pub AllReads-next : {A : Type 0} (each : List ℕ → Read A) (n i : ℕ) (start : List ℕ) (items : List A) (cur : List ℕ) (x : A) (next : List ℕ)
+    → i < n → (cur ≡ [] → ⊥) → each cur ≡ Some (x, next) → AllReads each n i start items cur → AllReads each n (i + 1) start (items ++ x ∷ []) next
+AllReads-next each n i start items [] x next lt some e g = absurd (some refl)
+AllReads-next each n i start items (b ∷ bytes) x next lt some e g =
+    let k : n - i ≡ suc (n - (i + 1)) = omega arith in
+    let one : with_before items (all_from each (n - i) (b ∷ bytes)) ≡ with_before (items ++ x ∷ []) (all_from each (n - (i + 1)) next) = rw (k, e) (regroup_all items x (all_from each (n - (i + 1)) next)) in
+    record { goes = sym one ∙ g.goes }
 
 -- the next can't be read
-pub AllReads-stops : {A : Type 0} (each : List ℕ → Read A) (start : List ℕ) (items : List A) (cur : List ℕ) → (cur ≡ [] → ⊥) → each cur ≡ None → AllReads each start items cur → all_of each start ≡ None
-AllReads-stops each start items cur some e g = all-stops each items cur (all_of each start) some e g.goes
+pub AllReads-stops : {A : Type 0} (each : List ℕ → Read A) (n i : ℕ) (start : List ℕ) (items : List A) (cur : List ℕ) → i < n → (cur ≡ [] → ⊥) → each cur ≡ None → AllReads each n i start items cur → all_from each n start ≡ None
+AllReads-stops each n i start items [] lt some e g = absurd (some refl)
+AllReads-stops each n i start items (b ∷ bytes) lt some e g =
+    let k : n - i ≡ suc (n - (i + 1)) = omega arith in
+    let one : with_before items (all_from each (n - i) (b ∷ bytes)) ≡ None = rw (k, e) refl in
+    sym g.goes ∙ one
+
+-- no turns are left, and bytes are
+pub AllReads-over : {A : Type 0} (each : List ℕ → Read A) (n i : ℕ) (start : List ℕ) (items : List A) (cur : List ℕ) → n ≤ i → (cur ≡ [] → ⊥) → AllReads each n i start items cur → all_from each n start ≡ None
+AllReads-over each n i start items [] le some g = absurd (some refl)
+AllReads-over each n i start items (b ∷ bytes) le some g =
+    let k : n - i ≡ 0 = omega arith in
+    let one : with_before items (all_from each (n - i) (b ∷ bytes)) ≡ None = rw k refl in
+    sym g.goes ∙ one
 
 -- all are read
-pub AllReads-end : {A : Type 0} (each : List ℕ → Read A) (start : List ℕ) (items : List A) (cur : List ℕ) → cur ≡ [] → AllReads each start items cur → all_of each start ≡ Some items
-AllReads-end each start items cur none g = all-is_done each items cur (all_of each start) none g.goes
+pub AllReads-end : {A : Type 0} (each : List ℕ → Read A) (n i : ℕ) (start : List ℕ) (items : List A) (cur : List ℕ) → cur ≡ [] → AllReads each n i start items cur → all_from each n start ≡ Some items
+AllReads-end {A} each n i start items cur none g =
+    let left : all_from each (n - i) cur ≡ Some [] = ap (all_from each (n - i)) none ∙ none-left each (n - i) in
+    let one : with_before items (all_from each (n - i) cur) ≡ Some items = ap (with_before items) left ∙ ap Some (append-nil items) in
+    sym g.goes ∙ one
 
 front-nil : {A : Type 0} (o : Read (List A)) → with_front [] o ≡ o
 front-nil None = refl
@@ -246,11 +208,25 @@ of_read (Some x) n some h = h x.0 x.1 refl
 pub length-entries : {A : Type 0} (each : List ℕ → Read A) (n : ℕ) (bytes : List ℕ) → IsTrue (is_some (entries_from each n bytes)) → length (option_map_or (λ x. x.0) (entries_from each n bytes) []) ≡ n
 length-entries {A} each n bytes some = of_read (entries_from each n bytes) n some (λ xs rest e. (entries-counted each n bytes xs rest e))
 
-of_map : {A : Type 0} {P : List A → Type 0} (o : Option (List A)) (left : List Table) (xs : List A) (others : List Table) → option_map {U = List A × List Table} (λ ys. (ys, left)) o ≡ Some (xs, others) → ((ys : List A) → o ≡ Some ys → P ys) → P xs
-of_map None left xs others e k = absurd (none-some (xs, others) e)
-of_map {A} {P} (Some ys) left xs others e k = subst P (some_pair_parts ys xs left others e).0 (k ys refl)
+-- what was read of entries
+abbrev read_of : {A : Type 0} → Read (List A) → List A
+read_of r = option_map_or (λ x. x.0) r []
 
--- the entries of a table pass the test
-pub entries_of-fits : {A : Type 0} (kind : ℕ) (each : List ℕ → Read A) (fits : A → Bool) → Reads each fits → (tables : List Table) (xs : List A) (others : List Table) → entries_of kind each tables ≡ Some (xs, others) → list_all fits xs ≡ true
-unfolding entries_of
-entries_of-fits {A} kind each fits good tables xs others e = of_map {P = λ ys. list_all fits ys ≡ true} (all_of each (content_of kind tables)) (without (is_of kind) tables) xs others e (λ ys h. all_of-fits each fits good (length (content_of kind tables)) (content_of kind tables) ys h)
+-- one before what is read
+abbrev preceded : {A : Type 0} → A → Read (List A) → Read (List A)
+preceded x r = r >>= λ xs. Some (x ∷ xs.0, xs.1)
+
+first_of : {A : Type 0} (x : A) (r : Read (List A)) → IsTrue (is_some (preceded x r)) → (read_of (preceded x r) ≡ x ∷ read_of r) × IsTrue (is_some r)
+first_of x None some = absurd (false≢true some)
+first_of x (Some xs) some = (refl, refl)
+
+by_first : {A : Type 0} (each : List ℕ → Read A) (n : ℕ) (bytes : List ℕ) (x : A) (rest : List ℕ) → each bytes ≡ Some (x, rest) → entries_from each (suc n) bytes ≡ preceded x (entries_from each n rest)
+by_first each n bytes x rest e = rw e refl
+
+-- the first of so many, and the others
+pub entries-first : {A : Type 0} (each : List ℕ → Read A) (count n : ℕ) (bytes : List ℕ) (x : A) (rest : List ℕ) → count ≡ suc n → each bytes ≡ Some (x, rest) → IsTrue (is_some (entries_from each count bytes))
+    → (option_map_or (λ x. x.0) (entries_from each count bytes) [] ≡ x ∷ option_map_or (λ x. x.0) (entries_from each n rest) []) × IsTrue (is_some (entries_from each n rest))
+entries-first {A} each count n bytes x rest k e some =
+    let one : entries_from each count bytes ≡ preceded x (entries_from each n rest) = ap (λ z. entries_from each z bytes) k ∙ by_first each n bytes x rest e in
+    let s = first_of x (entries_from each n rest) (subst (λ (r : Read (List A)). IsTrue (is_some r)) one some) in
+    (ap read_of one ∙ s.0, s.1)

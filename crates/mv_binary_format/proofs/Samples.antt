@@ -11,14 +11,17 @@ one = replicate 15 0 ++ 1 ∷ []
 
 empty_module : Module
 empty_module = record {
+  version = 6;
   module_handles = record { address = 0; name = 0 } ∷ [];
   struct_handles = [];
   function_handles = [];
   signatures = [];
+  constants = [];
   identifiers = codes "M" ∷ [];
   addresses = 1 ∷ [];
   structs = [];
   functions = [];
+  field_handles = [];
   own = 0;
 }
 

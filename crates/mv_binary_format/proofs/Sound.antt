@@ -17,7 +17,7 @@ use Rattle.mv_module_text.specs.Fits.{is_byte}
 use Rattle.mv_binary_format.specs.ModuleText.{Table, Header, header_text, headers_from}
 use Rattle.mv_binary_format.specs.Parsing.{marks_from, kinds, header_from, without, begins_at, contents_from, is_of, content_of}
 use Rattle.mv_binary_format.proofs.Taken.{without-none}
-use Rattle.mv_binary_format.proofs.Shorter.{bind_some, then_some_parts}
+use Rattle.mv_binary_format.proofs.Binds.{bind_some, then_some_parts}
 use Rattle.mv_binary_format.proofs.Sums.{permutation-without, found-passes, found-in_all, others-in_all}
 
 -- bytes in two parts

@@ -5,9 +5,9 @@ use Rattle.mv_move_types.specs.declared.instruction.Instruction.{Instruction}
 use Rattle.mv_module_text.specs.Parsing.{entries_from, instruction_from}
 
 -- so many instructions stand at the front of the bytes
-abbrev pub HasInstructions : ℕ → List ℕ → Type 0
-HasInstructions count bytes = IsTrue (is_some (entries_from instruction_from count bytes))
+abbrev pub HasInstructions : ℕ → ℕ → List ℕ → Type 0
+HasInstructions version count bytes = IsTrue (is_some (entries_from (instruction_from version) count bytes))
 
 -- so many instructions at the front of the bytes
-abbrev pub instructions_of : ℕ → List ℕ → List Instruction
-instructions_of count bytes = option_map_or (λ x. x.0) (entries_from instruction_from count bytes) []
+abbrev pub instructions_of : ℕ → ℕ → List ℕ → List Instruction
+instructions_of version count bytes = option_map_or (λ x. x.0) (entries_from (instruction_from version) count bytes) []

@@ -1,6 +1,7 @@
 pub mod ModuleText
 pub mod Parsing
 pub mod Kinds
+pub mod Outcomes
 pub mod Tables
 pub mod Code
 pub mod Laws

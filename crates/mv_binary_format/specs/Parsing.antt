@@ -1,26 +1,33 @@
 -- The module that bytes are the text of.
-use Rattle.std.specs.Prelude.{ℕ, zero, suc, Bool, ◌+◌, ◌==◌, ◌&&◌, nat_lt, nat_le, cond, List, [], ◌∷◌, length, Option, Some, None, option_map, unwrap_or}
+use Rattle.std.specs.Prelude.{ℕ, zero, suc, Bool, ◌+◌, ◌==◌, ◌&&◌, ◌||◌, nat_lt, nat_le, cond, List, [], ◌∷◌, length, Option, Some, None, option_map, unwrap_or}
 use Rattle.std.specs.Bool.{then_some}
 use Rattle.std.specs.List.{find, list_any}
 use Rattle.std.specs.Option.{option_map_or}
 use Rattle.mv_uleb.specs.Parsing.{number_from}
 use Rattle.mv_move_types.specs.Options.{◌>>=◌}
 use Rattle.mv_move_types.specs.Module.{Module}
-use Rattle.mv_module_text.specs.Parsing.{Read, byte_from, mark_from, bytes_from, index_from, counted_from, all_from, module_handle_from, struct_handle_from, function_handle_from, signature_from, identifier_from, address_from, struct_definition_from, function_definition_from}
+use Rattle.mv_module_text.specs.Parsing.{Read, byte_from, mark_from, bytes_from, index_from, counted_from, all_from, module_handle_from, struct_handle_from, function_handle_from, signature_from, identifier_from, address_from, struct_definition_from, function_definition_from, constant_from, field_handle_from, number_of_from}
+use Rattle.mv_move_types.specs.declared.token.Width.TheVariants.{U32}
 use Rattle.mv_binary_format.specs.ModuleText.{Table, Header}
 
--- the bytes that each module begins with: the format's mark, and its version
-abbrev pub preamble : List ℕ
-preamble = 0xA1 ∷ 0x1C ∷ 0xEB ∷ 0x0B ∷ 5 ∷ 0 ∷ 0 ∷ 0 ∷ []
+-- the bytes that each module begins with: the format's mark
+abbrev pub magic : List ℕ
+magic = 0xA1 ∷ 0x1C ∷ 0xEB ∷ 0x0B ∷ []
 
--- what stands behind bytes that have to be these
+-- what stands after bytes that have to be these
 abbrev pub marks_from : List ℕ → List ℕ → Option (List ℕ)
 marks_from [] bytes = Some bytes
 marks_from (b ∷ marks) bytes = mark_from b bytes >>= marks_from marks
 
+-- a version that there is, in four bytes
+abbrev pub version_from : List ℕ → Read ℕ
+version_from bytes = do
+  version ← number_of_from U32 bytes
+  then_some ((version.0 == 5) || (version.0 == 6)) version
+
 -- the kinds of tables
 abbrev pub kinds : List ℕ
-kinds = 0x01 ∷ 0x02 ∷ 0x03 ∷ 0x05 ∷ 0x07 ∷ 0x08 ∷ 0x0A ∷ 0x0C ∷ []
+kinds = 0x01 ∷ 0x02 ∷ 0x03 ∷ 0x05 ∷ 0x06 ∷ 0x07 ∷ 0x08 ∷ 0x0A ∷ 0x0C ∷ 0x0D ∷ []
 
 -- a header: a kind that there is, an offset, and a length that is not 0
 unfoldable pub header_from : List ℕ → Read Header
@@ -64,49 +71,58 @@ unfoldable pub entries_of : {A : Type 0} → ℕ → (List ℕ → Read A) → L
 entries_of kind each tables =
     option_map (λ xs. (xs, without (is_of kind) tables)) (all_from each (length (content_of kind tables)) (content_of kind tables))
 
--- the module of these tables, where no kind stands twice
-unfoldable pub module_from : ℕ → List Table → Option Module
-module_from own tables = do
+-- the module of this version and these tables, where no kind stands twice
+unfoldable pub module_from : ℕ → ℕ → List Table → Option Module
+module_from version own tables = do
   module_handles ← entries_of 0x01 module_handle_from tables
   struct_handles ← entries_of 0x02 struct_handle_from module_handles.1
   function_handles ← entries_of 0x03 function_handle_from struct_handles.1
-  signatures ← entries_of 0x05 signature_from function_handles.1
-  identifiers ← entries_of 0x07 identifier_from signatures.1
+  signatures ← entries_of 0x05 (signature_from version) function_handles.1
+  constants ← entries_of 0x06 (constant_from version) signatures.1
+  identifiers ← entries_of 0x07 identifier_from constants.1
   addresses ← entries_of 0x08 address_from identifiers.1
-  structs ← entries_of 0x0A struct_definition_from addresses.1
-  functions ← entries_of 0x0C function_definition_from structs.1
-  then_some ((length functions.1 == 0) && nat_le (length functions.0) 256) (record {
+  structs ← entries_of 0x0A (struct_definition_from version) addresses.1
+  functions ← entries_of 0x0C (function_definition_from version) structs.1
+  field_handles ← entries_of 0x0D field_handle_from functions.1
+  then_some ((length field_handles.1 == 0) && nat_le (length functions.0) 256) (record {
+    version = version;
     module_handles = module_handles.0;
     struct_handles = struct_handles.0;
     function_handles = function_handles.0;
     signatures = signatures.0;
+    constants = constants.0;
     identifiers = identifiers.0;
     addresses = addresses.0;
     structs = structs.0;
     functions = functions.0;
+    field_handles = field_handles.0;
     own = own;
   })
 
 -- the module that the bytes spell, if they spell one
 unfoldable pub module_of : List ℕ → Option Module
 module_of bytes = do
-  rest ← marks_from preamble bytes
-  headers ← counted_from 8 header_from rest
+  rest ← marks_from magic bytes
+  version ← version_from rest
+  headers ← counted_from 10 header_from version.1
   contents ← contents_from (length headers.0) 0 headers.0 headers.1
   own ← index_from contents.1
-  cond (length own.1 == 0) (module_from own.0 contents.0) None
+  cond (length own.1 == 0) (module_from version.0 own.0 contents.0) None
 
 -- a module without tables
 abbrev pub no_tables : Module
 no_tables = record {
+  version = 5;
   module_handles = [];
   struct_handles = [];
   function_handles = [];
   signatures = [];
+  constants = [];
   identifiers = [];
   addresses = [];
   structs = [];
   functions = [];
+  field_handles = [];
   own = 0;
 }
 

@@ -1,10 +1,10 @@
 -- What has been written of a module's tables.
 use Rattle.std.specs.Prelude.{◌≡◌, ℕ, List, [], ◌∷◌, map, length, flat_map, filter, nat_lt}
-use Rattle.mv_binary_format.specs.declared.written.WrittenHeader.{WrittenHeader}
+use Rattle.mv_binary_format.specs.declared.layout.WrittenHeader.{WrittenHeader}
 use Rattle.mv_binary_format.specs.Kinds.{table_code}
 use Rattle.mv_binary_format.specs.ModuleText.{Table, Header, headers_from, table}
 use Rattle.mv_move_types.specs.Module.{Module}
-use Rattle.mv_module_text.specs.Entries.{module_handle_text, struct_handle_text, function_handle_text, signature_text, identifier_text, address_text, struct_definition_text, function_definition_text}
+use Rattle.mv_module_text.specs.Entries.{module_handle_text, struct_handle_text, function_handle_text, signature_text, constant_text, identifier_text, address_text, struct_definition_text, function_definition_text, field_handle_text}
 
 -- a header to write
 abbrev pub written_header : WrittenHeader → Header
@@ -30,8 +30,10 @@ all_tables m =
     ∷ table 0x02 struct_handle_text m.struct_handles
     ∷ table 0x03 function_handle_text m.function_handles
     ∷ table 0x05 signature_text m.signatures
+    ∷ table 0x06 constant_text m.constants
     ∷ table 0x07 identifier_text m.identifiers
     ∷ table 0x08 address_text m.addresses
     ∷ table 0x0A struct_definition_text m.structs
     ∷ table 0x0C function_definition_text m.functions
+    ∷ table 0x0D field_handle_text m.field_handles
     ∷ []

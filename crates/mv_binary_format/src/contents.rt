@@ -1,14 +1,16 @@
 // The contents of a module's tables, as they stand in its bytes.
 
-ghost use Rattle.std.specs.Prelude.{◌≡◌, ◌≤◌, ◌==◌, ℕ, List, Some, None, Ok, Err, IfOk, IfErr, position, length, ◌⊎◌};
-ghost use Rattle.std.specs.List.{find};
-ghost use Rattle.mv_binary_format.specs.Parsing.{contents_from, without, is_of, content_of};
+ghost use Rattle.std.specs.Prelude.{◌≡◌, ◌==◌, position, length};
+ghost use Rattle.mv_move_types.specs.Versions.{version_number};
+ghost use Rattle.mv_binary_format.specs.Parsing.{contents_from, without, is_of, content_of, entries_of};
 ghost use Rattle.mv_binary_format.specs.Kinds.{table_code, headers_of};
 ghost use Rattle.mv_binary_format.specs.Tables.{tables_of};
+ghost use Rattle.mv_binary_format.specs.Outcomes.{Takes};
 
+use super::entries::Entry;
 use super::headers::{Header, TableKind, take_header};
 use mv_module_text::Reader;
-use mv_move_types::Refusal;
+use mv_move_types::{Refusal, Version};
 use std::alloc::Global;
 
 // The most bytes that the contents have.
@@ -27,9 +29,7 @@ pub fn read_contents<'a>(
     mut headers: Vec<Header>,
     reader: &mut Reader<'a>,
 ) -> Result<Vec<Table<'a>>, Refusal>
-    ensures ok { IfOk result (λ v. contents_from (length (headers_of headers.items)) 0 (headers_of headers.items) reader.old ≡ Some (tables_of v.items, reader.new)) }
-    ensures refused { result ≡ Err (Refusal.Phase 2) → contents_from (length (headers_of headers.items)) 0 (headers_of headers.items) reader.old ≡ None }
-    ensures errors { IfErr result (λ e. (e ≡ Refusal.Phase 2) ⊎ (e ≡ Refusal.Memory)) }
+    ensures { Takes (λ v. tables_of v.items) (contents_from (length (headers_of headers.items)) 0 (headers_of headers.items)) reader.old result reader.new }
 {
     let mut tables = Vec::with_capacity(alloc, headers.len())?;
     let mut end = 0;
@@ -58,7 +58,7 @@ fn place_of(tables: &[Table<'_>], kind: TableKind) -> Option<usize>
 }
 
 // Takes the table of this kind out, and answers its content, which is empty where there is no such table.
-pub fn take_content<'a>(tables: &mut Vec<Table<'a>>, kind: TableKind) -> &'a [u8]
+fn take_content<'a>(tables: &mut Vec<Table<'a>>, kind: TableKind) -> &'a [u8]
     ensures content { result.now ≡ content_of (table_code kind) (tables_of tables.old.items) }
     ensures others { tables_of tables.new.items ≡ without (is_of (table_code kind)) (tables_of tables.old.items) }
 {
@@ -69,4 +69,33 @@ pub fn take_content<'a>(tables: &mut Vec<Table<'a>>, kind: TableKind) -> &'a [u8
         }
         None => &[],
     }
+}
+
+// Takes the table of this kind out and reads its entries, which fill it. Each has a byte at least, so there are no more
+// of them than bytes.
+#[tactic(auto, unfolding(crate::specs::Parsing::entries_of))]
+pub fn read_entries<'a, E: Entry<'a>>(
+    alloc: Global,
+    version: Version,
+    kind: TableKind,
+    tables: &mut Vec<Table<'a>>,
+) -> Result<Vec<E>, Refusal>
+    ensures { Takes (λ v. v.items) (entries_of (table_code kind) (E.from (version_number version))) (tables_of tables.old.items) result (tables_of tables.new.items) }
+{
+    let content = take_content(tables, kind);
+    let mut reader = Reader::new(content);
+    let mut entries = Vec::new(alloc);
+    'reading: for _ in 0..content.len() {
+        if reader.is_empty() {
+            break;
+        }
+        let entry = E::read(alloc, version, &mut reader)?;
+        if entries.push(entry).is_err() {
+            return Err(Refusal::Memory);
+        }
+    }
+    if !reader.is_empty() {
+        return Err(Refusal::Phase(2));
+    }
+    Ok(entries)
 }

@@ -1,11 +1,13 @@
 // Instructions one by one.
-ghost use Rattle.std.specs.Prelude.{◌≡◌, length, Some, None, Ok, Err, IfOk, IfErr};
+ghost use Rattle.std.specs.Prelude.{◌≡◌, length, IfOk};
 ghost use Rattle.std.specs.Iterator.{YieldsFirst, item_count};
+ghost use Rattle.mv_move_types.specs.Versions.{version_number};
 ghost use Rattle.mv_module_text.specs.Parsing.{counted_from, instruction_from};
 ghost use Rattle.mv_binary_format.specs.Code.{instructions_of, HasInstructions};
+ghost use Rattle.mv_binary_format.specs.Outcomes.{Takes};
 
 use mv_module_text::Reader;
-use mv_move_types::{Instruction, Refusal};
+use mv_move_types::{Instruction, Refusal, Version};
 use std::marker::Model;
 
 // The most instructions that a function has.
@@ -15,6 +17,7 @@ const MOST_INSTRUCTIONS: u64 = 4096;
 /// model is their list.
 #[derive(Drop)]
 pub struct Cursor<'a> {
+    version: Version,
     left: &'a [u8],
     count: u16,
 }
@@ -22,22 +25,27 @@ pub struct Cursor<'a> {
 impl<'a> Model for Cursor<'a> {
     ghost use Rattle.std.specs.Prelude.{List};
     ghost use Rattle.mv_move_types.specs.declared.instruction.Instruction.{Instruction as Operation};
+    ghost use Rattle.mv_move_types.specs.Versions.{version_number};
     ghost use Rattle.mv_binary_format.specs.Code.{instructions_of, HasInstructions};
 
     ghost Value = { List Operation };
 
-    ghost view = { λ c. instructions_of c.count c.left.now };
+    ghost view = { λ c. instructions_of (version_number c.version) c.count c.left.now };
 
-    ghost invariant = { λ c. HasInstructions c.count c.left.now };
+    ghost invariant = { λ c. HasInstructions (version_number c.version) c.count c.left.now };
 }
 
 impl<'a> Cursor<'a> {
-    // So many instructions, which stand at the front of the bytes.
-    pub(crate) fn new(left: &'a [u8], count: u16) -> Self
-        requires { HasInstructions count left.now }
-        ensures { result ≡ instructions_of count left.entry.now }
+    // So many instructions of this version, which stand at the front of the bytes.
+    pub(crate) fn new(version: Version, left: &'a [u8], count: u16) -> Self
+        requires { HasInstructions (version_number version) count left.now }
+        ensures { result ≡ instructions_of (version_number version) count left.entry.now }
     {
-        Cursor { left, count }
+        Cursor {
+            version,
+            left,
+            count,
+        }
     }
 
     /// How many instructions are to come.
@@ -60,33 +68,35 @@ impl<'a> Iterator for Cursor<'a> {
             return None;
         }
         let mut reader = Reader::new(self.left);
-        let instruction = reader.instruction().ok()?;
+        let Ok(instruction) = reader.instruction(self.version) else {
+            return None;
+        };
         self.left = reader.rest();
         self.count -= 1;
         Some(instruction)
     }
 }
 
-// Where a function's instructions stand in the module's bytes, and how many there are.
+// Where a function's instructions stand in the module's bytes, how many there are, and their version.
 #[derive(Clone, Copy)]
 pub struct Code<'a> {
+    pub version: Version,
     pub bytes: &'a [u8],
     pub count: u16,
 }
 
-// Reads instructions behind their number, of which it keeps where they stand.
-pub fn read_code<'a>(reader: &mut Reader<'a>) -> Result<Code<'a>, Refusal>
-    ensures ok { IfOk result (λ c. counted_from 4096 instruction_from reader.old ≡ Some (instructions_of c.count c.bytes.now, reader.new)) }
-    ensures stands { IfOk result (λ c. HasInstructions c.count c.bytes.now) }
-    ensures refused { result ≡ Err (Refusal.Phase 2) → counted_from 4096 instruction_from reader.old ≡ None }
-    ensures errors { IfErr result (λ e. e ≡ Refusal.Phase 2) }
+// Reads instructions after their number, of which it keeps where they stand.
+pub fn read_code<'a>(version: Version, reader: &mut Reader<'a>) -> Result<Code<'a>, Refusal>
+    ensures reads { Takes (λ c. instructions_of (version_number c.version) c.count c.bytes.now) (counted_from 4096 (instruction_from (version_number version))) reader.old result reader.new }
+    ensures stands { IfOk result (λ c. HasInstructions (version_number c.version) c.count c.bytes.now) }
 {
     let count = reader.number(MOST_INSTRUCTIONS)?;
     let bytes = reader.rest();
     'reading: for _ in 0..count {
-        let _ = reader.instruction()?;
+        let _ = reader.instruction(version)?;
     }
     Ok(Code {
+        version,
         bytes,
         count: count as u16,
     })

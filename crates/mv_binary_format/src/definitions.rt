@@ -1,12 +1,14 @@
 // Structs and functions as a module defines them.
-ghost use Rattle.std.specs.Prelude.{◌≡◌, ℕ, List, Some, None, Ok, Err, IfOk, IfErr, ◌⊎◌};
+ghost use Rattle.std.specs.Prelude.{◌≡◌, IfOk};
 ghost use Rattle.mv_module_text.specs.Parsing.{struct_definition_from, function_definition_from};
+ghost use Rattle.mv_module_text.specs.Entries.{struct_definition_text, function_definition_text};
 
 use super::Cursor;
 use super::cursor::{Code, read_code};
-use mv_module_text::Reader;
-use mv_move_types::{Field, Refusal, Visibility};
-use std::alloc::Global;
+use super::entries::Entry;
+use mv_module_text::{FunctionParts, Reader, write_function_definition, write_struct_definition};
+use mv_move_types::{Field, Instruction, Refusal, Version, Visibility};
+use std::alloc::{AllocError, Global};
 use std::marker::Model;
 
 /// A struct that a module defines: its handle, and its fields in order.
@@ -25,18 +27,6 @@ impl Model for StructDefinition {
 }
 
 impl StructDefinition {
-    // Reads its handle, the byte of declared fields, and its fields.
-    pub(crate) fn read(alloc: Global, reader: &mut Reader<'_>) -> Result<Self, Refusal>
-        ensures ok { IfOk result (λ d. struct_definition_from reader.old ≡ Some (d, reader.new)) }
-        ensures refused { result ≡ Err (Refusal.Phase 2) → struct_definition_from reader.old ≡ None }
-        ensures errors { IfErr result (λ e. (e ≡ Refusal.Phase 2) ⊎ (e ≡ Refusal.Memory)) }
-    {
-        let handle = reader.index()?;
-        reader.mark(2)?;
-        let fields = reader.fields(alloc)?;
-        Ok(StructDefinition { handle, fields })
-    }
-
     /// The index of its handle.
     pub fn handle(&self) -> u16
         ensures { result ≡ self.now.handle }
@@ -49,6 +39,24 @@ impl StructDefinition {
         ensures { result.now ≡ self.now.fields }
     {
         &self.fields
+    }
+}
+
+impl<'a> Entry<'a> for StructDefinition {
+    ghost from = { struct_definition_from };
+
+    ghost text = { struct_definition_text };
+
+    // Reads its handle, the byte of declared fields, and its fields.
+    fn read(alloc: Global, version: Version, reader: &mut Reader<'a>) -> Result<Self, Refusal> {
+        let handle = reader.index()?;
+        reader.mark(2)?;
+        let fields = reader.fields(alloc, version)?;
+        Ok(StructDefinition { handle, fields })
+    }
+
+    fn write(&self, _alloc: Global, out: &mut Vec<u8>) -> Result<(), AllocError> {
+        write_struct_definition(self.handle, &self.fields, out)
     }
 }
 
@@ -65,6 +73,7 @@ pub struct FunctionDefinition<'a> {
 
 impl<'a> Model for FunctionDefinition<'a> {
     ghost use Rattle.mv_move_types.specs.Module.{FunctionDefinition as FunctionTable};
+    ghost use Rattle.mv_move_types.specs.Versions.{version_number};
     ghost use Rattle.mv_binary_format.specs.Code.{instructions_of, HasInstructions};
 
     ghost Value = { FunctionTable };
@@ -75,35 +84,13 @@ impl<'a> Model for FunctionDefinition<'a> {
       is_entry = d.is_entry;
       acquires = d.acquires.items;
       locals = d.locals;
-      code = instructions_of d.code.count d.code.bytes.now;
+      code = instructions_of (version_number d.code.version) d.code.count d.code.bytes.now;
     } };
 
-    ghost invariant = { λ d. HasInstructions d.code.count d.code.bytes.now };
+    ghost invariant = { λ d. HasInstructions (version_number d.code.version) d.code.count d.code.bytes.now };
 }
 
 impl<'a> FunctionDefinition<'a> {
-    // Reads its handle, its visibility, its flags, its acquires list, its further locals and its code.
-    pub(crate) fn read(alloc: Global, reader: &mut Reader<'a>) -> Result<Self, Refusal>
-        ensures ok { IfOk result (λ d. function_definition_from reader.old ≡ Some (d, reader.new)) }
-        ensures refused { result ≡ Err (Refusal.Phase 2) → function_definition_from reader.old ≡ None }
-        ensures errors { IfErr result (λ e. (e ≡ Refusal.Phase 2) ⊎ (e ≡ Refusal.Memory)) }
-    {
-        let handle = reader.index()?;
-        let visibility = reader.visibility()?;
-        let is_entry = reader.flags()?;
-        let acquires = reader.indices(alloc)?;
-        let locals = reader.index()?;
-        let code = read_code(reader)?;
-        Ok(FunctionDefinition {
-            handle,
-            visibility,
-            is_entry,
-            acquires,
-            locals,
-            code,
-        })
-    }
-
     /// The index of its handle.
     pub fn handle(&self) -> u16
         ensures { result ≡ self.now.handle }
@@ -143,6 +130,50 @@ impl<'a> FunctionDefinition<'a> {
     pub fn code(&self) -> Cursor<'a>
         ensures { result ≡ self.now.code }
     {
-        Cursor::new(self.code.bytes, self.code.count)
+        Cursor::new(self.code.version, self.code.bytes, self.code.count)
+    }
+}
+
+// The instructions that are to come.
+fn instructions(alloc: Global, code: Cursor<'_>) -> Result<Vec<Instruction>, AllocError>
+    ensures { IfOk result (λ v. v.items ≡ code.entry) }
+{
+    code.collect(alloc)
+}
+
+impl<'a> Entry<'a> for FunctionDefinition<'a> {
+    ghost from = { function_definition_from };
+
+    ghost text = { function_definition_text };
+
+    // Reads its handle, its visibility, its flags, its acquires list, its further locals and its code.
+    fn read(alloc: Global, version: Version, reader: &mut Reader<'a>) -> Result<Self, Refusal> {
+        let handle = reader.index()?;
+        let visibility = reader.visibility()?;
+        let is_entry = reader.flags()?;
+        let acquires = reader.indices(alloc)?;
+        let locals = reader.index()?;
+        let code = read_code(version, reader)?;
+        Ok(FunctionDefinition {
+            handle,
+            visibility,
+            is_entry,
+            acquires,
+            locals,
+            code,
+        })
+    }
+
+    fn write(&self, alloc: Global, out: &mut Vec<u8>) -> Result<(), AllocError> {
+        let code = instructions(alloc, self.code())?;
+        let parts = FunctionParts {
+            handle: self.handle(),
+            visibility: self.visibility(),
+            is_entry: self.is_entry(),
+            acquires: self.acquires(),
+            locals: self.locals(),
+            code: &code,
+        };
+        write_function_definition(parts, out)
     }
 }

@@ -1,159 +1,114 @@
-// The entries of each of a module's tables.
+// What stands in a module's tables: how each entry is read, and how it is written.
 
-ghost use Rattle.std.specs.Prelude.{◌≡◌, List, Some, None, Ok, Err, IfOk, IfErr, map, length, ◌⊎◌};
-ghost use Rattle.mv_module_text.specs.Parsing.{module_handle_from, struct_handle_from, function_handle_from, signature_from, identifier_from, address_from, struct_definition_from, function_definition_from};
-ghost use Rattle.mv_binary_format.specs.Parsing.{entries_of};
-ghost use Rattle.mv_binary_format.specs.Tables.{tables_of};
+ghost use Rattle.std.specs.Prelude.{ℕ, List};
+ghost use Rattle.mv_move_types.specs.Versions.{version_number};
+ghost use Rattle.mv_module_text.specs.Parsing.{Read, module_handle_from, struct_handle_from, function_handle_from, constant_from, address_from, field_handle_from};
+ghost use Rattle.mv_module_text.specs.Entries.{module_handle_text, struct_handle_text, function_handle_text, constant_text, address_text, field_handle_text};
+ghost use Rattle.mv_module_text.specs.Writes.{Writes};
+ghost use Rattle.mv_binary_format.specs.Outcomes.{Takes};
 
-use super::contents::{Table, take_content};
-use super::headers::TableKind;
-use super::{FunctionDefinition, StructDefinition};
-use mv_module_text::Reader;
-use mv_move_types::{FunctionHandle, ModuleHandle, Refusal, StructHandle, Token};
-use std::alloc::Global;
+use mv_module_text::{
+    Constant, Reader, write_address, write_constant, write_field_handle, write_function_handle,
+    write_module_handle, write_struct_handle,
+};
+use mv_move_types::{FieldHandle, FunctionHandle, ModuleHandle, Refusal, StructHandle, Version};
+use std::alloc::{AllocError, Global};
 
-// The modules that it names.
-#[tactic(auto, unfolding(crate::specs::Parsing::entries_of))]
-pub fn module_handles<'a>(
-    alloc: Global,
-    tables: &mut Vec<Table<'a>>,
-) -> Result<Vec<ModuleHandle>, Refusal>
-    ensures ok { IfOk result (λ v. entries_of 0x01 module_handle_from (tables_of tables.old.items) ≡ Some (v.items, tables_of tables.new.items)) }
-    ensures refused { result ≡ Err (Refusal.Phase 2) → entries_of 0x01 module_handle_from (tables_of tables.old.items) ≡ None }
-    ensures errors { IfErr result (λ e. (e ≡ Refusal.Phase 2) ⊎ (e ≡ Refusal.Memory)) }
-{
-    let mut reader = Reader::new(take_content(tables, TableKind::ModuleHandles));
-    let mut entries = Vec::new(alloc);
-    'reading: while !reader.is_empty() {
-        let entry = reader.module_handle()?;
-        entries.push(entry).map_err(|_| Refusal::Memory)?;
-    }
-    Ok(entries)
+// An entry of a table: what it is read by, and its text.
+pub trait Entry<'a>: Drop {
+    ghost from: { ℕ → List ℕ → Read Self };
+
+    ghost text: { Self → List ℕ };
+
+    // Reads an entry, as the version has it.
+    fn read(alloc: Global, version: Version, reader: &mut Reader<'a>) -> Result<Self, Refusal>
+        ensures { Takes (λ x. x) (from (version_number version)) reader.old result reader.new };
+
+    // Writes the entry.
+    fn write(&self, alloc: Global, out: &mut Vec<u8>) -> Result<(), AllocError>
+        ensures { Writes (text self.now) out.old.items result out.new.items };
 }
 
-// The structs that it names.
-#[tactic(auto, unfolding(crate::specs::Parsing::entries_of))]
-pub fn struct_handles<'a>(
-    alloc: Global,
-    tables: &mut Vec<Table<'a>>,
-) -> Result<Vec<StructHandle>, Refusal>
-    ensures ok { IfOk result (λ v. entries_of 0x02 struct_handle_from (tables_of tables.old.items) ≡ Some (v.items, tables_of tables.new.items)) }
-    ensures refused { result ≡ Err (Refusal.Phase 2) → entries_of 0x02 struct_handle_from (tables_of tables.old.items) ≡ None }
-    ensures errors { IfErr result (λ e. (e ≡ Refusal.Phase 2) ⊎ (e ≡ Refusal.Memory)) }
-{
-    let mut reader = Reader::new(take_content(tables, TableKind::StructHandles));
-    let mut entries = Vec::new(alloc);
-    'reading: while !reader.is_empty() {
-        let entry = reader.struct_handle()?;
-        entries.push(entry).map_err(|_| Refusal::Memory)?;
+impl<'a> Entry<'a> for ModuleHandle {
+    ghost from = { λ version. module_handle_from };
+
+    ghost text = { module_handle_text };
+
+    fn read(_alloc: Global, _version: Version, reader: &mut Reader<'a>) -> Result<Self, Refusal> {
+        reader.module_handle()
     }
-    Ok(entries)
+
+    fn write(&self, _alloc: Global, out: &mut Vec<u8>) -> Result<(), AllocError> {
+        write_module_handle(*self, out)
+    }
 }
 
-// The functions that it names.
-#[tactic(auto, unfolding(crate::specs::Parsing::entries_of))]
-pub fn function_handles<'a>(
-    alloc: Global,
-    tables: &mut Vec<Table<'a>>,
-) -> Result<Vec<FunctionHandle>, Refusal>
-    ensures ok { IfOk result (λ v. entries_of 0x03 function_handle_from (tables_of tables.old.items) ≡ Some (v.items, tables_of tables.new.items)) }
-    ensures refused { result ≡ Err (Refusal.Phase 2) → entries_of 0x03 function_handle_from (tables_of tables.old.items) ≡ None }
-    ensures errors { IfErr result (λ e. (e ≡ Refusal.Phase 2) ⊎ (e ≡ Refusal.Memory)) }
-{
-    let mut reader = Reader::new(take_content(tables, TableKind::FunctionHandles));
-    let mut entries = Vec::new(alloc);
-    'reading: while !reader.is_empty() {
-        let entry = reader.function_handle()?;
-        entries.push(entry).map_err(|_| Refusal::Memory)?;
+impl<'a> Entry<'a> for StructHandle {
+    ghost from = { λ version. struct_handle_from };
+
+    ghost text = { struct_handle_text };
+
+    fn read(_alloc: Global, _version: Version, reader: &mut Reader<'a>) -> Result<Self, Refusal> {
+        reader.struct_handle()
     }
-    Ok(entries)
+
+    fn write(&self, _alloc: Global, out: &mut Vec<u8>) -> Result<(), AllocError> {
+        write_struct_handle(*self, out)
+    }
 }
 
-// Its signatures.
-#[tactic(auto, unfolding(crate::specs::Parsing::entries_of))]
-pub fn signatures<'a>(
-    alloc: Global,
-    tables: &mut Vec<Table<'a>>,
-) -> Result<Vec<Vec<Token>>, Refusal>
-    ensures ok { IfOk result (λ v. entries_of 0x05 signature_from (tables_of tables.old.items) ≡ Some (map (λ s. s.items) v.items, tables_of tables.new.items)) }
-    ensures refused { result ≡ Err (Refusal.Phase 2) → entries_of 0x05 signature_from (tables_of tables.old.items) ≡ None }
-    ensures errors { IfErr result (λ e. (e ≡ Refusal.Phase 2) ⊎ (e ≡ Refusal.Memory)) }
-{
-    let mut reader = Reader::new(take_content(tables, TableKind::Signatures));
-    let mut entries = Vec::new(alloc);
-    'reading: while !reader.is_empty() {
-        let entry = reader.signature(alloc)?;
-        entries.push(entry).map_err(|_| Refusal::Memory)?;
+impl<'a> Entry<'a> for FunctionHandle {
+    ghost from = { λ version. function_handle_from };
+
+    ghost text = { function_handle_text };
+
+    fn read(_alloc: Global, _version: Version, reader: &mut Reader<'a>) -> Result<Self, Refusal> {
+        reader.function_handle()
     }
-    Ok(entries)
+
+    fn write(&self, _alloc: Global, out: &mut Vec<u8>) -> Result<(), AllocError> {
+        write_function_handle(*self, out)
+    }
 }
 
-// Its identifiers.
-#[tactic(auto, unfolding(crate::specs::Parsing::entries_of))]
-pub fn identifiers<'a>(alloc: Global, tables: &mut Vec<Table<'a>>) -> Result<Vec<&'a [u8]>, Refusal>
-    ensures ok { IfOk result (λ v. entries_of 0x07 identifier_from (tables_of tables.old.items) ≡ Some (map (λ name. name.now) v.items, tables_of tables.new.items)) }
-    ensures refused { result ≡ Err (Refusal.Phase 2) → entries_of 0x07 identifier_from (tables_of tables.old.items) ≡ None }
-    ensures errors { IfErr result (λ e. (e ≡ Refusal.Phase 2) ⊎ (e ≡ Refusal.Memory)) }
-{
-    let mut reader = Reader::new(take_content(tables, TableKind::Identifiers));
-    let mut entries = Vec::new(alloc);
-    'reading: while !reader.is_empty() {
-        let entry = reader.identifier()?;
-        entries.push(entry).map_err(|_| Refusal::Memory)?;
+impl<'a> Entry<'a> for Constant<'a> {
+    ghost from = { constant_from };
+
+    ghost text = { constant_text };
+
+    fn read(_alloc: Global, version: Version, reader: &mut Reader<'a>) -> Result<Self, Refusal> {
+        reader.constant(version)
     }
-    Ok(entries)
+
+    fn write(&self, _alloc: Global, out: &mut Vec<u8>) -> Result<(), AllocError> {
+        write_constant(self.token(), self.bytes(), out)
+    }
 }
 
-// The addresses that it names.
-#[tactic(auto, unfolding(crate::specs::Parsing::entries_of))]
-pub fn addresses<'a>(alloc: Global, tables: &mut Vec<Table<'a>>) -> Result<Vec<u128>, Refusal>
-    ensures ok { IfOk result (λ v. entries_of 0x08 address_from (tables_of tables.old.items) ≡ Some (v.items, tables_of tables.new.items)) }
-    ensures refused { result ≡ Err (Refusal.Phase 2) → entries_of 0x08 address_from (tables_of tables.old.items) ≡ None }
-    ensures errors { IfErr result (λ e. (e ≡ Refusal.Phase 2) ⊎ (e ≡ Refusal.Memory)) }
-{
-    let mut reader = Reader::new(take_content(tables, TableKind::Addresses));
-    let mut entries = Vec::new(alloc);
-    'reading: while !reader.is_empty() {
-        let entry = reader.address()?;
-        entries.push(entry).map_err(|_| Refusal::Memory)?;
+impl<'a> Entry<'a> for u128 {
+    ghost from = { λ version. address_from };
+
+    ghost text = { address_text };
+
+    fn read(_alloc: Global, _version: Version, reader: &mut Reader<'a>) -> Result<Self, Refusal> {
+        reader.address()
     }
-    Ok(entries)
+
+    fn write(&self, _alloc: Global, out: &mut Vec<u8>) -> Result<(), AllocError> {
+        write_address(*self, out)
+    }
 }
 
-// The structs that it defines.
-#[tactic(auto, unfolding(crate::specs::Parsing::entries_of))]
-pub fn structs<'a>(
-    alloc: Global,
-    tables: &mut Vec<Table<'a>>,
-) -> Result<Vec<StructDefinition>, Refusal>
-    ensures ok { IfOk result (λ v. entries_of 0x0A struct_definition_from (tables_of tables.old.items) ≡ Some (v.items, tables_of tables.new.items)) }
-    ensures refused { result ≡ Err (Refusal.Phase 2) → entries_of 0x0A struct_definition_from (tables_of tables.old.items) ≡ None }
-    ensures errors { IfErr result (λ e. (e ≡ Refusal.Phase 2) ⊎ (e ≡ Refusal.Memory)) }
-{
-    let mut reader = Reader::new(take_content(tables, TableKind::Structs));
-    let mut entries = Vec::new(alloc);
-    'reading: while !reader.is_empty() {
-        let entry = StructDefinition::read(alloc, &mut reader)?;
-        entries.push(entry).map_err(|_| Refusal::Memory)?;
-    }
-    Ok(entries)
-}
+impl<'a> Entry<'a> for FieldHandle {
+    ghost from = { λ version. field_handle_from };
 
-// The functions that it defines.
-#[tactic(auto, unfolding(crate::specs::Parsing::entries_of))]
-pub fn functions<'a>(
-    alloc: Global,
-    tables: &mut Vec<Table<'a>>,
-) -> Result<Vec<FunctionDefinition<'a>>, Refusal>
-    ensures ok { IfOk result (λ v. entries_of 0x0C function_definition_from (tables_of tables.old.items) ≡ Some (v.items, tables_of tables.new.items)) }
-    ensures refused { result ≡ Err (Refusal.Phase 2) → entries_of 0x0C function_definition_from (tables_of tables.old.items) ≡ None }
-    ensures errors { IfErr result (λ e. (e ≡ Refusal.Phase 2) ⊎ (e ≡ Refusal.Memory)) }
-{
-    let mut reader = Reader::new(take_content(tables, TableKind::Functions));
-    let mut entries = Vec::new(alloc);
-    'reading: while !reader.is_empty() {
-        let entry = FunctionDefinition::read(alloc, &mut reader)?;
-        entries.push(entry).map_err(|_| Refusal::Memory)?;
+    ghost text = { field_handle_text };
+
+    fn read(_alloc: Global, _version: Version, reader: &mut Reader<'a>) -> Result<Self, Refusal> {
+        reader.field_handle()
     }
-    Ok(entries)
+
+    fn write(&self, _alloc: Global, out: &mut Vec<u8>) -> Result<(), AllocError> {
+        write_field_handle(*self, out)
+    }
 }

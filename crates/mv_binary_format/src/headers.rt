@@ -1,18 +1,21 @@
-// The headers of a module's tables.
+// The front of a module: the format's mark, its version, and the headers of its tables.
 
-ghost use Rattle.std.specs.Prelude.{◌≡◌, ◌==◌, ℕ, List, Some, None, Ok, Err, IfOk, IfErr, OnOk, OnSome, position, map, option_map, length, ◌⊎◌};
+ghost use Rattle.std.specs.Prelude.{◌≡◌, ◌==◌, OnSome, position, option_map};
 ghost use Rattle.std.specs.Bool.{then_some};
 ghost use Rattle.std.specs.List.{find, list_any};
+ghost use Rattle.mv_move_types.specs.Versions.{version_number};
 ghost use Rattle.mv_module_text.specs.Parsing.{counted_from};
-ghost use Rattle.mv_binary_format.specs.Parsing.{kinds, header_from, without, begins_at, marks_from, preamble};
+ghost use Rattle.mv_module_text.specs.Reads.{ReadsAs, Marks};
+ghost use Rattle.mv_binary_format.specs.Parsing.{kinds, header_from, without, begins_at, marks_from, magic, version_from};
 ghost use Rattle.mv_binary_format.specs.Kinds.{table_code, header_of, headers_of};
+ghost use Rattle.mv_binary_format.specs.Outcomes.{Takes};
 
 use mv_module_text::Reader;
-use mv_move_types::Refusal;
+use mv_move_types::{Refusal, Version};
 use std::alloc::Global;
 
 // At most one table of each kind.
-const MOST_TABLES: u64 = 8;
+const MOST_TABLES: u64 = 10;
 
 // The greatest offset, and the greatest length.
 const MOST_BYTES: u64 = 65536;
@@ -24,10 +27,12 @@ pub enum TableKind {
     StructHandles,
     FunctionHandles,
     Signatures,
+    Constants,
     Identifiers,
     Addresses,
     Structs,
     Functions,
+    FieldHandles,
 }
 
 impl TableKind {
@@ -42,10 +47,12 @@ impl TableKind {
             TableKind::StructHandles => 0x02,
             TableKind::FunctionHandles => 0x03,
             TableKind::Signatures => 0x05,
+            TableKind::Constants => 0x06,
             TableKind::Identifiers => 0x07,
             TableKind::Addresses => 0x08,
             TableKind::Structs => 0x0A,
             TableKind::Functions => 0x0C,
+            TableKind::FieldHandles => 0x0D,
         }
     }
 
@@ -58,10 +65,12 @@ impl TableKind {
             0x02 => Some(TableKind::StructHandles),
             0x03 => Some(TableKind::FunctionHandles),
             0x05 => Some(TableKind::Signatures),
+            0x06 => Some(TableKind::Constants),
             0x07 => Some(TableKind::Identifiers),
             0x08 => Some(TableKind::Addresses),
             0x0A => Some(TableKind::Structs),
             0x0C => Some(TableKind::Functions),
+            0x0D => Some(TableKind::FieldHandles),
             _ => None,
         }
     }
@@ -75,28 +84,31 @@ pub struct Header {
     pub length: u32,
 }
 
-// Reads the bytes that each module begins with.
-pub fn read_preamble(reader: &mut Reader<'_>) -> Result<(), Refusal>
-    ensures ok { OnOk result (marks_from preamble reader.old ≡ Some reader.new) }
-    ensures refused { result ≡ Err (Refusal.Phase 2) → marks_from preamble reader.old ≡ None }
-    ensures errors { IfErr result (λ e. e ≡ Refusal.Phase 2) }
+// Reads the format's mark.
+pub fn read_magic(reader: &mut Reader<'_>) -> Result<(), Refusal>
+    ensures { Marks (marks_from magic) reader.old result reader.new }
 {
     reader.mark(0xA1)?;
     reader.mark(0x1C)?;
     reader.mark(0xEB)?;
-    reader.mark(0x0B)?;
-    reader.mark(5)?;
-    reader.mark(0)?;
-    reader.mark(0)?;
-    reader.mark(0)
+    reader.mark(0x0B)
+}
+
+// Reads the version, a number of four bytes, the lowest first.
+pub fn read_version(reader: &mut Reader<'_>) -> Result<Version, Refusal>
+    ensures { ReadsAs version_number version_from reader.old result reader.new }
+{
+    match reader.bytes(4)? {
+        [5, 0, 0, 0] => Ok(Version::Five),
+        [6, 0, 0, 0] => Ok(Version::Six),
+        _ => Err(Refusal::Phase(2)),
+    }
 }
 
 // Reads a header.
 #[tactic(auto, unfolding(crate::specs::Parsing::header_from))]
 fn read_header(reader: &mut Reader<'_>) -> Result<Header, Refusal>
-    ensures ok { IfOk result (λ h. header_from reader.old ≡ Some (header_of h, reader.new)) }
-    ensures refused { result ≡ Err (Refusal.Phase 2) → header_from reader.old ≡ None }
-    ensures errors { IfErr result (λ e. e ≡ Refusal.Phase 2) }
+    ensures { ReadsAs header_of header_from reader.old result reader.new }
 {
     let code = reader.byte()?;
     let offset = reader.number(MOST_BYTES)?;
@@ -112,11 +124,9 @@ fn read_header(reader: &mut Reader<'_>) -> Result<Header, Refusal>
     })
 }
 
-// Reads the headers, behind their number.
+// Reads the headers, after their number.
 pub fn read_headers(alloc: Global, reader: &mut Reader<'_>) -> Result<Vec<Header>, Refusal>
-    ensures ok { IfOk result (λ v. counted_from 8 header_from reader.old ≡ Some (headers_of v.items, reader.new)) }
-    ensures refused { result ≡ Err (Refusal.Phase 2) → counted_from 8 header_from reader.old ≡ None }
-    ensures errors { IfErr result (λ e. (e ≡ Refusal.Phase 2) ⊎ (e ≡ Refusal.Memory)) }
+    ensures { Takes (λ v. headers_of v.items) (counted_from 10 header_from) reader.old result reader.new }
 {
     let count = reader.number(MOST_TABLES)?;
     let mut headers = Vec::with_capacity(alloc, count as usize)?;

@@ -1,26 +1,36 @@
 // The text of a module, with its tables in ascending order of kind.
 
-ghost use Rattle.std.specs.Prelude.{◌≡◌, ◌≤◌, ◌-◌, ◌++◌, ◌∷◌, [], List, nat_lt, cond, OnOk, IfOk, Ok, Err, Some, map, flat_map};
-ghost use Rattle.mv_module_text.specs.Entries.{module_handle_text, struct_handle_text, function_handle_text, signature_text, identifier_text, address_text, struct_definition_text, function_definition_text};
+ghost use Rattle.std.specs.Prelude.{◌≡◌, ◌≤◌, ◌-◌, ◌++◌, ◌∷◌, [], List, nat_lt, cond, OnOk, IfOk, Some, flat_map};
 ghost use Rattle.mv_binary_format.specs.ModuleText.{Table, table, header_text, ordered_text, IsModuleText};
 ghost use Rattle.mv_module_text.specs.Laws.{AreBytes};
 ghost use Rattle.mv_binary_format.specs.Parsing.{module_of};
 ghost use Rattle.mv_binary_format.specs.Kinds.{table_code};
 ghost use Rattle.mv_binary_format.specs.Written.{written_headers, AreOf, all_tables};
 
+use super::Module;
+use super::entries::Entry;
 use super::headers::TableKind;
 use super::laws::{are_bytes, modules_are_read_by_text};
-use super::written::{
-    WrittenHeader, write_addresses, write_function_handles, write_functions, write_identifiers,
-    write_module_handles, write_signatures, write_struct_handles, write_structs,
-};
-use super::{FunctionDefinition, Module, StructDefinition};
 use mv_module_text::write_index;
-use mv_move_types::{FunctionHandle, ModuleHandle, StructHandle, Token};
 use std::alloc::{AllocError, Global};
 
-// The bytes that each module begins with: the format's mark, and its version.
-const PREAMBLE: [u8; 8] = [0xA1, 0x1C, 0xEB, 0x0B, 5, 0, 0, 0];
+// The format's mark, with which each module begins.
+const MAGIC: [u8; 4] = [0xA1, 0x1C, 0xEB, 0x0B];
+
+// A header to write: the offset and the length of a table's content.
+#[derive(Clone, Copy)]
+pub struct WrittenHeader {
+    pub kind: TableKind,
+    pub offset: u64,
+    pub length: u64,
+}
+
+// A module's headers and contents, as far as they are laid out.
+#[derive(Drop)]
+struct Layout {
+    headers: Vec<WrittenHeader>,
+    contents: Vec<u8>,
+}
 
 // Notes where a table stands, unless it has no entries.
 fn end_table(
@@ -44,149 +54,56 @@ fn end_table(
     Ok(())
 }
 
-// Adds the table of module handles.
-fn add_module_handles(
-    entries: &[ModuleHandle],
-    headers: &mut Vec<WrittenHeader>,
-    contents: &mut Vec<u8>,
-) -> Result<(), AllocError>
-    ensures { OnOk result ((ts : List Table) → AreOf ts (written_headers headers.old.items) contents.old.items
-        → AreOf (ts ++ table 0x01 module_handle_text entries.now ∷ []) (written_headers headers.new.items) contents.new.items) }
-{
-    let start = contents.len();
-    write_module_handles(entries, contents)?;
-    end_table(headers, TableKind::ModuleHandles, start, contents.len())?;
-    Ok(())
-}
-
-// Adds the table of struct handles.
-fn add_struct_handles(
-    entries: &[StructHandle],
-    headers: &mut Vec<WrittenHeader>,
-    contents: &mut Vec<u8>,
-) -> Result<(), AllocError>
-    ensures { OnOk result ((ts : List Table) → AreOf ts (written_headers headers.old.items) contents.old.items
-        → AreOf (ts ++ table 0x02 struct_handle_text entries.now ∷ []) (written_headers headers.new.items) contents.new.items) }
-{
-    let start = contents.len();
-    write_struct_handles(entries, contents)?;
-    end_table(headers, TableKind::StructHandles, start, contents.len())?;
-    Ok(())
-}
-
-// Adds the table of function handles.
-fn add_function_handles(
-    entries: &[FunctionHandle],
-    headers: &mut Vec<WrittenHeader>,
-    contents: &mut Vec<u8>,
-) -> Result<(), AllocError>
-    ensures { OnOk result ((ts : List Table) → AreOf ts (written_headers headers.old.items) contents.old.items
-        → AreOf (ts ++ table 0x03 function_handle_text entries.now ∷ []) (written_headers headers.new.items) contents.new.items) }
-{
-    let start = contents.len();
-    write_function_handles(entries, contents)?;
-    end_table(headers, TableKind::FunctionHandles, start, contents.len())?;
-    Ok(())
-}
-
-// Adds the table of signatures.
-fn add_signatures(
-    entries: &[Vec<Token>],
-    headers: &mut Vec<WrittenHeader>,
-    contents: &mut Vec<u8>,
-) -> Result<(), AllocError>
-    ensures { OnOk result ((ts : List Table) → AreOf ts (written_headers headers.old.items) contents.old.items
-        → AreOf (ts ++ table 0x05 signature_text (map (λ s. s.items) entries.now) ∷ []) (written_headers headers.new.items) contents.new.items) }
-{
-    let start = contents.len();
-    write_signatures(entries, contents)?;
-    end_table(headers, TableKind::Signatures, start, contents.len())?;
-    Ok(())
-}
-
-// Adds the table of identifiers.
-fn add_identifiers(
-    entries: &[&[u8]],
-    headers: &mut Vec<WrittenHeader>,
-    contents: &mut Vec<u8>,
-) -> Result<(), AllocError>
-    ensures { OnOk result ((ts : List Table) → AreOf ts (written_headers headers.old.items) contents.old.items
-        → AreOf (ts ++ table 0x07 identifier_text (map (λ name. name.now) entries.now) ∷ []) (written_headers headers.new.items) contents.new.items) }
-{
-    let start = contents.len();
-    write_identifiers(entries, contents)?;
-    end_table(headers, TableKind::Identifiers, start, contents.len())?;
-    Ok(())
-}
-
-// Adds the table of addresses.
-fn add_addresses(
-    entries: &[u128],
-    headers: &mut Vec<WrittenHeader>,
-    contents: &mut Vec<u8>,
-) -> Result<(), AllocError>
-    ensures { OnOk result ((ts : List Table) → AreOf ts (written_headers headers.old.items) contents.old.items
-        → AreOf (ts ++ table 0x08 address_text entries.now ∷ []) (written_headers headers.new.items) contents.new.items) }
-{
-    let start = contents.len();
-    write_addresses(entries, contents)?;
-    end_table(headers, TableKind::Addresses, start, contents.len())?;
-    Ok(())
-}
-
-// Adds the table of structs.
-fn add_structs(
-    entries: &[StructDefinition],
-    headers: &mut Vec<WrittenHeader>,
-    contents: &mut Vec<u8>,
-) -> Result<(), AllocError>
-    ensures { OnOk result ((ts : List Table) → AreOf ts (written_headers headers.old.items) contents.old.items
-        → AreOf (ts ++ table 0x0A struct_definition_text entries.now ∷ []) (written_headers headers.new.items) contents.new.items) }
-{
-    let start = contents.len();
-    write_structs(entries, contents)?;
-    end_table(headers, TableKind::Structs, start, contents.len())?;
-    Ok(())
-}
-
-// Adds the table of functions.
-fn add_functions(
+// Writes entries.
+fn write_entries<'a, E: Entry<'a>>(
     alloc: Global,
-    entries: &[FunctionDefinition<'_>],
-    headers: &mut Vec<WrittenHeader>,
-    contents: &mut Vec<u8>,
+    entries: &[E],
+    out: &mut Vec<u8>,
 ) -> Result<(), AllocError>
-    ensures { OnOk result ((ts : List Table) → AreOf ts (written_headers headers.old.items) contents.old.items
-        → AreOf (ts ++ table 0x0C function_definition_text entries.now ∷ []) (written_headers headers.new.items) contents.new.items) }
+    ensures { OnOk result (out.new.items ≡ out.old.items ++ flat_map E.text entries.now) }
 {
-    let start = contents.len();
-    write_functions(alloc, entries, contents)?;
-    end_table(headers, TableKind::Functions, start, contents.len())?;
+    for entry in entries {
+        entry.write(alloc, out)?;
+    }
     Ok(())
 }
 
-// A module's headers and contents.
-#[derive(Drop)]
-struct Layout {
-    headers: Vec<WrittenHeader>,
-    contents: Vec<u8>,
+// Adds the table of these entries.
+fn add_table<'a, E: Entry<'a>>(
+    alloc: Global,
+    kind: TableKind,
+    entries: &[E],
+    layout: &mut Layout,
+) -> Result<(), AllocError>
+    ensures { OnOk result ((ts : List Table) → AreOf ts (written_headers layout.old.headers.items) layout.old.contents.items
+        → AreOf (ts ++ table (table_code kind) E.text entries.now ∷ []) (written_headers layout.new.headers.items) layout.new.contents.items) }
+{
+    let start = layout.contents.len();
+    write_entries(alloc, entries, &mut layout.contents)?;
+    end_table(&mut layout.headers, kind, start, layout.contents.len())?;
+    Ok(())
 }
 
 // Lays a module's tables out, in ascending order of kind.
 fn lay_out(alloc: Global, m: &Module<'_>) -> Result<Layout, AllocError>
     ensures { IfOk result (λ l. AreOf (all_tables m.now) (written_headers l.headers.items) l.contents.items) }
 {
-    let mut headers = Vec::new(alloc);
-    let mut contents = Vec::new(alloc);
-    add_module_handles(m.module_handles(), &mut headers, &mut contents)?;
-    add_struct_handles(m.struct_handles(), &mut headers, &mut contents)?;
-    add_function_handles(m.function_handles(), &mut headers, &mut contents)?;
-    add_signatures(m.signatures(), &mut headers, &mut contents)?;
-    add_identifiers(m.identifiers(), &mut headers, &mut contents)?;
-    add_addresses(m.addresses(), &mut headers, &mut contents)?;
-    add_structs(m.structs(), &mut headers, &mut contents)?;
-    add_functions(alloc, m.functions(), &mut headers, &mut contents)?;
-    Ok(Layout { headers, contents })
+    let mut layout = Layout {
+        headers: Vec::new(alloc),
+        contents: Vec::new(alloc),
+    };
+    let l = &mut layout;
+    add_table(alloc, TableKind::ModuleHandles, m.module_handles(), l)?;
+    add_table(alloc, TableKind::StructHandles, m.struct_handles(), l)?;
+    add_table(alloc, TableKind::FunctionHandles, m.function_handles(), l)?;
+    add_table(alloc, TableKind::Signatures, m.signatures(), l)?;
+    add_table(alloc, TableKind::Constants, m.constants(), l)?;
+    add_table(alloc, TableKind::Identifiers, m.identifiers(), l)?;
+    add_table(alloc, TableKind::Addresses, m.addresses(), l)?;
+    add_table(alloc, TableKind::Structs, m.structs(), l)?;
+    add_table(alloc, TableKind::Functions, m.functions(), l)?;
+    add_table(alloc, TableKind::FieldHandles, m.field_handles(), l)?;
+    Ok(layout)
 }
 
 // Writes headers.
@@ -207,7 +124,8 @@ fn write(alloc: Global, m: &Module<'_>) -> Result<Vec<u8>, AllocError>
     ensures bytes { IfOk result (λ v. AreBytes v.items) }
 {
     let layout = lay_out(alloc, m)?;
-    let mut out = Vec::from_slice(alloc, &PREAMBLE)?;
+    let mut out = Vec::from_slice(alloc, &MAGIC)?;
+    out.extend_from_slice(&u32::from(m.version().number()).to_le_bytes())?;
     mv_uleb::write(layout.headers.len() as u64, &mut out)?;
     write_headers(&layout.headers, &mut out)?;
     out.extend_from_slice(&layout.contents)?;

@@ -9,18 +9,20 @@ mod headers;
 mod laws;
 mod layout;
 mod module;
-mod written;
+mod names;
 
 ghost use Rattle.std.specs.Prelude.{◌≡◌, IfOk, IfErr, None, Some, ◌⊎◌};
 ghost use Rattle.mv_move_types.specs.Module.{Module as Tables};
 ghost use Rattle.mv_binary_format.specs.ModuleText.{IsModuleText};
 ghost use Rattle.mv_binary_format.specs.Parsing.{module_of};
+ghost use Rattle.mv_binary_format.specs.Outcomes.{Decides};
 
 pub use cursor::Cursor;
 pub use definitions::{FunctionDefinition, StructDefinition};
 pub use laws::{modules_are_read_by_text, texts_are_of_one_module};
 pub use layout::encode;
 pub use module::{Module, code};
+pub use mv_module_text::Constant;
 use mv_module_text::Reader;
 use mv_move_types::Refusal;
 use std::alloc::Global;
@@ -40,15 +42,14 @@ pub fn decode<'a>(alloc: Global, bytes: &'a [u8]) -> Result<Module<'a>, Refusal>
     read(alloc, bytes)
 }
 
-// Reads the preamble, the headers, the contents that they tell of, and the own handle.
+// Reads the format's mark, the version, the headers, the contents that they tell of, and the own handle.
 #[tactic(auto, unfolding(crate::specs::Parsing::module_of))]
 fn read<'a>(alloc: Global, bytes: &'a [u8]) -> Result<Module<'a>, Refusal>
-    ensures ok { IfOk result (λ m. module_of bytes.entry.now ≡ Some m) }
-    ensures refused { result ≡ Err (Refusal.Phase 2) → module_of bytes.entry.now ≡ None }
-    ensures errors { IfErr result (λ e. (e ≡ Refusal.Phase 2) ⊎ (e ≡ Refusal.Memory)) }
+    ensures { Decides (module_of bytes.entry.now) result }
 {
     let mut reader = Reader::new(bytes);
-    headers::read_preamble(&mut reader)?;
+    headers::read_magic(&mut reader)?;
+    let version = headers::read_version(&mut reader)?;
     let headers = headers::read_headers(alloc, &mut reader)?;
     let tables = contents::read_contents(alloc, headers, &mut reader)?;
     let own = reader.index()?;
@@ -56,7 +57,7 @@ fn read<'a>(alloc: Global, bytes: &'a [u8]) -> Result<Module<'a>, Refusal>
         return Err(Refusal::Phase(2));
     }
     modules_are_read_by_text();
-    Module::read(alloc, own, tables)
+    Module::read(alloc, version, own, tables)
 }
 
 #[cfg(test)]

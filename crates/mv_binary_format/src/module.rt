@@ -1,15 +1,22 @@
 // A module as its tables.
-ghost use Rattle.std.specs.Prelude.{◌≡◌, ◌<◌, ◌≤◌, ℕ, List, length, slice_get, map, option_map, Option, Some, None, OnSome, IfSome, IsTrue, nat_le, Ok, Err, IfOk, IfErr, ◌⊎◌};
+ghost use Rattle.std.specs.Prelude.{◌≡◌, ◌<◌, ◌≤◌, length, slice_get, option_map, Some, IfSome, IsTrue, nat_le};
 ghost use Rattle.std.specs.List.{list_all};
+ghost use Rattle.mv_move_types.specs.Versions.{version_number};
+ghost use Rattle.mv_move_types.specs.Module.{Module as Tables};
+ghost use Rattle.mv_binary_format.specs.ModuleText.{HasText};
 ghost use Rattle.mv_binary_format.specs.Parsing.{module_from};
 ghost use Rattle.mv_binary_format.specs.Tables.{tables_of};
-ghost use Rattle.mv_binary_format.specs.ModuleText.{HasText};
-ghost use Rattle.mv_move_types.specs.Module.{Module as Tables};
+ghost use Rattle.mv_binary_format.specs.Outcomes.{Decides};
 ghost use Rattle.mv_module_text.specs.Fits.{signature_fits, struct_definition_fits, function_definition_fits};
 
-use super::contents::Table;
-use super::{Cursor, FunctionDefinition, StructDefinition, entries};
-use mv_move_types::{FunctionHandle, ModuleHandle, Refusal, StructHandle, Token};
+use super::contents::{Table, read_entries};
+use super::headers::TableKind;
+use super::names::{Identifier, Signature};
+use super::{Cursor, FunctionDefinition, StructDefinition};
+use mv_module_text::Constant;
+use mv_move_types::{
+    FieldHandle, FunctionHandle, ModuleHandle, Refusal, StructHandle, Token, Version,
+};
 use std::alloc::Global;
 use std::marker::Model;
 
@@ -20,33 +27,39 @@ const MOST_FUNCTIONS: usize = 256;
 /// each part of which has a text.
 #[derive(Drop)]
 pub struct Module<'a> {
+    version: Version,
     module_handles: Vec<ModuleHandle>,
     struct_handles: Vec<StructHandle>,
     function_handles: Vec<FunctionHandle>,
-    signatures: Vec<Vec<Token>>,
-    identifiers: Vec<&'a [u8]>,
+    signatures: Vec<Signature>,
+    constants: Vec<Constant<'a>>,
+    identifiers: Vec<Identifier<'a>>,
     addresses: Vec<u128>,
     structs: Vec<StructDefinition>,
     functions: Vec<FunctionDefinition<'a>>,
+    field_handles: Vec<FieldHandle>,
     own: u16,
 }
 
 impl<'a> Model for Module<'a> {
-    ghost use Rattle.std.specs.Prelude.{map};
+    ghost use Rattle.mv_move_types.specs.Versions.{version_number};
     ghost use Rattle.mv_move_types.specs.Module.{Module as Tables};
     ghost use Rattle.mv_binary_format.specs.ModuleText.{HasText};
 
     ghost Value = { Tables };
 
     ghost view = { λ m. record {
+      version = version_number m.version;
       module_handles = m.module_handles.items;
       struct_handles = m.struct_handles.items;
       function_handles = m.function_handles.items;
-      signatures = map (λ s. s.items) m.signatures.items;
-      identifiers = map (λ name. name.now) m.identifiers.items;
+      signatures = m.signatures.items;
+      constants = m.constants.items;
+      identifiers = m.identifiers.items;
       addresses = m.addresses.items;
       structs = m.structs.items;
       functions = m.functions.items;
+      field_handles = m.field_handles.items;
       own = m.own;
     } };
 
@@ -56,34 +69,51 @@ impl<'a> Model for Module<'a> {
 impl<'a> Module<'a> {
     // Reads the entries of its tables, of which no kind stands twice. The module that they spell has to have a text.
     #[tactic(auto, unfolding(crate::specs::Parsing::module_from))]
-    pub(crate) fn read(alloc: Global, own: u16, mut tables: Vec<Table<'a>>) -> Result<Self, Refusal>
-        requires { (m : Tables) → module_from own (tables_of tables.items) ≡ Some m → HasText m }
-        ensures ok { IfOk result (λ m. module_from own (tables_of tables.entry.items) ≡ Some m) }
-        ensures refused { result ≡ Err (Refusal.Phase 2) → module_from own (tables_of tables.entry.items) ≡ None }
-        ensures errors { IfErr result (λ e. (e ≡ Refusal.Phase 2) ⊎ (e ≡ Refusal.Memory)) }
+    pub(crate) fn read(
+        alloc: Global,
+        version: Version,
+        own: u16,
+        mut tables: Vec<Table<'a>>,
+    ) -> Result<Self, Refusal>
+        requires { (m : Tables) → module_from (version_number version) own (tables_of tables.items) ≡ Some m → HasText m }
+        ensures { Decides (module_from (version_number version) own (tables_of tables.entry.items)) result }
     {
-        let module_handles = entries::module_handles(alloc, &mut tables)?;
-        let struct_handles = entries::struct_handles(alloc, &mut tables)?;
-        let function_handles = entries::function_handles(alloc, &mut tables)?;
-        let signatures = entries::signatures(alloc, &mut tables)?;
-        let identifiers = entries::identifiers(alloc, &mut tables)?;
-        let addresses = entries::addresses(alloc, &mut tables)?;
-        let structs = entries::structs(alloc, &mut tables)?;
-        let functions = entries::functions(alloc, &mut tables)?;
+        let t = &mut tables;
+        let module_handles = read_entries(alloc, version, TableKind::ModuleHandles, t)?;
+        let struct_handles = read_entries(alloc, version, TableKind::StructHandles, t)?;
+        let function_handles = read_entries(alloc, version, TableKind::FunctionHandles, t)?;
+        let signatures = read_entries(alloc, version, TableKind::Signatures, t)?;
+        let constants = read_entries(alloc, version, TableKind::Constants, t)?;
+        let identifiers = read_entries(alloc, version, TableKind::Identifiers, t)?;
+        let addresses = read_entries(alloc, version, TableKind::Addresses, t)?;
+        let structs = read_entries(alloc, version, TableKind::Structs, t)?;
+        let functions: Vec<FunctionDefinition<'a>> =
+            read_entries(alloc, version, TableKind::Functions, t)?;
+        let field_handles = read_entries(alloc, version, TableKind::FieldHandles, t)?;
         if !tables.is_empty() || functions.len() > MOST_FUNCTIONS {
             return Err(Refusal::Phase(2));
         }
         Ok(Module {
+            version,
             module_handles,
             struct_handles,
             function_handles,
             signatures,
+            constants,
             identifiers,
             addresses,
             structs,
             functions,
+            field_handles,
             own,
         })
+    }
+
+    /// Its version.
+    pub fn version(&self) -> Version
+        ensures { version_number result ≡ self.now.version }
+    {
+        self.version
     }
 
     /// The modules that it names, itself among them.
@@ -117,23 +147,30 @@ impl<'a> Module<'a> {
     /// The types of a signature, if it is there.
     pub fn signature(&self, index: usize) -> Option<&[Token]>
         ensures value { option_map (λ s. s.now) result ≡ slice_get self.now.signatures index }
-        ensures fits { IsTrue (list_all signature_fits self.now.signatures) }
+        ensures fits { IsTrue (list_all (signature_fits self.now.version) self.now.signatures) }
     {
-        self.signatures.get(index).map(|s| s.as_slice())
+        self.signatures.get(index).map(|s| s.tokens())
     }
 
     // Its signatures.
-    pub(crate) fn signatures(&self) -> &[Vec<Token>]
-        ensures { map (λ s. s.items) result.now ≡ self.now.signatures }
+    pub(crate) fn signatures(&self) -> &[Signature]
+        ensures { result.now ≡ self.now.signatures }
     {
         &self.signatures
     }
 
     // Its identifiers.
-    pub(crate) fn identifiers(&self) -> &[&'a [u8]]
-        ensures { map (λ name. name.now) result.now ≡ self.now.identifiers }
+    pub(crate) fn identifiers(&self) -> &[Identifier<'a>]
+        ensures { result.now ≡ self.now.identifiers }
     {
         &self.identifiers
+    }
+
+    /// Its constants.
+    pub fn constants(&self) -> &[Constant<'a>]
+        ensures { result.now ≡ self.now.constants }
+    {
+        &self.constants
     }
 
     /// How many identifiers it has.
@@ -147,7 +184,7 @@ impl<'a> Module<'a> {
     pub fn identifier(&self, index: usize) -> Option<&'a [u8]>
         ensures { option_map (λ name. name.now) result ≡ slice_get self.now.identifiers index }
     {
-        self.identifiers.get(index).copied()
+        self.identifiers.get(index).map(|i| i.name())
     }
 
     /// The addresses that it names, each as the number that its 16 bytes are, the highest first.
@@ -160,7 +197,7 @@ impl<'a> Module<'a> {
     /// The structs that it defines, at most 65,536.
     pub fn structs(&self) -> &[StructDefinition]
         ensures value { result.now ≡ self.now.structs }
-        ensures fits { IsTrue (list_all struct_definition_fits self.now.structs) }
+        ensures fits { IsTrue (list_all (struct_definition_fits self.now.version) self.now.structs) }
         ensures few { length self.now.structs ≤ 65536 }
     {
         &self.structs
@@ -169,10 +206,17 @@ impl<'a> Module<'a> {
     /// The functions that it defines.
     pub fn functions(&self) -> &[FunctionDefinition<'a>]
         ensures value { result.now ≡ self.now.functions }
-        ensures fits { IsTrue (list_all function_definition_fits self.now.functions) }
+        ensures fits { IsTrue (list_all (function_definition_fits self.now.version) self.now.functions) }
         ensures few { IsTrue (nat_le (length self.now.functions) 256) }
     {
         &self.functions
+    }
+
+    /// The fields that its code names.
+    pub fn field_handles(&self) -> &[FieldHandle]
+        ensures { result.now ≡ self.now.field_handles }
+    {
+        &self.field_handles
     }
 
     /// Each of its parts has a text, and so the whole module has one.

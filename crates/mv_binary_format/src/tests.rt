@@ -1,7 +1,7 @@
 // Modules as bytes.
 
 use super::{code, decode, encode};
-use mv_move_types::{Instruction, Refusal};
+use mv_move_types::{Instruction, Refusal, Version};
 use std::alloc::AllocError;
 use std::test::Fail;
 
@@ -21,6 +21,18 @@ const COIN: [u8; 99] = [
     0x00, 0x00, 0x00, 0x00, 0x00, 0x00, 0x00, 0x00, 0x00, 0x00, 0x00, 0x00, 0x00, 0x01, 0x00, 0x02,
     0x01, 0x02, 0x03, 0x00, 0x01, 0x04, 0x00, 0x00, 0x05, 0x0E, 0x00, 0x0B, 0x01, 0x12, 0x00, 0x2D,
     0x00, 0x02, 0x00,
+];
+
+// The same with a function burn.
+const COIN_WITH_BURN: [u8; 126] = [
+    0xA1, 0x1C, 0xEB, 0x0B, 0x05, 0x00, 0x00, 0x00, 0x08, 0x01, 0x00, 0x02, 0x02, 0x02, 0x04, 0x03,
+    0x06, 0x0A, 0x05, 0x10, 0x06, 0x07, 0x16, 0x13, 0x08, 0x29, 0x10, 0x0A, 0x39, 0x05, 0x0C, 0x3E,
+    0x1E, 0x00, 0x00, 0x00, 0x01, 0x0C, 0x00, 0x00, 0x03, 0x01, 0x00, 0x00, 0x00, 0x04, 0x02, 0x00,
+    0x00, 0x00, 0x02, 0x0C, 0x03, 0x01, 0x05, 0x01, 0x4D, 0x04, 0x43, 0x6F, 0x69, 0x6E, 0x01, 0x76,
+    0x04, 0x6D, 0x69, 0x6E, 0x74, 0x04, 0x62, 0x75, 0x72, 0x6E, 0x00, 0x00, 0x00, 0x00, 0x00, 0x00,
+    0x00, 0x00, 0x00, 0x00, 0x00, 0x00, 0x00, 0x00, 0x00, 0x01, 0x00, 0x02, 0x01, 0x02, 0x03, 0x00,
+    0x01, 0x04, 0x00, 0x00, 0x05, 0x0E, 0x00, 0x0B, 0x01, 0x12, 0x00, 0x2D, 0x00, 0x02, 0x01, 0x01,
+    0x04, 0x01, 0x00, 0x00, 0x05, 0x0B, 0x00, 0x2C, 0x00, 0x13, 0x00, 0x01, 0x02, 0x00,
 ];
 
 #[test]
@@ -98,12 +110,32 @@ fn takes_headers_in_any_order(rt: HostRuntime) -> Result<(), Fail> {
     Ok(())
 }
 
+// The bytes with another version.
+fn of_version(rt: &HostRuntime, bytes: &[u8], version: u8) -> Result<Vec<u8>, AllocError> {
+    let mut text = Vec::from_slice(rt.alloc(), &bytes[..4])?;
+    text.push(version)?;
+    text.extend_from_slice(&bytes[5..])?;
+    Ok(text)
+}
+
 #[test]
-fn writes_what_it_read(rt: HostRuntime) -> Result<(), Fail> {
-    let empty = decode(rt.alloc(), &EMPTY)?;
-    assert_eq!(rt; encode(rt.alloc(), &empty)?.as_slice(), EMPTY.as_slice());
-    let coin = decode(rt.alloc(), &COIN)?;
-    assert_eq!(rt; encode(rt.alloc(), &coin)?.as_slice(), COIN.as_slice());
+fn writes_what_it_read_in_each_version(rt: HostRuntime) -> Result<(), Fail> {
+    for bytes in [EMPTY.as_slice(), COIN.as_slice(), COIN_WITH_BURN.as_slice()] {
+        for version in [5, 6] {
+            let text = of_version(&rt, bytes, version)?;
+            assert!(rt; is_read_back(&rt, &text)?);
+            assert_eq!(rt; decode(rt.alloc(), &text)?.version().number(), version);
+        }
+        for version in [0, 4, 7] {
+            assert!(rt; is_refused(&rt, &of_version(&rt, bytes, version)?));
+        }
+    }
+    // A version has four bytes.
+    for at in 5..8 {
+        let mut text = Vec::from_slice(rt.alloc(), &EMPTY)?;
+        text[at] = 1;
+        assert!(rt; is_refused(&rt, &text));
+    }
     Ok(())
 }
 
@@ -136,7 +168,7 @@ fn takes_contents_of_65536_bytes_at_most(rt: HostRuntime) -> Result<(), Fail> {
     assert!(rt; is_read_back(&rt, &most)?);
     let more = text_of(&rt, &[1, 0x05, 0x00, 0x81, 0x80, 0x04], &[0x00], 65537)?;
     assert!(rt; is_refused(&rt, &more));
-    // The same behind a module handle of two bytes.
+    // The same after a module handle of two bytes.
     let front = [2, 0x01, 0x00, 0x02, 0x05, 0x02, 0xFE, 0xFF, 0x03];
     let most = text_of(&rt, &front, &[0x00], 65536)?;
     assert!(rt; is_read_back(&rt, &most)?);
@@ -199,5 +231,60 @@ fn takes_numbers_up_to_their_greatest(rt: HostRuntime) -> Result<(), Fail> {
     assert!(rt; is_read_back(&rt, &most)?);
     let more = text_of(&rt, &[1, 0x02, 0x00, 0x04, 0x00, 0x00], &[0x10, 0x00], 1)?;
     assert!(rt; is_refused(&rt, &more));
+    Ok(())
+}
+
+#[test]
+fn reads_constants_and_field_handles(rt: HostRuntime) -> Result<(), Fail> {
+    // A constant of type u8 with the byte 7, and the field 2 of the struct 1.
+    let front = [2, 0x06, 0x00, 0x03, 0x0D, 0x03, 0x02, 0x02, 0x01, 0x07];
+    let text = text_of(&rt, &front, &[0x01, 0x02], 1)?;
+    assert!(rt; is_read_back(&rt, &text)?);
+    let m = decode(rt.alloc(), &text)?;
+    assert!(rt; m.version() == Version::Five);
+    assert_eq!(rt; m.constants().len(), 1);
+    assert_eq!(rt; m.constants()[0].bytes(), &[7u8]);
+    assert_eq!(rt; m.field_handles().len(), 1);
+    assert_eq!(rt; m.field_handles()[0].definition, 1);
+    assert_eq!(rt; m.field_handles()[0].position, 2);
+    Ok(())
+}
+
+#[test]
+fn refuses_other_kinds_of_tables(rt: HostRuntime) -> Result<(), Fail> {
+    for kind in [0x00, 0x04, 0x09, 0x0B, 0x0E, 0x0F, 0x10] {
+        let text = text_of(&rt, &[1, kind, 0x00, 0x01], &[0x00], 1)?;
+        assert!(rt; is_refused(&rt, &text));
+    }
+    Ok(())
+}
+
+// Whether the bytes are a module's in version 6 alone.
+fn is_late(rt: &HostRuntime, bytes: &[u8]) -> Result<bool, Fail> {
+    let late = of_version(rt, bytes, 6)?;
+    Ok(is_refused(rt, bytes) && is_read_back(rt, &late)?)
+}
+
+#[test]
+fn takes_u16_and_u32_in_version_6_alone(rt: HostRuntime) -> Result<(), Fail> {
+    // Signatures of one type.
+    for token in [0x0D, 0x0E] {
+        let text = text_of(&rt, &[1, 0x05, 0x00, 0x02, 0x01], &[token], 1)?;
+        assert!(rt; is_late(&rt, &text)?);
+    }
+    // A constant, and a struct's field.
+    let text = text_of(&rt, &[1, 0x06, 0x00, 0x04, 0x0D, 0x02, 0x01], &[0x00], 1)?;
+    assert!(rt; is_late(&rt, &text)?);
+    let text = text_of(&rt, &[1, 0x0A, 0x00, 0x05, 0x00, 0x02, 0x01, 0x00], &[0x0D], 1)?;
+    assert!(rt; is_late(&rt, &text)?);
+    // Functions of one instruction: LdU16 and LdU32 with their numbers, CastU16 and CastU32.
+    let text = text_of(&rt, &[1, 0x0C, 0x00, 9, 0, 0, 0, 0, 0, 1, 0x48], &[1], 2)?;
+    assert!(rt; is_late(&rt, &text)?);
+    let text = text_of(&rt, &[1, 0x0C, 0x00, 11, 0, 0, 0, 0, 0, 1, 0x49], &[1], 4)?;
+    assert!(rt; is_late(&rt, &text)?);
+    for opcode in [0x4B, 0x4C] {
+        let text = text_of(&rt, &[1, 0x0C, 0x00, 7, 0, 0, 0, 0, 0, 1], &[opcode], 1)?;
+        assert!(rt; is_late(&rt, &text)?);
+    }
     Ok(())
 }

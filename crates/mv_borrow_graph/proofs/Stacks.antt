@@ -9,7 +9,7 @@ use Rattle.std.proofs.lemmas.List.Folds.{list_all-append}
 use Rattle.mv_move_types.specs.declared.instruction.Instruction.{Instruction}
 use Rattle.mv_move_types.specs.Options.{◌>>=◌}
 use Rattle.mv_move_types.specs.Module.{Module, FunctionDefinition}
-use Rattle.mv_cfg.specs.Blocks.{Stretch, blocks}
+use Rattle.mv_cfg.specs.Blocks.{BasicBlock, blocks}
 use Rattle.mv_type_states.specs.TypeRules.{Types, types_after}
 use Rattle.mv_type_states.specs.TypesHold.{Point, types_through, block_is_typed, function_is_typed, TypesHold}
 use Rattle.mv_type_states.specs.Sound.{types_each, types_before}
@@ -38,14 +38,14 @@ module _ (m : Module) (d : FunctionDefinition) where
       and_from (is_low stack) (list_all is_low (option_map_or (types_each m d is) (types_after m d i stack) [])) low
       (after_low is end (λ next h t. each_low is next end h t) (types_after m d i stack) e)
 
-  block_low : (b : Stretch) → block_is_typed m d b ≡ true → list_all is_low (types_each m d (slice_range d.code b.first (b.last + 1)) []) ≡ true
+  block_low : (b : BasicBlock) → block_is_typed m d b ≡ true → list_all is_low (types_each m d (slice_range d.code b.first (b.last + 1)) []) ≡ true
   block_low b typed = by_end (types_through m d (slice_range d.code b.first (b.last + 1)) []) refl typed
     where
       by_end : (o : Option Types) → types_through m d (slice_range d.code b.first (b.last + 1)) [] ≡ o → option_map_or (λ stack. length stack == 0) o false ≡ true → list_all is_low (types_each m d (slice_range d.code b.first (b.last + 1)) []) ≡ true
       by_end None e h = cc
       by_end (Some end) e h = each_low (slice_range d.code b.first (b.last + 1)) [] end refl e
 
-  blocks_low : (bs : List Stretch) → list_all (block_is_typed m d) bs ≡ true → list_all is_low (flat_map (λ b. types_each m d (slice_range d.code b.first (b.last + 1)) []) bs) ≡ true
+  blocks_low : (bs : List BasicBlock) → list_all (block_is_typed m d) bs ≡ true → list_all is_low (flat_map (λ b. types_each m d (slice_range d.code b.first (b.last + 1)) []) bs) ≡ true
   blocks_low [] h = refl
   blocks_low (b ∷ bs) h =
       let parts = and_parts (block_is_typed m d b) (list_all (block_is_typed m d) bs) h in

@@ -9,9 +9,9 @@ use Rattle.mv_move_types.specs.Options.{◌>>=◌}
 use Rattle.mv_move_types.specs.Module.{Module, FunctionDefinition}
 use Rattle.mv_cfg.specs.declared.Block.{Block}
 use Rattle.mv_cfg.specs.declared.Cfg.{Cfg}
-use Rattle.mv_cfg.specs.Blocks.{Stretch, blocks}
+use Rattle.mv_cfg.specs.Blocks.{BasicBlock, blocks}
 use Rattle.mv_cfg.specs.Graph.{IsBlock}
-use Rattle.mv_cfg.specs.FlowGraph.{IsFlowGraph, stretch_of}
+use Rattle.mv_cfg.specs.FlowGraph.{IsFlowGraph, basic_block_of}
 use Rattle.mv_type_states.specs.TypeRules.{Types, types_after}
 use Rattle.mv_type_states.specs.TypesHold.{types_through, block_is_typed, function_is_typed}
 use Rattle.mv_type_states.specs.Sound.{types_each, types_before}
@@ -86,7 +86,7 @@ module _ (m : Module) (d : FunctionDefinition) where
       by_step (Some after) on h = ap suc (on after (some-height (nat_le (length after) 128) (types_through m d is after) h))
 
   -- a block that is well typed finds its types
-  typed_some : (b : Stretch) → block_is_typed m d b ≡ true → is_some (types_through m d (instructions_of d b) []) ≡ true
+  typed_some : (b : BasicBlock) → block_is_typed m d b ≡ true → is_some (types_through m d (instructions_of d b) []) ≡ true
   typed_some b h = by_end (types_through m d (instructions_of d b) []) (λ stack. length stack) h
     where
       by_end : (o : Option Types) (size : Types → ℕ) → option_map_or (λ stack. size stack == 0) o false ≡ true → is_some o ≡ true
@@ -94,26 +94,26 @@ module _ (m : Module) (d : FunctionDefinition) where
       by_end (Some stack) size h = refl
 
   -- blocks end where the code does
-  tiles_within : (bs : List Stretch) (at size : ℕ) → Tiles at bs size → at ≤ size
+  tiles_within : (bs : List BasicBlock) (at size : ℕ) → Tiles at bs size → at ≤ size
   tiles_within [] at size t = omega (arith, t)
   tiles_within (b ∷ bs) at size t = let le = tiles_within bs (b.last + 1) size t.1.1 in let one = t.0 in let two = t.1.0 in omega arith
 
   -- a block begins behind those before it
-  tiles_behind : (bs : List Stretch) (at size k : ℕ) (b : Stretch) → Tiles at bs size → slice_get bs k ≡ Some b → at ≤ b.first
+  tiles_behind : (bs : List BasicBlock) (at size k : ℕ) (b : BasicBlock) → Tiles at bs size → slice_get bs k ≡ Some b → at ≤ b.first
   tiles_behind [] at size k b t e = absurd (none-some b e)
-  tiles_behind (c ∷ bs) at size zero b t e = let same : c ≡ b = same_Some c b e in let one : c.first ≡ at = t.0 in let two = ap (λ (s : Stretch). s.first) same in omega arith
+  tiles_behind (c ∷ bs) at size zero b t e = let same : c ≡ b = same_Some c b e in let one : c.first ≡ at = t.0 in let two = ap (λ (s : BasicBlock). s.first) same in omega arith
   tiles_behind (c ∷ bs) at size (suc k) b t e = let le = tiles_behind bs (c.last + 1) size k b t.1.1 e in let one : c.first ≡ at = t.0 in let two : c.first ≤ c.last = t.1.0 in omega arith
 
   -- the types before a block's instructions stand among those of the function
-  types_there : (bs : List Stretch) (at : ℕ) → Tiles at bs (length d.code) → list_all (block_is_typed m d) bs ≡ true → (k : ℕ) (b : Stretch) → slice_get bs k ≡ Some b
+  types_there : (bs : List BasicBlock) (at : ℕ) → Tiles at bs (length d.code) → list_all (block_is_typed m d) bs ≡ true → (k : ℕ) (b : BasicBlock) → slice_get bs k ≡ Some b
       → (n j : ℕ) (x : Types) → at + n ≡ b.first + j → slice_get (types_in m d b) j ≡ Some x → slice_get (flat_map (types_in m d) bs) n ≡ Some x
   types_there [] at t typed k b e n j x eq found = absurd (none-some b e)
   types_there (c ∷ bs) at t typed zero b e n j x eq found =
       let same : c ≡ b = same_Some c b e in
       let one : c.first ≡ at = t.0 in
-      let two = ap (λ (s : Stretch). s.first) same in
+      let two = ap (λ (s : BasicBlock). s.first) same in
       let place : j ≡ n = omega arith in
-      let here : slice_get (types_in m d c) n ≡ Some x = subst (λ (s : Stretch). slice_get (types_in m d s) n ≡ Some x) (sym same) (subst (λ (i : ℕ). slice_get (types_in m d b) i ≡ Some x) place found) in
+      let here : slice_get (types_in m d c) n ≡ Some x = subst (λ (s : BasicBlock). slice_get (types_in m d s) n ≡ Some x) (sym same) (subst (λ (i : ℕ). slice_get (types_in m d b) i ≡ Some x) place found) in
       slice_get-first (types_in m d c) (flat_map (types_in m d) bs) n (slice_get_within (types_in m d c) n x here) ∙ here
   types_there (c ∷ bs) at t typed (suc k) b e n j x eq found =
       let p = and_parts (block_is_typed m d c) (list_all (block_is_typed m d) bs) typed in
@@ -128,7 +128,7 @@ module _ (m : Module) (d : FunctionDefinition) where
       ∙ types_there bs (c.last + 1) t.1.1 p.1 k b e (n - length (types_in m d c)) j x next found
 
   -- the same of the block at a place
-  Stands-types : (k : ℕ) (b : Stretch) → IsTrue (function_is_typed m d) → slice_get (blocks d.code) k ≡ Some b → Stands (types_in m d b) (types_before m d) b.first
+  Stands-types : (k : ℕ) (b : BasicBlock) → IsTrue (function_is_typed m d) → slice_get (blocks d.code) k ≡ Some b → Stands (types_in m d b) (types_before m d) b.first
   Stands-types k b typed e = record {
     each = λ j x found. types_there (blocks d.code) 0 (blocks-tile d.code) typed k b e (b.first + j) j x (omega arith) found;
   }
@@ -179,10 +179,10 @@ module _ (S : Type 0) (rule : Rule S) (step : ℕ → S → Option S) (R : S →
 
   module _ (self : (s : S) → R s s) (g : Cfg) (fg : IsFlowGraph d.code g) (typed : IsTrue (function_is_typed m d)) where
     -- a block is carried through where its needs are met
-    block_alike : (k : ℕ) (b : Block) (s : S) → IsBlock g k b → is_some (carried step b.first (b.last + 1 - b.first) s) ≡ is_some (through rule m d (instructions_of d (stretch_of g b)) (s, []))
+    block_alike : (k : ℕ) (b : Block) (s : S) → IsBlock g k b → is_some (carried step b.first (b.last + 1 - b.first) s) ≡ is_some (through rule m d (instructions_of d (basic_block_of g b)) (s, []))
     block_alike k b s here =
-        let st : Stretch = stretch_of g b in
-        let at : slice_get (blocks d.code) k ≡ Some st = ap (λ z. slice_get z k) (sym fg.stretches) ∙ slice_get-map (stretch_of g) g.blocks.items k ∙ ap (option_map (stretch_of g)) here in
+        let st : BasicBlock = basic_block_of g b in
+        let at : slice_get (blocks d.code) k ≡ Some st = ap (λ z. slice_get z k) (sym fg.basic_blockes) ∙ slice_get-map (basic_block_of g) g.blocks.items k ∙ ap (option_map (basic_block_of g)) here in
         let last : b.last < length d.code = fg.graph.ends k b here in
         let size : length (instructions_of d st) ≡ b.last + 1 - b.first = length-range d.code b.first (b.last + 1) (omega arith) in
         ap (λ n. is_some (carried step b.first n s)) (sym size)
@@ -193,17 +193,17 @@ module _ (S : Type 0) (rule : Rule S) (step : ℕ → S → Option S) (R : S →
     pub goes_from_carried : (flow : List (Option S)) → IsCarried step g flow → IsTrue (flow_goes rule m d flow)
     goes_from_carried flow c = zip_all (block_goes rule m d) (blocks d.code) flow by_block
       where
-        by_block : (k : ℕ) (st : Stretch) (o : Option S) → slice_get (blocks d.code) k ≡ Some st → slice_get flow k ≡ Some o → block_goes rule m d (st, o) ≡ true
+        by_block : (k : ℕ) (st : BasicBlock) (o : Option S) → slice_get (blocks d.code) k ≡ Some st → slice_get flow k ≡ Some o → block_goes rule m d (st, o) ≡ true
         by_block k st None here e = refl
         by_block k st (Some s) here e =
             let p = block_of d.code g k st fg here in
             let q = c.carried k p.0 s p.1 e in
-            subst (λ (z : Stretch). is_some (through rule m d (instructions_of d z) (s, [])) ≡ true) p.2 (sym (block_alike k p.0 s p.1) ∙ ap is_some q.1)
+            subst (λ (z : BasicBlock). is_some (through rule m d (instructions_of d z) (s, [])) ≡ true) p.2 (sym (block_alike k p.0 s p.1) ∙ ap is_some q.1)
 
     -- a flow that meets every need is carried
     pub carried_from_goes : (flow : List (Option S)) → IsTrue (flow_goes rule m d flow) → IsCarried step g flow
     carried_from_goes flow h = record {
       carried = λ k b s here e.
-          let at : slice_get (blocks d.code) k ≡ Some (stretch_of g b) = ap (λ z. slice_get z k) (sym fg.stretches) ∙ slice_get-map (stretch_of g) g.blocks.items k ∙ ap (option_map (stretch_of g)) here in
-          there (carried step b.first (b.last + 1 - b.first) s) (block_alike k b s here ∙ zip_at (block_goes rule m d) (blocks d.code) flow k (stretch_of g b) (Some s) h at e);
+          let at : slice_get (blocks d.code) k ≡ Some (basic_block_of g b) = ap (λ z. slice_get z k) (sym fg.basic_blockes) ∙ slice_get-map (basic_block_of g) g.blocks.items k ∙ ap (option_map (basic_block_of g)) here in
+          there (carried step b.first (b.last + 1 - b.first) s) (block_alike k b s here ∙ zip_at (block_goes rule m d) (blocks d.code) flow k (basic_block_of g b) (Some s) h at e);
     }

@@ -10,8 +10,8 @@ use Rattle.mv_module_text.specs.Laws.{AreBytes}
 use Rattle.mv_module_text.specs.Fits.{is_byte}
 use Rattle.mv_cfg.specs.declared.Block.{Block}
 use Rattle.mv_cfg.specs.declared.Cfg.{Cfg}
-use Rattle.mv_cfg.specs.Blocks.{Stretch, blocks, IsReached}
-use Rattle.mv_cfg.specs.FlowGraph.{IsFlowGraph, stretch_of}
+use Rattle.mv_cfg.specs.Blocks.{BasicBlock, blocks, IsReached}
+use Rattle.mv_cfg.specs.FlowGraph.{IsFlowGraph, basic_block_of}
 use Rattle.mv_certificate.specs.Certificate.{Known, Stated}
 use Rattle.mv_certificate.specs.Shape.{StatedFits}
 use Rattle.mv_certificate.proofs.Texts.{block_fits}
@@ -25,10 +25,10 @@ comes f None y e = absurd (none-some y e)
 comes f (Some x) y e = (x, refl, same_Some (f x) y e)
 
 -- a block of the code is one of the graph's
-pub block_of : (code : List Instruction) (g : Cfg) (i : ℕ) (b : Stretch) → IsFlowGraph code g → slice_get (blocks code) i ≡ Some b → Comes (stretch_of g) (slice_get g.blocks.items i) b
+pub block_of : (code : List Instruction) (g : Cfg) (i : ℕ) (b : BasicBlock) → IsFlowGraph code g → slice_get (blocks code) i ≡ Some b → Comes (basic_block_of g) (slice_get g.blocks.items i) b
 block_of code g i b fg e =
-    comes (stretch_of g) (slice_get g.blocks.items i) b
-    (sym (slice_get-map (stretch_of g) g.blocks.items i) ∙ ap (λ z. slice_get z i) fg.stretches ∙ e)
+    comes (basic_block_of g) (slice_get g.blocks.items i) b
+    (sym (slice_get-map (basic_block_of g) g.blocks.items i) ∙ ap (λ z. slice_get z i) fg.basic_blockes ∙ e)
 
 -- the mark of what is stated of a block
 pub mark_of : (ks : Stated) (parts : List Block) (i : ℕ) (k : Option Known) (b : Block) → map is_some ks ≡ map (λ p. p.reached) parts
@@ -41,11 +41,11 @@ mark_of ks parts i k b e ki bi =
 pub stated-fits : (m : Module) (d : FunctionDefinition) (g : Cfg) (ks : Stated) → IsFlowGraph d.code g → map is_some ks ≡ map (λ p. p.reached) g.blocks.items
     → IsTrue (list_all (block_fits m d) ks) → StatedFits m d ks
 stated-fits m d g ks fg marks ok = record {
-  long = sym (length-map ks is_some) ∙ ap length marks ∙ length-map g.blocks.items (λ (p : Block). p.reached) ∙ sym (length-map g.blocks.items (stretch_of g)) ∙ ap length fg.stretches;
+  long = sym (length-map ks is_some) ∙ ap length marks ∙ length-map g.blocks.items (λ (p : Block). p.reached) ∙ sym (length-map g.blocks.items (basic_block_of g)) ∙ ap length fg.basic_blockes;
   marks = λ i b k bi ki.
       let p = block_of d.code g i b fg bi in
       let same : is_some k ≡ p.0.reached = mark_of ks g.blocks.items i k p.0 marks ki p.1 in
-      let first : p.0.first ≡ b.first = ap (λ (s : Stretch). s.first) p.2 in
+      let first : p.0.first ≡ b.first = ap (λ (s : BasicBlock). s.first) p.2 in
       let r = fg.reached i p.0 p.1 in
       (λ h. subst (IsReached d.code) first (r.0 (sym same ∙ h)), λ h. (same ∙ r.1 (subst (IsReached d.code) (sym first) h)));
   fits = ok;

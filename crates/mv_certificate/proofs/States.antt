@@ -14,7 +14,7 @@ use Rattle.mv_edges.specs.Ascending.{are_ascending}
 use Rattle.mv_cfg.specs.declared.Cfg.{Cfg}
 use Rattle.mv_cfg.specs.Blocks.{blocks}
 use Rattle.mv_cfg.specs.Graph.{IsGraph, IsReached as IsReachedBlock, at_entry, along}
-use Rattle.mv_cfg.specs.FlowGraph.{IsFlowGraph, stretch_of}
+use Rattle.mv_cfg.specs.FlowGraph.{IsFlowGraph, basic_block_of}
 use Rattle.mv_lattice.specs.Flow.{IsFlow, IsStated}
 use Rattle.mv_locals_safety.specs.Domain.{IsOfLocals}
 use Rattle.mv_certificate.specs.Certificate.{Known, Stated, Certificate}
@@ -61,7 +61,7 @@ pub flow-of : {S : Type 0} (part : Known → S) (IsState : S → Type 0) (m : Mo
     → ((known : Known) → IsTrue (known_fits m d known) → IsState (part known)) → IsFlowGraph d.code g → StatedFits m d ks
     → IsFlow IsState g (map (option_map part) ks)
 flow-of {S} part IsState m d g ks each fg sf =
-    let same : length ks ≡ length g.blocks.items = sf.long ∙ ap length (sym fg.stretches) ∙ length-map g.blocks.items (stretch_of g) in
+    let same : length ks ≡ length g.blocks.items = sf.long ∙ ap length (sym fg.basic_blockes) ∙ length-map g.blocks.items (basic_block_of g) in
     record {
       entries = length-map ks (option_map part) ∙ same;
       states = λ k s e.
@@ -72,17 +72,17 @@ flow-of {S} part IsState m d g ks each fg sf =
           let lt2 : k < length ks = omega arith in
           let b = at_below g.blocks.items k lt in
           let o = at_below ks k lt2 in
-          let here : slice_get (blocks d.code) k ≡ Some (stretch_of g b.0) = ap (λ z. slice_get z k) (sym fg.stretches) ∙ slice_get-map (stretch_of g) g.blocks.items k ∙ ap (option_map (stretch_of g)) b.1 in
+          let here : slice_get (blocks d.code) k ≡ Some (basic_block_of g b.0) = ap (λ z. slice_get z k) (sym fg.basic_blockes) ∙ slice_get-map (basic_block_of g) g.blocks.items k ∙ ap (option_map (basic_block_of g)) b.1 in
           let mark : b.0.reached ≡ true = (fg.graph.marks k b.0 b.1).1 r in
-          let known = some_stated o.0 ((sf.marks k (stretch_of g b.0) o.0 here o.1).1 ((fg.reached k b.0 b.1).0 mark)) in
+          let known = some_stated o.0 ((sf.marks k (basic_block_of g b.0) o.0 here o.1).1 ((fg.reached k b.0 b.1).0 mark)) in
           (part known.0, part_stated part ks k known.0 (o.1 ∙ ap Some known.1));
       reached = λ k s e.
           let q = source part ks k s e in
           let in1 : k < length ks = slice_get_within ks k (Some q.known) q.stated in
           let lt : k < length g.blocks.items = omega arith in
           let b = at_below g.blocks.items k lt in
-          let here : slice_get (blocks d.code) k ≡ Some (stretch_of g b.0) = ap (λ z. slice_get z k) (sym fg.stretches) ∙ slice_get-map (stretch_of g) g.blocks.items k ∙ ap (option_map (stretch_of g)) b.1 in
-          (fg.graph.marks k b.0 b.1).0 ((fg.reached k b.0 b.1).1 ((sf.marks k (stretch_of g b.0) (Some q.known) here q.stated).0 refl));
+          let here : slice_get (blocks d.code) k ≡ Some (basic_block_of g b.0) = ap (λ z. slice_get z k) (sym fg.basic_blockes) ∙ slice_get-map (basic_block_of g) g.blocks.items k ∙ ap (option_map (basic_block_of g)) b.1 in
+          (fg.graph.marks k b.0 b.1).0 ((fg.reached k b.0 b.1).1 ((sf.marks k (basic_block_of g b.0) (Some q.known) here q.stated).0 refl));
     }
 
 -- a state that fits has one availability a local

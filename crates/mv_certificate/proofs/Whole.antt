@@ -23,7 +23,7 @@ use Rattle.mv_edges.specs.Ascending.{are_ascending}
 use Rattle.mv_cfg.specs.declared.Block.{Block}
 use Rattle.mv_cfg.specs.declared.Cfg.{Cfg}
 use Rattle.mv_cfg.specs.Blocks.{blocks}
-use Rattle.mv_cfg.specs.FlowGraph.{IsFlowGraph, stretch_of}
+use Rattle.mv_cfg.specs.FlowGraph.{IsFlowGraph, basic_block_of}
 use Rattle.mv_module_text.specs.Entries.{counted}
 use Rattle.mv_module_text.specs.Parsing.{entries_from, counted_from}
 use Rattle.mv_module_text.proofs.Texts.{Whole, number-whole, index-whole, entries-whole, counted-whole}
@@ -183,8 +183,8 @@ same_bools false false f g = refl
 -- what fits the function has the marks of the flow graph
 pub marks-fit : (m : Module) (d : FunctionDefinition) (g : Cfg) (ks : Stated) → IsFlowGraph d.code g → StatedFits m d ks → map is_some ks ≡ map (λ (b : Block). b.reached) g.blocks.items
 marks-fit m d g ks fg sf =
-    same_marks is_some (λ (b : Block). b.reached) ks g.blocks.items (sf.long ∙ ap length (sym fg.stretches) ∙ length-map g.blocks.items (stretch_of g)) (λ i k b ki bi.
-    let here : slice_get (blocks d.code) i ≡ Some (stretch_of g b) = ap (λ z. slice_get z i) (sym fg.stretches) ∙ slice_get-map (stretch_of g) g.blocks.items i ∙ ap (option_map (stretch_of g)) bi in
-    let mark = sf.marks i (stretch_of g b) k here ki in
+    same_marks is_some (λ (b : Block). b.reached) ks g.blocks.items (sf.long ∙ ap length (sym fg.basic_blockes) ∙ length-map g.blocks.items (basic_block_of g)) (λ i k b ki bi.
+    let here : slice_get (blocks d.code) i ≡ Some (basic_block_of g b) = ap (λ z. slice_get z i) (sym fg.basic_blockes) ∙ slice_get-map (basic_block_of g) g.blocks.items i ∙ ap (option_map (basic_block_of g)) bi in
+    let mark = sf.marks i (basic_block_of g b) k here ki in
     let r = fg.reached i b bi in
     same_bools (is_some k) b.reached (λ e. r.1 (mark.0 e)) (λ e. mark.1 (r.0 e)))

@@ -12,7 +12,7 @@ use Rattle.mv_type_states.specs.TypesHold.{Point}
 use Rattle.mv_move_types.specs.declared.borrow.Availability.TheVariants.{Unavailable, Available}
 use Rattle.mv_move_types.specs.Module.{Module, FunctionDefinition, local_tokens, parameter_tokens}
 use Rattle.mv_type_states.specs.TypeRules.{Types, types_after}
-use Rattle.mv_cfg.specs.Blocks.{Stretch, blocks}
+use Rattle.mv_cfg.specs.Blocks.{BasicBlock, blocks}
 
 -- the availability of each local, and the edges
 pub record Known : Type 0 where
@@ -58,19 +58,19 @@ through rule m d (i ∷ is) at = do
   through rule m d is (known, types)
 
 -- the instructions of a block
-abbrev pub instructions_of : FunctionDefinition → Stretch → List Instruction
+abbrev pub instructions_of : FunctionDefinition → BasicBlock → List Instruction
 instructions_of d b = slice_range d.code b.first (b.last + 1)
 
 -- what is stated of the block that begins at an instruction
-abbrev pub stated_at : {S : Type 0} → List (Stretch × Option S) → ℕ → Option S
+abbrev pub stated_at : {S : Type 0} → List (BasicBlock × Option S) → ℕ → Option S
 stated_at stated i = option_and_then (λ b. b.1) (find (λ b. b.0.first == i) stated)
 
 -- what is known is below what is stated where control goes on
-abbrev pub flows_into : {S : Type 0} → (S → S → Bool) → List (Stretch × Option S) → S → ℕ → Bool
+abbrev pub flows_into : {S : Type 0} → (S → S → Bool) → List (BasicBlock × Option S) → S → ℕ → Bool
 flows_into leq stated known i = option_map_or (leq known) (stated_at stated i) false
 
 -- a reached block meets every need, and what is known at its end is below what is stated of each successor
-abbrev pub block_holds : {S : Type 0} → Rule S → (S → S → Bool) → Module → FunctionDefinition → List (Stretch × Option S) → Stretch × Option S → Bool
+abbrev pub block_holds : {S : Type 0} → Rule S → (S → S → Bool) → Module → FunctionDefinition → List (BasicBlock × Option S) → BasicBlock × Option S → Bool
 block_holds rule leq m d stated b =
     option_map_or (λ known.
     option_map_or (λ end. list_all (flows_into leq stated end.0) b.0.next) (through rule m d (instructions_of d b.0) (known, [])) false)
@@ -112,7 +112,7 @@ abbrev pub certificate_holds : Module → Certificate → Bool
 certificate_holds m c = all_locals_hold m c && all_edges_hold m c
 
 -- a reached block meets every need
-abbrev pub block_goes : {S : Type 0} → Rule S → Module → FunctionDefinition → Stretch × Option S → Bool
+abbrev pub block_goes : {S : Type 0} → Rule S → Module → FunctionDefinition → BasicBlock × Option S → Bool
 block_goes rule m d b = option_map_or (λ known. is_some (through rule m d (instructions_of d b.0) (known, []))) b.1 true
 
 -- each reached block meets every need; nothing is said of where control goes on

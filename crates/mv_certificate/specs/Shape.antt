@@ -11,7 +11,7 @@ use Rattle.mv_borrow_graph.specs.BorrowRules.{is_mutable_token, is_reference_tok
 use Rattle.mv_edges.specs.Edges.{Edge, same_node}
 use Rattle.mv_certificate.specs.Certificate.{Known, Stated, Certificate}
 use Rattle.mv_edges.specs.Ascending.{are_ascending}
-use Rattle.mv_cfg.specs.Blocks.{Stretch, blocks, IsReached}
+use Rattle.mv_cfg.specs.Blocks.{BasicBlock, blocks, IsReached}
 
 -- whether a local is there and its type passes the test
 abbrev pub is_typed_local : (Token → Bool) → Module → FunctionDefinition → ℕ → Bool
@@ -46,7 +46,7 @@ known_fits m d known =
 -- a state is stated exactly where the block is reached, and fits
 pub record StatedFits (m : Module) (d : FunctionDefinition) (stated : Stated) : Type 0 where
   pub long : length stated ≡ length (blocks d.code)
-  pub marks : (i : ℕ) (b : Stretch) (k : Option Known) → slice_get (blocks d.code) i ≡ Some b → slice_get stated i ≡ Some k → IsSome k ↔ IsReached d.code b.first
+  pub marks : (i : ℕ) (b : BasicBlock) (k : Option Known) → slice_get (blocks d.code) i ≡ Some b → slice_get stated i ≡ Some k → IsSome k ↔ IsReached d.code b.first
   pub fits : IsTrue (list_all (λ k. option_map_or (known_fits m d) k true) stated)
 
 -- what is stated fits, function by function

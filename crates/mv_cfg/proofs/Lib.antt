@@ -1,3 +1,9 @@
-pub mod Cuts
 pub mod Ends
+pub mod Beginnings
+pub mod Leads
+pub mod Tables
+pub mod Search
 pub mod Graphs
+pub mod Marks
+pub mod Targets
+pub mod Tiling

@@ -1,4 +1,4 @@
 pub mod Blocks
 pub mod Graph
 pub mod FlowGraph
-pub mod Splits
+pub mod Steps

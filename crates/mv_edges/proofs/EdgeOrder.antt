@@ -80,7 +80,7 @@ same_start (Temp i) (Slot j) xs ys h = cc
 same_start (Temp i) (Own j) xs ys h = cc
 same_start (Temp i) (Glob j) xs ys h = cc
 
-same_edges : (a b : Edge) → nodes_code a ≡ nodes_code b → a.label.path ≡ b.label.path → a.label.is_open ≡ b.label.is_open → a ≡ b
+pub same_edges : (a b : Edge) → nodes_code a ≡ nodes_code b → a.label.path ≡ b.label.path → a.label.is_open ≡ b.label.is_open → a ≡ b
 same_edges a b h p o =
     let first = same_start a.from b.from (node_code a.to) (node_code b.to) h in
     let second = same_start a.to b.to [] [] (ap (λ xs. xs ++ []) first.rest) in

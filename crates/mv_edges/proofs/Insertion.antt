@@ -1,8 +1,8 @@
 -- Insertion into ascending lists, for any strict order.
-use Rattle.std.proofs.Common.{◌≡◌, ℕ, zero, suc, ◌+◌, ◌-◌, ◌<◌, ◌⊎◌, inl, inr, Bool, true, false, cond, ◌&&◌, List, [], ◌∷◌, ◌++◌, length, get_or, take, drop, slice_get, Contains, filter, None, Some, refl, sym, ap, ◌∙◌, subst, arith, true≢false, append_assoc}
+use Rattle.std.proofs.Common.{◌≡◌, ℕ, zero, suc, ◌+◌, ◌-◌, ◌<◌, ◌⊎◌, inl, inr, Bool, true, false, cond, ◌&&◌, List, [], ◌∷◌, ◌++◌, length, get_or, take, drop, slice_get, Contains, filter, None, Some, refl, sym, ap, ◌∙◌, subst, arith, true≢false}
 use Rattle.std.specs.List.{list_all}
 use Rattle.std.proofs.lemmas.Bool.{and_parts, and_from, cond_both, cond-true, cond-false, false_from_ne_true}
-use Rattle.std.proofs.lemmas.List.{drop_more, take_more}
+use Rattle.std.proofs.lemmas.List.{get_or_default}
 use Rattle.std.proofs.lemmas.Option.{slice_get-get_or}
 use Rattle.std.proofs.lemmas.List.Elements.{Contains-append_cases, Contains-append_left, Contains-append_right}
 
@@ -211,11 +211,50 @@ module _ {X : Type 0} where
           cond-false (lt e x) (e ∷ x ∷ xs) (cond (lt x e) (x ∷ inserted_by e xs) (x ∷ xs)) (asymmetric x e h)
           ∙ cond-true (lt x e) (x ∷ inserted_by e xs) (x ∷ xs) h
 
-      -- one more element that the inserted one comes after
-      pub inserted_more : (e : X) (xs : List X) (i : ℕ) (d : X) → i < length xs → lt (get_or xs i d) e ≡ true → inserted_by e xs ≡ take i xs ++ inserted_by e (drop i xs) → inserted_by e xs ≡ take (i + 1) xs ++ inserted_by e (drop (i + 1) xs)
-      inserted_more e xs i d h b was =
-          was ∙ ap (λ ys. take i xs ++ inserted_by e ys) (drop_more xs i d h) ∙ ap (λ ys. take i xs ++ ys) (inserted_later e (get_or xs i d) (drop (i + 1) xs) b)
-          ∙ sym (append_assoc (take i xs) (get_or xs i d ∷ []) (inserted_by e (drop (i + 1) xs))) ∙ ap (λ ys. ys ++ inserted_by e (drop (i + 1) xs)) (sym (take_more xs i d h))
+      -- an element of an ascending list that is before another has all up to it before that one
+      all_before_next : (xs : List X) (i : ℕ) (d t : X) → i < length xs → ascend_by xs ≡ true → lt (get_or xs i d) t ≡ true → list_all (λ x. lt x t) (take (suc i) xs) ≡ true
+      all_before_next [] i d t h a b = absurd (omega (arith, h))
+      all_before_next (x ∷ xs) zero d t h a b = and_from (lt x t) true b refl
+      all_before_next (x ∷ xs) (suc i) d t h a b =
+          let inside : i < length xs = omega (arith, h) in
+          let below : lt x (get_or xs i d) ≡ true = all_contains (lt x) xs (get_or xs i d) (all_above x xs a) (i, inside, get_or_default xs i (get_or xs i d) d inside) in
+          and_from (lt x t) (list_all (λ y. lt y t) (take (suc i) xs)) (o.transitive x (get_or xs i d) t below b) (all_before_next xs i d t inside (ascend_tail x xs a) b)
+
+      pub all_before_at : (xs : List X) (i : ℕ) (d t : X) → i < length xs → ascend_by xs ≡ true → lt (get_or xs i d) t ≡ true → list_all (λ x. lt x t) (take (i + 1) xs) ≡ true
+      all_before_at xs i d t h a b = let one : suc i ≡ i + 1 = omega arith in subst (λ n. list_all (λ x. lt x t) (take n xs) ≡ true) one (all_before_next xs i d t h a b)
+
+      -- and one that another is before has it before all from there on
+      pub all_after_at : (xs : List X) (i : ℕ) (d t : X) → i < length xs → ascend_by xs ≡ true → lt t (get_or xs i d) ≡ true → list_all (lt t) (drop i xs) ≡ true
+      all_after_at [] i d t h a b = absurd (omega (arith, h))
+      all_after_at (x ∷ xs) zero d t h a b = and_from (lt t x) (list_all (lt t) xs) b (all_weaker (lt x) (lt t) (λ z g. o.transitive t x z b g) xs (all_above x xs a))
+      all_after_at (x ∷ xs) (suc i) d t h a b = all_after_at xs i d t (omega (arith, h)) (ascend_tail x xs a) b
+
+      -- an element between those before it and those after it
+      pub inserted_between : (e : X) (xs ys : List X) → list_all (λ x. lt x e) xs ≡ true → list_all (lt e) ys ≡ true → inserted_by e (xs ++ ys) ≡ xs ++ e ∷ ys
+      inserted_between e [] ys h g = inserted_first e ys g
+      inserted_between e (x ∷ xs) ys h g =
+          let parts = and_parts (lt x e) (list_all (λ y. lt y e) xs) h in
+          inserted_later e x (xs ++ ys) parts.0 ∙ ap (λ zs. x ∷ zs) (inserted_between e xs ys parts.1 g)
+
+      -- what comes before all the others is the head
+      pub sorted_cons : (whole : List X) (x : X) (rest : List X) → list_all (lt x) rest ≡ true → ((z : X) → Contains whole z → Contains (x ∷ rest) z) → ((z : X) → Contains (x ∷ rest) z → Contains whole z) → sorted_by whole ≡ x ∷ sorted_by rest
+      sorted_cons whole x rest a f g =
+          let above : list_all (lt x) (sorted_by rest) ≡ true = all_from_contains (lt x) (sorted_by rest) (λ z c. all_contains (lt x) rest z a (contains_from_sorted rest z c)) in
+          same_lists_from_elements (sorted_by whole) (x ∷ sorted_by rest) (ascend-sorted whole) (ascend_cons x (sorted_by rest) above (ascend-sorted rest))
+          (λ z c. elim (contains_cases x rest z (f z (contains_from_sorted whole z c))) [
+            | inl h ↦ subst (λ y. Contains (x ∷ sorted_by rest) y) h (contains_here x (sorted_by rest))
+            | inr d ↦ contains_there x (sorted_by rest) z (contains-sorted rest z d)
+          ])
+          (λ z c. contains-sorted whole z (g z (elim (contains_cases x (sorted_by rest) z c) [
+            | inl h ↦ subst (λ y. Contains (x ∷ rest) y) h (contains_here x rest)
+            | inr d ↦ contains_there x rest z (contains_from_sorted rest z d)
+          ])))
+
+      -- lists with the same elements are sorted alike
+      pub sorted_alike : (xs ys : List X) → ((z : X) → Contains xs z → Contains ys z) → ((z : X) → Contains ys z → Contains xs z) → sorted_by xs ≡ sorted_by ys
+      sorted_alike xs ys f g =
+          same_lists_from_elements (sorted_by xs) (sorted_by ys) (ascend-sorted xs) (ascend-sorted ys)
+          (λ z c. contains-sorted ys z (f z (contains_from_sorted xs z c))) (λ z c. contains-sorted xs z (g z (contains_from_sorted ys z c)))
 
     ascend-push_at : (xs : List X) (e l : X) (i : ℕ) → length xs ≡ suc i → slice_get xs i ≡ Some l → ascend_by xs ≡ true → ascend_by (xs ++ e ∷ []) ≡ lt l e
     ascend-push_at [] e l i h g a = cc

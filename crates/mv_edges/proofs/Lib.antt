@@ -1,5 +1,10 @@
+pub mod Changes
 pub mod Comparisons
+pub mod Counting
 pub mod EdgeOrder
 pub mod Insertion
+pub mod Lengths
 pub mod Lexicographic
+pub mod Order
+pub mod Searches
 pub mod Sorting

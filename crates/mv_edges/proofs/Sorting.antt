@@ -1,19 +1,16 @@
 -- Edges in their order.
-use Rattle.std.proofs.Common.{◌≡◌, ℕ, ◌+◌, ◌-◌, ◌<◌, ◌↔◌, Bool, true, false, cond, ◌&&◌, ◌||◌, List, [], ◌∷◌, ◌++◌, length, get_or, take, drop, slice_get, Contains, filter, None, Some, bytes_eq, eqb, not, insert, refl, sym, arith, take-append-drop, ap, ◌∙◌, subst, eq-eqb, ne_eqb}
-use Rattle.std.specs.Bool.{beq}
-use Rattle.std.specs.List.{list_any}
-use Rattle.std.specs.Cmp.Lexicographic.{bytes_decides}
-use Rattle.std.proofs.lemmas.Bool.{and_parts, and_from, or_left, cond-false}
+use Rattle.std.proofs.Common.{◌≡◌, ℕ, ◌+◌, ◌-◌, ◌<◌, ◌≤◌, ◌↔◌, ◌⊎◌, inl, inr, zero, suc, Bool, true, false, cond, ◌&&◌, ◌||◌, List, [], ◌∷◌, ◌++◌, length, get_or, take, drop, slice_get, Contains, filter, None, Some, eqb, not, insert, refl, sym, arith, take-append-drop, append_assoc, append-nil, ap, ◌∙◌, subst, ne_eqb}
+use Rattle.std.specs.List.{list_all, list_any}
+use Rattle.std.proofs.lemmas.Bool.{and_parts, and_from}
 use Rattle.std.proofs.lemmas.List.{drop_more, drop_all}
-use Rattle.std.proofs.lemmas.List.Folds.{list_any_at}
-use Rattle.std.proofs.lemmas.List.Elements.{Contains-append_left}
+use Rattle.std.proofs.lemmas.List.Folds.{list_all-append}
+use Rattle.std.proofs.lemmas.List.Elements.{Contains-append_cases, Contains-append_left, Contains-append_right}
 use Rattle.mv_move_types.specs.declared.borrow.Node.{Node}
-use Rattle.mv_move_types.specs.declared.borrow.Node.TheVariants.{Slot, Own, Glob, Temp}
-use Rattle.mv_edges.specs.Edges.{Edge, Label, same_node, label_leq, edge_leq, edges_leq, without}
+use Rattle.mv_edges.specs.Edges.{Edge, same_node, without}
 use Rattle.mv_edges.specs.Ascending.{edge_before, are_ascending}
 use Rattle.mv_edges.specs.Sorted.{inserted, sorted}
 use Rattle.mv_edges.proofs.Insertion as insertion
-use Rattle.mv_edges.proofs.Insertion.{inserted_by, sorted_by, ascend_by, all_from_contains}
+use Rattle.mv_edges.proofs.Insertion.{inserted_by, sorted_by, ascend_by}
 use Rattle.mv_edges.proofs.EdgeOrder.{edge_strict}
 
 inserted_is : (e : Edge) (es : List Edge) → inserted e es ≡ inserted_by edge_before e es
@@ -45,6 +42,18 @@ pub contains-sorted : (es : List Edge) (e : Edge) → Contains (sorted es) e ↔
 contains-sorted es e =
     (λ c. insertion.contains_from_sorted edge_before edge_strict es e (subst (λ xs. Contains xs e) (sorted_is es) c), λ c. subst (λ xs. Contains xs e) (sym (sorted_is es)) (insertion.contains-sorted edge_before edge_strict es e c))
 
+-- the edges of a list with one inserted
+contains-inserted_cases : (e : Edge) (es : List Edge) (z : Edge) → Contains (inserted e es) z → (e ≡ z) ⊎ Contains es z
+contains-inserted_cases e es z c = insertion.contains_from_inserted edge_before edge_strict e es z (subst (λ xs. Contains xs z) (inserted_is e es) c)
+
+contains-inserted_rest : (e : Edge) (es : List Edge) (z : Edge) → Contains es z → Contains (inserted e es) z
+contains-inserted_rest e es z c = subst (λ xs. Contains xs z) (sym (inserted_is e es)) (insertion.contains-inserted edge_before edge_strict e es z (inr c))
+
+-- what comes before all the others is the head
+sorted_cons : (whole : List Edge) (e : Edge) (rest : List Edge) → list_all (edge_before e) rest ≡ true → ((z : Edge) → Contains whole z ↔ Contains (e ∷ rest) z) → sorted whole ≡ e ∷ sorted rest
+sorted_cons whole e rest h f =
+    sorted_is whole ∙ insertion.sorted_cons edge_before edge_strict whole e rest h (λ z. (f z).0) (λ z. (f z).1) ∙ ap (λ xs. e ∷ xs) (sym (sorted_is rest))
+
 pub sorted-ascending : (es : List Edge) → are_ascending es ≡ true → sorted es ≡ es
 sorted-ascending es h = sorted_is es ∙ insertion.sorted_same edge_before edge_strict es (to_by es h)
 
@@ -56,7 +65,66 @@ sorted_push es e h = sorted_is (es ++ e ∷ []) ∙ insertion.sorted-push edge_b
 pub same_edges_from_contains : (es fs : List Edge) → are_ascending es ≡ true → are_ascending fs ≡ true → ((e : Edge) → Contains es e ↔ Contains fs e) → es ≡ fs
 same_edges_from_contains es fs a b f = insertion.same_lists_from_elements edge_before edge_strict es fs (to_by es a) (to_by fs b) (λ z. (f z).0) (λ z. (f z).1)
 
+-- lists with the same edges are sorted alike
+pub sorted_alike : (es fs : List Edge) → ((e : Edge) → Contains es e ↔ Contains fs e) → sorted es ≡ sorted fs
+sorted_alike es fs f = sorted_is es ∙ insertion.sorted_alike edge_before edge_strict es fs (λ z. (f z).0) (λ z. (f z).1) ∙ sym (sorted_is fs)
+
+-- the order of two parts is nothing to it
+pub sorted-append_swap : (es fs : List Edge) → sorted (es ++ fs) ≡ sorted (fs ++ es)
+sorted-append_swap es fs = sorted_alike (es ++ fs) (fs ++ es) (λ z. (swap es fs z, swap fs es z))
+  where
+    swap : (xs ys : List Edge) (z : Edge) → Contains (xs ++ ys) z → Contains (ys ++ xs) z
+    swap xs ys z c = elim (Contains-append_cases xs ys z c) [ inl d ↦ Contains-append_right ys xs z d | inr d ↦ Contains-append_left ys xs z d ]
+
+-- a part may be sorted first
+pub sorted-append_sorted : (es fs : List Edge) → sorted (es ++ sorted fs) ≡ sorted (es ++ fs)
+sorted-append_sorted es fs =
+    sorted_alike (es ++ sorted fs) (es ++ fs)
+    (λ z. (
+      λ c. elim (Contains-append_cases es (sorted fs) z c) [ inl d ↦ Contains-append_left es fs z d | inr d ↦ Contains-append_right es fs z ((contains-sorted fs z).0 d) ],
+      λ c. elim (Contains-append_cases es fs z c) [ inl d ↦ Contains-append_left es (sorted fs) z d | inr d ↦ Contains-append_right es (sorted fs) z ((contains-sorted fs z).1 d) ],
+    ))
+
+-- of two ascending lists, the head of the left one comes first
+pub sorted_left_first : (a b : Edge) (es fs : List Edge) → are_ascending (a ∷ es) ≡ true → are_ascending (b ∷ fs) ≡ true → edge_before a b ≡ true → sorted ((a ∷ es) ++ b ∷ fs) ≡ a ∷ sorted (es ++ b ∷ fs)
+sorted_left_first a b es fs h g k =
+    let left = insertion.all_above edge_before edge_strict a es (to_by (a ∷ es) h) in
+    let right = insertion.all_above edge_before edge_strict a (b ∷ fs) (to_by (a ∷ b ∷ fs) (and_from (edge_before a b) (are_ascending (b ∷ fs)) k g)) in
+    let all : list_all (edge_before a) (es ++ b ∷ fs) ≡ true = list_all-append (edge_before a) es (b ∷ fs) ∙ and_from (list_all (edge_before a) es) (list_all (edge_before a) (b ∷ fs)) left right in
+    sorted_cons (a ∷ es ++ b ∷ fs) a (es ++ b ∷ fs) all (λ z. (λ c. c, λ c. c))
+
+-- the head of the right one is
+pub sorted_right_first : (a b : Edge) (es fs : List Edge) → are_ascending (a ∷ es) ≡ true → are_ascending (b ∷ fs) ≡ true → edge_before b a ≡ true → sorted ((a ∷ es) ++ b ∷ fs) ≡ b ∷ sorted ((a ∷ es) ++ fs)
+sorted_right_first a b es fs h g k =
+    sorted-append_swap (a ∷ es) (b ∷ fs) ∙ sorted_left_first b a fs es g h k ∙ ap (λ xs. b ∷ xs) (sorted-append_swap fs (a ∷ es))
+
+-- they are one
+pub sorted_both_first : (a b : Edge) (es fs : List Edge) → are_ascending (a ∷ es) ≡ true → are_ascending (b ∷ fs) ≡ true → a ≡ b → sorted ((a ∷ es) ++ b ∷ fs) ≡ a ∷ sorted (es ++ fs)
+sorted_both_first a b es fs h g k =
+    let left = insertion.all_above edge_before edge_strict a es (to_by (a ∷ es) h) in
+    let right = subst (λ x. list_all (edge_before x) fs ≡ true) (sym k) (insertion.all_above edge_before edge_strict b fs (to_by (b ∷ fs) g)) in
+    let all : list_all (edge_before a) (es ++ fs) ≡ true = list_all-append (edge_before a) es fs ∙ and_from (list_all (edge_before a) es) (list_all (edge_before a) fs) left right in
+    sorted_cons (a ∷ es ++ b ∷ fs) a (es ++ fs) all
+    (λ z. (
+      λ c. elim (Contains-append_cases (a ∷ es) (b ∷ fs) z c) [
+        | inl d ↦ Contains-append_left (a ∷ es) fs z d
+        | inr d ↦ elim (insertion.contains_cases b fs z d) [
+          | inl e ↦ subst (λ y. Contains (a ∷ es ++ fs) y) (k ∙ e) (insertion.contains_here a (es ++ fs))
+          | inr m ↦ Contains-append_right (a ∷ es) fs z m
+        ]
+      ],
+      λ c. elim (Contains-append_cases (a ∷ es) fs z c) [
+        | inl d ↦ Contains-append_left (a ∷ es) (b ∷ fs) z d
+        | inr d ↦ Contains-append_right (a ∷ es) (b ∷ fs) z (insertion.contains_there b fs z d)
+      ],
+    ))
+
 -- ---- what stays ascending
+
+pub ascending_drop : (i : ℕ) (es : List Edge) → are_ascending es ≡ true → are_ascending (drop i es) ≡ true
+ascending_drop zero es h = h
+ascending_drop (suc i) [] h = refl
+ascending_drop (suc i) (e ∷ es) h = ascending_drop i es (from_by es (insertion.ascend_tail edge_before e es (to_by (e ∷ es) h)))
 
 pub ascending-inserted : (e : Edge) (es : List Edge) → are_ascending es ≡ true → are_ascending (inserted e es) ≡ true
 ascending-inserted e es h = from_by (inserted e es) (subst (λ xs. ascend_by edge_before xs ≡ true) (sym (inserted_is e es)) (insertion.ascend-inserted edge_before edge_strict e es (to_by es h)))
@@ -83,29 +151,74 @@ ascending_front (a ∷ b ∷ es) fs h =
 
 -- ---- the place of an edge
 
-pub inserted_more : (e : Edge) (es : List Edge) (i : ℕ) (d : Edge) → i < length es → edge_before (get_or es i d) e ≡ true → inserted e es ≡ take i es ++ inserted e (drop i es) → inserted e es ≡ take (i + 1) es ++ inserted e (drop (i + 1) es)
-inserted_more e es i d h b was =
-    let to = inserted_is e es in
-    let from = inserted_is e (drop i es) in
-    let next = inserted_is e (drop (i + 1) es) in
-    to ∙ insertion.inserted_more edge_before edge_strict e es i d h b (sym to ∙ was ∙ ap (λ ys. take i es ++ ys) from) ∙ ap (λ ys. take (i + 1) es ++ ys) (sym next)
+-- all of the edges up to a place come before what the last of them does
+pub all_before_at : (es : List Edge) (i : ℕ) (d t : Edge) → i < length es → are_ascending es ≡ true → edge_before (get_or es i d) t ≡ true → list_all (λ x. edge_before x t) (take (i + 1) es) ≡ true
+all_before_at es i d t h a b = insertion.all_before_at edge_before edge_strict es i d t h (to_by es a) b
 
--- an edge that is not before the one at its place
-pub inserted_at : (e : Edge) (es : List Edge) (i : ℕ) (d : Edge) → i < length es → edge_before (get_or es i d) e ≡ false → inserted e es ≡ take i es ++ inserted e (drop i es) → inserted e es ≡ cond (edge_before e (get_or es i d)) (insert es i e) es
-inserted_at e es i d h b was =
-    let x = get_or es i d in
-    let rest = drop (i + 1) es in
-    let at : inserted e (drop i es) ≡ cond (edge_before e x) (e ∷ x ∷ rest) (x ∷ rest) =
-    ap (inserted e) (drop_more es i d h) ∙ ap (cond (edge_before e x) (e ∷ x ∷ rest)) (cond-false (edge_before x e) (x ∷ inserted e rest) (x ∷ rest) b) in
-    was ∙ ap (λ ys. take i es ++ ys) at ∙ by_cases (edge_before e x) x rest (drop_more es i d h)
-  where
-    by_cases : (c : Bool) (x : Edge) (rest : List Edge) → drop i es ≡ x ∷ rest → take i es ++ cond c (e ∷ x ∷ rest) (x ∷ rest) ≡ cond c (insert es i e) es
-    by_cases true x rest k = ap (λ ys. take i es ++ e ∷ ys) (sym k)
-    by_cases false x rest k = ap (λ ys. take i es ++ ys) (sym k) ∙ take-append-drop i es
+pub all_after_at : (es : List Edge) (i : ℕ) (d t : Edge) → i < length es → are_ascending es ≡ true → edge_before t (get_or es i d) ≡ true → list_all (edge_before t) (drop i es) ≡ true
+all_after_at es i d t h a b = insertion.all_after_at edge_before edge_strict es i d t h (to_by es a) b
 
--- an edge that all come before
-pub inserted_end : (e : Edge) (es : List Edge) (i : ℕ) → i ≡ length es → inserted e es ≡ take i es ++ inserted e (drop i es) → inserted e es ≡ insert es i e
-inserted_end e es i h was = let none : drop i es ≡ [] = drop_all i es (omega (arith, h)) in was ∙ ap (λ ys. take i es ++ inserted e ys) none ∙ ap (λ ys. take i es ++ e ∷ ys) (sym none)
+-- an edge between those before it and those after it
+pub inserted_between : (e : Edge) (es : List Edge) (i : ℕ) → list_all (λ x. edge_before x e) (take i es) ≡ true → list_all (edge_before e) (drop i es) ≡ true → inserted e es ≡ insert es i e
+inserted_between e es i h g =
+    inserted_is e es ∙ ap (inserted_by edge_before e) (sym (take-append-drop i es)) ∙ insertion.inserted_between edge_before edge_strict e (take i es) (drop i es) h g
+
+-- an edge that is there is not added again
+pub inserted_again : (e : Edge) (es : List Edge) → are_ascending es ≡ true → Contains es e → inserted e es ≡ es
+inserted_again e es a c =
+    same_edges_from_contains (inserted e es) es (ascending-inserted e es a) a
+    (λ z. (λ d. elim (contains-inserted_cases e es z d) [ inl h ↦ subst (λ y. Contains es y) h c | inr k ↦ k ], λ d. contains-inserted_rest e es z d))
+
+-- what a vector holds after an insertion at that place, found by an equal edge
+pub inserted_missing : (es : List Edge) (e v : Edge) (place : ℕ) (after before : List Edge) → v ≡ e → list_all (λ x. edge_before x v) (take place es) ≡ true → list_all (edge_before v) (drop place es) ≡ true → after ≡ insert before place e → before ≡ es → after ≡ inserted e es
+inserted_missing es e v place after before same h g new old =
+    new ∙ ap (λ xs. insert xs place e) old
+    ∙ sym (inserted_between e es place (subst (λ y. list_all (λ x. edge_before x y) (take place es) ≡ true) same h) (subst (λ y. list_all (edge_before y) (drop place es) ≡ true) same g))
+
+-- ---- a merge's steps
+
+module _ (a b : List Edge) (ascend_a : are_ascending a ≡ true) (ascend_b : are_ascending b ≡ true) where
+  module _ (i j : ℕ) (x y : Edge) (in_a : i < length a) (in_b : j < length b) (at_a : x ≡ get_or a i x) (at_b : y ≡ get_or b j y) where
+    rest_a : drop i a ≡ x ∷ drop (i + 1) a
+    rest_a = drop_more a i x in_a ∙ ap (λ z. z ∷ drop (i + 1) a) (sym at_a)
+
+    rest_b : drop j b ≡ y ∷ drop (j + 1) b
+    rest_b = drop_more b j y in_b ∙ ap (λ z. z ∷ drop (j + 1) b) (sym at_b)
+
+    ascend_rest_a : are_ascending (x ∷ drop (i + 1) a) ≡ true
+    ascend_rest_a = subst (λ es. are_ascending es ≡ true) rest_a (ascending_drop i a ascend_a)
+
+    ascend_rest_b : are_ascending (y ∷ drop (j + 1) b) ≡ true
+    ascend_rest_b = subst (λ es. are_ascending es ≡ true) rest_b (ascending_drop j b ascend_b)
+
+    both : sorted (drop i a ++ drop j b) ≡ sorted ((x ∷ drop (i + 1) a) ++ y ∷ drop (j + 1) b)
+    both = ap (λ es. sorted (es ++ drop j b)) rest_a ∙ ap (λ es. sorted ((x ∷ drop (i + 1) a) ++ es)) rest_b
+
+    pub left_first : edge_before x y ≡ true → sorted (drop i a ++ drop j b) ≡ x ∷ sorted (drop (i + 1) a ++ drop j b)
+    left_first h = both ∙ sorted_left_first x y (drop (i + 1) a) (drop (j + 1) b) ascend_rest_a ascend_rest_b h ∙ ap (λ es. x ∷ sorted (drop (i + 1) a ++ es)) (sym rest_b)
+
+    pub right_first : edge_before y x ≡ true → sorted (drop i a ++ drop j b) ≡ y ∷ sorted (drop i a ++ drop (j + 1) b)
+    right_first h = both ∙ sorted_right_first x y (drop (i + 1) a) (drop (j + 1) b) ascend_rest_a ascend_rest_b h ∙ ap (λ es. y ∷ sorted (es ++ drop (j + 1) b)) (sym rest_a)
+
+    pub both_first : x ≡ y → sorted (drop i a ++ drop j b) ≡ x ∷ sorted (drop (i + 1) a ++ drop (j + 1) b)
+    both_first h = both ∙ sorted_both_first x y (drop (i + 1) a) (drop (j + 1) b) ascend_rest_a ascend_rest_b h
+
+  -- the rest of the longer list
+  pub merged_rest : (items total : List Edge) (i j : ℕ) → (length a ≤ i) ⊎ (length b ≤ j) → items ++ sorted (drop i a ++ drop j b) ≡ total → (items ++ drop i a) ++ drop j b ≡ total
+  merged_rest items total i j end was = append_assoc items (drop i a) (drop j b) ∙ ap (λ es. items ++ es) (sym (by_end end)) ∙ was
+    where
+      by_end : (length a ≤ i) ⊎ (length b ≤ j) → sorted (drop i a ++ drop j b) ≡ drop i a ++ drop j b
+      by_end (inl h) =
+          let none = drop_all i a h in
+          ap (λ es. sorted (es ++ drop j b)) none ∙ sorted-ascending (drop j b) (ascending_drop j b ascend_b) ∙ ap (λ es. es ++ drop j b) (sym none)
+      by_end (inr h) =
+          let none = drop_all j b h in
+          ap (λ es. sorted (drop i a ++ es)) none ∙ ap sorted (append-nil (drop i a)) ∙ sorted-ascending (drop i a) (ascending_drop i a ascend_a) ∙ sym (append-nil (drop i a)) ∙ ap (λ es. drop i a ++ es) (sym none)
+
+-- one more of the merged edges
+pub merged_more : (items after whole rest total : List Edge) (z x : Edge) → after ≡ items ++ z ∷ [] → z ≡ x → sorted whole ≡ x ∷ sorted rest → items ++ sorted whole ≡ total → after ++ sorted rest ≡ total
+merged_more items after whole rest total z x new same step was =
+    ap (λ xs. xs ++ sorted rest) new ∙ append_assoc items (z ∷ []) (sorted rest) ∙ ap (λ u. items ++ u ∷ sorted rest) same ∙ ap (λ ys. items ++ ys) (sym step) ∙ was
 
 -- a test that an edge passes
 pub any_passes : (p : Edge → Bool) (es : List Edge) → list_any p es ≡ not (eqb (length (filter p es)) 0)
@@ -124,34 +237,3 @@ any_filter p q (e ∷ es) = by_cases (p e) (any_filter p q es)
     by_cases : (c : Bool) → list_any q (filter p es) ≡ list_any (λ x. p x && q x) es → list_any q (cond c (e ∷ filter p es) (filter p es)) ≡ (c && q e || list_any (λ x. p x && q x) es)
     by_cases true h = ap (λ b. q e || b) h
     by_cases false h = h
-
--- ---- the order of lists
-
-same_node_itself : (n : Node) → same_node n n ≡ true
-same_node_itself (Slot i) = eq-eqb i i refl
-same_node_itself (Own i) = eq-eqb i i refl
-same_node_itself (Glob i) = eq-eqb i i refl
-same_node_itself (Temp i) = eq-eqb i i refl
-
-beq_itself : (b : Bool) → beq b b ≡ true
-beq_itself true = refl
-beq_itself false = refl
-
-label_leq_itself : (l : Label) → label_leq l l ≡ true
-label_leq_itself l =
-    or_left (bytes_eq l.path l.path && beq l.is_open l.is_open) _
-    (and_from (bytes_eq l.path l.path) (beq l.is_open l.is_open) ((bytes_decides l.path l.path).1 refl) (beq_itself l.is_open))
-
-pub edge_leq_itself : (e : Edge) → edge_leq e e ≡ true
-edge_leq_itself e =
-    and_from (same_node e.from e.from && same_node e.to e.to) (label_leq e.label e.label)
-    (and_from (same_node e.from e.from) (same_node e.to e.to) (same_node_itself e.from) (same_node_itself e.to)) (label_leq_itself e.label)
-
--- a list is below one that has its edges
-pub edges_leq_from_contains : (es fs : List Edge) → ((e : Edge) → Contains es e → Contains fs e) → edges_leq es fs ≡ true
-edges_leq_from_contains es fs f =
-    all_from_contains (λ a. list_any (edge_leq a) fs) es
-    (λ e c. let d = f e c in list_any_at (edge_leq e) fs d.0 e d.1 (subst (λ x. edge_leq e x ≡ true) (sym d.2) (edge_leq_itself e)))
-
-pub edges_leq-sorted : (es fs : List Edge) → edges_leq es (sorted (es ++ fs)) ≡ true
-edges_leq-sorted es fs = edges_leq_from_contains es (sorted (es ++ fs)) (λ e c. (contains-sorted (es ++ fs) e).1 (Contains-append_left es fs e c))

@@ -1,6 +1,9 @@
 -- The order in which edges are listed.
 use Rattle.std.specs.Prelude.{ℕ, Bool, true, false, ◌&&◌, ◌||◌, ◌==◌, nat_lt, List, [], ◌∷◌, ◌++◌, not}
 use Rattle.std.specs.Str.{bytes_eq}
+use Rattle.std.specs.declared.cmp.Ordering.{Ordering}
+use Rattle.std.specs.Ordering.{ordering_then, nat_cmp, bool_cmp}
+use Rattle.std.specs.Cmp.Lexicographic.{slice_cmp}
 use Rattle.mv_move_types.specs.declared.borrow.Node.{Node}
 use Rattle.mv_move_types.specs.declared.borrow.Node.TheVariants.{Slot, Own, Glob, Temp}
 use Rattle.mv_edges.specs.Edges.{Label, Edge}
@@ -29,6 +32,12 @@ label_before a b = list_before a.path b.path || bytes_eq a.path b.path && not a.
 -- edges ascend by their nodes, then by their labels
 abbrev pub edge_before : Edge → Edge → Bool
 edge_before a b = list_before (nodes_code a) (nodes_code b) || bytes_eq (nodes_code a) (nodes_code b) && label_before a.label b.label
+
+-- which of two edges comes first
+abbrev pub edge_order : Edge → Edge → Ordering
+edge_order a b =
+    ordering_then (slice_cmp nat_cmp (nodes_code a) (nodes_code b))
+    (ordering_then (slice_cmp nat_cmp a.label.path b.label.path) (bool_cmp a.label.is_open b.label.is_open))
 
 -- whether the edges ascend strictly
 abbrev pub are_ascending : List Edge → Bool

@@ -1,11 +1,13 @@
 -- Labels, edges and their order.
-use Rattle.std.specs.Prelude.{ℕ, Bool, List, false, ◌==◌, [], ◌&&◌, ◌||◌, filter, not, if◌then◌else◌, map}
+use Rattle.std.specs.Prelude.{ℕ, max, Bool, true, false, List, [], ◌∷◌, ◌++◌, length, take, ◌==◌, ◌&&◌, ◌||◌, filter, not, if◌then◌else◌, map}
 use Rattle.std.specs.Bool.{beq}
 use Rattle.std.specs.Str.{bytes_eq}
 use Rattle.std.specs.List.{list_all, list_any}
 use Rattle.mv_move_types.specs.declared.borrow.Node.{Node}
 use Rattle.mv_move_types.specs.declared.borrow.Node.TheVariants.{Slot, Own, Glob, Temp}
 use Rattle.mv_move_types.specs.Paths.{begins}
+use Rattle.mv_edges.specs.declared.label.Change.{Change}
+use Rattle.mv_edges.specs.declared.label.Change.TheVariants.{Kept, Extended, Opened}
 
 -- a list of field positions: exactly these, or these and any more
 pub record Label : Type 0 where
@@ -38,6 +40,24 @@ same_edge a b = same_node a.from b.from && same_label a.label b.label && same_no
 abbrev pub here : Label
 here = record { path = []; is_open = false }
 
+-- one position longer, if it is exact
+abbrev pub extended : ℕ → Label → Label
+extended f label = record { path = if label.is_open then label.path else (label.path ++ f ∷ []); is_open = label.is_open }
+
+-- the label that allows anything below, too
+abbrev pub opened : Label → Label
+opened label = record label { is_open = true }
+
+-- the label with a change made to it
+abbrev pub changed : Change → Label → Label
+changed Kept label = label
+changed (Extended f) label = extended f label
+changed Opened label = opened label
+
+-- whether the label's list is empty or begins with the position
+abbrev pub agrees : ℕ → Label → Bool
+agrees f label = begins label.path (f ∷ []) || begins (f ∷ []) label.path
+
 -- a label is below itself, and below an open one whose list begins its own
 abbrev pub label_leq : Label → Label → Bool
 label_leq a b = (bytes_eq a.path b.path && beq a.is_open b.is_open) || b.is_open && begins b.path a.path
@@ -54,6 +74,14 @@ edges_leq as' bs = list_all (λ a. list_any (edge_leq a) bs) as'
 abbrev pub out_of : Node → List Edge → List Edge
 out_of n edges = filter (λ e. same_node e.from n) edges
 
+-- the edges that lead into a node
+abbrev pub into : Node → List Edge → List Edge
+into n edges = filter (λ e. same_node e.to n) edges
+
+-- the edges but for those that lead out of a node
+abbrev pub but_out_of : Node → List Edge → List Edge
+but_out_of n edges = filter (λ e. not (same_node e.from n)) edges
+
 -- the edges without those at a node
 abbrev pub without : Node → List Edge → List Edge
 without n edges = filter (λ e. not (same_node e.from n) && not (same_node e.to n)) edges
@@ -65,6 +93,19 @@ renamed_node old new n = if same_node n old then new else n
 -- the edges with one node in place of another
 abbrev pub renamed : Node → Node → List Edge → List Edge
 renamed old new edges = map (λ e. record { from = renamed_node old new e.from; label = e.label; to = renamed_node old new e.to }) edges
+
+-- the incoming edges of a node, with their labels changed, for another node
+abbrev pub inherited : (Label → Label) → Node → Node → List Edge → List Edge
+inherited change old new edges = map (λ e. record { from = e.from; label = change e.label; to = new }) (into old edges)
+
+-- the edge with an open label, of its first positions alone
+abbrev pub opened_at : ℕ → Edge → Edge
+opened_at count e = record { from = e.from; label = record { path = take count e.label.path; is_open = true }; to = e.to }
+
+-- the length of the longest list among the labels
+abbrev pub longest : List Edge → ℕ
+longest [] = 0
+longest (e ∷ es) = max (length e.label.path) (longest es)
 
 -- an edge between two nodes
 abbrev pub an_edge : Node → Label → Node → Edge

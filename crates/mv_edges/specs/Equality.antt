@@ -33,7 +33,7 @@ same_node_decides (Temp i) (Slot j) = (λ h. absurd (true≢false (sym h)), λ e
 same_node_decides (Temp i) (Own j) = (λ h. absurd (true≢false (sym h)), λ e. cc)
 same_node_decides (Temp i) (Glob j) = (λ h. absurd (true≢false (sym h)), λ e. cc)
 
-beq_decides : (a b : Bool) → Decides (beq a b) (a ≡ b)
+pub beq_decides : (a b : Bool) → Decides (beq a b) (a ≡ b)
 beq_decides true true = (λ _. refl, λ _. refl)
 beq_decides false false = (λ _. refl, λ _. refl)
 beq_decides true false = (λ h. absurd (true≢false (sym h)), λ e. absurd (true≢false e))

@@ -1,4 +1,6 @@
 pub mod Ascending
+pub mod Counts
 pub mod Edges
 pub mod Equality
+pub mod Joins
 pub mod Sorted

@@ -1,102 +1,13 @@
-// An edge with its label, and the order of edges.
-ghost use Rattle.std.specs.Prelude.{◌≡◌, IfOk};
-ghost use Rattle.mv_edges.specs.Edges.{here, an_edge, same_node, renamed_node, label_leq, edge_leq};
-ghost use Rattle.mv_edges.specs.Ascending.{node_code, nodes_code, label_before, edge_before};
+// An edge, and the order of edges.
+ghost use Rattle.std.specs.Prelude.{◌≡◌, ◌≤◌, length, IfOk};
+ghost use Rattle.mv_edges.specs.Edges.{an_edge, same_node, renamed_node, changed, edge_leq, opened_at};
+ghost use Rattle.mv_edges.specs.Ascending.{node_code, nodes_code, edge_before, edge_order};
 
+use super::label::{Change, Label};
 use mv_move_types::Node;
 use std::alloc::{AllocError, Global};
+use std::cmp::Ordering;
 use std::marker::Model;
-
-/// A list of field positions: exactly these, or, of an open label, these and any more.
-///
-/// A position fits a byte, since a struct has at most 32 fields (this project's own rule).
-#[derive(Drop, Debug)]
-pub struct Label {
-    path: Vec<u8>,
-    is_open: bool,
-}
-
-impl Model for Label {
-    ghost use Rattle.mv_edges.specs.Edges.{Label as LabelRecord};
-
-    ghost Value = { LabelRecord };
-
-    ghost view = { λ l. record { path = l.path.items; is_open = l.is_open } };
-}
-
-impl Label {
-    /// The label of these positions.
-    pub fn new(path: Vec<u8>, is_open: bool) -> Self
-        ensures { result ≡ record { path = path.items; is_open = is_open } }
-    {
-        Label { path, is_open }
-    }
-
-    /// The label of the place itself: no position, exact.
-    pub fn here(alloc: Global) -> Self
-        ensures { result ≡ here }
-    {
-        Label::new(Vec::new(alloc), false)
-    }
-
-    /// The positions.
-    pub fn path(&self) -> &[u8]
-        ensures { result.now ≡ self.now.path }
-    {
-        &self.path
-    }
-
-    /// Whether any more positions may follow.
-    pub fn is_open(&self) -> bool
-        ensures { result ≡ self.now.is_open }
-    {
-        self.is_open
-    }
-
-    /// An equal label.
-    pub fn copy(&self, alloc: Global) -> Result<Self, AllocError>
-        ensures { IfOk result (λ l. l ≡ self.now) }
-    {
-        Ok(Label::new(Vec::from_slice(alloc, &self.path)?, self.is_open))
-    }
-
-    /// Whether the label is the other, or the other is open and its positions begin this one's.
-    #[tactic(auto, using(crate::proofs::Comparisons::starts_with_begins))]
-    pub fn is_below(&self, other: &Label) -> bool
-        ensures { result ≡ label_leq self.now other.now }
-    {
-        self == other || other.is_open && self.path.starts_with(&other.path)
-    }
-
-    /// Whether the label comes before another: by the positions, where a beginning comes before its
-    /// extension, then exact before open.
-    #[tactic(auto, using(crate::proofs::Comparisons::lt_is_before))]
-    fn is_before(&self, other: &Label) -> bool
-        ensures { result ≡ label_before self.now other.now }
-    {
-        self.path < other.path || self.path == other.path && !self.is_open && other.is_open
-    }
-}
-
-impl PartialEq for Label {
-    ghost use Rattle.mv_edges.specs.Edges.{same_label};
-    ghost use Rattle.mv_edges.specs.Equality.{same_label_equiv};
-    ghost use Rattle.std.specs.Cmp.{partial_equiv_from_equiv};
-
-    ghost eq = { same_label };
-
-    ghost laws = { partial_equiv_from_equiv same_label_equiv };
-
-    fn eq(&self, other: &Self) -> bool {
-        self.path == other.path && self.is_open == other.is_open
-    }
-}
-
-impl Eq for Label {
-    ghost use Rattle.mv_edges.specs.Equality.{same_label_equiv};
-
-    ghost laws = { same_label_equiv };
-}
 
 /// Whether two nodes are one.
 fn is_same(a: Node, b: Node) -> bool
@@ -224,6 +135,77 @@ impl Edge {
         )
     }
 
+    /// The edge for another node, with a change made to its label.
+    pub(crate) fn inherited(
+        &self,
+        alloc: Global,
+        change: Change,
+        new: Node,
+    ) -> Result<Self, AllocError>
+        ensures { IfOk result (λ e. e ≡ an_edge self.now.from (changed change self.now.label) new) }
+    {
+        Ok(Edge::new(self.from, self.label.changed(alloc, change)?, new))
+    }
+
+    /// The edge, with its positions where they are.
+    pub(crate) fn view(&self) -> EdgeView<'_>
+        ensures { result ≡ self.now }
+    {
+        EdgeView {
+            from: self.from,
+            path: self.label.path(),
+            is_open: self.label.is_open(),
+            to: self.to,
+        }
+    }
+
+    /// Whether the edge comes before another: by the nodes, then by the labels.
+    #[tactic(auto, using(crate::proofs::Comparisons::order_before))]
+    pub fn is_before(&self, other: &Edge) -> bool
+        ensures { result ≡ edge_before self.now other.now }
+    {
+        self.view().order(&other.view()).is_lt()
+    }
+}
+
+/// An edge whose positions stand elsewhere.
+#[derive(Drop)]
+pub(crate) struct EdgeView<'a> {
+    from: Node,
+    path: &'a [u8],
+    is_open: bool,
+    to: Node,
+}
+
+impl<'a> Model for EdgeView<'a> {
+    ghost use Rattle.mv_edges.specs.Edges.{Edge as EdgeRecord};
+
+    ghost Value = { EdgeRecord };
+
+    ghost view = { λ e. record { from = e.from; label = record { path = e.path.now; is_open = e.is_open }; to = e.to } };
+}
+
+impl<'a> EdgeView<'a> {
+    /// How many positions the label has.
+    pub(crate) fn depth(&self) -> usize
+        ensures { result ≡ length self.now.label.path }
+    {
+        self.path.len()
+    }
+
+    /// The edge whose label is open, and has the first positions alone.
+    pub(crate) fn opened_at(&self, count: usize) -> EdgeView<'a>
+        requires { count ≤ length self.now.label.path }
+        ensures { result ≡ opened_at count self.now }
+    {
+        EdgeView {
+            from: self.from,
+            path: &self.path[..count],
+            is_open: true,
+            to: self.to,
+        }
+    }
+
     /// The numbers of the nodes.
     fn nodes(&self) -> [u16; 4]
         ensures { result ≡ nodes_code self.now }
@@ -233,13 +215,12 @@ impl Edge {
         [from_kind, from_index, to_kind, to_index]
     }
 
-    /// Whether the edge comes before another: by the nodes, then by the labels.
-    #[tactic(auto, using(crate::proofs::Comparisons::lt_is_before))]
-    pub fn is_before(&self, other: &Edge) -> bool
-        ensures { result ≡ edge_before self.now other.now }
+    /// Which of two edges comes first: by the nodes, then by the positions, then exact before open.
+    pub(crate) fn order(&self, other: &EdgeView<'_>) -> Ordering
+        ensures { result ≡ edge_order self.now other.now }
     {
-        let nodes = self.nodes();
-        let others = other.nodes();
-        nodes < others || nodes == others && self.label.is_before(&other.label)
+        let nodes = self.nodes().cmp(&other.nodes());
+        let paths = self.path.cmp(other.path);
+        nodes.then(paths.then(self.is_open.cmp(&other.is_open)))
     }
 }

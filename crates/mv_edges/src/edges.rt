@@ -1,8 +1,8 @@
 // A list of edges in their order.
-ghost use Rattle.std.specs.Prelude.{◌≡◌, ◌+◌, ◌-◌, ◌<◌, ◌≤◌, ◌==◌, ◌++◌, ◌∷◌, List, [], length, take, drop, slice_get, slice_index_or, not, if◌then◌else◌, IsTrue, IfOk, OnOk, OnErr, option_copied, false};
+ghost use Rattle.std.specs.Prelude.{◌≡◌, max, ◌+◌, ◌-◌, ◌<◌, ◌≤◌, ◌==◌, ◌++◌, ◌∷◌, List, [], length, take, drop, slice_get, not, ◌&&◌, if◌then◌else◌, IsTrue, IfOk, OnOk, OnErr, option_copied, false};
 ghost use Rattle.std.specs.List.{list_any};
-ghost use Rattle.mv_edges.specs.Edges.{same_node, edge_leq, edges_leq, out_of, without, renamed};
-ghost use Rattle.mv_edges.specs.Ascending.{edge_before, are_ascending};
+ghost use Rattle.mv_edges.specs.Edges.{same_node, agrees, out_of, but_out_of, without, renamed, longest};
+ghost use Rattle.mv_edges.specs.Ascending.{are_ascending};
 ghost use Rattle.mv_edges.specs.Sorted.{inserted, sorted};
 
 use super::Edge;
@@ -10,22 +10,41 @@ use mv_move_types::Node;
 use std::alloc::{AllocError, Global};
 use std::marker::Model;
 
+/// The larger of two numbers.
+fn larger(a: usize, b: usize) -> usize
+    ensures { result ≡ max a b }
+{
+    if a < b { b } else { a }
+}
+
+/// The length of the longest list among the labels.
+fn longest_of(items: &[Edge]) -> usize
+    ensures { result ≡ longest items.now }
+{
+    let mut most = 0;
+    for e in items {
+        most = larger(most, e.view().depth());
+    }
+    most
+}
+
 /// Edges of the borrow graph, each once, in ascending order.
 #[derive(Drop, Debug)]
 pub struct Edges {
     items: Vec<Edge>,
+    longest: usize,
 }
 
 impl Model for Edges {
-    ghost use Rattle.std.specs.Prelude.{List, IsTrue};
-    ghost use Rattle.mv_edges.specs.Edges.{Edge as EdgeRecord};
+    ghost use Rattle.std.specs.Prelude.{◌≡◌, List, IsTrue};
+    ghost use Rattle.mv_edges.specs.Edges.{Edge as EdgeRecord, longest as longest_list};
     ghost use Rattle.mv_edges.specs.Ascending.{are_ascending};
 
     ghost Value = { List EdgeRecord };
 
     ghost view = { λ s. s.items.items };
 
-    ghost invariant = { λ s. IsTrue (are_ascending s.items.items) };
+    ghost invariant = { λ s. IsTrue (are_ascending s.items.items) × (s.longest ≡ longest_list s.items.items) };
 }
 
 impl PartialEq for Edges {
@@ -57,7 +76,25 @@ impl Edges {
     {
         Edges {
             items: Vec::new(alloc),
+            longest: 0,
         }
+    }
+
+    /// These edges, which ascend.
+    pub(crate) fn of_items(items: Vec<Edge>) -> Self
+        requires { IsTrue (are_ascending items.items) }
+        ensures { result ≡ items.items }
+    {
+        let longest = longest_of(&items);
+        Edges { items, longest }
+    }
+
+    /// The edges as a vector, in ascending order.
+    pub(crate) fn into_items(self) -> Vec<Edge>
+        ensures { result.items ≡ self }
+    {
+        let Edges { items, longest: _ } = self;
+        items
     }
 
     /// How many edges there are.
@@ -89,6 +126,13 @@ impl Edges {
         self.items.as_slice()
     }
 
+    /// The length of the longest list among the labels.
+    pub fn longest(&self) -> usize
+        ensures { result ≡ longest self.now }
+    {
+        self.longest
+    }
+
     /// Whether the edges still ascend with another at their end.
     fn ascend_with(&self, e: &Edge) -> bool
         ensures { result ≡ are_ascending (self.now ++ e.now ∷ []) }
@@ -107,22 +151,11 @@ impl Edges {
     {
         let ascend = self.ascend_with(&e);
         if ascend {
+            let longest = larger(self.longest, e.view().depth());
             self.items.push(e)?;
+            self.longest = longest;
         }
         Ok(ascend)
-    }
-
-    /// The place of the first edge that is not before another.
-    fn place(&self, e: &Edge) -> usize
-        ensures within { result ≤ length self.now }
-        ensures split { inserted e.now self.now ≡ take result self.now ++ inserted e.now (drop result self.now) }
-        ensures at { result < length self.now → edge_before (slice_index_or self.now result e.now) e.now ≡ false }
-    {
-        let mut place = 0;
-        while place < self.items.len() && self.items[place].is_before(e) {
-            place += 1;
-        }
-        place
     }
 
     /// Adds an edge in its place, where it is not there already.
@@ -131,11 +164,16 @@ impl Edges {
         ensures sorted { OnOk result (self.new ≡ sorted (self.old ++ e ∷ [])) }
         ensures err { OnErr result (self.new ≡ self.old) }
     {
-        let place = self.place(&e);
-        if place == self.items.len() || e.is_before(&self.items[place]) {
-            self.items.insert(place, e)?;
+        let view = e.view();
+        let longest = larger(self.longest, view.depth());
+        match self.search(&view, &mut 0) {
+            Ok(_) => Ok(()),
+            Err(place) => {
+                self.items.insert(place, e)?;
+                self.longest = longest;
+                Ok(())
+            }
         }
-        Ok(())
     }
 
     /// Takes away the edges at a node.
@@ -144,6 +182,16 @@ impl Edges {
         ensures sorted { self.new ≡ sorted (without n self.old) }
     {
         self.items.retain(|e| !e.starts_at(n) && !e.ends_at(n));
+        self.longest = longest_of(&self.items);
+    }
+
+    /// Takes away the edges that lead out of a node.
+    pub fn remove_out_of(&mut self, n: Node)
+        ensures edges { self.new ≡ but_out_of n self.old }
+        ensures sorted { self.new ≡ sorted (but_out_of n self.old) }
+    {
+        self.items.retain(|e| !e.starts_at(n));
+        self.longest = longest_of(&self.items);
     }
 
     /// Whether one of the edges leads out of a node.
@@ -161,6 +209,23 @@ impl Edges {
         self.any_starts_at(n)
     }
 
+    /// Whether one of the edges leads out of a node, and agrees with a position.
+    fn any_agrees(&self, n: Node, position: u8) -> bool
+        ensures { result ≡ list_any (λ e. same_node e.from n && agrees position e.label) self.now }
+    {
+        self.items
+            .iter()
+            .any(|e| e.starts_at(n) && e.label().agrees(position))
+    }
+
+    /// Whether an edge that leads out of a node agrees with a position.
+    #[tactic(auto, using(crate::proofs::Sorting::any_filter))]
+    pub fn has_agreeing_out_of(&self, n: Node, position: u8) -> bool
+        ensures { result ≡ list_any (λ e. agrees position e.label) (out_of n self.now) }
+    {
+        self.any_agrees(n, position)
+    }
+
     /// Equal edges.
     pub fn copy(&self, alloc: Global) -> Result<Self, AllocError>
         ensures equal { IfOk result (λ s. s ≡ self.now) }
@@ -170,21 +235,10 @@ impl Edges {
         for e in &self.items {
             items.push(e.copy(alloc)?)?;
         }
-        Ok(Edges { items })
-    }
-
-    /// Whether one of the edges is above another.
-    fn reach(&self, e: &Edge) -> bool
-        ensures { result ≡ list_any (edge_leq e.now) self.now }
-    {
-        self.items.iter().any(|other| e.is_below(other))
-    }
-
-    /// Whether each edge is below one of the other's.
-    pub fn leq(&self, other: &Edges) -> bool
-        ensures { result ≡ edges_leq self.now other.now }
-    {
-        self.items.iter().all(|e| other.reach(e))
+        Ok(Edges {
+            items,
+            longest: self.longest,
+        })
     }
 
     /// The edges with one node in place of another, in their order.
@@ -192,23 +246,10 @@ impl Edges {
         ensures edges { IfOk result (λ s. s ≡ sorted (renamed old new self)) }
         ensures ascending { IfOk result (λ s. IsTrue (are_ascending s)) }
     {
-        let Edges { mut items } = self;
+        let mut items = self.into_items();
         let mut edges = Edges::new(alloc);
         while let Some(e) = items.pop() {
             edges.insert(e.renamed(old, new))?;
-        }
-        Ok(edges)
-    }
-
-    /// The edges of both, which are above those of either.
-    pub fn join(alloc: Global, a: &Edges, b: &Edges) -> Result<Self, AllocError>
-        ensures union { IfOk result (λ s. s ≡ sorted (a.now ++ b.now)) }
-        ensures left { IfOk result (λ s. IsTrue (edges_leq a.now s)) }
-        ensures ascending { IfOk result (λ s. IsTrue (are_ascending s)) }
-    {
-        let mut edges = b.copy(alloc)?;
-        for e in a.items.iter().rev() {
-            edges.insert(e.copy(alloc)?)?;
         }
         Ok(edges)
     }
@@ -217,7 +258,7 @@ impl Edges {
 #[cfg(test)]
 mod tests {
     use super::*;
-    use crate::Label;
+    use crate::{Change, Label};
     use std::test::Fail;
 
     fn edge(alloc: Global, from: Node, position: u8, to: Node) -> Result<Edge, AllocError> {
@@ -263,6 +304,64 @@ mod tests {
         assert_eq!(rt; both.len(), 2);
         assert!(rt; before.leq(&both) && after.leq(&both));
         assert!(rt; !both.leq(&before));
+        Ok(())
+    }
+
+    #[test]
+    fn finds_what_lies_above(rt: HostRuntime) -> Result<(), Fail> {
+        let alloc = rt.alloc();
+        let mut high = Edges::new(alloc);
+        let open = Label::new(vec![in alloc; 1, 2]?, false).opened(alloc)?;
+        high.insert(Edge::new(Node::Own(1), open, Node::Temp(0)))?;
+        let rows = [
+            (&[1u8, 2][..], false, true),
+            (&[1, 2, 3], false, true),
+            (&[1, 2, 3], true, true),
+            (&[1], false, false),
+            (&[2, 2], false, false),
+        ];
+        for (path, is_open, wanted) in rows {
+            let mut low = Edges::new(alloc);
+            let label = Label::new(Vec::from_slice(alloc, path)?, is_open);
+            low.insert(Edge::new(Node::Own(1), label, Node::Temp(0)))?;
+            let mut comparisons = 0;
+            assert_eq!(rt; Edges::leq_counted(&low, &high, &mut comparisons), wanted);
+            assert!(rt; comparisons >= 1 && comparisons <= 110);
+        }
+        Ok(())
+    }
+
+    #[test]
+    fn inherits_with_changed_labels(rt: HostRuntime) -> Result<(), Fail> {
+        let alloc = rt.alloc();
+        let mut edges = Edges::new(alloc);
+        edges.insert(edge(alloc, Node::Own(1), 4, Node::Temp(0))?)?;
+        edges.insert(edge(alloc, Node::Own(1), 5, Node::Slot(2))?)?;
+        let field = edges.inherited(alloc, Change::Extended(7), Node::Temp(0), Node::Temp(0))?;
+        assert_eq!(rt; field.len(), 1);
+        assert_eq!(rt; field.longest(), 2);
+        edges.remove_at(Node::Temp(0));
+        edges.add_all(field)?;
+        assert_eq!(rt; edges.len(), 2);
+        assert!(rt; edges.has_agreeing_out_of(Node::Own(1), 4));
+        assert!(rt; !edges.has_agreeing_out_of(Node::Own(1), 7));
+        edges.remove_out_of(Node::Own(1));
+        assert!(rt; edges.is_empty());
+        assert_eq!(rt; edges.longest(), 0);
+        Ok(())
+    }
+
+    #[test]
+    fn labels_change(rt: HostRuntime) -> Result<(), Fail> {
+        let alloc = rt.alloc();
+        let here = Label::here(alloc);
+        let field = here.extended(alloc, 3)?;
+        assert!(rt; field.path() == &[3][..] && !field.is_open());
+        let open = field.opened(alloc)?;
+        assert!(rt; open.extended(alloc, 9)? == open);
+        assert!(rt; field.changed(alloc, Change::Kept)? == field);
+        assert!(rt; field.agrees(3) && !field.agrees(9) && here.agrees(9));
+        assert!(rt; field.is_below(&open) && !open.is_below(&field));
         Ok(())
     }
 }

@@ -3,6 +3,10 @@
 
 mod edge;
 mod edges;
+mod label;
+mod search;
+mod union;
 
-pub use edge::{Edge, Label};
+pub use edge::Edge;
 pub use edges::Edges;
+pub use label::{Change, Label};

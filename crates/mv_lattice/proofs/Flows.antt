@@ -1,8 +1,9 @@
 -- What a turn of the loops over a flow adds.
-use Rattle.std.proofs.Common.{◌≡◌, ℕ, suc, ◌+◌, ◌-◌, ◌<◌, ◌≤◌, List, length, get_or, Option, Some, None, refl, subst, arith, slice_get, ◌≢◌, ⊎_elim}
+use Rattle.std.proofs.Common.{◌≡◌, ℕ, suc, ◌+◌, ◌-◌, ◌<◌, ◌≤◌, List, length, get_or, take, Option, Some, None, refl, sym, ap, subst, arith, slice_get, ◌≢◌, Result, Err, ⊎_elim}
 use Rattle.std.proofs.lemmas.Bool.{cases_eq}
+use Rattle.std.proofs.lemmas.List.Elements.{All-more}
 use Rattle.std.proofs.lemmas.Option.{slice_get_read, slice_get_within}
-use Rattle.mv_lattice.specs.Flow.{carried}
+use Rattle.mv_lattice.specs.Flow.{carried, IsStated, IsBelowEach}
 
 module _ {S : Type 0} (step : ℕ → S → Option S) where
   -- one instruction more
@@ -11,6 +12,30 @@ module _ {S : Type 0} (step : ℕ → S → Option S) where
       let n : last + 1 - at ≡ suc (last + 1 - (at + 1)) = omega arith in
       let a : at + 1 ≡ suc at = omega arith in
       rw (n, e, a) refl
+
+  pub carried_none : (at last : ℕ) (s : S) → at ≤ last → step at s ≡ None → carried step at (last + 1 - at) s ≡ None
+  carried_none at last s h e =
+      let n : last + 1 - at ≡ suc (last + 1 - (at + 1)) = omega arith in
+      rw (n, e) refl
+
+module _ {S : Type 0} (below : S → S → Type 0) (flow : List (Option S)) (blocks : List ℕ) (t : S) where
+  -- what was read at n is what is stated there
+  pub stated_read : (n : ℕ) (r : Option S) (v u : S) → n < length flow → r ≡ get_or flow n r → r ≡ Some v → IsStated flow n u → v ≡ u
+  stated_read n r v u h e is st =
+      let read : slice_get flow n ≡ Some r = slice_get_read flow (length flow) n r refl h e in
+      cc
+
+  pub below_each_some : (i n : ℕ) (r : Option S) (v : S) → i < length blocks → n ≡ get_or blocks i 0 → n < length flow → r ≡ get_or flow n r → r ≡ Some v → below t v → IsBelowEach below flow (take i blocks) t → IsBelowEach below flow (take (i + 1) blocks) t
+  below_each_some i n r v h at within e is b before =
+      All-more (λ m. (u : S) → IsStated flow m u → below t u) blocks i 0 h before
+      (λ u st. subst (λ x. below t x) (stated_read n r v u within e is (subst (λ x. IsStated flow x u) (sym at) st)) b)
+
+  pub below_each_none : (i n : ℕ) (r : Option S) → i < length blocks → n ≡ get_or blocks i 0 → n < length flow → r ≡ get_or flow n r → r ≡ None → IsBelowEach below flow (take i blocks) t → IsBelowEach below flow (take (i + 1) blocks) t
+  below_each_none i n r h at within e is before =
+      All-more (λ m. (u : S) → IsStated flow m u → below t u) blocks i 0 h before
+      (λ u st. let st' : IsStated flow n u = subst (λ x. IsStated flow x u) (sym at) st in
+      let read : slice_get flow n ≡ Some r = slice_get_read flow (length flow) n r refl within e in
+      cc)
 
 -- what a read of a list gives
 pub block_read : {B : Type 0} (xs ys : List B) (k : ℕ) (r : B) → xs ≡ ys → k < length xs → r ≡ get_or xs k r → slice_get ys k ≡ Some r
@@ -42,3 +67,7 @@ module _ {S B : Type 0} (blocks : List B) (flow : List (Option S)) (P : B → S 
 
 pub stated_within : {A : Type 0} (xs : List A) (k : ℕ) (x : A) → slice_get xs k ≡ Some x → k < length xs
 stated_within xs k x e = slice_get_within xs k x e
+
+-- the same error at another type of answers
+pub err_at : {T U E : Type 0} (x y : E) → ◌≡◌ {A = Result T E} (Err x) (Err y) → ◌≡◌ {A = Result U E} (Err x) (Err y)
+err_at x y e = let same : x ≡ y = cc in ap Err same

@@ -1,5 +1,5 @@
 -- What a flow over a graph is, when its blocks go on, and when it is closed.
-use Rattle.std.specs.Prelude.{◌≡◌, ℕ, zero, suc, ◌+◌, ◌-◌, List, length, slice_get, option_and_then, Option, Some, All, Bool, true}
+use Rattle.std.specs.Prelude.{◌≡◌, ℕ, zero, suc, ◌+◌, ◌-◌, List, length, slice_get, option_and_then, Option, Some, All}
 use Rattle.mv_cfg.specs.declared.Block.{Block}
 use Rattle.mv_cfg.specs.declared.Cfg.{Cfg}
 use Rattle.mv_cfg.specs.Graph.{IsBlock, IsReached}
@@ -23,27 +23,6 @@ pub record IsFlow {S : Type 0} (IsState : S → Type 0) (g : Cfg) (flow : List (
   pub states : (k : ℕ) (s : S) → IsStated flow k s → IsState s
   pub stated : (k : ℕ) → IsReached g k → (s : S) × IsStated flow k s
   pub reached : (k : ℕ) (s : S) → IsStated flow k s → IsReached g k
-
--- no need of an instruction of the block fails, if it begins in s
-abbrev pub IsCarriedAt : {S : Type 0} → (ℕ → S → Option S) → Block → S → Type 0
-IsCarriedAt {S} step b s = (t : S) × (through step b s ≡ Some t)
-
--- each stated state is carried through its block
-pub record IsCarried {S : Type 0} (step : ℕ → S → Option S) (g : Cfg) (flow : List (Option S)) : Type 0 where
-  pub carried : (k : ℕ) (b : Block) (s : S) → IsBlock g k b → IsStated flow k s → IsCarriedAt step b s
-
--- no other state is above s
-abbrev pub IsHighest : {S : Type 0} → (S → S → Type 0) → (S → S → Bool) → S → Type 0
-IsHighest {S} below equals s = (c : S) → below s c → equals c s ≡ true
-
--- no other state is above a stated one
-abbrev pub AllHighest : {S : Type 0} → (S → S → Type 0) → (S → S → Bool) → List (Option S) → Type 0
-AllHighest {S} below equals flow = (k : ℕ) (s : S) → IsStated flow k s → IsHighest below equals s
-
--- each stated state is carried through its block, and nothing that flows into it can raise it
-pub record IsAtRest {S : Type 0} (below : S → S → Type 0) (equals : S → S → Bool) (step : ℕ → S → Option S) (g : Cfg) (flow : List (Option S)) : Type 0 where
-  pub carried : IsCarried step g flow
-  pub highest : AllHighest below equals flow
 
 -- the state is below each one that is stated for one of these blocks
 abbrev pub IsBelowEach : {S : Type 0} → (S → S → Type 0) → List (Option S) → List ℕ → S → Type 0

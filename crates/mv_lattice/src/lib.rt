@@ -1,9 +1,9 @@
 //! Flows of states over a graph of blocks, for any domain of states.
 #![tactic(auto)]
 
-ghost use Rattle.std.specs.Prelude.{◌≡◌, ℕ, ◌+◌, ◌-◌, ◌<◌, ◌≤◌, ◌↔◌, Option, true, length, IsTrue, IfOk, OnOk, IsErrOf, All, [], ◌∷◌};
+ghost use Rattle.std.specs.Prelude.{◌≡◌, ℕ, ◌+◌, ◌-◌, ◌<◌, ◌≤◌, ◌↔◌, Option, length, IsTrue, IfOk, OnOk, IsErrOf, All, [], ◌∷◌};
 ghost use Rattle.mv_cfg.specs.Graph.{IsGraph};
-ghost use Rattle.mv_lattice.specs.Flow.{IsFlow, IsCarried, IsCarriedAt, IsHighest, AllHighest, IsAtRest, IsStated, carried};
+ghost use Rattle.mv_lattice.specs.Flow.{IsFlow, IsClosed, IsClosedAt, IsBelowEach, IsStated, carried};
 ghost use Rattle.mv_lattice.specs.Laws.{IsLawful};
 
 use mv_cfg::{Block, Cfg};
@@ -12,9 +12,9 @@ use std::alloc::{AllocError, Global};
 /// Why a state cannot be carried through an instruction, or a flow is not accepted.
 #[derive(Drop, Clone, Copy, PartialEq, Eq, Debug)]
 pub enum StepError {
-    /// A need of an instruction fails, or a stated state does not hold what flows into it.
+    /// A need of an instruction fails, or a stated state is not above what flows into it.
     Need,
-    /// An allocation was refused.
+    /// An allocation failed.
     Memory,
 }
 
@@ -56,7 +56,7 @@ pub trait Domain {
         requires b { is_state self.now b.now }
         ensures { IsTrue result ↔ below self.now a.now b.now };
 
-    /// A state above the left argument, which is to hold what both say.
+    /// The least state above both.
     fn join(
         &self,
         alloc: Global,
@@ -66,7 +66,9 @@ pub trait Domain {
         requires a { is_state self.now a.now }
         requires b { is_state self.now b.now }
         ensures state { IfOk result (λ c. is_state self.now c) }
-        ensures left { IfOk result (λ c. below self.now a.now c) };
+        ensures left { IfOk result (λ c. below self.now a.now c) }
+        ensures right { IfOk result (λ c. below self.now b.now c) }
+        ensures least { IfOk result (λ c. (u : Self.State) → is_state self.now u → below self.now a.now u → below self.now b.now u → below self.now c u) };
 
     /// What the instruction at `at` makes of the state.
     ///
@@ -77,8 +79,8 @@ pub trait Domain {
         ensures ok { IfOk result (λ t. steps self.now at s ≡ Option.Some t) }
         ensures need { IsErrOf result StepError.Need → steps self.now at s ≡ Option.None };
 
-    /// The laws of the steps.
-    ghost laws: { (d : Self) → IsLawful (size d) (is_state d) (steps d) };
+    /// The laws of the order and of the steps.
+    ghost laws: { (d : Self) → IsLawful (size d) (is_state d) (below d) (steps d) };
 }
 
 /// Carries a copy of the state through the instructions from `first` to `last`.
@@ -103,47 +105,29 @@ fn carry<D: Domain>(
     Ok(t)
 }
 
-/// Accepts what flows into a stated state, where joining it in leaves that state as it is.
-fn flow_into<D: Domain>(
-    alloc: Global,
-    d: &D,
-    stated: &D::State,
-    t: &D::State,
-) -> Result<(), StepError>
-    requires stated { D.is_state d.now stated.now }
-    requires state { D.is_state d.now t.now }
-    ensures ok { OnOk result ((c : D.State) × (D.below d.now stated.now c × (D.State.eq c stated.now ≡ true))) }
-    ensures need { IsErrOf result StepError.Need → ¬ IsHighest (D.below d.now) D.State.eq stated.now }
-{
-    if d.join(alloc, stated, t)? == *stated {
-        Ok(())
-    } else {
-        Err(StepError::Need)
-    }
-}
-
-/// Accepts what flows into each of the blocks for which a state is stated.
-fn flow_into_each<D: Domain>(
-    alloc: Global,
+/// Whether the state is below each one that is stated for one of the blocks.
+fn is_below_each<D: Domain>(
     d: &D,
     t: &D::State,
     blocks: &[usize],
     flow: &[Option<D::State>],
-) -> Result<(), StepError>
+) -> bool
     requires state { D.is_state d.now t.now }
     requires states { (k : ℕ) (u : D.State) → IsStated flow.now k u → D.is_state d.now u }
     requires inside { All (λ n. n < length flow.now) blocks.now }
-    ensures { IsErrOf result StepError.Need → ¬ AllHighest (D.below d.now) D.State.eq flow.now }
+    ensures { IsTrue result ↔ IsBelowEach (D.below d.now) flow.now blocks.now t.now }
 {
     for n in blocks {
-        if let Some(stated) = &flow[*n] {
-            flow_into(alloc, d, stated, t)?;
+        if let Some(u) = &flow[*n] {
+            if !d.leq(t, u) {
+                return false;
+            }
         }
     }
-    Ok(())
+    true
 }
 
-/// Carries the state through the block, and accepts what flows on from it.
+/// Whether the block carries the state to one that is below each one stated for a successor.
 fn check_block<D: Domain>(
     alloc: Global,
     d: &D,
@@ -156,18 +140,22 @@ fn check_block<D: Domain>(
     requires inside { block.now.last < D.size d.now }
     requires states { (k : ℕ) (u : D.State) → IsStated flow.now k u → D.is_state d.now u }
     requires successors { All (λ n. n < length flow.now) block.now.successors.items }
-    ensures ok { OnOk result (IsCarriedAt (D.steps d.now) block.now s.now) }
-    ensures need { IsErrOf result StepError.Need → AllHighest (D.below d.now) D.State.eq flow.now → ¬ IsCarriedAt (D.steps d.now) block.now s.now }
+    ensures ok { OnOk result (IsClosedAt (D.below d.now) (D.steps d.now) flow.now block.now s.now) }
+    ensures need { IsErrOf result StepError.Need → ¬ IsClosedAt (D.below d.now) (D.steps d.now) flow.now block.now s.now }
 {
     let t = carry(alloc, d, s, block.first, block.last)?;
-    flow_into_each(alloc, d, &t, &block.successors, flow)
+    if is_below_each(d, &t, &block.successors, flow) {
+        Ok(())
+    } else {
+        Err(StepError::Need)
+    }
 }
 
-/// Tests the stated states block by block: each is carried through its block, and joining what
-/// flows out into the state that is stated for a successor must leave that one as it is. So must
-/// joining the start state into the state of block 0.
+/// Accepts exactly the closed flows: the state that is stated for block 0 is above the start state, and each stated state
+/// is carried through its block, every need met, to a state that is below each one stated for a successor.
 ///
-/// Answers `Need` for each flow that is not accepted.
+/// # Errors
+/// `Need` for each other flow; `Memory` if an allocation failed.
 pub fn check_flow<D: Domain>(
     alloc: Global,
     d: &D,
@@ -178,11 +166,13 @@ pub fn check_flow<D: Domain>(
     requires graph { IsGraph g.now (D.size d.now) }
     requires start { D.is_state d.now start.now }
     requires flow { IsFlow (D.is_state d.now) g.now stated.now }
-    ensures ok { OnOk result (IsCarried (D.steps d.now) g.now stated.now) }
-    ensures need { IsErrOf result StepError.Need → ¬ IsAtRest (D.below d.now) D.State.eq (D.steps d.now) g.now stated.now }
+    ensures ok { OnOk result (IsClosed (D.below d.now) (D.steps d.now) g.now start.now stated.now) }
+    ensures need { IsErrOf result StepError.Need → ¬ IsClosed (D.below d.now) (D.steps d.now) g.now start.now stated.now }
 {
     if let Some(s) = &stated[0] {
-        flow_into(alloc, d, s, start)?;
+        if !d.leq(start, s) {
+            return Err(StepError::Need);
+        }
     }
     for (k, block) in g.blocks.iter().enumerate() {
         if let Some(s) = &stated[k] {
@@ -205,9 +195,8 @@ mod tests {
     }
 
     impl Domain for Takes {
-        ghost use Rattle.std.specs.Prelude.{◌≡◌, ◌⊎◌, ⊤, Option, Some, None};
-        ghost use Rattle.mv_move_types.specs.declared.borrow.Availability.{Availability};
-        ghost use Rattle.mv_move_types.specs.declared.borrow.Availability.TheVariants.{Unavailable, Available, Maybe};
+        ghost use Rattle.std.specs.Prelude.{⊤};
+        ghost use Rattle.mv_lattice.specs.Takes.{IsBelow, taken, takes_lawful};
 
         type State = Availability;
 
@@ -215,11 +204,11 @@ mod tests {
 
         ghost is_state = { λ d s. ⊤ };
 
-        ghost below = { λ d a b. (a ≡ b) ⊎ (b ≡ Maybe) };
+        ghost below = { λ d a b. IsBelow a b };
 
-        ghost steps = { λ d at s. elim s as (λ _. Option Availability) [ Unavailable ↦ None | Available ↦ Some Unavailable | Maybe ↦ None ] };
+        ghost steps = { λ d at s. taken s };
 
-        ghost laws = { λ d. record { keeps = λ at a b h p e. tt } };
+        ghost laws = { λ d. takes_lawful d.count };
 
         fn copy(&self, _alloc: Global, s: &Availability) -> Result<Availability, AllocError> {
             Ok(*s)
@@ -304,7 +293,7 @@ mod tests {
             check_one_block(alloc, 1, unknown, unknown),
             Err(StepError::Need)
         );
-        // the stated state does not hold the start state
+        // the stated state is not above the start state
         assert_eq!(rt; check_one_block(alloc, 1, lost, held), Err(StepError::Need));
     }
 }

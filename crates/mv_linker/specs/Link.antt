@@ -11,11 +11,11 @@ use Rattle.mv_type_states.specs.Sound.{IsSound}
 use Rattle.mv_acquires.specs.Acquires.{AcquiresHold}
 use Rattle.mv_certificate.specs.Verified.{IsCertifiedBy}
 
--- a: the module's own address is the sender
+-- the module's own address is the sender
 abbrev pub is_sent_by : ℕ → Module → Bool
 is_sent_by sender m = option_map_or (λ name. name.address == sender) (own_name m) false
 
--- b: whether two modules have one name
+-- whether two modules have one name
 abbrev pub have_one_name : Module → Module → Bool
 have_one_name m n = option_map_or (λ name. is_module name n) (own_name m) false
 
@@ -32,7 +32,7 @@ abbrev pub AreSentBy : Option ℕ → List Module → Type 0
 AreSentBy None bundle = ⊤
 AreSentBy (Some sender) bundle = IsTrue (list_all (is_sent_by sender) bundle)
 
--- a bundle may be added to the old modules: it is the sender's (a), its names are new and differ (b), and its modules stand alone; that structs are small (g) follows, since their fields are leaves today and at most 32
+-- a bundle may be added to the old modules: it is the sender's, its names are new and differ, and today its modules stand alone
 pub record MayJoin (sender : Option ℕ) (old bundle : List Module) : Type 0 where
   pub sent : AreSentBy sender bundle
   pub once : IsTrue (all_differ have_one_name bundle)

@@ -18,7 +18,7 @@ use Rattle.mv_locals_safety.specs.LocalsRules.{may_leave, leave_known, locals_af
 use Rattle.mv_locals_safety.specs.Domain.{Function, may_stay, point_in, start_locals, locals_step, IsOfLocals, Follows}
 use Rattle.mv_move_types.specs.declared.instruction.Instruction.{Instruction}
 use Rattle.mv_lattice.specs.declared.StepError.{StepError}
-use Rattle.mv_lattice.specs.declared.StepError.TheVariants.{Need, Memory}
+use Rattle.mv_lattice.specs.declared.StepError.TheVariants.{Need}
 
 -- an index below the length of its table reads an entry
 read : {A : Type 0} (i : ℕ) (xs : List A) → below i xs ≡ true → (x : A) × (slice_get xs i ≡ Some x)
@@ -72,13 +72,11 @@ return_known d m e ts ts' s s' b r view tokens same_ts same_s tested decided =
 -- what follows the rules for an instruction is the step at its place
 pub step_ok : (m : Module) (d : FunctionDefinition) (at : ℕ) (s : List Availability) (i : Instruction) (r : Result (List Availability) StepError) → slice_get d.code at ≡ Some i → Follows r (locals_after (point_in m d) i s) → IfOk r (λ t. locals_step m d at s ≡ Some t)
 step_ok m d at s i (Ok t) code f = rw code f
-step_ok m d at s i (Err Need) code f = tt
-step_ok m d at s i (Err Memory) code f = tt
+step_ok m d at s i (Err e) code f = tt
 
 pub step_need : (m : Module) (d : FunctionDefinition) (at : ℕ) (s : List Availability) (i : Instruction) (r : Result (List Availability) StepError) → slice_get d.code at ≡ Some i → Follows r (locals_after (point_in m d) i s) → IsErrOf r Need → locals_step m d at s ≡ None
 step_need m d at s i (Ok t) code f h = cc (h)
-step_need m d at s i (Err Need) code f h = rw code f
-step_need m d at s i (Err Memory) code f h = cc (h)
+step_need m d at s i (Err e) code f h = rw code (f.1)
 
 module _ (m : Module) (d : FunctionDefinition) (ts : List Token) (parameters : ℕ) (tokens : local_tokens m d ≡ Some ts) (counted : option_map length (parameter_tokens m d) ≡ Some parameters) where
   pub start_is : (s : List Availability) → s ≡ replicate parameters Available ++ replicate (length ts - parameters) Unavailable → start_locals m d ≡ Some s

@@ -1,5 +1,5 @@
 -- The availabilities of a function's locals as a domain of states.
-use Rattle.std.specs.Prelude.{◌≡◌, ⊤, ℕ, Bool, true, false, ◌-◌, List, [], ◌++◌, length, replicate, map, zip, Option, Some, None, Result, Ok, Err, slice_get, slice_set}
+use Rattle.std.specs.Prelude.{◌≡◌, ℕ, Bool, true, false, ◌-◌, List, [], ◌++◌, length, replicate, map, zip, Option, Some, None, Result, Ok, Err, slice_get, slice_set}
 use Rattle.std.specs.Option.{option_map_or}
 use Rattle.mv_move_types.specs.declared.borrow.Availability.{Availability}
 use Rattle.mv_move_types.specs.declared.borrow.Availability.TheVariants.{Unavailable, Available, Maybe}
@@ -10,7 +10,7 @@ use Rattle.mv_bounds.specs.Bounds.{local_count}
 use Rattle.mv_abilities.specs.Abilities.{token_abilities}
 use Rattle.mv_type_states.specs.TypesHold.{Point}
 use Rattle.mv_lattice.specs.declared.StepError.{StepError}
-use Rattle.mv_lattice.specs.declared.StepError.TheVariants.{Need, Memory}
+use Rattle.mv_lattice.specs.declared.StepError.TheVariants.{Need}
 use Rattle.mv_locals_safety.specs.LocalsRules.{locals_after, needs_available}
 
 -- a function, and the tables of its module
@@ -61,8 +61,7 @@ may_stay m t Unavailable = true
 may_stay m t Available = is_droppable m t
 may_stay m t Maybe = is_droppable m t
 
--- the state after is this one, or a need fails where there is none
+-- the state after is this one, or a need fails where there is none; no step on availabilities takes memory
 abbrev pub Follows : {S : Type 0} → Result S StepError → Option S → Type 0
 Follows (Ok t) after = after ≡ Some t
-Follows (Err Need) after = after ≡ None
-Follows (Err Memory) after = ⊤
+Follows (Err e) after = (e ≡ Need) × (after ≡ None)

@@ -8,9 +8,9 @@ use Rattle.mv_move_types.specs.Options.{◌>>=◌}
 use Rattle.mv_move_types.specs.declared.token.Token.{Token}
 use Rattle.mv_abilities.specs.Abilities.{token_abilities}
 use Rattle.mv_type_states.specs.TypesHold.{Point}
-use Rattle.mv_move_types.specs.Module.{local_tokens}
+use Rattle.mv_move_types.specs.Module.{local_tokens, local_type}
 use Rattle.mv_move_types.specs.declared.instruction.Instruction.{Instruction}
-use Rattle.mv_move_types.specs.declared.instruction.Instruction.TheVariants.{Ret, MoveLoc, ImmBorrowLoc}
+use Rattle.mv_move_types.specs.declared.instruction.Instruction.TheVariants.{Ret, CopyLoc, MoveLoc, StLoc, MutBorrowLoc, ImmBorrowLoc}
 
 -- each availability is below itself and below Maybe
 abbrev pub availability_leq : Availability → Availability → Bool
@@ -40,6 +40,12 @@ needs_available l locals = slice_get locals l >>= λ a. then_some (is_available 
 abbrev pub has_drop : Point → Token → Bool
 has_drop p t = option_map_or (λ a. a.drop) (token_abilities p.home t) false
 
+-- what may still stand in the local may be dropped
+abbrev pub may_overwrite : Point → Token → Availability → Bool
+may_overwrite p t Unavailable = true
+may_overwrite p t Available = has_drop p t
+may_overwrite p t Maybe = has_drop p t
+
 -- each local that can't be dropped holds nothing
 abbrev pub may_leave : Point → List Token → List Availability → Bool
 may_leave p (t ∷ ts) (Unavailable ∷ locals) = may_leave p ts locals
@@ -48,13 +54,23 @@ may_leave p (t ∷ ts) (Maybe ∷ locals) = has_drop p t && may_leave p ts local
 may_leave p ts [] = true
 may_leave p [] locals = true
 
+-- a write needs drop where a value may still stand, and makes the local available
+abbrev pub store_known : Point → ℕ → List Availability → Option (List Availability)
+store_known p l locals = do
+  t ← local_type p.home p.function l
+  a ← slice_get locals l
+  then_some (may_overwrite p t a) (slice_set locals l Available)
+
 -- a return leaves no local behind that may hold what can't be dropped
 abbrev pub leave_known : Point → List Availability → Option (List Availability)
 leave_known p locals = local_tokens p.home p.function >>= λ ts. then_some (may_leave p ts locals) locals
 
 -- the availabilities after an instruction, if those before it are what it needs
 unfoldable pub locals_after : Point → Instruction → List Availability → Option (List Availability)
+locals_after p (CopyLoc l) locals = needs_available l locals
 locals_after p (MoveLoc l) locals = needs_available l locals >>= λ before. Some (slice_set before l Unavailable)
+locals_after p (StLoc l) locals = store_known p l locals
+locals_after p (MutBorrowLoc l) locals = needs_available l locals
 locals_after p (ImmBorrowLoc l) locals = needs_available l locals
 locals_after p Ret locals = leave_known p locals
 locals_after p _ locals = Some locals

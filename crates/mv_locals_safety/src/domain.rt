@@ -1,8 +1,8 @@
 // A function's locals as a domain of states.
 ghost use Rattle.std.specs.Prelude.{◌≡◌, ◌<◌, ◌++◌, length, slice_get, zip, Some, option_map, IfOk, IfSome};
 ghost use Rattle.std.specs.List.{list_all};
-ghost use Rattle.mv_move_types.specs.Module.{local_tokens, parameter_tokens};
-ghost use Rattle.mv_locals_safety.specs.LocalsRules.{leave_known, locals_after};
+ghost use Rattle.mv_move_types.specs.Module.{local_tokens, local_type, parameter_tokens};
+ghost use Rattle.mv_locals_safety.specs.LocalsRules.{leave_known, store_known, locals_after};
 ghost use Rattle.mv_locals_safety.specs.Domain.{point_in, start_locals, may_stay, IsOfLocals, Follows};
 
 use super::Availabilities;
@@ -65,7 +65,7 @@ fn may_all_remain(m: &Bounded<'_>, locals: &[Token], s: &[Availability]) -> bool
 pub struct LocalsDomain<'t, 'm> {
     bounded: &'t Bounded<'m>,
     function: &'t FunctionDefinition<'m>,
-    code: Vec<Instruction>,
+    code: &'t [Instruction],
     parameters: usize,
     locals: Vec<Token>,
 }
@@ -79,7 +79,7 @@ impl<'t, 'm> Model for LocalsDomain<'t, 'm> {
 
     ghost view = { λ d. record { home = d.bounded.now; function = d.function.now } };
 
-    ghost invariant = { λ d. (d.code.items ≡ d.function.now.code)
+    ghost invariant = { λ d. (d.code.now ≡ d.function.now.code)
         × (option_map length (parameter_tokens d.bounded.now d.function.now) ≡ Some d.parameters)
         × (local_tokens d.bounded.now d.function.now ≡ Some d.locals.items)
         × (d.parameters ≤ length d.locals.items) };
@@ -101,7 +101,7 @@ impl<'t, 'm> LocalsDomain<'t, 'm> {
         Ok(LocalsDomain {
             bounded,
             function,
-            code: function.code().collect(alloc)?,
+            code: bounded.code(f),
             parameters: parameters.len(),
             locals,
         })
@@ -129,12 +129,35 @@ impl<'t, 'm> LocalsDomain<'t, 'm> {
         Ok(s)
     }
 
-    /// An instruction of the function.
-    fn instruction(&self, at: usize) -> Instruction
-        requires { at < length self.now.function.code }
-        ensures { slice_get self.now.function.code at ≡ Some result }
+    /// The availabilities with a value in a local; refused where one may still stand there that can't be dropped.
+    fn stored(&self, local: u16, s: Availabilities) -> Result<Availabilities, StepError>
+        ensures { Follows result (store_known (point_in self.now.home self.now.function) local s) }
     {
-        self.code[at]
+        let Some(token) = self.local(local) else {
+            return Err(StepError::Need);
+        };
+        let Some(a) = s.get(local) else {
+            return Err(StepError::Need);
+        };
+        if may_remain(self.bounded, token, a) {
+            Ok(s.filled(local))
+        } else {
+            Err(StepError::Need)
+        }
+    }
+
+    /// The type of a local, if it is there.
+    fn local(&self, local: u16) -> Option<Token>
+        ensures { result ≡ local_type self.now.home self.now.function local }
+    {
+        self.locals.get(usize::from(local)).copied()
+    }
+
+    /// The instruction at a place, if there is one.
+    fn instruction(&self, at: usize) -> Option<Instruction>
+        ensures { result ≡ slice_get self.now.function.code at }
+    {
+        self.code.get(at).copied()
     }
 
     /// What an instruction makes of the availabilities.
@@ -147,10 +170,13 @@ impl<'t, 'm> LocalsDomain<'t, 'm> {
         ensures { Follows result (locals_after (point_in self.now.home self.now.function) instruction s) }
     {
         match instruction {
-            Instruction::MoveLoc(local) => s.moved(local),
-            Instruction::ImmBorrowLoc(local) => s.borrowed(local),
             Instruction::Ret => self.returned(s),
-            Instruction::Pack(_) | Instruction::MoveTo(_) => Ok(s),
+            Instruction::CopyLoc(local)
+            | Instruction::MutBorrowLoc(local)
+            | Instruction::ImmBorrowLoc(local) => s.borrowed(local),
+            Instruction::MoveLoc(local) => s.moved(local),
+            Instruction::StLoc(local) => self.stored(local, s),
+            _ => Ok(s),
         }
     }
 }
@@ -181,7 +207,7 @@ impl<'t, 'm> Domain for LocalsDomain<'t, 'm> {
         a.is_below(b)
     }
 
-    #[tactic(auto, using(crate::proofs::Order::joined_left, crate::proofs::Order::joined_length))]
+    #[tactic(auto, using(crate::proofs::Order::joined_left, crate::proofs::Order::joined_right, crate::proofs::Order::joined_least, crate::proofs::Order::joined_length))]
     fn join(
         &self,
         alloc: Global,
@@ -197,6 +223,9 @@ impl<'t, 'm> Domain for LocalsDomain<'t, 'm> {
         s: Availabilities,
         at: usize,
     ) -> Result<Availabilities, StepError> {
-        self.after(self.instruction(at), s)
+        match self.instruction(at) {
+            Some(instruction) => self.after(instruction, s),
+            None => Err(StepError::Need),
+        }
     }
 }

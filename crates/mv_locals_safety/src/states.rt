@@ -1,5 +1,6 @@
 // The availabilities of a function's locals.
-ghost use Rattle.std.specs.Prelude.{◌≡◌, length, slice_get, zip, false, IfOk};
+ghost use Rattle.std.specs.Prelude.{◌≡◌, ◌<◌, length, slice_get, slice_set, zip, false, IfOk};
+ghost use Rattle.mv_move_types.specs.declared.borrow.Availability.TheVariants.{Available};
 ghost use Rattle.std.specs.List.{list_all};
 ghost use Rattle.std.specs.Option.{option_map_or};
 ghost use Rattle.mv_locals_safety.specs.LocalsRules.{availability_leq, locals_leq, is_available, needs_available};
@@ -110,6 +111,23 @@ impl Availabilities {
             Some(Availability::Available) => true,
             _ => false,
         }
+    }
+
+    /// What is known of a local, if it is there.
+    pub(crate) fn get(&self, local: u16) -> Option<Availability>
+        ensures { result ≡ slice_get self.now local }
+    {
+        self.all.get(usize::from(local)).copied()
+    }
+
+    /// The availabilities with a value in a local.
+    pub(crate) fn filled(self, local: u16) -> Self
+        requires { local < length self }
+        ensures { result ≡ slice_set self local Available }
+    {
+        let Availabilities { mut all } = self;
+        all[usize::from(local)] = Availability::Available;
+        Availabilities { all }
     }
 
     /// The same availabilities; refused where a local may hold no value.

@@ -1,8 +1,8 @@
 -- The ledger's state, its requests, and what each request changes and answers.
-use Rattle.std.specs.Prelude.{ℕ, List, [], map, ◌||◌, cond, Option, None, flat_map, filter_map, find, unwrap_or, Bool, false, ◌∷◌, fold, ◌≡◌, true, ◌&&◌, ◌^◌, nat_lt, nat_le, Result, Ok, ok_or, slice_get, ◌+◌, Some, Err, length, ◌++◌}
+use Rattle.std.specs.Prelude.{ℕ, List, [], map, ◌||◌, cond, Option, None, flat_map, filter_map, find, unwrap_or, Bool, false, ◌∷◌, ◌≡◌, true, ◌&&◌, ◌^◌, nat_lt, nat_le, Result, Ok, ok_or, slice_get, ◌+◌, Err, length, ◌++◌}
 use Rattle.std.specs.Option.{option_map_or}
 use Rattle.mv_machine.specs.State.{Storage, Event}
-use Rattle.mv_machine.specs.Lines.{Tallied, Reply, Returned as RanToEnd, Aborted as RanToAbort, Exhausted as RanOut, Rejected, Published, Refused}
+use Rattle.mv_machine.specs.Lines.{Tallied, Reply, Returned as RanToEnd, Aborted as RanToAbort, Exhausted as RanOut, Rejected, Published, Refused, show_lines, audit_lines, show_json, audit_json}
 use Rattle.mv_move_types.specs.Published.{PublishedModule}
 use Rattle.mv_move_types.specs.Module.{Module, StructDefinition, name_of_struct, struct_abilities, own_name, parameter_tokens}
 use Rattle.mv_move_types.specs.Names.{ModuleName, StructName, same_struct}
@@ -44,6 +44,11 @@ pub record RunRequest : Type 0 where
   pub budget : ℕ
   pub arguments : List Value
 
+-- how a report is wanted
+pub data Format : Type 0 where
+  AsText : Format
+  AsJson : Format
+
 -- what a record asks; BadRun and Bad are a run's and any other payload that isn't of its kind's shape
 pub data Request : Type 0 where
   Publish : (sender : ℕ) (offers : List Offer) → Request
@@ -63,7 +68,20 @@ scarce_structs = flat_map (λ m. filter_map (scarce_name m) m.structs)
 abbrev pub untouched_tally : StructName → Tallied
 untouched_tally s = record { struct = s; packs = 0; unpacks = 0 }
 
--- the ledger after a bundle: its modules stand behind those that were there, and their structs have empty tallies
+-- a struct's tally among these, or an empty one
+abbrev pub tally_of : List Tallied → StructName → Tallied
+tally_of tallies s = unwrap_or (find (λ t. same_struct t.struct s) tallies) (untouched_tally s)
+
+-- whether a published module has this module's name
+abbrev pub has_name_of : Module → PublishedModule → Bool
+has_name_of m p = option_map_or (λ name. is_module name p.tables) (own_name m) false
+
+-- the modules with one more, which takes the place of the module of its name, or the last place
+abbrev pub with_module : List PublishedModule → PublishedModule → List PublishedModule
+with_module [] new = new ∷ []
+with_module (p ∷ ps) new = cond (has_name_of new.tables p) (new ∷ ps) (p ∷ with_module ps new)
+
+-- the ledger after a bundle: its modules stand after those that were there, and their structs have empty tallies
 abbrev pub with_bundle : LedgerState → List PublishedModule → LedgerState
 with_bundle s bundle =
     record s {
@@ -134,6 +152,16 @@ Settles old (Faulted fault steps) reply new = (new.published ≡ old.published) 
 abbrev pub Attempts : LedgerState → ℕ → Result FunctionCall ℕ → Reply → LedgerState → Type 0
 Attempts old budget (Ok call) reply new = Settles old (run (modules_of old) old.storage call budget) reply new
 Attempts old budget (Err reason) reply new = (reply ≡ Rejected reason) × (new ≡ old)
+
+-- the lines of a show
+abbrev pub shown : LedgerState → Format → List (List ℕ)
+shown s AsText = show_lines (modules_of s) s.storage
+shown s AsJson = show_json (modules_of s) s.storage ∷ []
+
+-- the lines of an audit
+abbrev pub audited : LedgerState → Format → List (List ℕ)
+audited s AsText = audit_lines s.storage s.tallies
+audited s AsJson = audit_json s.storage s.tallies ∷ []
 
 -- a bundle is published whole, or refused and nothing changes
 abbrev pub AnswersPublish : (List ℕ → Module → Type 0) → LedgerState → List Offer → Reply → LedgerState → Type 0

@@ -2,8 +2,17 @@ pub mod Value
 pub mod State
 pub mod Live
 pub mod Typing
+pub mod Numbers
+pub mod StepParts
+pub mod StepNumbers
+pub mod StepControl
+pub mod StepLocals
+pub mod StepStructs
+pub mod StepReferences
+pub mod StepGlobals
 pub mod Step
 pub mod Run
+pub mod Count
 pub mod Flat
 pub mod Typed
 pub mod Lines

@@ -11,18 +11,14 @@ use Rattle.mv_module_text.specs.Entries.{address_text}
 use Rattle.mv_module_text.specs.Fits.{address_fits, is_byte}
 use Rattle.mv_module_text.specs.Parsing.{bytes_from, address_from}
 use Rattle.mv_module_text.specs.Laws.{AreBytes}
-use Rattle.mv_module_text.proofs.Texts.{Front, Parts, Whole, on_bind, Front-as, bytes-front, bytes-whole, bytes_behind}
+use Rattle.mv_module_text.proofs.Numbers.{byte_small}
+use Rattle.mv_module_text.proofs.Texts.{Front, Parts, Whole, on_bind, Front-as, bytes-front, bytes-whole, bytes_after}
 
 -- each of bytes is small
 small_at : (xs : List ℕ) → AreBytes xs → (k : ℕ) → get_or xs k 0 < 256
 small_at [] ok k = omega arith
 small_at (x ∷ xs) ok zero = ltb-true x 256 (and_parts (is_byte x) (list_all is_byte xs) ok).0
 small_at (x ∷ xs) ok (suc k) = small_at xs (and_parts (is_byte x) (list_all is_byte xs) ok).1 k
-
--- a byte of a number is small
-byte_small : (k x : ℕ) → byte_at k x < 256
-byte_small zero x = omega arith
-byte_small (suc k) x = let y : ℕ = x / 256 ^ suc k in let lt : y % 256 < 256 = omega arith in lt
 
 -- the bytes of a number are bytes
 are_bytes : (k x : ℕ) → AreBytes (bytes_high_first k x)
@@ -69,7 +65,7 @@ pub address-parts : Parts address_from address_text address_fits
 address-parts bytes rest v ok e =
     on_bind (bytes_from 16 bytes) _ (v, rest) e (λ x x_is e1.
     let p = bytes-front 16 x.0 bytes x.1 ok x_is in
-    let well : AreBytes x.0 = (bytes_behind x.0 x.1 (subst AreBytes p.0.text ok)).0 in
+    let well : AreBytes x.0 = (bytes_after x.0 x.1 (subst AreBytes p.0.text ok)).0 in
     let lt : from_be_bytes w128 x.0 < 2 ^ 128 = subst (λ z. z < 2 ^ 128) (sym (big_is x.0)) (big_from-lt 0 16 x.0 (small_at x.0 well)) in
     Front-as address_text address_fits bytes x.1 rest (from_be_bytes w128 x.0) v e1
     (subst (λ z. Front z bytes x.1) (sym (bytes_back x.0 p.1 well)) p.0)

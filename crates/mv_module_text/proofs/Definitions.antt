@@ -1,93 +1,44 @@
--- What is read is what was written: instructions and definitions.
+-- What is read is what was written: definitions of structs and functions.
 use Rattle.std.proofs.Common.{◌≡◌, ℕ, ◌≤◌, List, [], ◌∷◌, ◌++◌, length, arith, refl, ap, suc, sym, ◌∙◌, subst, append_assoc, Some, None, IsTrue, Bool, true, false, cond, eqb, ◌&&◌, nat_le, inl, inr}
 use Rattle.std.specs.List.{list_all}
 use Rattle.std.proofs.lemmas.Bool.{and_parts, and_from, leb-true, le-leb}
 use Rattle.std.proofs.lemmas.Option.{none-some, same_Some}
 use Rattle.mv_uleb.specs.Uleb.{uleb}
 use Rattle.mv_move_types.specs.Options.{◌>>=◌}
-use Rattle.mv_move_types.specs.declared.instruction.Instruction.{Instruction}
-use Rattle.mv_move_types.specs.declared.instruction.Instruction.TheVariants.{Ret, MoveLoc, ImmBorrowLoc, Pack, MoveTo}
 use Rattle.mv_move_types.specs.declared.tables.Visibility.{Visibility}
 use Rattle.mv_move_types.specs.declared.tables.Visibility.TheVariants.{Private, Public}
 use Rattle.mv_module_text.specs.Entries.{counted, field_text, struct_definition_text, visibility_code, instruction_text, function_definition_text}
 use Rattle.mv_module_text.specs.Fits.{is_index, field_fits, struct_definition_fits, instruction_fits, function_definition_fits}
-use Rattle.mv_module_text.specs.Parsing.{Read, index_from, byte_from, mark_from, counted_from, field_from, struct_definition_from, visibility_of, visibility_from, entry_of, entry_from, instruction_by, instruction_from, function_definition_from}
+use Rattle.mv_module_text.specs.Parsing.{index_from, byte_from, mark_from, counted_from, field_from, struct_definition_from, visibility_of, visibility_from, entry_of, entry_from, instruction_from, function_definition_from}
 use Rattle.mv_module_text.specs.Laws.{AreBytes}
 use Rattle.mv_module_text.proofs.Texts.{Front, Parts, Whole, on_bind, Front-join, Front-as, index-parts, index-whole, byte-front, mark-front, counted-parts, counted-whole}
-use Rattle.mv_module_text.proofs.Handles.{cond-parts, field-parts, field-whole}
+use Rattle.mv_module_text.proofs.Tokens.{cond-parts, field-parts, field-whole}
+use Rattle.mv_module_text.proofs.Opcodes.{instruction-parts, instruction-whole}
 
--- an index behind an opcode makes an instruction
-by_index : (code : ℕ) (make : ℕ → Instruction) → ((i : ℕ) → instruction_text (make i) ≡ code ∷ uleb i) → ((i : ℕ) → instruction_fits (make i) ≡ (is_index i && true))
-    → (bytes more rest : List ℕ) (i : ℕ × List ℕ) (v : Instruction) → Front (code ∷ []) bytes more → index_from more ≡ Some i
-    → ◌≡◌ {A = Read Instruction} (Some (make i.0, i.1)) (Some (v, rest)) → Front (instruction_text v) bytes rest × IsTrue (instruction_fits v)
-by_index code make text fits bytes more rest i v front i_is e =
-    let p = index-parts more i.1 i.0 front.left i_is in
-    Front-as instruction_text instruction_fits bytes i.1 rest (make i.0) v e
-    (subst (λ z. Front z bytes i.1) (sym (text i.0)) (Front-join (code ∷ []) (uleb i.0) bytes more i.1 front p.0))
-    (fits i.0 ∙ and_from (is_index i.0) true p.1 refl)
-
--- an instruction by its opcode
-instruction_by-parts : (code : ℕ) (bytes more rest : List ℕ) (v : Instruction) → Front (code ∷ []) bytes more → instruction_by code more ≡ Some (v, rest)
-    → Front (instruction_text v) bytes rest × IsTrue (instruction_fits v)
-instruction_by-parts code bytes more rest v front e =
-    elim (cond-parts code 0x02 (Some (Ret, more)) _ (Some (v, rest)) e) [
-      | inl p ↦ Front-as instruction_text instruction_fits bytes more rest Ret v p.1 (subst (λ z. Front (z ∷ []) bytes more) p.0 front) refl
-      | inr q ↦ on_bind (index_from more) _ (v, rest) q (λ i i_is e1.
-          elim (cond-parts code 0x0B (Some (MoveLoc i.0, i.1)) _ (Some (v, rest)) e1) [
-            | inl p ↦ by_index 0x0B MoveLoc (λ _. refl) (λ _. refl) bytes more rest i v (subst (λ z. Front (z ∷ []) bytes more) p.0 front) i_is p.1
-            | inr e2 ↦ elim (cond-parts code 0x0E (Some (ImmBorrowLoc i.0, i.1)) _ (Some (v, rest)) e2) [
-              | inl p ↦ by_index 0x0E ImmBorrowLoc (λ _. refl) (λ _. refl) bytes more rest i v (subst (λ z. Front (z ∷ []) bytes more) p.0 front) i_is p.1
-              | inr e3 ↦ elim (cond-parts code 0x12 (Some (Pack i.0, i.1)) _ (Some (v, rest)) e3) [
-                | inl p ↦ by_index 0x12 Pack (λ _. refl) (λ _. refl) bytes more rest i v (subst (λ z. Front (z ∷ []) bytes more) p.0 front) i_is p.1
-                | inr e4 ↦ elim (cond-parts code 0x2D (Some (MoveTo i.0, i.1)) None (Some (v, rest)) e4) [
-                  | inl p ↦ by_index 0x2D MoveTo (λ _. refl) (λ _. refl) bytes more rest i v (subst (λ z. Front (z ∷ []) bytes more) p.0 front) i_is p.1
-                  | inr none ↦ absurd (none-some (v, rest) none)
-                ]
-              ]
-            ]
-          ])
-    ]
-
-pub instruction-parts : Parts instruction_from instruction_text instruction_fits
-instruction-parts bytes rest v ok e =
-    on_bind (byte_from bytes) _ (v, rest) e (λ code code_is e1.
-    instruction_by-parts code.0 bytes code.1 rest v (byte-front code.0 bytes code.1 ok code_is) e1)
-
--- an index that an instruction has
-immediate_fits : (i : ℕ) → (is_index i && true) ≡ true → is_index i ≡ true
-immediate_fits i ok = (and_parts (is_index i) true ok).0
-
-pub instruction-whole : Whole instruction_from instruction_text instruction_fits
-instruction-whole rest Ret ok = refl
-instruction-whole rest (MoveLoc i) ok = ap (λ r. r >>= λ i. Some (MoveLoc i.0, i.1)) (index-whole rest i (immediate_fits i ok))
-instruction-whole rest (ImmBorrowLoc i) ok = ap (λ r. r >>= λ i. Some (ImmBorrowLoc i.0, i.1)) (index-whole rest i (immediate_fits i ok))
-instruction-whole rest (Pack i) ok = ap (λ r. r >>= λ i. Some (Pack i.0, i.1)) (index-whole rest i (immediate_fits i ok))
-instruction-whole rest (MoveTo i) ok = ap (λ r. r >>= λ i. Some (MoveTo i.0, i.1)) (index-whole rest i (immediate_fits i ok))
-
-pub struct_definition-parts : Parts struct_definition_from struct_definition_text struct_definition_fits
-struct_definition-parts bytes rest v ok e =
+pub struct_definition-parts : (version : ℕ) → Parts (struct_definition_from version) struct_definition_text (struct_definition_fits version)
+struct_definition-parts version bytes rest v ok e =
     on_bind (index_from bytes) _ (v, rest) e (λ h h_is e1.
     on_bind (mark_from 2 h.1) _ (v, rest) e1 (λ m m_is e2.
-    on_bind (counted_from 32 field_from m) _ (v, rest) e2 (λ f f_is e3.
+    on_bind (counted_from 32 (field_from version) m) _ (v, rest) e2 (λ f f_is e3.
     let p = index-parts bytes h.1 h.0 ok h_is in
     let q = mark-front 2 h.1 m p.0.left m_is in
-    let r = counted-parts 32 field_from field_text field_fits (omega arith) field-parts m f.1 f.0 q.left f_is in
+    let r = counted-parts 32 (field_from version) field_text (field_fits version) (omega arith) (field-parts version) m f.1 f.0 q.left f_is in
     let back : Front (2 ∷ counted field_text f.0) h.1 f.1 = Front-join (2 ∷ []) (counted field_text f.0) h.1 m f.1 q r.0 in
-    let s = and_parts (nat_le (length f.0) 32) (list_all field_fits f.0) r.1 in
-    Front-as struct_definition_text struct_definition_fits bytes f.1 rest (record { handle = h.0; fields = f.0 }) v e3
+    let s = and_parts (nat_le (length f.0) 32) (list_all (field_fits version) f.0) r.1 in
+    Front-as struct_definition_text (struct_definition_fits version) bytes f.1 rest (record { handle = h.0; fields = f.0 }) v e3
     (Front-join (uleb h.0) (2 ∷ counted field_text f.0) bytes h.1 f.1 p.0 back)
-    (and_from (is_index h.0 && nat_le (length f.0) 32) (list_all field_fits f.0) (and_from (is_index h.0) (nat_le (length f.0) 32) p.1 s.0) s.1))))
+    (and_from (is_index h.0 && nat_le (length f.0) 32) (list_all (field_fits version) f.0) (and_from (is_index h.0) (nat_le (length f.0) 32) p.1 s.0) s.1))))
 
-pub struct_definition-whole : Whole struct_definition_from struct_definition_text struct_definition_fits
-struct_definition-whole rest v ok =
-    let p = and_parts (is_index v.handle && nat_le (length v.fields) 32) (list_all field_fits v.fields) ok in
+pub struct_definition-whole : (version : ℕ) → Whole (struct_definition_from version) struct_definition_text (struct_definition_fits version)
+struct_definition-whole version rest v ok =
+    let p = and_parts (is_index v.handle && nat_le (length v.fields) 32) (list_all (field_fits version) v.fields) ok in
     let q = and_parts (is_index v.handle) (nat_le (length v.fields) 32) p.0 in
-    let fit = and_from (nat_le (length v.fields) 32) (list_all field_fits v.fields) q.1 p.1 in
-    ap struct_definition_from (append_assoc (uleb v.handle) (2 ∷ counted field_text v.fields) rest)
-    ∙ ap (λ r. r >>= λ handle. mark_from 2 handle.1 >>= λ m. counted_from 32 field_from m >>= λ fields. Some (record { handle = handle.0; fields = fields.0 }, fields.1))
+    let fit = and_from (nat_le (length v.fields) 32) (list_all (field_fits version) v.fields) q.1 p.1 in
+    ap (struct_definition_from version) (append_assoc (uleb v.handle) (2 ∷ counted field_text v.fields) rest)
+    ∙ ap (λ r. r >>= λ handle. mark_from 2 handle.1 >>= λ m. counted_from 32 (field_from version) m >>= λ fields. Some (record { handle = handle.0; fields = fields.0 }, fields.1))
     (index-whole (2 ∷ (counted field_text v.fields ++ rest)) v.handle q.0)
     ∙ ap (λ r. r >>= λ fields. Some (record { handle = v.handle; fields = fields.0 }, fields.1))
-    (counted-whole 32 field_from field_text field_fits (omega arith) field-whole rest v.fields fit)
+    (counted-whole 32 (field_from version) field_text (field_fits version) (omega arith) (field-whole version) rest v.fields fit)
 
 -- a visibility at the front
 visibility_of-parts : (code : ℕ) (v : Visibility) → visibility_of code ≡ Some v → code ≡ visibility_code v
@@ -142,22 +93,22 @@ count_fits n le = let small : n ≤ 65535 = leb-true n 65535 le in le-leb (suc n
 fits_count : (n : ℕ) → is_index n ≡ true → nat_le n 65535 ≡ true
 fits_count n lt = let small : suc n ≤ 65536 = leb-true (suc n) 65536 lt in le-leb n 65535 (omega arith)
 
-pub function_definition-parts : Parts function_definition_from function_definition_text function_definition_fits
-function_definition-parts bytes rest v ok e =
+pub function_definition-parts : (version : ℕ) → Parts (function_definition_from version) function_definition_text (function_definition_fits version)
+function_definition-parts version bytes rest v ok e =
     on_bind (index_from bytes) _ (v, rest) e (λ h h_is e1.
     on_bind (visibility_from h.1) _ (v, rest) e1 (λ w w_is e2.
     on_bind (entry_from w.1) _ (v, rest) e2 (λ y y_is e3.
     on_bind (counted_from 65535 index_from y.1) _ (v, rest) e3 (λ a a_is e4.
     on_bind (index_from a.1) _ (v, rest) e4 (λ l l_is e5.
-    on_bind (counted_from 4096 instruction_from l.1) _ (v, rest) e5 (λ i i_is e6.
+    on_bind (counted_from 4096 (instruction_from version) l.1) _ (v, rest) e5 (λ i i_is e6.
     let p = index-parts bytes h.1 h.0 ok h_is in
     let q = visibility-front h.1 w.1 w.0 p.0.left w_is in
     let r = entry-front w.1 y.1 y.0 q.left y_is in
     let s = counted-parts 65535 index_from uleb is_index (omega arith) index-parts y.1 a.1 a.0 r.left a_is in
     let t = index-parts a.1 l.1 l.0 s.0.left l_is in
-    let u = counted-parts 4096 instruction_from instruction_text instruction_fits (omega arith) instruction-parts l.1 i.1 i.0 t.0.left i_is in
+    let u = counted-parts 4096 (instruction_from version) instruction_text (instruction_fits version) (omega arith) (instruction-parts version) l.1 i.1 i.0 t.0.left i_is in
     let few = and_parts (nat_le (length a.0) 65535) (list_all is_index a.0) s.1 in
-    let short = and_parts (nat_le (length i.0) 4096) (list_all instruction_fits i.0) u.1 in
+    let short = and_parts (nat_le (length i.0) 4096) (list_all (instruction_fits version) i.0) u.1 in
     let flags : Front (cond y.0 4 0 ∷ counted uleb a.0) w.1 a.1 = Front-join (cond y.0 4 0 ∷ []) (counted uleb a.0) w.1 y.1 a.1 r s.0 in
     let who : Front (visibility_code w.0 ∷ cond y.0 4 0 ∷ counted uleb a.0) h.1 a.1 =
     Front-join (visibility_code w.0 ∷ []) (cond y.0 4 0 ∷ counted uleb a.0) h.1 w.1 a.1 q flags in
@@ -165,10 +116,10 @@ function_definition-parts bytes rest v ok e =
     Front-join (uleb h.0) (visibility_code w.0 ∷ cond y.0 4 0 ∷ counted uleb a.0) bytes h.1 a.1 p.0 who in
     let code : Front (uleb l.0 ++ counted instruction_text i.0) a.1 i.1 =
     Front-join (uleb l.0) (counted instruction_text i.0) a.1 l.1 i.1 t.0 u.0 in
-    Front-as function_definition_text function_definition_fits bytes i.1 rest
+    Front-as function_definition_text (function_definition_fits version) bytes i.1 rest
     (record { handle = h.0; visibility = w.0; is_entry = y.0; acquires = a.0; locals = l.0; code = i.0 }) v e6
     (Front-join (uleb h.0 ++ visibility_code w.0 ∷ cond y.0 4 0 ∷ counted uleb a.0) (uleb l.0 ++ counted instruction_text i.0) bytes a.1 i.1 head code)
-    (and_from (is_index h.0 && is_index l.0 && is_index (length a.0) && list_all is_index a.0 && nat_le (length i.0) 4096) (list_all instruction_fits i.0)
+    (and_from (is_index h.0 && is_index l.0 && is_index (length a.0) && list_all is_index a.0 && nat_le (length i.0) 4096) (list_all (instruction_fits version) i.0)
     (and_from (is_index h.0 && is_index l.0 && is_index (length a.0) && list_all is_index a.0) (nat_le (length i.0) 4096)
     (and_from (is_index h.0 && is_index l.0 && is_index (length a.0)) (list_all is_index a.0)
     (and_from (is_index h.0 && is_index l.0) (is_index (length a.0)) (and_from (is_index h.0) (is_index l.0) p.1 t.1) (count_fits (length a.0) few.0))
@@ -178,26 +129,26 @@ function_definition-parts bytes rest v ok e =
 function_regroup : (h a l c rest : List ℕ) (v f : ℕ) → ((h ++ v ∷ f ∷ a) ++ (l ++ c)) ++ rest ≡ h ++ (v ∷ f ∷ (a ++ (l ++ (c ++ rest))))
 function_regroup h a l c rest v f = simp append_assoc
 
-pub function_definition-whole : Whole function_definition_from function_definition_text function_definition_fits
-function_definition-whole rest v ok =
-    let p = and_parts (is_index v.handle && is_index v.locals && is_index (length v.acquires) && list_all is_index v.acquires && nat_le (length v.code) 4096) (list_all instruction_fits v.code) ok in
+pub function_definition-whole : (version : ℕ) → Whole (function_definition_from version) function_definition_text (function_definition_fits version)
+function_definition-whole version rest v ok =
+    let p = and_parts (is_index v.handle && is_index v.locals && is_index (length v.acquires) && list_all is_index v.acquires && nat_le (length v.code) 4096) (list_all (instruction_fits version) v.code) ok in
     let q = and_parts (is_index v.handle && is_index v.locals && is_index (length v.acquires) && list_all is_index v.acquires) (nat_le (length v.code) 4096) p.0 in
     let r = and_parts (is_index v.handle && is_index v.locals && is_index (length v.acquires)) (list_all is_index v.acquires) q.0 in
     let s = and_parts (is_index v.handle && is_index v.locals) (is_index (length v.acquires)) r.0 in
     let t = and_parts (is_index v.handle) (is_index v.locals) s.0 in
     let few = and_from (nat_le (length v.acquires) 65535) (list_all is_index v.acquires) (fits_count (length v.acquires) s.1) r.1 in
-    let short = and_from (nat_le (length v.code) 4096) (list_all instruction_fits v.code) q.1 p.1 in
+    let short = and_from (nat_le (length v.code) 4096) (list_all (instruction_fits version) v.code) q.1 p.1 in
     let code : List ℕ = counted instruction_text v.code ++ rest in
-    ap function_definition_from (function_regroup (uleb v.handle) (counted uleb v.acquires) (uleb v.locals) (counted instruction_text v.code) rest (visibility_code v.visibility) (cond v.is_entry 4 0))
-    ∙ ap (λ r. r >>= λ handle. visibility_from handle.1 >>= λ visibility. entry_from visibility.1 >>= λ is_entry. counted_from 65535 index_from is_entry.1 >>= λ acquires. index_from acquires.1 >>= λ locals. counted_from 4096 instruction_from locals.1 >>= λ code. Some (record { handle = handle.0; visibility = visibility.0; is_entry = is_entry.0; acquires = acquires.0; locals = locals.0; code = code.0 }, code.1))
+    ap (function_definition_from version) (function_regroup (uleb v.handle) (counted uleb v.acquires) (uleb v.locals) (counted instruction_text v.code) rest (visibility_code v.visibility) (cond v.is_entry 4 0))
+    ∙ ap (λ r. r >>= λ handle. visibility_from handle.1 >>= λ visibility. entry_from visibility.1 >>= λ is_entry. counted_from 65535 index_from is_entry.1 >>= λ acquires. index_from acquires.1 >>= λ locals. counted_from 4096 (instruction_from version) locals.1 >>= λ code. Some (record { handle = handle.0; visibility = visibility.0; is_entry = is_entry.0; acquires = acquires.0; locals = locals.0; code = code.0 }, code.1))
     (index-whole (visibility_code v.visibility ∷ cond v.is_entry 4 0 ∷ (counted uleb v.acquires ++ (uleb v.locals ++ code))) v.handle t.0)
-    ∙ ap (λ r. r >>= λ visibility. entry_from visibility.1 >>= λ is_entry. counted_from 65535 index_from is_entry.1 >>= λ acquires. index_from acquires.1 >>= λ locals. counted_from 4096 instruction_from locals.1 >>= λ code. Some (record { handle = v.handle; visibility = visibility.0; is_entry = is_entry.0; acquires = acquires.0; locals = locals.0; code = code.0 }, code.1))
+    ∙ ap (λ r. r >>= λ visibility. entry_from visibility.1 >>= λ is_entry. counted_from 65535 index_from is_entry.1 >>= λ acquires. index_from acquires.1 >>= λ locals. counted_from 4096 (instruction_from version) locals.1 >>= λ code. Some (record { handle = v.handle; visibility = visibility.0; is_entry = is_entry.0; acquires = acquires.0; locals = locals.0; code = code.0 }, code.1))
     (visibility-whole v.visibility (cond v.is_entry 4 0 ∷ (counted uleb v.acquires ++ (uleb v.locals ++ code))))
-    ∙ ap (λ r. r >>= λ is_entry. counted_from 65535 index_from is_entry.1 >>= λ acquires. index_from acquires.1 >>= λ locals. counted_from 4096 instruction_from locals.1 >>= λ code. Some (record { handle = v.handle; visibility = v.visibility; is_entry = is_entry.0; acquires = acquires.0; locals = locals.0; code = code.0 }, code.1))
+    ∙ ap (λ r. r >>= λ is_entry. counted_from 65535 index_from is_entry.1 >>= λ acquires. index_from acquires.1 >>= λ locals. counted_from 4096 (instruction_from version) locals.1 >>= λ code. Some (record { handle = v.handle; visibility = v.visibility; is_entry = is_entry.0; acquires = acquires.0; locals = locals.0; code = code.0 }, code.1))
     (entry-whole v.is_entry (counted uleb v.acquires ++ (uleb v.locals ++ code)))
-    ∙ ap (λ r. r >>= λ acquires. index_from acquires.1 >>= λ locals. counted_from 4096 instruction_from locals.1 >>= λ code. Some (record { handle = v.handle; visibility = v.visibility; is_entry = v.is_entry; acquires = acquires.0; locals = locals.0; code = code.0 }, code.1))
+    ∙ ap (λ r. r >>= λ acquires. index_from acquires.1 >>= λ locals. counted_from 4096 (instruction_from version) locals.1 >>= λ code. Some (record { handle = v.handle; visibility = v.visibility; is_entry = v.is_entry; acquires = acquires.0; locals = locals.0; code = code.0 }, code.1))
     (counted-whole 65535 index_from uleb is_index (omega arith) index-whole (uleb v.locals ++ code) v.acquires few)
-    ∙ ap (λ r. r >>= λ locals. counted_from 4096 instruction_from locals.1 >>= λ code. Some (record { handle = v.handle; visibility = v.visibility; is_entry = v.is_entry; acquires = v.acquires; locals = locals.0; code = code.0 }, code.1))
+    ∙ ap (λ r. r >>= λ locals. counted_from 4096 (instruction_from version) locals.1 >>= λ code. Some (record { handle = v.handle; visibility = v.visibility; is_entry = v.is_entry; acquires = v.acquires; locals = locals.0; code = code.0 }, code.1))
     (index-whole code v.locals t.1)
     ∙ ap (λ r. r >>= λ code. Some (record { handle = v.handle; visibility = v.visibility; is_entry = v.is_entry; acquires = v.acquires; locals = v.locals; code = code.0 }, code.1))
-    (counted-whole 4096 instruction_from instruction_text instruction_fits (omega arith) instruction-whole rest v.code short)
+    (counted-whole 4096 (instruction_from version) instruction_text (instruction_fits version) (omega arith) (instruction-whole version) rest v.code short)

@@ -1,64 +1,14 @@
--- What is read is what was written: types, handles, identifiers and fields.
-use Rattle.std.proofs.Common.{◌≡◌, ℕ, ◌≤◌, List, [], ◌∷◌, ◌++◌, length, arith, refl, ap, sym, ◌∙◌, subst, append_assoc, Some, None, IsTrue, Bool, true, false, cond, eqb, ◌&&◌, nat_le, ◌⊎◌, inl, inr, ne_eqb, eq-eqb}
+-- What is read is what was written: handles and identifiers.
+use Rattle.std.proofs.Common.{◌≡◌, ℕ, ◌≤◌, List, [], ◌∷◌, ◌++◌, length, arith, refl, ap, sym, ◌∙◌, subst, append_assoc, Some, Bool, true, false, eqb, ◌&&◌, nat_le}
 use Rattle.std.specs.Bool.{then_some}
-use Rattle.std.proofs.lemmas.Bool.{cases_eq, and_parts, and_from, false≢true, agree_below_at, eqb-true, leb-true}
-use Rattle.std.proofs.lemmas.Option.{none-some, same_Some}
+use Rattle.std.proofs.lemmas.Bool.{and_parts, and_from, agree_below_at, eqb-true, leb-true}
 use Rattle.mv_uleb.specs.Uleb.{uleb}
 use Rattle.mv_uleb.specs.Parsing.{number_from}
 use Rattle.mv_move_types.specs.Options.{◌>>=◌}
-use Rattle.mv_move_types.specs.declared.token.Width.TheVariants.{U8, U64, U128}
-use Rattle.mv_move_types.specs.declared.token.LeafKind.TheVariants.{Boolean, Number, Address, Signer}
-use Rattle.mv_move_types.specs.declared.token.ValueType.TheVariants.{OfLeaf, OfStruct}
-use Rattle.mv_move_types.specs.declared.token.Token.{Token}
-use Rattle.mv_move_types.specs.declared.token.Token.TheVariants.{Plain, Reference, MutableReference}
-use Rattle.mv_module_text.specs.Entries.{token_text, ability_bits, module_handle_text, struct_handle_text, function_handle_text, signature_text, identifier_text, field_text}
-use Rattle.mv_module_text.specs.Fits.{is_index, token_fits, module_handle_fits, struct_handle_fits, function_handle_fits, signature_fits, identifier_fits, field_fits}
-use Rattle.mv_module_text.specs.Parsing.{index_from, byte_from, mark_from, bytes_from, token_of, token_from, abilities_of_bits, module_handle_from, struct_handle_from, function_handle_from, signature_from, identifier_from, field_from}
-use Rattle.mv_module_text.proofs.Texts.{Front, Parts, Whole, on_bind, then_some-parts, Front-join, Front-as, number-front, number-whole, index-parts, index-whole, byte-front, mark-front, bytes-front, bytes-whole, counted-parts, counted-whole}
-
--- what a test of two numbers chose
-pub cond-parts : {A : Type 0} (a b : ℕ) (x y r : A) → cond (eqb a b) x y ≡ r → ((a ≡ b) × (x ≡ r)) ⊎ (y ≡ r)
-cond-parts a b x y r e =
-    elim (cases_eq a b) [
-      | inl same ↦ inl (same, sym (ap (λ t. cond t x y) (eq-eqb a b same)) ∙ e)
-      | inr ne ↦ inr (sym (ap (λ t. cond t x y) (ne_eqb a b ne)) ∙ e)
-    ]
-
--- a type by its byte
-token_of-parts : (code : ℕ) (t : Token) → token_of code ≡ Some t → (code ∷ [] ≡ token_text t) × IsTrue (token_fits t)
-token_of-parts code t e =
-    elim (cond-parts code 0x03 (Some (Plain (OfLeaf (Number U64)))) (cond (eqb code 0x0C) (Some (Plain (OfLeaf Signer))) None) (Some t) e) [
-      | inl p ↦ subst (λ z. (code ∷ [] ≡ token_text z) × IsTrue (token_fits z)) (same_Some _ t p.1) (ap (λ z. z ∷ []) p.0, refl)
-      | inr q ↦ elim (cond-parts code 0x0C (Some (Plain (OfLeaf Signer))) None (Some t) q) [
-        | inl p ↦ subst (λ z. (code ∷ [] ≡ token_text z) × IsTrue (token_fits z)) (same_Some _ t p.1) (ap (λ z. z ∷ []) p.0, refl)
-        | inr none ↦ absurd (none-some t none)
-      ]
-    ]
-
-pub token-parts : Parts token_from token_text token_fits
-token-parts bytes rest v ok e =
-    on_bind (byte_from bytes) _ (v, rest) e (λ code code_is e1.
-    on_bind (token_of code.0) _ (v, rest) e1 (λ t t_is e2.
-    let p = byte-front code.0 bytes code.1 ok code_is in
-    let q = token_of-parts code.0 t t_is in
-    Front-as token_text token_fits bytes code.1 rest t v e2 (subst (λ z. Front z bytes code.1) q.0 p) q.1))
-
-pub token-whole : Whole token_from token_text token_fits
-token-whole rest (Plain (OfLeaf (Number U64))) ok = refl
-token-whole rest (Plain (OfLeaf Signer)) ok = refl
-token-whole rest (Plain (OfLeaf (Number U8))) ok = absurd (false≢true ok)
-token-whole rest (Plain (OfLeaf (Number U128))) ok = absurd (false≢true ok)
-token-whole rest (Plain (OfLeaf Boolean)) ok = absurd (false≢true ok)
-token-whole rest (Plain (OfLeaf Address)) ok = absurd (false≢true ok)
-token-whole rest (Plain (OfStruct i)) ok = absurd (false≢true ok)
-token-whole rest (Reference t) ok = absurd (false≢true ok)
-token-whole rest (MutableReference t) ok = absurd (false≢true ok)
-
-pub signature-parts : Parts signature_from signature_text signature_fits
-signature-parts = counted-parts 64 token_from token_text token_fits (omega arith) token-parts
-
-pub signature-whole : Whole signature_from signature_text signature_fits
-signature-whole = counted-whole 64 token_from token_text token_fits (omega arith) token-whole
+use Rattle.mv_module_text.specs.Entries.{ability_bits, module_handle_text, struct_handle_text, function_handle_text, identifier_text, field_handle_text}
+use Rattle.mv_module_text.specs.Fits.{is_index, module_handle_fits, struct_handle_fits, function_handle_fits, identifier_fits, field_handle_fits}
+use Rattle.mv_module_text.specs.Parsing.{index_from, mark_from, bytes_from, abilities_of_bits, module_handle_from, struct_handle_from, function_handle_from, identifier_from, field_handle_from}
+use Rattle.mv_module_text.proofs.Texts.{Front, Parts, Whole, on_bind, then_some-parts, Front-join, Front-as, number-front, number-whole, index-parts, index-whole, mark-front, bytes-front, bytes-whole}
 
 pub module_handle-parts : Parts module_handle_from module_handle_text module_handle_fits
 module_handle-parts bytes rest v ok e =
@@ -213,19 +163,17 @@ identifier-whole rest v ok =
     ∙ ap (λ r. r >>= λ name. then_some (identifier_fits name.0) name) (bytes-whole (length v) v rest refl)
     ∙ ap (λ t. then_some t (v, rest)) ok
 
-pub field-parts : Parts field_from field_text field_fits
-field-parts bytes rest v ok e =
-    on_bind (index_from bytes) _ (v, rest) e (λ n n_is e1.
-    on_bind (token_from n.1) _ (v, rest) e1 (λ t t_is e2.
-    let p = index-parts bytes n.1 n.0 ok n_is in
-    let q = token-parts n.1 t.1 t.0 p.0.left t_is in
-    Front-as field_text field_fits bytes t.1 rest (record { name = n.0; token = t.0 }) v e2
-    (Front-join (uleb n.0) (token_text t.0) bytes n.1 t.1 p.0 q.0) (and_from (is_index n.0) (token_fits t.0) p.1 q.1)))
+pub field_handle-parts : Parts field_handle_from field_handle_text field_handle_fits
+field_handle-parts bytes rest v ok e =
+    on_bind (index_from bytes) _ (v, rest) e (λ d d_is e1.
+    on_bind (index_from d.1) _ (v, rest) e1 (λ n n_is e2.
+    let p = index-parts bytes d.1 d.0 ok d_is in
+    let q = index-parts d.1 n.1 n.0 p.0.left n_is in
+    Front-as field_handle_text field_handle_fits bytes n.1 rest (record { definition = d.0; position = n.0 }) v e2
+    (Front-join (uleb d.0) (uleb n.0) bytes d.1 n.1 p.0 q.0) (and_from (is_index d.0) (is_index n.0) p.1 q.1)))
 
-pub field-whole : Whole field_from field_text field_fits
-field-whole rest v ok =
-    let p = and_parts (is_index v.name) (token_fits v.token) ok in
-    ap field_from (append_assoc (uleb v.name) (token_text v.token) rest)
-    ∙ ap (λ r. r >>= λ name. token_from name.1 >>= λ token. Some (record { name = name.0; token = token.0 }, token.1))
-    (index-whole (token_text v.token ++ rest) v.name p.0)
-    ∙ ap (λ r. r >>= λ token. Some (record { name = v.name; token = token.0 }, token.1)) (token-whole rest v.token p.1)
+pub field_handle-whole : Whole field_handle_from field_handle_text field_handle_fits
+field_handle-whole rest v ok =
+    let p = and_parts (is_index v.definition) (is_index v.position) ok in
+    ap field_handle_from (append_assoc (uleb v.definition) (uleb v.position) rest)
+    ∙ rw (index-whole (uleb v.position ++ rest) v.definition p.0, index-whole rest v.position p.1) refl

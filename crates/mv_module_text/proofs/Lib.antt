@@ -1,5 +1,9 @@
 pub mod Entries
 pub mod Texts
+pub mod Numbers
+pub mod Rows
+pub mod Tokens
+pub mod Opcodes
 pub mod Handles
 pub mod Addresses
 pub mod Definitions

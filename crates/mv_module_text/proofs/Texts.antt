@@ -49,14 +49,14 @@ then_some-parts true x y e = (refl, same_Some x y e)
 then_some-parts false x y e = absurd (none-some y e)
 
 -- a part of bytes
-pub bytes_behind : (x y : List ℕ) → AreBytes (x ++ y) → AreBytes x × AreBytes y
-bytes_behind x y ok = and_parts (list_all is_byte x) (list_all is_byte y) (sym (list_all-append is_byte x y) ∙ ok)
+pub bytes_after : (x y : List ℕ) → AreBytes (x ++ y) → AreBytes x × AreBytes y
+bytes_after x y ok = and_parts (list_all is_byte x) (list_all is_byte y) (sym (list_all-append is_byte x y) ∙ ok)
 
 -- a front, by its bytes
 pub Front-from : (x bytes rest : List ℕ) → AreBytes bytes → bytes ≡ x ++ rest → Front x bytes rest
-Front-from x bytes rest ok e = record { text = e; left = (bytes_behind x rest (subst AreBytes e ok)).1 }
+Front-from x bytes rest ok e = record { text = e; left = (bytes_after x rest (subst AreBytes e ok)).1 }
 
--- one front behind another
+-- one front after another
 pub Front-join : (x y bytes more rest : List ℕ) → Front x bytes more → Front y more rest → Front (x ++ y) bytes rest
 Front-join x y bytes more rest a b = record { text = a.text ∙ ap (λ z. x ++ z) b.text ∙ sym (append_assoc x y rest); left = b.left }
 
@@ -115,7 +115,7 @@ bytes-front n x bytes rest ok e =
       sym (ap length front) ∙ len,
     )
 
--- the first bytes, and those behind them
+-- the first bytes, and those after them
 take-front : (x rest : List ℕ) → take (length x) (x ++ rest) ≡ x
 take-front [] rest = refl
 take-front (b ∷ x) rest = ap (λ z. b ∷ z) (take-front x rest)
@@ -159,7 +159,7 @@ entries-whole each text fits whole rest (x ∷ xs) ok =
     let p = and_parts (fits x) (list_all fits xs) ok in
     rw (append_assoc (text x) (flat_map text xs) rest, whole (flat_map text xs ++ rest) x p.0, entries-whole each text fits whole rest xs p.1) refl
 
--- entries behind their number
+-- entries after their number
 pub counted-parts : {A : Type 0} (most : ℕ) (each : List ℕ → Read A) (text : A → List ℕ) (fits : A → Bool) → most < 2 ^ 64 → Parts each text fits
     → Parts (counted_from most each) (counted text) (λ xs. nat_le (length xs) most && list_all fits xs)
 counted-parts most each text fits lt parts bytes rest xs ok e =

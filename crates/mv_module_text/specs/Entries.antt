@@ -1,9 +1,9 @@
 -- The text of each entry of a module: its bytes.
 use Rattle.std.specs.Prelude.{ℕ, ◌+◌, List, ◌++◌, flat_map, length, [], ◌∷◌, cond}
-use Rattle.std.specs.Int.{w128, to_be_bytes}
+use Rattle.std.specs.Int.{w16, w32, w64, w128, to_le_bytes, to_be_bytes}
 use Rattle.mv_uleb.specs.Uleb.{uleb}
 use Rattle.mv_move_types.specs.declared.token.Width.{Width}
-use Rattle.mv_move_types.specs.declared.token.Width.TheVariants.{U8, U64, U128}
+use Rattle.mv_move_types.specs.declared.token.Width.TheVariants.{U8, U16, U32, U64, U128}
 use Rattle.mv_move_types.specs.declared.token.LeafKind.{LeafKind}
 use Rattle.mv_move_types.specs.declared.token.LeafKind.TheVariants.{Boolean, Number, Address, Signer}
 use Rattle.mv_move_types.specs.declared.token.ValueType.{ValueType}
@@ -14,11 +14,14 @@ use Rattle.mv_move_types.specs.declared.token.Abilities.{Abilities}
 use Rattle.mv_move_types.specs.declared.tables.ModuleHandle.{ModuleHandle}
 use Rattle.mv_move_types.specs.declared.tables.StructHandle.{StructHandle}
 use Rattle.mv_move_types.specs.declared.tables.FunctionHandle.{FunctionHandle}
-use Rattle.mv_move_types.specs.Module.{StructDefinition, FunctionDefinition}
+use Rattle.mv_move_types.specs.declared.tables.FieldHandle.{FieldHandle}
+use Rattle.mv_move_types.specs.Module.{Constant as ConstantEntry, StructDefinition, FunctionDefinition}
 use Rattle.mv_move_types.specs.declared.tables.Visibility.{Visibility}
 use Rattle.mv_move_types.specs.declared.tables.Visibility.TheVariants.{Private, Public}
 use Rattle.mv_move_types.specs.declared.instruction.Instruction.{Instruction}
-use Rattle.mv_move_types.specs.declared.instruction.Instruction.TheVariants.{Ret, MoveLoc, ImmBorrowLoc, Pack, MoveTo}
+use Rattle.mv_move_types.specs.declared.instruction.Immediate.{Immediate}
+use Rattle.mv_move_types.specs.declared.instruction.Immediate.TheVariants.{Nothing, Local, Struct, Field as FieldImmediate, Function, Constant, Target, Literal}
+use Rattle.mv_move_types.specs.Instructions.{code_of, immediate_of}
 use Rattle.mv_move_types.specs.declared.tables.Field.{Field}
 
 -- a count, and so many parts
@@ -26,21 +29,23 @@ abbrev pub counted : {A : Type 0} → (A → List ℕ) → List A → List ℕ
 counted each xs = uleb (length xs) ++ flat_map each xs
 
 -- a number type's token
-abbrev pub width_code : Width → ℕ
-width_code U8 = 0x02
-width_code U64 = 0x03
-width_code U128 = 0x04
+abbrev pub width_token : Width → ℕ
+width_token U8 = 0x02
+width_token U16 = 0x0D
+width_token U32 = 0x0E
+width_token U64 = 0x03
+width_token U128 = 0x04
 
 -- a leaf type's token
-abbrev pub kind_code : LeafKind → ℕ
-kind_code Boolean = 0x01
-kind_code (Number w) = width_code w
-kind_code Address = 0x05
-kind_code Signer = 0x0C
+abbrev pub leaf_token : LeafKind → ℕ
+leaf_token Boolean = 0x01
+leaf_token (Number w) = width_token w
+leaf_token Address = 0x05
+leaf_token Signer = 0x0C
 
 -- a type that is no reference
 abbrev pub value_type_text : ValueType → List ℕ
-value_type_text (OfLeaf kind) = kind_code kind ∷ []
+value_type_text (OfLeaf kind) = leaf_token kind ∷ []
 value_type_text (OfStruct i) = 0x08 ∷ uleb i
 
 -- a type, a reference after its mark
@@ -69,7 +74,11 @@ function_handle_text h = uleb h.module ++ uleb h.name ++ uleb h.parameters ++ ul
 abbrev pub signature_text : List Token → List ℕ
 signature_text = counted token_text
 
--- its bytes behind their number
+-- its type, and its bytes after their number
+abbrev pub constant_text : ConstantEntry → List ℕ
+constant_text c = token_text c.token ++ uleb (length c.bytes) ++ c.bytes
+
+-- its bytes after their number
 abbrev pub identifier_text : List ℕ → List ℕ
 identifier_text name = uleb (length name) ++ name
 
@@ -90,13 +99,28 @@ abbrev pub visibility_code : Visibility → ℕ
 visibility_code Private = 0
 visibility_code Public = 1
 
+-- a number in as many bytes as its width has, the lowest first
+abbrev pub number_text : Width → ℕ → List ℕ
+number_text U8 n = n ∷ []
+number_text U16 n = to_le_bytes w16 n
+number_text U32 n = to_le_bytes w32 n
+number_text U64 n = to_le_bytes w64 n
+number_text U128 n = to_le_bytes w128 n
+
+-- an index, or a number
+abbrev pub immediate_text : Immediate → List ℕ
+immediate_text Nothing = []
+immediate_text (Local i) = uleb i
+immediate_text (Struct i) = uleb i
+immediate_text (FieldImmediate i) = uleb i
+immediate_text (Function i) = uleb i
+immediate_text (Constant i) = uleb i
+immediate_text (Target i) = uleb i
+immediate_text (Literal w n) = number_text w n
+
 -- an opcode, and its immediate
 abbrev pub instruction_text : Instruction → List ℕ
-instruction_text Ret = 0x02 ∷ []
-instruction_text (MoveLoc i) = 0x0B ∷ uleb i
-instruction_text (ImmBorrowLoc i) = 0x0E ∷ uleb i
-instruction_text (Pack i) = 0x12 ∷ uleb i
-instruction_text (MoveTo i) = 0x2D ∷ uleb i
+instruction_text i = code_of i ∷ immediate_text (immediate_of i)
 
 -- the further locals' signature, and the instructions
 abbrev pub code_text : FunctionDefinition → List ℕ
@@ -106,3 +130,7 @@ code_text d = uleb d.locals ++ counted instruction_text d.code
 abbrev pub function_definition_text : FunctionDefinition → List ℕ
 function_definition_text d =
     uleb d.handle ++ visibility_code d.visibility ∷ cond d.is_entry 4 0 ∷ counted uleb d.acquires ++ code_text d
+
+-- its struct definition and its position
+abbrev pub field_handle_text : FieldHandle → List ℕ
+field_handle_text h = uleb h.definition ++ uleb h.position

@@ -1,8 +1,8 @@
 -- Which entries have a text.
-use Rattle.std.specs.Prelude.{ℕ, ◌^◌, Bool, nat_lt, true, ◌&&◌, nat_le, List, length, ◌||◌, ◌==◌, false, [], ◌∷◌}
+use Rattle.std.specs.Prelude.{ℕ, ◌^◌, Bool, not, nat_lt, true, ◌&&◌, nat_le, List, length, ◌||◌, ◌==◌, false, [], ◌∷◌}
 use Rattle.std.specs.List.{list_all}
 use Rattle.mv_move_types.specs.declared.token.Width.{Width}
-use Rattle.mv_move_types.specs.declared.token.Width.TheVariants.{U8, U64, U128}
+use Rattle.mv_move_types.specs.declared.token.Width.TheVariants.{U16, U32}
 use Rattle.mv_move_types.specs.declared.token.LeafKind.TheVariants.{Boolean, Number, Address, Signer}
 use Rattle.mv_move_types.specs.declared.token.ValueType.{ValueType}
 use Rattle.mv_move_types.specs.declared.token.ValueType.TheVariants.{OfLeaf, OfStruct}
@@ -11,34 +11,39 @@ use Rattle.mv_move_types.specs.declared.token.Token.TheVariants.{Plain, Referenc
 use Rattle.mv_move_types.specs.declared.tables.ModuleHandle.{ModuleHandle}
 use Rattle.mv_move_types.specs.declared.tables.StructHandle.{StructHandle}
 use Rattle.mv_move_types.specs.declared.tables.FunctionHandle.{FunctionHandle}
-use Rattle.mv_move_types.specs.Module.{StructDefinition, FunctionDefinition}
+use Rattle.mv_move_types.specs.declared.tables.FieldHandle.{FieldHandle}
+use Rattle.mv_move_types.specs.Module.{Constant as ConstantEntry, StructDefinition, FunctionDefinition}
 use Rattle.mv_move_types.specs.declared.instruction.Instruction.{Instruction}
-use Rattle.mv_move_types.specs.declared.instruction.Instruction.TheVariants.{MoveLoc, ImmBorrowLoc, Pack, MoveTo}
+use Rattle.mv_move_types.specs.declared.instruction.Instruction.TheVariants.{LdU16, LdU32, CastU16, CastU32}
+use Rattle.mv_move_types.specs.declared.instruction.Immediate.{Immediate}
+use Rattle.mv_move_types.specs.declared.instruction.Immediate.TheVariants.{Nothing, Local, Struct, Field as FieldImmediate, Function, Constant, Target, Literal}
+use Rattle.mv_move_types.specs.Instructions.{immediate_of}
+use Rattle.mv_move_types.specs.Tokens.{width_bits}
 use Rattle.mv_move_types.specs.declared.tables.Field.{Field}
 
 -- whether a number can be an index or a count
 abbrev pub is_index : ℕ → Bool
 is_index n = nat_lt n (2 ^ 16)
 
--- whether modules may have numbers of the width, which today are those of 64 bits
-abbrev pub width_fits : Width → Bool
-width_fits U64 = true
-width_fits U8 = false
-width_fits U128 = false
+-- u16 and u32 stand in version 6 alone
+abbrev pub width_fits : ℕ → Width → Bool
+width_fits version U16 = version == 6
+width_fits version U32 = version == 6
+width_fits version _ = true
 
--- whether modules may have the type, which today is a number or a signer
-abbrev pub value_type_fits : ValueType → Bool
-value_type_fits (OfLeaf (Number w)) = width_fits w
-value_type_fits (OfLeaf Signer) = true
-value_type_fits (OfLeaf Boolean) = false
-value_type_fits (OfLeaf Address) = false
-value_type_fits (OfStruct i) = false
+-- whether the version has the type, and its index can be written
+abbrev pub value_type_fits : ℕ → ValueType → Bool
+value_type_fits version (OfLeaf (Number w)) = width_fits version w
+value_type_fits version (OfLeaf Boolean) = true
+value_type_fits version (OfLeaf Address) = true
+value_type_fits version (OfLeaf Signer) = true
+value_type_fits version (OfStruct i) = is_index i
 
--- the same of a token, which today is no reference
-abbrev pub token_fits : Token → Bool
-token_fits (Plain t) = value_type_fits t
-token_fits (Reference t) = false
-token_fits (MutableReference t) = false
+-- the same, after a reference's mark too
+abbrev pub token_fits : ℕ → Token → Bool
+token_fits version (Plain t) = value_type_fits version t
+token_fits version (Reference t) = value_type_fits version t
+token_fits version (MutableReference t) = value_type_fits version t
 
 -- its indices can be written
 abbrev pub module_handle_fits : ModuleHandle → Bool
@@ -53,12 +58,16 @@ abbrev pub function_handle_fits : FunctionHandle → Bool
 function_handle_fits h = is_index h.module && is_index h.name && is_index h.parameters && is_index h.results
 
 -- it has at most 64 types, and each can be written
-abbrev pub signature_fits : List Token → Bool
-signature_fits tokens = nat_le (length tokens) 64 && list_all token_fits tokens
+abbrev pub signature_fits : ℕ → List Token → Bool
+signature_fits version tokens = nat_le (length tokens) 64 && list_all (token_fits version) tokens
 
 -- whether a number is a byte
 abbrev pub is_byte : ℕ → Bool
 is_byte b = nat_lt b 256
+
+-- its type can be written, and its bytes are bytes
+abbrev pub constant_fits : ℕ → ConstantEntry → Bool
+constant_fits version c = token_fits version c.token && is_index (length c.bytes) && list_all is_byte c.bytes
 
 -- an ASCII letter
 abbrev pub is_letter : ℕ → Bool
@@ -82,27 +91,42 @@ abbrev pub address_fits : ℕ → Bool
 address_fits a = nat_lt a (2 ^ 128)
 
 -- its name and its type can be written
-abbrev pub field_fits : Field → Bool
-field_fits f = is_index f.name && token_fits f.token
+abbrev pub field_fits : ℕ → Field → Bool
+field_fits version f = is_index f.name && token_fits version f.token
 
 -- it has at most 32 fields, and each can be written
-abbrev pub struct_definition_fits : StructDefinition → Bool
-struct_definition_fits d = is_index d.handle && nat_le (length d.fields) 32 && list_all field_fits d.fields
+abbrev pub struct_definition_fits : ℕ → StructDefinition → Bool
+struct_definition_fits version d = is_index d.handle && nat_le (length d.fields) 32 && list_all (field_fits version) d.fields
 
--- the index that an instruction has, if it has one
-abbrev pub immediate : Instruction → List ℕ
-immediate (MoveLoc i) = i ∷ []
-immediate (ImmBorrowLoc i) = i ∷ []
-immediate (Pack i) = i ∷ []
-immediate (MoveTo i) = i ∷ []
-immediate _ = []
+-- an immediate is in its range
+abbrev pub immediate_fits : Immediate → Bool
+immediate_fits Nothing = true
+immediate_fits (Local i) = is_index i
+immediate_fits (Struct i) = is_index i
+immediate_fits (FieldImmediate i) = is_index i
+immediate_fits (Function i) = is_index i
+immediate_fits (Constant i) = is_index i
+immediate_fits (Target i) = is_index i
+immediate_fits (Literal w n) = nat_lt n (2 ^ width_bits w)
 
--- an instruction's immediate is in its range
-abbrev pub instruction_fits : Instruction → Bool
-instruction_fits i = list_all is_index (immediate i)
+-- whether version 6 alone has the instruction
+abbrev pub is_late : Instruction → Bool
+is_late (LdU16 n) = true
+is_late (LdU32 n) = true
+is_late CastU16 = true
+is_late CastU32 = true
+is_late _ = false
+
+-- an instruction's immediate is in its range, and the version has it
+abbrev pub instruction_fits : ℕ → Instruction → Bool
+instruction_fits version i = (not (is_late i) || version == 6) && immediate_fits (immediate_of i)
 
 -- its indices can be written, and it has at most 4,096 instructions
-abbrev pub function_definition_fits : FunctionDefinition → Bool
-function_definition_fits d =
+abbrev pub function_definition_fits : ℕ → FunctionDefinition → Bool
+function_definition_fits version d =
     is_index d.handle && is_index d.locals && is_index (length d.acquires) && list_all is_index d.acquires
-    && nat_le (length d.code) 4096 && list_all instruction_fits d.code
+    && nat_le (length d.code) 4096 && list_all (instruction_fits version) d.code
+
+-- its indices can be written
+abbrev pub field_handle_fits : FieldHandle → Bool
+field_handle_fits h = is_index h.definition && is_index h.position

@@ -1,5 +1,5 @@
--- The entry that stands at the front of bytes, and the bytes behind it.
-use Rattle.std.specs.Prelude.{ℕ, zero, suc, ◌==◌, nat_le, Bool, true, false, cond, List, [], ◌∷◌, take, drop, length, Option, Some, None, bit_and}
+-- The entry that stands at the front of bytes, and the bytes after it.
+use Rattle.std.specs.Prelude.{ℕ, zero, suc, ◌==◌, nat_le, Bool, true, false, not, ◌&&◌, ◌||◌, cond, option_map, find, List, [], ◌∷◌, take, drop, length, Option, Some, None, bit_and}
 use Rattle.std.specs.Bool.{then_some}
 use Rattle.std.specs.Int.{w128, from_be_bytes}
 use Rattle.mv_uleb.specs.Parsing.{number_from}
@@ -9,19 +9,25 @@ use Rattle.mv_move_types.specs.declared.tables.FunctionHandle.{FunctionHandle}
 use Rattle.mv_move_types.specs.declared.tables.Field.{Field}
 use Rattle.mv_move_types.specs.declared.tables.Visibility.{Visibility}
 use Rattle.mv_move_types.specs.declared.tables.Visibility.TheVariants.{Private, Public}
-use Rattle.mv_move_types.specs.declared.token.Width.TheVariants.{U64}
-use Rattle.mv_move_types.specs.declared.token.LeafKind.TheVariants.{Number, Signer}
-use Rattle.mv_move_types.specs.declared.token.ValueType.TheVariants.{OfLeaf}
+use Rattle.mv_move_types.specs.declared.token.Width.{Width}
+use Rattle.mv_move_types.specs.declared.token.Width.TheVariants.{U8, U16, U32, U64, U128}
+use Rattle.mv_move_types.specs.declared.token.LeafKind.{LeafKind}
+use Rattle.mv_move_types.specs.declared.token.LeafKind.TheVariants.{Boolean, Number, Address, Signer}
+use Rattle.mv_move_types.specs.declared.token.ValueType.{ValueType}
+use Rattle.mv_move_types.specs.declared.token.ValueType.TheVariants.{OfLeaf, OfStruct}
 use Rattle.mv_move_types.specs.declared.token.Token.{Token}
-use Rattle.mv_move_types.specs.declared.token.Token.TheVariants.{Plain}
+use Rattle.mv_move_types.specs.declared.token.Token.TheVariants.{Plain, Reference, MutableReference}
 use Rattle.mv_move_types.specs.declared.token.Abilities.{Abilities}
 use Rattle.mv_move_types.specs.declared.instruction.Instruction.{Instruction}
-use Rattle.mv_move_types.specs.declared.instruction.Instruction.TheVariants.{Ret, MoveLoc, ImmBorrowLoc, Pack, MoveTo}
+use Rattle.mv_move_types.specs.Instructions.{Form, Bare, Indexed, Numbered, row_of, given}
+use Rattle.mv_move_types.specs.Numbers.{little_endian}
+use Rattle.mv_move_types.specs.Tokens.{width_bytes}
 use Rattle.mv_move_types.specs.Options.{◌>>=◌}
-use Rattle.mv_move_types.specs.Module.{StructDefinition, FunctionDefinition}
+use Rattle.mv_move_types.specs.declared.tables.FieldHandle.{FieldHandle}
+use Rattle.mv_move_types.specs.Module.{Constant, StructDefinition, FunctionDefinition}
 use Rattle.mv_module_text.specs.Fits.{identifier_fits}
 
--- something read, and the bytes behind it
+-- something read, and the bytes after it
 abbrev pub Read : Type 0 → Type 0
 Read A = Option (A × List ℕ)
 
@@ -66,16 +72,58 @@ all_from each (suc turns) (b ∷ bytes) = do
   xs ← all_from each turns x.1
   Some (x.0 ∷ xs)
 
--- a type, which today is a number of 64 bits or a signer
-abbrev pub token_of : ℕ → Option Token
-token_of code = cond (code == 0x03) (Some (Plain (OfLeaf (Number U64)))) (cond (code == 0x0C) (Some (Plain (OfLeaf Signer))) None)
+-- a number of a width in as many bytes as it has, the lowest first
+abbrev pub number_of_from : Width → List ℕ → Read ℕ
+number_of_from w bytes = do
+  n ← bytes_from (width_bytes w) bytes
+  Some (little_endian n.0, n.1)
+
+-- a leaf type's token, whether version 6 alone has it, and the type
+pub record LeafRow : Type 0 where
+  pub code : ℕ
+  pub is_late : Bool
+  pub kind : LeafKind
+
+-- the tokens of leaf types
+abbrev pub leaf_rows : List LeafRow
+leaf_rows =
+    record { code = 0x01; is_late = false; kind = Boolean }
+    ∷ record { code = 0x02; is_late = false; kind = Number U8 }
+    ∷ record { code = 0x03; is_late = false; kind = Number U64 }
+    ∷ record { code = 0x04; is_late = false; kind = Number U128 }
+    ∷ record { code = 0x05; is_late = false; kind = Address }
+    ∷ record { code = 0x0C; is_late = false; kind = Signer }
+    ∷ record { code = 0x0D; is_late = true; kind = Number U16 }
+    ∷ record { code = 0x0E; is_late = true; kind = Number U32 }
+    ∷ []
+
+-- whether a row is the token's, in a version that has it
+abbrev pub is_leaf_row_of : ℕ → ℕ → LeafRow → Bool
+is_leaf_row_of version code r = (r.code == code) && (not r.is_late || version == 6)
+
+-- the leaf type of a token
+abbrev pub kind_of : ℕ → ℕ → Option LeafKind
+kind_of version code = option_map (λ (r : LeafRow). r.kind) (find (is_leaf_row_of version code) leaf_rows)
+
+-- the type that is no reference with this token
+abbrev pub value_type_by : ℕ → ℕ → List ℕ → Read ValueType
+value_type_by version code bytes =
+    cond (code == 0x08) (index_from bytes >>= λ i. Some (OfStruct i.0, i.1)) (kind_of version code >>= λ kind. Some (OfLeaf kind, bytes))
+
+-- a type that is no reference at the front
+abbrev pub value_type_from : ℕ → List ℕ → Read ValueType
+value_type_from version bytes = byte_from bytes >>= λ code. value_type_by version code.0 code.1
+
+-- the type with this token, a reference's mark among them
+abbrev pub token_by : ℕ → ℕ → List ℕ → Read Token
+token_by version code bytes =
+    cond (code == 0x06) (value_type_from version bytes >>= λ t. Some (Reference t.0, t.1))
+    (cond (code == 0x07) (value_type_from version bytes >>= λ t. Some (MutableReference t.0, t.1))
+    (value_type_by version code bytes >>= λ t. Some (Plain t.0, t.1)))
 
 -- a type at the front
-abbrev pub token_from : List ℕ → Read Token
-token_from bytes = do
-  code ← byte_from bytes
-  t ← token_of code.0
-  Some (t, code.1)
+abbrev pub token_from : ℕ → List ℕ → Read Token
+token_from version bytes = byte_from bytes >>= λ code. token_by version code.0 code.1
 
 -- the abilities whose bits these are
 abbrev pub abilities_of_bits : ℕ → Abilities
@@ -113,10 +161,18 @@ function_handle_from bytes = do
   Some (record { «module» = home.0; name = name.0; parameters = parameters.0; results = results.0 }, rest)
 
 -- its types
-abbrev pub signature_from : List ℕ → Read (List Token)
-signature_from = counted_from 64 token_from
+abbrev pub signature_from : ℕ → List ℕ → Read (List Token)
+signature_from version = counted_from 64 (token_from version)
 
--- its bytes behind their number
+-- its type, and its bytes after their number
+abbrev pub constant_from : ℕ → List ℕ → Read Constant
+constant_from version bytes = do
+  token ← token_from version bytes
+  n ← index_from token.1
+  content ← bytes_from n.0 n.1
+  Some (record { token = token.0; bytes = content.0 }, content.1)
+
+-- its bytes after their number
 abbrev pub identifier_from : List ℕ → Read (List ℕ)
 identifier_from bytes = do
   n ← number_from 128 bytes
@@ -130,18 +186,18 @@ address_from bytes = do
   Some (from_be_bytes w128 a.0, a.1)
 
 -- its name and its type
-abbrev pub field_from : List ℕ → Read Field
-field_from bytes = do
+abbrev pub field_from : ℕ → List ℕ → Read Field
+field_from version bytes = do
   name ← index_from bytes
-  token ← token_from name.1
+  token ← token_from version name.1
   Some (record { name = name.0; token = token.0 }, token.1)
 
 -- its handle, the byte of declared fields, and its fields
-abbrev pub struct_definition_from : List ℕ → Read StructDefinition
-struct_definition_from bytes = do
+abbrev pub struct_definition_from : ℕ → List ℕ → Read StructDefinition
+struct_definition_from version bytes = do
   handle ← index_from bytes
   rest ← mark_from 2 handle.1
-  fields ← counted_from 32 field_from rest
+  fields ← counted_from 32 (field_from version) rest
   Some (record { handle = handle.0; fields = fields.0 }, fields.1)
 
 -- a visibility by its byte
@@ -166,24 +222,37 @@ entry_from bytes = do
   is_entry ← entry_of flags.0
   Some (is_entry, flags.1)
 
--- an instruction by its opcode, with its immediate behind it
-abbrev pub instruction_by : ℕ → List ℕ → Read Instruction
-instruction_by code bytes =
-    cond (code == 0x02) (Some (Ret, bytes))
-    (index_from bytes >>= λ i. cond (code == 0x0B) (Some (MoveLoc i.0, i.1)) (cond (code == 0x0E) (Some (ImmBorrowLoc i.0, i.1))
-    (cond (code == 0x12) (Some (Pack i.0, i.1)) (cond (code == 0x2D) (Some (MoveTo i.0, i.1)) None))))
+-- the index or the number that a form has, or 0
+abbrev pub immediate_from : Form → List ℕ → Read ℕ
+immediate_from (Bare instruction) bytes = Some (0, bytes)
+immediate_from (Indexed make) bytes = index_from bytes
+immediate_from (Numbered width make) bytes = number_of_from width bytes
+
+-- an instruction by its opcode, with its immediate after it
+abbrev pub instruction_by : ℕ → ℕ → List ℕ → Read Instruction
+instruction_by version code bytes = do
+  row ← row_of version code
+  n ← immediate_from row.form bytes
+  Some (given row.form n.0, n.1)
 
 -- an instruction at the front
-abbrev pub instruction_from : List ℕ → Read Instruction
-instruction_from bytes = byte_from bytes >>= λ code. instruction_by code.0 code.1
+abbrev pub instruction_from : ℕ → List ℕ → Read Instruction
+instruction_from version bytes = byte_from bytes >>= λ code. instruction_by version code.0 code.1
 
 -- its handle, its visibility, its flags, its acquires list, its further locals and its code
-abbrev pub function_definition_from : List ℕ → Read FunctionDefinition
-function_definition_from bytes = do
+abbrev pub function_definition_from : ℕ → List ℕ → Read FunctionDefinition
+function_definition_from version bytes = do
   handle ← index_from bytes
   visibility ← visibility_from handle.1
   is_entry ← entry_from visibility.1
   acquires ← counted_from 65535 index_from is_entry.1
   locals ← index_from acquires.1
-  code ← counted_from 4096 instruction_from locals.1
+  code ← counted_from 4096 (instruction_from version) locals.1
   Some (record { handle = handle.0; visibility = visibility.0; is_entry = is_entry.0; acquires = acquires.0; locals = locals.0; code = code.0 }, code.1)
+
+-- its struct definition and its position
+abbrev pub field_handle_from : List ℕ → Read FieldHandle
+field_handle_from bytes = do
+  definition ← index_from bytes
+  position ← index_from definition.1
+  Some (record { definition = definition.0; position = position.0 }, position.1)

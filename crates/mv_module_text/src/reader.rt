@@ -1,13 +1,18 @@
 // Reading entries from the front of bytes.
 
-ghost use Rattle.std.specs.Prelude.{◌≡◌, ◌≤◌, Some, None, Ok, Err, IfOk, IfErr, OnOk, IsTrue, ◌↔◌, [], ◌⊎◌};
+ghost use Rattle.std.specs.Prelude.{◌≡◌, ◌<◌, ◌^◌, ◌≤◌, IfOk, IsTrue, ◌↔◌, []};
+ghost use Rattle.mv_move_types.specs.declared.token.Width.TheVariants.{U16, U32, U64, U128};
+ghost use Rattle.mv_move_types.specs.Tokens.{width_bits};
+ghost use Rattle.mv_move_types.specs.Versions.{version_number};
 ghost use Rattle.mv_uleb.specs.Parsing.{number_from};
-ghost use Rattle.mv_module_text.specs.Parsing.{index_from, byte_from, mark_from, bytes_from, counted_from, token_from, module_handle_from, struct_handle_from, function_handle_from, signature_from, identifier_from, address_from, field_from, visibility_from, entry_from, instruction_from};
+ghost use Rattle.mv_module_text.specs.Parsing.{index_from, byte_from, mark_from, bytes_from, number_of_from, counted_from, kind_of, value_type_by, value_type_from, token_from, module_handle_from, struct_handle_from, function_handle_from, signature_from, constant_from, identifier_from, address_from, field_from, field_handle_from, visibility_from, entry_from, instruction_from};
+ghost use Rattle.mv_module_text.specs.Reads.{Reads, ReadsAs, Marks, Collects};
 
-use byteorder::{BigEndian, ByteOrder};
+use crate::Constant;
+use byteorder::{BigEndian, ByteOrder, LittleEndian};
 use mv_move_types::{
-    Field, FunctionHandle, Instruction, LeafKind, ModuleHandle, Refusal, StructHandle, Token,
-    ValueType, Visibility, Width,
+    Field, FieldHandle, FunctionHandle, Instruction, LeafKind, ModuleHandle, Refusal, StructHandle,
+    Token, ValueType, Version, Visibility, Width,
 };
 use std::alloc::Global;
 use std::marker::Model;
@@ -56,10 +61,8 @@ impl<'a> Reader<'a> {
     /// Like each function here it refuses with the phase of malformed modules. After that nothing is known of what is
     /// left.
     pub fn number(&mut self, max: u64) -> Result<u64, Refusal>
-        ensures ok { IfOk result (λ v. number_from max self.old ≡ Some (v, self.new)) }
+        ensures reads { Reads (number_from max) self.old result self.new }
         ensures small { IfOk result (λ v. v ≤ max) }
-        ensures refused { result ≡ Err (Refusal.Phase 2) → number_from max self.old ≡ None }
-        ensures errors { IfErr result (λ e. e ≡ Refusal.Phase 2) }
     {
         match mv_uleb::read(self.rest, max) {
             Ok((number, used)) => {
@@ -72,19 +75,22 @@ impl<'a> Reader<'a> {
 
     /// Reads an index or a count, which is below 2^16.
     pub fn index(&mut self) -> Result<u16, Refusal>
-        ensures ok { IfOk result (λ v. index_from self.old ≡ Some (v, self.new)) }
-        ensures refused { result ≡ Err (Refusal.Phase 2) → index_from self.old ≡ None }
-        ensures errors { IfErr result (λ e. e ≡ Refusal.Phase 2) }
+        ensures { Reads index_from self.old result self.new }
     {
+        // Most indices are below 128, and then they are their one byte.
+        if let Some((first, rest)) = self.rest.split_first() {
+            if *first < 128 {
+                self.rest = rest;
+                return Ok(u16::from(*first));
+            }
+        }
         let number = self.number(65535)?;
         Ok(number as u16)
     }
 
     /// Reads one byte.
     pub fn byte(&mut self) -> Result<u8, Refusal>
-        ensures ok { IfOk result (λ v. byte_from self.old ≡ Some (v, self.new)) }
-        ensures refused { result ≡ Err (Refusal.Phase 2) → byte_from self.old ≡ None }
-        ensures errors { IfErr result (λ e. e ≡ Refusal.Phase 2) }
+        ensures { Reads byte_from self.old result self.new }
     {
         let Some((first, rest)) = self.rest.split_first() else {
             return Err(MALFORMED);
@@ -95,9 +101,7 @@ impl<'a> Reader<'a> {
 
     /// Reads one byte that has to be `b`.
     pub fn mark(&mut self, b: u8) -> Result<(), Refusal>
-        ensures ok { OnOk result (mark_from b self.old ≡ Some self.new) }
-        ensures refused { result ≡ Err (Refusal.Phase 2) → mark_from b self.old ≡ None }
-        ensures errors { IfErr result (λ e. e ≡ Refusal.Phase 2) }
+        ensures { Marks (mark_from b) self.old result self.new }
     {
         let Some((first, rest)) = self.rest.split_first() else {
             return Err(MALFORMED);
@@ -111,18 +115,14 @@ impl<'a> Reader<'a> {
 
     // Reads the number of type parameters, which has to be none.
     fn no_type_parameters(&mut self) -> Result<(), Refusal>
-        ensures ok { OnOk result (mark_from 0 self.old ≡ Some self.new) }
-        ensures refused { result ≡ Err (Refusal.Phase 2) → mark_from 0 self.old ≡ None }
-        ensures errors { IfErr result (λ e. e ≡ Refusal.Phase 2) }
+        ensures { Marks (mark_from 0) self.old result self.new }
     {
         self.mark(0)
     }
 
     /// Reads `n` bytes.
     pub fn bytes(&mut self, n: usize) -> Result<&'a [u8], Refusal>
-        ensures ok { IfOk result (λ v. bytes_from n self.old ≡ Some (v.now, self.new)) }
-        ensures refused { result ≡ Err (Refusal.Phase 2) → bytes_from n self.old ≡ None }
-        ensures errors { IfErr result (λ e. e ≡ Refusal.Phase 2) }
+        ensures { ReadsAs (λ s. s.now) (bytes_from n) self.old result self.new }
     {
         if n > self.rest.len() {
             return Err(MALFORMED);
@@ -132,24 +132,58 @@ impl<'a> Reader<'a> {
         Ok(front)
     }
 
-    /// Reads a type: a 64-bit number or a signer.
-    pub fn token(&mut self) -> Result<Token, Refusal>
-        ensures ok { IfOk result (λ v. token_from self.old ≡ Some (v, self.new)) }
-        ensures refused { result ≡ Err (Refusal.Phase 2) → token_from self.old ≡ None }
-        ensures errors { IfErr result (λ e. e ≡ Refusal.Phase 2) }
+    /// The leaf type of a token, if the version has it.
+    pub fn leaf(version: Version, code: u8) -> Option<LeafKind>
+        ensures { result ≡ kind_of (version_number version) code }
+    {
+        match code {
+            0x01 => Some(LeafKind::Boolean),
+            0x02 => Some(LeafKind::Number(Width::U8)),
+            0x03 => Some(LeafKind::Number(Width::U64)),
+            0x04 => Some(LeafKind::Number(Width::U128)),
+            0x05 => Some(LeafKind::Address),
+            0x0C => Some(LeafKind::Signer),
+            0x0D if version == Version::Six => Some(LeafKind::Number(Width::U16)),
+            0x0E if version == Version::Six => Some(LeafKind::Number(Width::U32)),
+            _ => None,
+        }
+    }
+
+    // Reads what stands after the token of a type that is no reference.
+    fn value_type_by(&mut self, version: Version, code: u8) -> Result<ValueType, Refusal>
+        ensures { Reads (value_type_by (version_number version) code) self.old result self.new }
+    {
+        if code == 0x08 {
+            return Ok(ValueType::OfStruct(self.index()?));
+        }
+        match Self::leaf(version, code) {
+            Some(kind) => Ok(ValueType::OfLeaf(kind)),
+            None => Err(MALFORMED),
+        }
+    }
+
+    // Reads a type that is no reference.
+    fn value_type(&mut self, version: Version) -> Result<ValueType, Refusal>
+        ensures { Reads (value_type_from (version_number version)) self.old result self.new }
+    {
+        let code = self.byte()?;
+        self.value_type_by(version, code)
+    }
+
+    /// Reads a type, as the version has it.
+    pub fn token(&mut self, version: Version) -> Result<Token, Refusal>
+        ensures { Reads (token_from (version_number version)) self.old result self.new }
     {
         match self.byte()? {
-            0x03 => Ok(Token::Plain(ValueType::OfLeaf(LeafKind::Number(Width::U64)))),
-            0x0C => Ok(Token::Plain(ValueType::OfLeaf(LeafKind::Signer))),
-            _ => Err(MALFORMED),
+            0x06 => Ok(Token::Reference(self.value_type(version)?)),
+            0x07 => Ok(Token::MutableReference(self.value_type(version)?)),
+            code => Ok(Token::Plain(self.value_type_by(version, code)?)),
         }
     }
 
     /// Reads a module handle: its address and its name.
     pub fn module_handle(&mut self) -> Result<ModuleHandle, Refusal>
-        ensures ok { IfOk result (λ v. module_handle_from self.old ≡ Some (v, self.new)) }
-        ensures refused { result ≡ Err (Refusal.Phase 2) → module_handle_from self.old ≡ None }
-        ensures errors { IfErr result (λ e. e ≡ Refusal.Phase 2) }
+        ensures { Reads module_handle_from self.old result self.new }
     {
         let address = self.index()?;
         let name = self.index()?;
@@ -158,9 +192,7 @@ impl<'a> Reader<'a> {
 
     /// Reads a struct handle: its module, its name, its abilities, and the byte of no type parameters.
     pub fn struct_handle(&mut self) -> Result<StructHandle, Refusal>
-        ensures ok { IfOk result (λ v. struct_handle_from self.old ≡ Some (v, self.new)) }
-        ensures refused { result ≡ Err (Refusal.Phase 2) → struct_handle_from self.old ≡ None }
-        ensures errors { IfErr result (λ e. e ≡ Refusal.Phase 2) }
+        ensures { Reads struct_handle_from self.old result self.new }
     {
         let module = self.index()?;
         let name = self.index()?;
@@ -175,9 +207,7 @@ impl<'a> Reader<'a> {
 
     /// Reads a function handle: its module, its name, its signatures, and the byte of no type parameters.
     pub fn function_handle(&mut self) -> Result<FunctionHandle, Refusal>
-        ensures ok { IfOk result (λ v. function_handle_from self.old ≡ Some (v, self.new)) }
-        ensures refused { result ≡ Err (Refusal.Phase 2) → function_handle_from self.old ≡ None }
-        ensures errors { IfErr result (λ e. e ≡ Refusal.Phase 2) }
+        ensures { Reads function_handle_from self.old result self.new }
     {
         let module = self.index()?;
         let name = self.index()?;
@@ -192,11 +222,9 @@ impl<'a> Reader<'a> {
         })
     }
 
-    /// Reads an identifier of at most 128 bytes, behind their number.
+    /// Reads an identifier of at most 128 bytes, after their number.
     pub fn identifier(&mut self) -> Result<&'a [u8], Refusal>
-        ensures ok { IfOk result (λ v. identifier_from self.old ≡ Some (v.now, self.new)) }
-        ensures refused { result ≡ Err (Refusal.Phase 2) → identifier_from self.old ≡ None }
-        ensures errors { IfErr result (λ e. e ≡ Refusal.Phase 2) }
+        ensures { ReadsAs (λ s. s.now) identifier_from self.old result self.new }
     {
         let count = self.number(128)?;
         let name = self.bytes(count as usize)?;
@@ -209,30 +237,24 @@ impl<'a> Reader<'a> {
 
     /// Reads an address: the number of its 16 bytes, the highest first.
     pub fn address(&mut self) -> Result<u128, Refusal>
-        ensures ok { IfOk result (λ v. address_from self.old ≡ Some (v, self.new)) }
-        ensures refused { result ≡ Err (Refusal.Phase 2) → address_from self.old ≡ None }
-        ensures errors { IfErr result (λ e. e ≡ Refusal.Phase 2) }
+        ensures { Reads address_from self.old result self.new }
     {
         let bytes = self.bytes(16)?;
         Ok(BigEndian::read_u128(bytes))
     }
 
     /// Reads a field: its name and its type.
-    pub fn field(&mut self) -> Result<Field, Refusal>
-        ensures ok { IfOk result (λ v. field_from self.old ≡ Some (v, self.new)) }
-        ensures refused { result ≡ Err (Refusal.Phase 2) → field_from self.old ≡ None }
-        ensures errors { IfErr result (λ e. e ≡ Refusal.Phase 2) }
+    pub fn field(&mut self, version: Version) -> Result<Field, Refusal>
+        ensures { Reads (field_from (version_number version)) self.old result self.new }
     {
         let name = self.index()?;
-        let token = self.token()?;
+        let token = self.token(version)?;
         Ok(Field { name, token })
     }
 
     /// Reads a function's visibility.
     pub fn visibility(&mut self) -> Result<Visibility, Refusal>
-        ensures ok { IfOk result (λ v. visibility_from self.old ≡ Some (v, self.new)) }
-        ensures refused { result ≡ Err (Refusal.Phase 2) → visibility_from self.old ≡ None }
-        ensures errors { IfErr result (λ e. e ≡ Refusal.Phase 2) }
+        ensures { Reads visibility_from self.old result self.new }
     {
         match self.byte()? {
             0 => Ok(Visibility::Private),
@@ -243,9 +265,7 @@ impl<'a> Reader<'a> {
 
     /// Reads a function's flags: whether it is an entry function.
     pub fn flags(&mut self) -> Result<bool, Refusal>
-        ensures ok { IfOk result (λ v. entry_from self.old ≡ Some (v, self.new)) }
-        ensures refused { result ≡ Err (Refusal.Phase 2) → entry_from self.old ≡ None }
-        ensures errors { IfErr result (λ e. e ≡ Refusal.Phase 2) }
+        ensures { Reads entry_from self.old result self.new }
     {
         match self.byte()? {
             0 => Ok(false),
@@ -254,22 +274,136 @@ impl<'a> Reader<'a> {
         }
     }
 
-    /// Reads an instruction: its opcode and its immediate.
-    pub fn instruction(&mut self) -> Result<Instruction, Refusal>
-        ensures ok { IfOk result (λ v. instruction_from self.old ≡ Some (v, self.new)) }
-        ensures refused { result ≡ Err (Refusal.Phase 2) → instruction_from self.old ≡ None }
-        ensures errors { IfErr result (λ e. e ≡ Refusal.Phase 2) }
+    /// Reads a constant: its type, and its bytes after their number.
+    pub fn constant(&mut self, version: Version) -> Result<Constant<'a>, Refusal>
+        ensures { Reads (constant_from (version_number version)) self.old result self.new }
     {
-        let opcode = self.byte()?;
-        if opcode == 0x02 {
-            return Ok(Instruction::Ret);
+        let token = self.token(version)?;
+        let count = self.index()?;
+        let bytes = self.bytes(usize::from(count))?;
+        Ok(Constant::new(token, bytes))
+    }
+
+    /// Reads a field handle: its struct definition and its position there.
+    pub fn field_handle(&mut self) -> Result<FieldHandle, Refusal>
+        ensures { Reads field_handle_from self.old result self.new }
+    {
+        let definition = self.index()?;
+        let position = self.index()?;
+        Ok(FieldHandle {
+            definition,
+            position,
+        })
+    }
+
+    // Reads a number of 16 bits, the lowest byte first.
+    fn u16(&mut self) -> Result<u16, Refusal>
+        ensures { Reads (number_of_from U16) self.old result self.new }
+    {
+        let bytes = self.bytes(2)?;
+        Ok(LittleEndian::read_u16(bytes))
+    }
+
+    // Reads a number of 32 bits, the lowest byte first.
+    fn u32(&mut self) -> Result<u32, Refusal>
+        ensures { Reads (number_of_from U32) self.old result self.new }
+    {
+        let bytes = self.bytes(4)?;
+        Ok(LittleEndian::read_u32(bytes))
+    }
+
+    // Reads a number of 64 bits, the lowest byte first.
+    fn u64(&mut self) -> Result<u64, Refusal>
+        ensures { Reads (number_of_from U64) self.old result self.new }
+    {
+        let bytes = self.bytes(8)?;
+        Ok(LittleEndian::read_u64(bytes))
+    }
+
+    // Reads a number of 128 bits, the lowest byte first.
+    fn u128(&mut self) -> Result<u128, Refusal>
+        ensures { Reads (number_of_from U128) self.old result self.new }
+    {
+        let bytes = self.bytes(16)?;
+        Ok(LittleEndian::read_u128(bytes))
+    }
+
+    /// Reads a number of a width, the lowest byte first.
+    pub fn number_of(&mut self, width: Width) -> Result<u128, Refusal>
+        ensures reads { Reads (number_of_from width) self.old result self.new }
+        ensures small { IfOk result (λ n. n < 2 ^ width_bits width) }
+    {
+        match width {
+            Width::U8 => Ok(u128::from(self.byte()?)),
+            Width::U16 => Ok(u128::from(self.u16()?)),
+            Width::U32 => Ok(u128::from(self.u32()?)),
+            Width::U64 => Ok(u128::from(self.u64()?)),
+            Width::U128 => self.u128(),
         }
-        let immediate = self.index()?;
-        match opcode {
-            0x0B => Ok(Instruction::MoveLoc(immediate)),
-            0x0E => Ok(Instruction::ImmBorrowLoc(immediate)),
-            0x12 => Ok(Instruction::Pack(immediate)),
-            0x2D => Ok(Instruction::MoveTo(immediate)),
+    }
+
+    /// Reads an instruction, as the version has it: its opcode and its immediate.
+    pub fn instruction(&mut self, version: Version) -> Result<Instruction, Refusal>
+        ensures { Reads (instruction_from (version_number version)) self.old result self.new }
+    {
+        match self.byte()? {
+            0x01 => Ok(Instruction::Pop),
+            0x02 => Ok(Instruction::Ret),
+            0x03 => Ok(Instruction::BrTrue(self.index()?)),
+            0x04 => Ok(Instruction::BrFalse(self.index()?)),
+            0x05 => Ok(Instruction::Branch(self.index()?)),
+            0x06 => Ok(Instruction::LdU64(self.u64()?)),
+            0x07 => Ok(Instruction::LdConst(self.index()?)),
+            0x08 => Ok(Instruction::LdTrue),
+            0x09 => Ok(Instruction::LdFalse),
+            0x0A => Ok(Instruction::CopyLoc(self.index()?)),
+            0x0B => Ok(Instruction::MoveLoc(self.index()?)),
+            0x0C => Ok(Instruction::StLoc(self.index()?)),
+            0x0D => Ok(Instruction::MutBorrowLoc(self.index()?)),
+            0x0E => Ok(Instruction::ImmBorrowLoc(self.index()?)),
+            0x0F => Ok(Instruction::MutBorrowField(self.index()?)),
+            0x10 => Ok(Instruction::ImmBorrowField(self.index()?)),
+            0x11 => Ok(Instruction::Call(self.index()?)),
+            0x12 => Ok(Instruction::Pack(self.index()?)),
+            0x13 => Ok(Instruction::Unpack(self.index()?)),
+            0x14 => Ok(Instruction::ReadRef),
+            0x15 => Ok(Instruction::WriteRef),
+            0x16 => Ok(Instruction::Add),
+            0x17 => Ok(Instruction::Sub),
+            0x18 => Ok(Instruction::Mul),
+            0x19 => Ok(Instruction::Mod),
+            0x1A => Ok(Instruction::Div),
+            0x1B => Ok(Instruction::BitOr),
+            0x1C => Ok(Instruction::BitAnd),
+            0x1D => Ok(Instruction::Xor),
+            0x1E => Ok(Instruction::Or),
+            0x1F => Ok(Instruction::And),
+            0x20 => Ok(Instruction::Not),
+            0x21 => Ok(Instruction::Eq),
+            0x22 => Ok(Instruction::Neq),
+            0x23 => Ok(Instruction::Lt),
+            0x24 => Ok(Instruction::Gt),
+            0x25 => Ok(Instruction::Le),
+            0x26 => Ok(Instruction::Ge),
+            0x27 => Ok(Instruction::Abort),
+            0x28 => Ok(Instruction::Nop),
+            0x29 => Ok(Instruction::Exists(self.index()?)),
+            0x2A => Ok(Instruction::MutBorrowGlobal(self.index()?)),
+            0x2B => Ok(Instruction::ImmBorrowGlobal(self.index()?)),
+            0x2C => Ok(Instruction::MoveFrom(self.index()?)),
+            0x2D => Ok(Instruction::MoveTo(self.index()?)),
+            0x2E => Ok(Instruction::FreezeRef),
+            0x2F => Ok(Instruction::Shl),
+            0x30 => Ok(Instruction::Shr),
+            0x31 => Ok(Instruction::LdU8(self.byte()?)),
+            0x32 => Ok(Instruction::LdU128(self.u128()?)),
+            0x33 => Ok(Instruction::CastU8),
+            0x34 => Ok(Instruction::CastU64),
+            0x35 => Ok(Instruction::CastU128),
+            0x48 if version == Version::Six => Ok(Instruction::LdU16(self.u16()?)),
+            0x49 if version == Version::Six => Ok(Instruction::LdU32(self.u32()?)),
+            0x4B if version == Version::Six => Ok(Instruction::CastU16),
+            0x4C if version == Version::Six => Ok(Instruction::CastU32),
             _ => Err(MALFORMED),
         }
     }
@@ -279,47 +413,38 @@ impl<'a> Reader<'a> {
     /// # Errors
     /// [`Refusal::Memory`] where memory runs out, and then the reader is as before. The same holds of the functions
     /// below.
-    pub fn signature(&mut self, alloc: Global) -> Result<Vec<Token>, Refusal>
-        ensures ok { IfOk result (λ v. signature_from self.old ≡ Some (v.items, self.new)) }
-        ensures refused { result ≡ Err (Refusal.Phase 2) → signature_from self.old ≡ None }
-        ensures errors { IfErr result (λ e. (e ≡ Refusal.Phase 2) ⊎ (e ≡ Refusal.Memory)) }
-        ensures kept { result ≡ Err Refusal.Memory → self.new ≡ self.old }
+    pub fn signature(&mut self, alloc: Global, version: Version) -> Result<Vec<Token>, Refusal>
+        ensures { Collects (signature_from (version_number version)) self.old result self.new }
     {
         let mut ahead = Reader { rest: self.rest };
         let count = ahead.number(64)?;
         let mut tokens = Vec::with_capacity(alloc, count as usize)?;
         'tokens: for _ in 0..count {
-            let token = ahead.token()?;
+            let token = ahead.token(version)?;
             tokens.push(token).map_err(|_| Refusal::Memory)?;
         }
         self.rest = ahead.rest;
         Ok(tokens)
     }
 
-    /// Reads the fields of a struct, of which there are at most 32, behind their number.
-    pub fn fields(&mut self, alloc: Global) -> Result<Vec<Field>, Refusal>
-        ensures ok { IfOk result (λ v. counted_from 32 field_from self.old ≡ Some (v.items, self.new)) }
-        ensures refused { result ≡ Err (Refusal.Phase 2) → counted_from 32 field_from self.old ≡ None }
-        ensures errors { IfErr result (λ e. (e ≡ Refusal.Phase 2) ⊎ (e ≡ Refusal.Memory)) }
-        ensures kept { result ≡ Err Refusal.Memory → self.new ≡ self.old }
+    /// Reads the fields of a struct, of which there are at most 32, after their number.
+    pub fn fields(&mut self, alloc: Global, version: Version) -> Result<Vec<Field>, Refusal>
+        ensures { Collects (counted_from 32 (field_from (version_number version))) self.old result self.new }
     {
         let mut ahead = Reader { rest: self.rest };
         let count = ahead.number(32)?;
         let mut fields = Vec::with_capacity(alloc, count as usize)?;
         'fields: for _ in 0..count {
-            let field = ahead.field()?;
+            let field = ahead.field(version)?;
             fields.push(field).map_err(|_| Refusal::Memory)?;
         }
         self.rest = ahead.rest;
         Ok(fields)
     }
 
-    /// Reads indices behind their number.
+    /// Reads indices after their number.
     pub fn indices(&mut self, alloc: Global) -> Result<Vec<u16>, Refusal>
-        ensures ok { IfOk result (λ v. counted_from 65535 index_from self.old ≡ Some (v.items, self.new)) }
-        ensures refused { result ≡ Err (Refusal.Phase 2) → counted_from 65535 index_from self.old ≡ None }
-        ensures errors { IfErr result (λ e. (e ≡ Refusal.Phase 2) ⊎ (e ≡ Refusal.Memory)) }
-        ensures kept { result ≡ Err Refusal.Memory → self.new ≡ self.old }
+        ensures { Collects (counted_from 65535 index_from) self.old result self.new }
     {
         let mut ahead = Reader { rest: self.rest };
         let count = ahead.number(65535)?;

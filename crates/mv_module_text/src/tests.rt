@@ -1,8 +1,11 @@
 // One happy path of each function that takes memory.
+mod opcodes;
+mod tokens;
+
 use super::*;
 use mv_move_types::{
-    Abilities, Field, FunctionHandle, Instruction, LeafKind, ModuleHandle, StructHandle, Token,
-    ValueType, Visibility, Width,
+    Abilities, Field, FieldHandle, FunctionHandle, Instruction, LeafKind, ModuleHandle,
+    StructHandle, Token, ValueType, Version, Visibility, Width,
 };
 use std::test::Fail;
 
@@ -14,14 +17,17 @@ const SIGNER: Token = Token::Plain(ValueType::OfLeaf(LeafKind::Signer));
 fn lists_are_read(rt: HostRuntime) -> Result<(), Fail> {
     let mut reader = Reader::new(&[2, 0x03, 0x0C, 1, 0x80, 0x01, 0x03, 2, 5, 6]);
     assert_eq!(rt;
-        reader.signature(rt.alloc())?.as_slice(),
+        reader.signature(rt.alloc(), Version::Five)?.as_slice(),
         [NUMBER, SIGNER].as_slice()
     );
     let fields = [Field {
         name: 128,
         token: NUMBER,
     }];
-    assert_eq!(rt; reader.fields(rt.alloc())?.as_slice(), fields.as_slice());
+    assert_eq!(rt;
+        reader.fields(rt.alloc(), Version::Five)?.as_slice(),
+        fields.as_slice()
+    );
     assert_eq!(rt; reader.indices(rt.alloc())?.as_slice(), [5, 6].as_slice());
     assert!(rt; reader.is_empty());
     Ok(())
@@ -61,7 +67,14 @@ fn handles_are_written(rt: HostRuntime) -> Result<(), Fail> {
         },
         &mut out,
     )?;
-    let expected = [0x80, 0x01, 1, 2, 3, 4, 12, 0, 5, 6, 7, 8, 0];
+    write_field_handle(
+        FieldHandle {
+            definition: 9,
+            position: 10,
+        },
+        &mut out,
+    )?;
+    let expected = [0x80, 0x01, 1, 2, 3, 4, 12, 0, 5, 6, 7, 8, 0, 9, 10];
     assert_eq!(rt; out.as_slice(), expected.as_slice());
     Ok(())
 }
@@ -85,6 +98,22 @@ fn names_and_types_are_written(rt: HostRuntime) -> Result<(), Fail> {
         0, 0x0A, 0x55, 0x0C, 0x18,
     ];
     assert_eq!(rt; out.as_slice(), expected.as_slice());
+    Ok(())
+}
+
+#[test]
+fn constants_are_read_as_they_are_written(rt: HostRuntime) -> Result<(), Fail> {
+    let mut out = Vec::new(rt.alloc());
+    write_constant(NUMBER, &[7, 0, 0, 0, 0, 0, 0, 0], &mut out)?;
+    assert_eq!(rt;
+        out.as_slice(),
+        [0x03, 8, 7, 0, 0, 0, 0, 0, 0, 0].as_slice()
+    );
+    let mut reader = Reader::new(out.as_slice());
+    let constant = reader.constant(Version::Five)?;
+    assert_eq!(rt; constant.token(), NUMBER);
+    assert_eq!(rt; constant.bytes(), [7, 0, 0, 0, 0, 0, 0, 0].as_slice());
+    assert!(rt; reader.is_empty());
     Ok(())
 }
 

@@ -1,17 +1,20 @@
-// Writing entries behind bytes.
+// Writing entries after bytes.
 
-ghost use Rattle.std.specs.Prelude.{◌≡◌, ◌++◌, ◌∷◌, [], take, OnOk, OnErr};
+ghost use Rattle.std.specs.Prelude.{◌≡◌, ◌<◌, ◌^◌, ◌∷◌, [], take, OnOk, OnErr, IsTrue};
 ghost use Rattle.mv_uleb.specs.Uleb.{uleb};
+ghost use Rattle.mv_move_types.specs.Tokens.{width_bits};
+ghost use Rattle.mv_module_text.specs.Fits.{immediate_fits};
+ghost use Rattle.mv_module_text.specs.Writes.{Writes};
 ghost use Rattle.mv_module_text.specs.Written.{definition};
-ghost use Rattle.mv_module_text.specs.Entries.{token_text, module_handle_text, struct_handle_text, function_handle_text, signature_text, identifier_text, address_text, field_text, struct_definition_text, instruction_text, function_definition_text, value_type_text, kind_code, counted};
+ghost use Rattle.mv_module_text.specs.Entries.{counted, leaf_token, value_type_text, token_text, module_handle_text, struct_handle_text, function_handle_text, signature_text, constant_text, identifier_text, address_text, field_text, struct_definition_text, number_text, immediate_text, instruction_text, function_definition_text, field_handle_text};
 
 use mv_move_types::{
-    Field, FunctionHandle, Instruction, LeafKind, ModuleHandle, StructHandle, Token, ValueType,
-    Visibility, Width,
+    Field, FieldHandle, FunctionHandle, Immediate, Instruction, LeafKind, ModuleHandle,
+    StructHandle, Token, ValueType, Visibility, Width,
 };
 use std::alloc::AllocError;
 
-// The outcome of a write. Where memory ran out, what stands in `out` behind its first `count` bytes is taken away.
+// The outcome of a write. Where an allocation failed, what stands in `out` after its first `count` bytes is taken away.
 fn or_undo(
     written: Result<(), AllocError>,
     count: usize,
@@ -27,28 +30,25 @@ fn or_undo(
     written
 }
 
-/// Writes an index or a count. Like each function here it writes behind what is in `out`. Where memory runs out, `out`
-/// is as before.
+/// Writes an index or a count. Like each function here it writes after what is in `out`. Where an allocation fails,
+/// `out` is as before.
 pub fn write_index(index: u16, out: &mut Vec<u8>) -> Result<(), AllocError>
-    ensures written { OnOk result (out.new.items ≡ out.old.items ++ uleb index) }
-    ensures kept { OnErr result (out.new.items ≡ out.old.items) }
+    ensures { Writes (uleb index) out.old.items result out.new.items }
 {
     mv_uleb::write(u64::from(index), out)
 }
 
 // Writes a byte.
 fn write_byte(byte: u8, out: &mut Vec<u8>) -> Result<(), AllocError>
-    ensures written { OnOk result (out.new.items ≡ out.old.items ++ byte ∷ []) }
-    ensures kept { OnErr result (out.new.items ≡ out.old.items) }
+    ensures { Writes (byte ∷ []) out.old.items result out.new.items }
 {
     out.push(byte)?;
     Ok(())
 }
 
-// Writes a byte and an index behind it.
+// Writes a byte, and an index after it.
 fn write_coded(code: u8, index: u16, out: &mut Vec<u8>) -> Result<(), AllocError>
-    ensures written { OnOk result (out.new.items ≡ out.old.items ++ code ∷ uleb index) }
-    ensures kept { OnErr result (out.new.items ≡ out.old.items) }
+    ensures { Writes (code ∷ uleb index) out.old.items result out.new.items }
 {
     let count = out.len();
     write_byte(code, out)?;
@@ -57,11 +57,13 @@ fn write_coded(code: u8, index: u16, out: &mut Vec<u8>) -> Result<(), AllocError
 
 // The token of a leaf type.
 fn leaf_code(kind: LeafKind) -> u8
-    ensures { result ≡ kind_code kind }
+    ensures { result ≡ leaf_token kind }
 {
     match kind {
         LeafKind::Boolean => 0x01,
         LeafKind::Number(Width::U8) => 0x02,
+        LeafKind::Number(Width::U16) => 0x0D,
+        LeafKind::Number(Width::U32) => 0x0E,
         LeafKind::Number(Width::U64) => 0x03,
         LeafKind::Number(Width::U128) => 0x04,
         LeafKind::Address => 0x05,
@@ -71,8 +73,7 @@ fn leaf_code(kind: LeafKind) -> u8
 
 // Writes a type that is no reference.
 fn write_value_type(t: ValueType, out: &mut Vec<u8>) -> Result<(), AllocError>
-    ensures written { OnOk result (out.new.items ≡ out.old.items ++ value_type_text t) }
-    ensures kept { OnErr result (out.new.items ≡ out.old.items) }
+    ensures { Writes (value_type_text t) out.old.items result out.new.items }
 {
     match t {
         ValueType::OfLeaf(kind) => write_byte(leaf_code(kind), out),
@@ -80,10 +81,9 @@ fn write_value_type(t: ValueType, out: &mut Vec<u8>) -> Result<(), AllocError>
     }
 }
 
-// Writes a byte and a type that is no reference behind it.
+// Writes a byte, and a type that is no reference after it.
 fn write_reference(code: u8, t: ValueType, out: &mut Vec<u8>) -> Result<(), AllocError>
-    ensures written { OnOk result (out.new.items ≡ out.old.items ++ code ∷ value_type_text t) }
-    ensures kept { OnErr result (out.new.items ≡ out.old.items) }
+    ensures { Writes (code ∷ value_type_text t) out.old.items result out.new.items }
 {
     let count = out.len();
     write_byte(code, out)?;
@@ -92,8 +92,7 @@ fn write_reference(code: u8, t: ValueType, out: &mut Vec<u8>) -> Result<(), Allo
 
 /// Writes a type.
 pub fn write_token(token: Token, out: &mut Vec<u8>) -> Result<(), AllocError>
-    ensures written { OnOk result (out.new.items ≡ out.old.items ++ token_text token) }
-    ensures kept { OnErr result (out.new.items ≡ out.old.items) }
+    ensures { Writes (token_text token) out.old.items result out.new.items }
 {
     match token {
         Token::Plain(t) => write_value_type(t, out),
@@ -104,8 +103,7 @@ pub fn write_token(token: Token, out: &mut Vec<u8>) -> Result<(), AllocError>
 
 /// Writes a module handle.
 pub fn write_module_handle(handle: ModuleHandle, out: &mut Vec<u8>) -> Result<(), AllocError>
-    ensures written { OnOk result (out.new.items ≡ out.old.items ++ module_handle_text handle) }
-    ensures kept { OnErr result (out.new.items ≡ out.old.items) }
+    ensures { Writes (module_handle_text handle) out.old.items result out.new.items }
 {
     let count = out.len();
     write_index(handle.address, out)?;
@@ -114,8 +112,7 @@ pub fn write_module_handle(handle: ModuleHandle, out: &mut Vec<u8>) -> Result<()
 
 /// Writes a struct handle.
 pub fn write_struct_handle(handle: StructHandle, out: &mut Vec<u8>) -> Result<(), AllocError>
-    ensures written { OnOk result (out.new.items ≡ out.old.items ++ struct_handle_text handle) }
-    ensures kept { OnErr result (out.new.items ≡ out.old.items) }
+    ensures { Writes (struct_handle_text handle) out.old.items result out.new.items }
 {
     let count = out.len();
     let bits = super::abilities::bits(handle.abilities);
@@ -127,8 +124,7 @@ pub fn write_struct_handle(handle: StructHandle, out: &mut Vec<u8>) -> Result<()
 
 /// Writes a function handle.
 pub fn write_function_handle(handle: FunctionHandle, out: &mut Vec<u8>) -> Result<(), AllocError>
-    ensures written { OnOk result (out.new.items ≡ out.old.items ++ function_handle_text handle) }
-    ensures kept { OnErr result (out.new.items ≡ out.old.items) }
+    ensures { Writes (function_handle_text handle) out.old.items result out.new.items }
 {
     let count = out.len();
     write_index(handle.module, out)?;
@@ -140,8 +136,7 @@ pub fn write_function_handle(handle: FunctionHandle, out: &mut Vec<u8>) -> Resul
 
 /// Writes a signature.
 pub fn write_signature(tokens: &[Token], out: &mut Vec<u8>) -> Result<(), AllocError>
-    ensures written { OnOk result (out.new.items ≡ out.old.items ++ signature_text tokens.now) }
-    ensures kept { OnErr result (out.new.items ≡ out.old.items) }
+    ensures { Writes (signature_text tokens.now) out.old.items result out.new.items }
 {
     let count = out.len();
     mv_uleb::write(tokens.len() as u64, out)?;
@@ -151,38 +146,50 @@ pub fn write_signature(tokens: &[Token], out: &mut Vec<u8>) -> Result<(), AllocE
     Ok(())
 }
 
-/// Writes an identifier behind the number of its bytes.
-pub fn write_identifier(name: &[u8], out: &mut Vec<u8>) -> Result<(), AllocError>
-    ensures written { OnOk result (out.new.items ≡ out.old.items ++ identifier_text name.now) }
-    ensures kept { OnErr result (out.new.items ≡ out.old.items) }
+// Writes the number of bytes, and the bytes after it.
+fn write_bytes(bytes: &[u8], out: &mut Vec<u8>) -> Result<(), AllocError>
+    ensures { Writes (identifier_text bytes.now) out.old.items result out.new.items }
 {
     let count = out.len();
-    mv_uleb::write(name.len() as u64, out)?;
-    or_undo(out.extend_from_slice(name), count, out)
+    mv_uleb::write(bytes.len() as u64, out)?;
+    or_undo(out.extend_from_slice(bytes), count, out)
+}
+
+/// Writes a constant: its type, and its bytes after their number.
+pub fn write_constant(token: Token, bytes: &[u8], out: &mut Vec<u8>) -> Result<(), AllocError>
+    ensures { Writes (constant_text (record { token = token; bytes = bytes.now })) out.old.items result out.new.items }
+{
+    let count = out.len();
+    write_token(token, out)?;
+    or_undo(write_bytes(bytes, out), count, out)
+}
+
+/// Writes an identifier, after the number of its bytes.
+pub fn write_identifier(name: &[u8], out: &mut Vec<u8>) -> Result<(), AllocError>
+    ensures { Writes (identifier_text name.now) out.old.items result out.new.items }
+{
+    write_bytes(name, out)
 }
 
 /// Writes an address, the highest byte first.
 pub fn write_address(address: u128, out: &mut Vec<u8>) -> Result<(), AllocError>
-    ensures written { OnOk result (out.new.items ≡ out.old.items ++ address_text address) }
-    ensures kept { OnErr result (out.new.items ≡ out.old.items) }
+    ensures { Writes (address_text address) out.old.items result out.new.items }
 {
     out.extend_from_slice(&address.to_be_bytes())
 }
 
 /// Writes a field.
 pub fn write_field(field: Field, out: &mut Vec<u8>) -> Result<(), AllocError>
-    ensures written { OnOk result (out.new.items ≡ out.old.items ++ field_text field) }
-    ensures kept { OnErr result (out.new.items ≡ out.old.items) }
+    ensures { Writes (field_text field) out.old.items result out.new.items }
 {
     let count = out.len();
     write_index(field.name, out)?;
     or_undo(write_token(field.token, out), count, out)
 }
 
-// Writes fields behind their number.
+// Writes fields after their number.
 fn write_fields(fields: &[Field], out: &mut Vec<u8>) -> Result<(), AllocError>
-    ensures written { OnOk result (out.new.items ≡ out.old.items ++ counted field_text fields.now) }
-    ensures kept { OnErr result (out.new.items ≡ out.old.items) }
+    ensures { Writes (counted field_text fields.now) out.old.items result out.new.items }
 {
     let count = out.len();
     mv_uleb::write(fields.len() as u64, out)?;
@@ -198,8 +205,7 @@ pub fn write_struct_definition(
     fields: &[Field],
     out: &mut Vec<u8>,
 ) -> Result<(), AllocError>
-    ensures written { OnOk result (out.new.items ≡ out.old.items ++ struct_definition_text (record { handle = handle; fields = fields.now })) }
-    ensures kept { OnErr result (out.new.items ≡ out.old.items) }
+    ensures { Writes (struct_definition_text (record { handle = handle; fields = fields.now })) out.old.items result out.new.items }
 {
     let count = out.len();
     write_index(handle, out)?;
@@ -207,24 +213,49 @@ pub fn write_struct_definition(
     or_undo(write_fields(fields, out), count, out)
 }
 
-/// Writes an instruction: its opcode and its immediate.
-pub fn write_instruction(instruction: Instruction, out: &mut Vec<u8>) -> Result<(), AllocError>
-    ensures written { OnOk result (out.new.items ≡ out.old.items ++ instruction_text instruction) }
-    ensures kept { OnErr result (out.new.items ≡ out.old.items) }
+// Writes a number in as many bytes as its width has, the lowest first.
+fn write_number(width: Width, number: u128, out: &mut Vec<u8>) -> Result<(), AllocError>
+    requires { number < 2 ^ width_bits width }
+    ensures { Writes (number_text width number) out.old.items result out.new.items }
 {
-    match instruction {
-        Instruction::Ret => write_byte(0x02, out),
-        Instruction::MoveLoc(local) => write_coded(0x0B, local, out),
-        Instruction::ImmBorrowLoc(local) => write_coded(0x0E, local, out),
-        Instruction::Pack(definition) => write_coded(0x12, definition, out),
-        Instruction::MoveTo(definition) => write_coded(0x2D, definition, out),
+    match width {
+        Width::U8 => write_byte(number as u8, out),
+        Width::U16 => out.extend_from_slice(&(number as u16).to_le_bytes()),
+        Width::U32 => out.extend_from_slice(&(number as u32).to_le_bytes()),
+        Width::U64 => out.extend_from_slice(&(number as u64).to_le_bytes()),
+        Width::U128 => out.extend_from_slice(&number.to_le_bytes()),
     }
 }
 
-// Writes indices behind their number.
+// Writes what an instruction names or holds.
+fn write_immediate(immediate: Immediate, out: &mut Vec<u8>) -> Result<(), AllocError>
+    requires { IsTrue (immediate_fits immediate) }
+    ensures { Writes (immediate_text immediate) out.old.items result out.new.items }
+{
+    match immediate {
+        Immediate::Nothing => Ok(()),
+        Immediate::Local(index)
+        | Immediate::Struct(index)
+        | Immediate::Field(index)
+        | Immediate::Function(index)
+        | Immediate::Constant(index)
+        | Immediate::Target(index) => write_index(index, out),
+        Immediate::Literal(width, number) => write_number(width, number, out),
+    }
+}
+
+/// Writes an instruction: its opcode and its immediate.
+pub fn write_instruction(instruction: Instruction, out: &mut Vec<u8>) -> Result<(), AllocError>
+    ensures { Writes (instruction_text instruction) out.old.items result out.new.items }
+{
+    let count = out.len();
+    write_byte(instruction.opcode(), out)?;
+    or_undo(write_immediate(instruction.immediate(), out), count, out)
+}
+
+// Writes indices after their number.
 fn write_indices(indices: &[u16], out: &mut Vec<u8>) -> Result<(), AllocError>
-    ensures written { OnOk result (out.new.items ≡ out.old.items ++ counted uleb indices.now) }
-    ensures kept { OnErr result (out.new.items ≡ out.old.items) }
+    ensures { Writes (counted uleb indices.now) out.old.items result out.new.items }
 {
     let count = out.len();
     mv_uleb::write(indices.len() as u64, out)?;
@@ -234,10 +265,9 @@ fn write_indices(indices: &[u16], out: &mut Vec<u8>) -> Result<(), AllocError>
     Ok(())
 }
 
-// Writes instructions behind their number.
+// Writes instructions after their number.
 fn write_instructions(code: &[Instruction], out: &mut Vec<u8>) -> Result<(), AllocError>
-    ensures written { OnOk result (out.new.items ≡ out.old.items ++ counted instruction_text code.now) }
-    ensures kept { OnErr result (out.new.items ≡ out.old.items) }
+    ensures { Writes (counted instruction_text code.now) out.old.items result out.new.items }
 {
     let count = out.len();
     mv_uleb::write(code.len() as u64, out)?;
@@ -258,7 +288,7 @@ pub struct FunctionParts<'a> {
     pub is_entry: bool,
     /// The struct definitions that it may take from the storage.
     pub acquires: &'a [u16],
-    /// The signature of the locals behind its parameters.
+    /// The signature of the locals after its parameters.
     pub locals: u16,
     /// Its instructions.
     pub code: &'a [Instruction],
@@ -266,8 +296,7 @@ pub struct FunctionParts<'a> {
 
 /// Writes a function definition.
 pub fn write_function_definition(parts: FunctionParts, out: &mut Vec<u8>) -> Result<(), AllocError>
-    ensures written { OnOk result (out.new.items ≡ out.old.items ++ function_definition_text (definition parts.entry)) }
-    ensures kept { OnErr result (out.new.items ≡ out.old.items) }
+    ensures { Writes (function_definition_text (definition parts.entry)) out.old.items result out.new.items }
 {
     let count = out.len();
     let visibility = match parts.visibility {
@@ -281,4 +310,13 @@ pub fn write_function_definition(parts: FunctionParts, out: &mut Vec<u8>) -> Res
     or_undo(write_indices(parts.acquires, out), count, out)?;
     or_undo(write_index(parts.locals, out), count, out)?;
     or_undo(write_instructions(parts.code, out), count, out)
+}
+
+/// Writes a field handle: its struct definition and its position there.
+pub fn write_field_handle(handle: FieldHandle, out: &mut Vec<u8>) -> Result<(), AllocError>
+    ensures { Writes (field_handle_text handle) out.old.items result out.new.items }
+{
+    let count = out.len();
+    write_index(handle.definition, out)?;
+    or_undo(write_index(handle.position, out), count, out)
 }

@@ -3,6 +3,9 @@ pub mod Results
 pub mod Names
 pub mod Module
 pub mod Tokens
+pub mod Numbers
+pub mod Versions
+pub mod Instructions
 pub mod AbilitySets
 pub mod Named
 pub mod Leaves

@@ -1,15 +1,22 @@
 -- A module as its tables, and what its indices name.
-use Rattle.std.specs.Prelude.{ℕ, List, Bool, Option, Some, slice_get, ◌++◌}
+use Rattle.std.specs.Prelude.{ℕ, ◌==◌, List, [], Bool, false, Option, Some, slice_get, ◌++◌}
+use Rattle.std.specs.Option.{option_map_or}
 use Rattle.mv_move_types.specs.declared.tables.Visibility.{Visibility}
 use Rattle.mv_move_types.specs.declared.instruction.Instruction.{Instruction}
 use Rattle.mv_move_types.specs.declared.tables.ModuleHandle.{ModuleHandle}
 use Rattle.mv_move_types.specs.declared.tables.StructHandle.{StructHandle}
 use Rattle.mv_move_types.specs.declared.tables.FunctionHandle.{FunctionHandle}
+use Rattle.mv_move_types.specs.declared.tables.FieldHandle.{FieldHandle}
 use Rattle.mv_move_types.specs.declared.token.Token.{Token}
-use Rattle.mv_move_types.specs.Options.{◌>>=◌}
+use Rattle.mv_move_types.specs.Options.{◌>>=◌, find_index}
 use Rattle.mv_move_types.specs.Names.{ModuleName, StructName}
 use Rattle.mv_move_types.specs.declared.token.Abilities.{Abilities}
 use Rattle.mv_move_types.specs.declared.tables.Field.{Field}
+
+-- a constant: its type, and the bytes of its value
+pub record Constant : Type 0 where
+  pub token : Token
+  pub bytes : List ℕ
 
 -- a struct: its handle's index, and its fields in order
 pub record StructDefinition : Type 0 where
@@ -27,14 +34,17 @@ pub record FunctionDefinition : Type 0 where
 
 -- a whole module; an address stands as its number
 pub record Module : Type 0 where
+  pub version : ℕ
   pub module_handles : List ModuleHandle
   pub struct_handles : List StructHandle
   pub function_handles : List FunctionHandle
   pub signatures : List (List Token)
+  pub constants : List Constant
   pub identifiers : List (List ℕ)
   pub addresses : List ℕ
   pub structs : List StructDefinition
   pub functions : List FunctionDefinition
+  pub field_handles : List FieldHandle
   pub own : ℕ
 
 -- the module that a handle names
@@ -75,11 +85,21 @@ local_tokens m d = do
   others ← slice_get m.signatures d.locals
   Some (parameters ++ others)
 
+-- the type of a function definition's local
+abbrev pub local_type : Module → FunctionDefinition → ℕ → Option Token
+local_type m d l = local_tokens m d >>= λ tokens. slice_get tokens l
+
 -- the types of a function definition's parameters
 abbrev pub parameter_tokens : Module → FunctionDefinition → Option (List Token)
 parameter_tokens m d = do
   handle ← slice_get m.function_handles d.handle
   slice_get m.signatures handle.parameters
+
+-- the types of a function definition's results
+abbrev pub result_tokens : Module → FunctionDefinition → Option (List Token)
+result_tokens m d = do
+  handle ← slice_get m.function_handles d.handle
+  slice_get m.signatures handle.results
 
 -- the abilities that a struct definition is declared with
 abbrev pub struct_abilities : Module → StructDefinition → Option Abilities
@@ -93,3 +113,13 @@ name_at modules place index = do
   m ← slice_get modules place
   d ← slice_get m.structs index
   name_of_struct m d
+
+-- whether the struct at an index is declared with key
+abbrev pub has_key : Module → ℕ → Bool
+has_key m i = option_map_or (λ d. option_map_or (λ a. a.key) (struct_abilities m d) false) (slice_get m.structs i) false
+
+-- the struct definitions that a called function of the own module says it reaches; another module's has none here
+abbrev pub own_acquires : Module → ℕ → List ℕ
+own_acquires m i =
+    option_map_or (λ j. option_map_or (λ (d : FunctionDefinition). d.acquires) (slice_get m.functions j) [])
+    (find_index (λ (d : FunctionDefinition). d.handle == i) m.functions) []

@@ -1,7 +1,7 @@
 -- Widths, kinds of leaves and types: their sizes, and when two are one.
 use Rattle.std.specs.Prelude.{ℕ, Bool, ◌==◌, false, true, ◌&&◌, List, [], ◌∷◌}
 use Rattle.mv_move_types.specs.declared.token.Width.{Width}
-use Rattle.mv_move_types.specs.declared.token.Width.TheVariants.{U8, U64, U128}
+use Rattle.mv_move_types.specs.declared.token.Width.TheVariants.{U8, U16, U32, U64, U128}
 use Rattle.mv_move_types.specs.declared.token.LeafKind.{LeafKind}
 use Rattle.mv_move_types.specs.declared.token.LeafKind.TheVariants.{Boolean, Number, Address, Signer}
 use Rattle.mv_move_types.specs.declared.token.ValueType.{ValueType}
@@ -9,11 +9,21 @@ use Rattle.mv_move_types.specs.declared.token.ValueType.TheVariants.{OfLeaf, OfS
 use Rattle.mv_move_types.specs.declared.token.Token.{Token}
 use Rattle.mv_move_types.specs.declared.token.Token.TheVariants.{Plain, Reference, MutableReference}
 
--- whether two kinds are one
+-- the bits of a number of a width
 abbrev pub width_bits : Width → ℕ
 width_bits U8 = 8
+width_bits U16 = 16
+width_bits U32 = 32
 width_bits U64 = 64
 width_bits U128 = 128
+
+-- the bytes of a number of a width
+abbrev pub width_bytes : Width → ℕ
+width_bytes U8 = 1
+width_bytes U16 = 2
+width_bytes U32 = 4
+width_bytes U64 = 8
+width_bytes U128 = 16
 
 -- whether two widths are one
 abbrev pub same_width : Width → Width → Bool

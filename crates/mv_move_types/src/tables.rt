@@ -38,6 +38,13 @@ pub struct Field {
     pub token: super::Token,
 }
 
+/// A field, by its struct's definition and its position there.
+#[derive(Clone, Copy, PartialEq, Eq, Debug)]
+pub struct FieldHandle {
+    pub definition: u16,
+    pub position: u16,
+}
+
 /// A function or a struct that a published module defines, by the module's place in the order of publication.
 #[derive(Clone, Copy, PartialEq, Eq, Debug)]
 pub struct Definition {

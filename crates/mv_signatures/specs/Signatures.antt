@@ -1,5 +1,5 @@
--- Fields, signatures, locals and entry functions are as they may be.
-use Rattle.std.specs.Prelude.{Bool, true, false, ◌&&◌, nat_le, length, slice_get, List, ◌∷◌, ◌==◌, not, ◌||◌, IsTrue}
+-- Fields, signatures, locals, constants and entry functions are as they may be.
+use Rattle.std.specs.Prelude.{ℕ, is_some, Bool, true, false, ◌&&◌, nat_le, length, slice_get, List, ◌∷◌, ◌==◌, not, ◌||◌, IsTrue}
 use Rattle.std.specs.Option.{option_map_or}
 use Rattle.std.specs.List.{list_all}
 use Rattle.mv_move_types.specs.declared.token.LeafKind.TheVariants.{Signer}
@@ -7,7 +7,8 @@ use Rattle.mv_move_types.specs.declared.token.ValueType.TheVariants.{OfLeaf}
 use Rattle.mv_move_types.specs.declared.token.Token.{Token}
 use Rattle.mv_move_types.specs.declared.token.Token.TheVariants.{Plain, Reference, MutableReference}
 use Rattle.mv_move_types.specs.declared.tables.FunctionHandle.{FunctionHandle}
-use Rattle.mv_move_types.specs.Module.{Module, FunctionDefinition, parameter_tokens, StructDefinition}
+use Rattle.mv_move_types.specs.Numbers.{leaf_number}
+use Rattle.mv_move_types.specs.Module.{Constant, Module, FunctionDefinition, parameter_tokens, StructDefinition}
 use Rattle.mv_bounds.specs.Bounds.{local_count}
 
 -- no reference and no signer
@@ -22,6 +23,14 @@ abbrev pub handle_is_small : Module → FunctionHandle → Bool
 handle_is_small m h =
     option_map_or (λ ts. nat_le (length ts) 16) (slice_get m.signatures h.parameters) false
     && option_map_or (λ ts. nat_le (length ts) 8) (slice_get m.signatures h.results) false
+
+-- a leaf of its type, of exactly its length
+abbrev pub is_constant : Constant → Bool
+is_constant c = constant_of c.token c.bytes
+  where
+    constant_of : Token → List ℕ → Bool
+    constant_of (Plain (OfLeaf kind)) bytes = is_some (leaf_number kind bytes)
+    constant_of _ bytes = false
 
 -- a leaf that a caller may give
 abbrev pub is_plain_argument : Token → Bool
@@ -44,9 +53,10 @@ has_no_results m d =
 abbrev pub entry_fits : Module → FunctionDefinition → Bool
 entry_fits m d = not d.is_entry || has_no_results m d && option_map_or are_entry_parameters (parameter_tokens m d) false
 
--- fields, signatures, locals and entry functions are as they may be
+-- fields, signatures, locals, constants and entry functions are as they may be
 pub record WellSigned (m : Module) : Type 0 where
   pub fields : IsTrue (list_all (λ (d : StructDefinition). list_all (λ f. may_be_field f.token) d.fields) m.structs)
   pub handles : IsTrue (list_all (handle_is_small m) m.function_handles)
   pub locals : IsTrue (list_all (λ d. nat_le (local_count m d) 64) m.functions)
+  pub constants : IsTrue (list_all is_constant m.constants)
   pub entries : IsTrue (list_all (entry_fits m) m.functions)

@@ -1,17 +1,19 @@
-//! Phase 5 of publishing: fields, signatures, numbers of locals and entry functions are as they may be.
+//! Phase 5 of publishing: fields, signatures, numbers of locals, constants and entry functions are as they may be.
 #![tactic(auto)]
 
-ghost use Rattle.std.specs.Prelude.{◌≡◌, OnOk, IfErr, length, nat_le, slice_get, false};
+ghost use Rattle.std.specs.Prelude.{◌≡◌, is_some, OnOk, IfErr, length, nat_le, slice_get, false};
 ghost use Rattle.std.specs.List.{list_all};
 ghost use Rattle.std.specs.Option.{option_map_or};
 ghost use Rattle.mv_bounds.specs.Bounds.{local_count};
 ghost use Rattle.mv_move_types.specs.Module.{parameter_tokens, StructDefinition as Structure};
+ghost use Rattle.mv_move_types.specs.Numbers.{leaf_number};
+ghost use Rattle.mv_move_types.specs.Tokens.{width_bytes};
 ghost use Rattle.mv_move_types.specs.Refusals.{IsRefusedIn};
-ghost use Rattle.mv_signatures.specs.Signatures.{WellSigned, may_be_field, handle_is_small, is_plain_argument, are_entry_parameters, has_no_results, entry_fits};
+ghost use Rattle.mv_signatures.specs.Signatures.{WellSigned, is_constant, may_be_field, handle_is_small, is_plain_argument, are_entry_parameters, has_no_results, entry_fits};
 
-use mv_binary_format::{FunctionDefinition, Module, StructDefinition};
+use mv_binary_format::{Constant, FunctionDefinition, Module, StructDefinition};
 use mv_bounds::Bounded;
-use mv_move_types::{FunctionHandle, LeafKind, Refusal, Token, ValueType};
+use mv_move_types::{FunctionHandle, LeafKind, Refusal, Token, ValueType, Width};
 
 /// The most parameters that a function has.
 const PARAMETERS: usize = 16;
@@ -32,6 +34,7 @@ pub fn check(m: &Bounded<'_>) -> Result<(), Refusal>
     if are_fields_plain(module)
         && are_handles_small(module)
         && are_locals_few(module)
+        && are_constants_whole(module)
         && are_entries_callable(module)
     {
         Ok(())
@@ -59,6 +62,48 @@ fn are_locals_few(m: &Module<'_>) -> bool
     ensures { result ≡ list_all (λ d. nat_le (local_count m.now d) 64) m.now.functions }
 {
     m.functions().iter().all(|d| count_locals(m, d) <= LOCALS)
+}
+
+/// Whether every constant is a leaf of its type, of exactly its length.
+fn are_constants_whole(m: &Module<'_>) -> bool
+    ensures { result ≡ list_all is_constant m.now.constants }
+{
+    m.constants().iter().all(|c| is_whole(c))
+}
+
+/// Whether a constant is a leaf of its type, of exactly its length.
+fn is_whole(c: &Constant<'_>) -> bool
+    ensures { result ≡ is_constant c.now }
+{
+    match c.token() {
+        Token::Plain(ValueType::OfLeaf(kind)) => is_leaf(kind, c.bytes()),
+        _ => false,
+    }
+}
+
+/// Whether the bytes are a leaf of the kind: a bool is 0 or 1, and no bytes are a signer.
+fn is_leaf(kind: LeafKind, bytes: &[u8]) -> bool
+    ensures { result ≡ is_some (leaf_number kind bytes.now) }
+{
+    match kind {
+        LeafKind::Boolean => bytes.len() == 1 && bytes[0] < 2,
+        LeafKind::Number(width) => bytes.len() == byte_count(width),
+        LeafKind::Address => bytes.len() == 16,
+        LeafKind::Signer => false,
+    }
+}
+
+/// How many bytes a number of the width has.
+fn byte_count(width: Width) -> usize
+    ensures { result ≡ width_bytes width }
+{
+    match width {
+        Width::U8 => 1,
+        Width::U16 => 2,
+        Width::U32 => 4,
+        Width::U64 => 8,
+        Width::U128 => 16,
+    }
 }
 
 /// Whether a run record can name every function that is an entry.

@@ -1,13 +1,12 @@
 //! The height of the operand stack in a function's blocks, which is a part of phase 8 of publishing.
 #![tactic(auto)]
 
-ghost use Rattle.std.specs.Prelude.{◌≡◌, ◌<◌, ◌≤◌, ◌==◌, length, slice_get, IfSome, OnOk, IfErr, IsTrue, Some, take, drop, false, IsSome, option_and_then};
-ghost use Rattle.std.specs.Option.{option_map_or};
+ghost use Rattle.std.specs.Prelude.{◌≡◌, ◌<◌, length, slice_get, IfSome, OnOk, IfErr, IsTrue, option_and_then};
 ghost use Rattle.mv_move_types.specs.Refusals.{IsRefusedIn};
 ghost use Rattle.mv_cfg.specs.FlowGraph.{IsFlowGraph};
-ghost use Rattle.mv_stack_use.specs.Heights.{function_is_level, effect_of, height_through, raised};
+ghost use Rattle.mv_stack_use.specs.Heights.{function_is_level, effect, effect_of, call_effect, return_effect, pack_effect, unpack_effect, height_through, raised};
 
-use mv_binary_format::{Cursor, FunctionDefinition};
+use mv_binary_format::FunctionDefinition;
 use mv_bounds::Bounded;
 use mv_cfg::Cfg;
 use mv_move_types::{Instruction, Refusal};
@@ -58,7 +57,7 @@ pub fn check(m: &Bounded<'_>, f: usize, g: &Cfg) -> Result<(), Refusal>
     ensures refused { IfErr result (λ e. IfSome (slice_get m.now.functions f) (λ d. IsRefusedIn 8 (IsTrue (function_is_level m.now d)) e)) }
     ensures phase { IfErr result (λ e. e ≡ Refusal.Phase 8) }
 {
-    if are_blocks_level(m, &m.module().functions()[f], g) {
+    if are_blocks_level(m, &m.module().functions()[f], m.code(f), g) {
         Ok(())
     } else {
         Err(Refusal::Phase(8))
@@ -77,29 +76,107 @@ pub fn effect(m: &Bounded<'_>, f: usize, i: Instruction) -> Option<StackEffect>
 fn effect_in(m: &Bounded<'_>, d: &FunctionDefinition<'_>, i: Instruction) -> Option<StackEffect>
     ensures { result ≡ effect_of m.now d.now i }
 {
-    let module = m.module();
     match i {
-        Instruction::Ret => {
-            let handle = module.function_handles().get(usize::from(d.handle()))?;
-            let results = module.signature(usize::from(handle.results))?;
-            Some(StackEffect {
-                takes: results.len(),
-                gives: 0,
-            })
-        }
-        Instruction::MoveLoc(_) | Instruction::ImmBorrowLoc(_) => Some(StackEffect {
-            takes: 0,
-            gives: 1,
-        }),
-        Instruction::Pack(s) => {
-            let structure = module.structs().get(usize::from(s))?;
-            Some(StackEffect {
-                takes: structure.fields().len(),
-                gives: 1,
-            })
-        }
-        Instruction::MoveTo(_) => Some(StackEffect { takes: 2, gives: 0 }),
+        Instruction::Ret => of_return(m, d),
+        Instruction::Call(handle) => of_call(m, handle),
+        Instruction::Pack(definition) => of_pack(m, definition),
+        Instruction::Unpack(definition) => of_unpack(m, definition),
+        Instruction::Branch(_) | Instruction::Nop => takes_gives(0, 0),
+        Instruction::LdU64(_)
+        | Instruction::LdConst(_)
+        | Instruction::LdTrue
+        | Instruction::LdFalse
+        | Instruction::CopyLoc(_)
+        | Instruction::MoveLoc(_)
+        | Instruction::MutBorrowLoc(_)
+        | Instruction::ImmBorrowLoc(_)
+        | Instruction::LdU8(_)
+        | Instruction::LdU128(_)
+        | Instruction::LdU16(_)
+        | Instruction::LdU32(_) => takes_gives(0, 1),
+        Instruction::Pop
+        | Instruction::BrTrue(_)
+        | Instruction::BrFalse(_)
+        | Instruction::StLoc(_)
+        | Instruction::Abort => takes_gives(1, 0),
+        Instruction::MutBorrowField(_)
+        | Instruction::ImmBorrowField(_)
+        | Instruction::ReadRef
+        | Instruction::Not
+        | Instruction::Exists(_)
+        | Instruction::MutBorrowGlobal(_)
+        | Instruction::ImmBorrowGlobal(_)
+        | Instruction::MoveFrom(_)
+        | Instruction::FreezeRef
+        | Instruction::CastU8
+        | Instruction::CastU64
+        | Instruction::CastU128
+        | Instruction::CastU16
+        | Instruction::CastU32 => takes_gives(1, 1),
+        Instruction::WriteRef | Instruction::MoveTo(_) => takes_gives(2, 0),
+        Instruction::Add
+        | Instruction::Sub
+        | Instruction::Mul
+        | Instruction::Mod
+        | Instruction::Div
+        | Instruction::BitOr
+        | Instruction::BitAnd
+        | Instruction::Xor
+        | Instruction::Or
+        | Instruction::And
+        | Instruction::Eq
+        | Instruction::Neq
+        | Instruction::Lt
+        | Instruction::Gt
+        | Instruction::Le
+        | Instruction::Ge
+        | Instruction::Shl
+        | Instruction::Shr => takes_gives(2, 1),
     }
+}
+
+/// An instruction takes so many operands, and gives so many.
+fn takes_gives(takes: usize, gives: usize) -> Option<StackEffect>
+    ensures { result ≡ effect takes gives }
+{
+    Some(StackEffect { takes, gives })
+}
+
+/// A call takes the parameters and gives the results.
+fn of_call(m: &Bounded<'_>, handle: u16) -> Option<StackEffect>
+    ensures { result ≡ call_effect m.now handle }
+{
+    let module = m.module();
+    let handle = module.function_handles().get(usize::from(handle))?;
+    let parameters = module.signature(usize::from(handle.parameters))?;
+    let results = module.signature(usize::from(handle.results))?;
+    takes_gives(parameters.len(), results.len())
+}
+
+/// A return takes the results.
+fn of_return(m: &Bounded<'_>, d: &FunctionDefinition<'_>) -> Option<StackEffect>
+    ensures { result ≡ return_effect m.now d.now }
+{
+    let module = m.module();
+    let handle = module.function_handles().get(usize::from(d.handle()))?;
+    let results = module.signature(usize::from(handle.results))?;
+    takes_gives(results.len(), 0)
+}
+
+/// A struct is made of its fields.
+fn of_pack(m: &Bounded<'_>, definition: u16) -> Option<StackEffect>
+    ensures { result ≡ pack_effect m.now definition }
+{
+    let structure = m.module().structs().get(usize::from(definition))?;
+    takes_gives(structure.fields().len(), 1)
+}
+
+/// A struct is taken apart into its fields.
+fn of_unpack(m: &Bounded<'_>, definition: u16) -> Option<StackEffect>
+    ensures { result ≡ unpack_effect m.now definition }
+{
+    let structure = m.module().structs().get(usize::from(definition))?;
+    takes_gives(1, structure.fields().len())
 }
 
 /// The height after an effect, where there is as much as it takes and the stack never has more than 128.
@@ -110,52 +187,33 @@ fn height_by(height: usize, e: StackEffect) -> Option<usize>
     (after <= OPERANDS).then_some(after)
 }
 
-/// Whether every block begins and ends with nothing on the stack.
-fn are_blocks_level(m: &Bounded<'_>, d: &FunctionDefinition<'_>, g: &Cfg) -> bool
-    requires { IsFlowGraph d.now.code g.now }
+/// Whether every block begins and ends with nothing on the stack. `code` is the function's code.
+fn are_blocks_level(
+    m: &Bounded<'_>,
+    d: &FunctionDefinition<'_>,
+    code: &[Instruction],
+    g: &Cfg,
+) -> bool
+    requires code { code.now ≡ d.now.code }
+    requires graph { IsFlowGraph d.now.code g.now }
     ensures { result ≡ function_is_level m.now d.now }
 {
-    let mut code = d.code();
-    let size = code.len();
     for block in &g.blocks {
-        // So what is added to it fits.
-        prove!(block.last < size);
-        if !is_level(m, d, &mut code, block.last + 1 - block.first) {
-            return false;
+        match height_after(m, d, &code[block.first..=block.last]) {
+            Some(0) => {}
+            _ => return false,
         }
     }
     true
 }
 
-/// Takes so many instructions off the code, and answers whether they leave an empty stack empty. Where they don't, no
-/// more is known of the code that is left.
-fn is_level(m: &Bounded<'_>, d: &FunctionDefinition<'_>, code: &mut Cursor<'_>, size: usize) -> bool
-    requires { size ≤ length code.old }
-    ensures value { result ≡ option_map_or (λ h. h == 0) (height_through m.now d.now (take size code.old) 0) false }
-    ensures rest { IsTrue result → code.new ≡ drop size code.old }
-{
-    match height_after(m, d, code, size) {
-        Some(height) => height == 0,
-        None => false,
-    }
-}
-
-/// Takes so many instructions off the code, and answers the height that they leave on an empty stack. Where some
-/// instruction can't be run, there is no height, and no more is known of the code that is left.
-fn height_after(
-    m: &Bounded<'_>,
-    d: &FunctionDefinition<'_>,
-    code: &mut Cursor<'_>,
-    size: usize,
-) -> Option<usize>
-    requires { size ≤ length code.old }
-    ensures value { result ≡ height_through m.now d.now (take size code.old) 0 }
-    ensures rest { IsSome result → code.new ≡ drop size code.old }
+/// The height that these instructions leave on an empty stack. None where some instruction can't be run.
+fn height_after(m: &Bounded<'_>, d: &FunctionDefinition<'_>, code: &[Instruction]) -> Option<usize>
+    ensures { result ≡ height_through m.now d.now code.now 0 }
 {
     let mut height = 0;
-    for _taken in 0..size {
-        let i = code.next()?;
-        height = height_by(height, effect_in(m, d, i)?)?;
+    for i in code {
+        height = height_by(height, effect_in(m, d, *i)?)?;
     }
     Some(height)
 }

@@ -1,7 +1,8 @@
 pub mod Tokens
 pub mod Stacks
 pub mod Tiling
-pub mod Through
+pub mod ReturnLemmas
+pub mod HeightLemmas
+pub mod BlockLemmas
+pub mod PartLemmas
 pub mod Functions
-pub mod Blocks
-pub mod Heights

@@ -1,6 +1,6 @@
 -- Stacks with the topmost last, and what is taken from them.
-use Rattle.std.proofs.Common.{◌≡◌, ℕ, ◌+◌, ◌<◌, Bool, true, false, ◌&&◌, List, [], ◌∷◌, ◌++◌, length, reverse, take, drop, slice_get, Option, Some, None, refl, sym, ap, ◌∙◌, subst, zero, suc, add-one, length-append, map, arith, IsTrue, IsSome, option_map, nat_eq, slice_index_or, vec_len, Vec, Global, Err}
-use Rattle.std.proofs.lemmas.List.{reverse-append, length-reverse, nil_from_length, map-append}
+use Rattle.std.proofs.Common.{◌≡◌, ℕ, ◌+◌, ◌<◌, Bool, true, false, ◌&&◌, List, [], ◌∷◌, ◌++◌, length, reverse, append_assoc, get_or, take, drop, slice_get, Option, Some, None, refl, sym, ap, ◌∙◌, subst, zero, suc, add-one, length-append, map, arith, IsTrue, IsSome, option_map, nat_eq, slice_index_or, vec_len, Vec, Global, Err}
+use Rattle.std.proofs.lemmas.List.{reverse-append, reverse-reverse, length-reverse, nil_from_length, map-append, take_more}
 use Rattle.std.proofs.lemmas.Bool.{ltb-true, ne_eqb, eqb-true, eqb-false}
 use Rattle.std.proofs.Math.Dec.{eqb-suc-zero}
 use Rattle.mv_move_types.specs.declared.token.Token.{Token}
@@ -9,16 +9,11 @@ use Rattle.mv_move_types.specs.declared.refusal.Refusal.{Refusal}
 use Rattle.mv_move_types.specs.declared.refusal.Refusal.TheVariants.{Phase, Memory}
 use Rattle.mv_move_types.specs.declared.tables.Field.{Field}
 use Rattle.mv_move_types.specs.Options.{◌>>=◌}
-use Rattle.mv_type_states.specs.declared.scope.Scope.{Scope}
-use Rattle.mv_type_states.specs.TypeRules.{Types, provided, taken, local_type}
-use Rattle.mv_type_states.specs.Scopes.{IsScope, Follows}
+use Rattle.mv_type_states.specs.TypeRules.{Types, provided, taken}
+use Rattle.mv_type_states.specs.Answers.{Follows}
 use Rattle.mv_type_states.proofs.Tokens.{token_same, both_true}
-use Rattle.mv_cfg.proofs.Graphs.{slice_get-read}
 use Rattle.std.specs.List.{list_all}
-use Rattle.std.proofs.lemmas.Option.{none-some, same_Some, slice_get-get_or}
-use Rattle.mv_move_types.specs.declared.tables.FunctionHandle.{FunctionHandle}
-use Rattle.mv_move_types.specs.Module.{Module, FunctionDefinition}
-use Rattle.mv_bounds.specs.Bounds.{InBounds, function_in, function_handle_in}
+use Rattle.std.proofs.lemmas.Option.{none-some, same_Some}
 
 -- a push puts a type on top
 pub reverse-push : (xs : List Token) (x : Token) → reverse (xs ++ x ∷ []) ≡ x ∷ reverse xs
@@ -57,19 +52,16 @@ taken-one xs w = rw (reverse-push xs w, token_same w) refl
 pub taken-other : (xs : List Token) (t w : Token) → same_token t w ≡ false → taken (w ∷ []) (reverse (xs ++ t ∷ [])) ≡ None
 taken-other xs t w e = rw (reverse-push xs t, e) refl
 
--- a local's type is among the parameters' and the others
-pub local_type-scope : (s : Scope) → IsScope s → (l : ℕ) → local_type s.module.now s.function.now l ≡ slice_get (s.parameters.now ++ s.others.now) l
-local_type-scope s p l = rw (p.is_handle, p.parameters, p.others) refl
-
-pub slice_get-first : {A : Type 0} (xs ys : List A) (i : ℕ) → i < length xs → slice_get (xs ++ ys) i ≡ slice_get xs i
-slice_get-first [] ys i h = absurd (omega arith)
-slice_get-first (x ∷ xs) ys zero h = refl
-slice_get-first (x ∷ xs) ys (suc i) h = slice_get-first xs ys i (omega arith)
-
-pub slice_get-second : {A : Type 0} (xs ys : List A) (i k : ℕ) → length xs + k ≡ i → slice_get (xs ++ ys) i ≡ slice_get ys k
-slice_get-second [] ys i k e = let same : i ≡ k = omega arith in rw same refl
-slice_get-second (x ∷ xs) ys zero k e = absurd (omega arith)
-slice_get-second (x ∷ xs) ys (suc i) k e = slice_get-second xs ys i k (omega arith)
+-- one more field's type is pushed
+pub pushed_fields : (fields : List Field) (n : ℕ) (f : Field) (first old new : List Token) → n < length fields → old ≡ first ++ map (λ f. f.token) (take n fields)
+    → Some ((get_or fields n f).token ∷ reverse old) ≡ Some (reverse new) → new ≡ first ++ map (λ f. f.token) (take (n + 1) fields)
+pushed_fields fields n f first old new below is there =
+    let token = (get_or fields n f).token in
+    let top : reverse new ≡ reverse (old ++ token ∷ []) = sym (same_Some (token ∷ reverse old) (reverse new) there) ∙ sym (reverse-push old token) in
+    let all : new ≡ old ++ token ∷ [] = sym (reverse-reverse new) ∙ ap reverse top ∙ reverse-reverse (old ++ token ∷ []) in
+    let front : old ++ token ∷ [] ≡ first ++ (map (λ f. f.token) (take n fields) ++ token ∷ []) = rw (is, append_assoc) refl in
+    let one : map (λ f. f.token) (take n fields ++ get_or fields n f ∷ []) ≡ map (λ f. f.token) (take n fields) ++ token ∷ [] = rw map-append refl in
+    all ∙ front ∙ ap (λ xs. first ++ xs) (sym one) ∙ ap (λ fs. first ++ map (λ f. f.token) fs) (sym (take_more fields n f below))
 
 and_assoc : (a b c : Bool) → (a && (b && c)) ≡ ((a && b) && c)
 and_assoc true b c = refl
@@ -102,17 +94,6 @@ pub taken_types-none : (types others : List Token) (last : Token) (s : Types) �
     → taken types s ≡ None
 taken_types-none types others last s is there = rw (is, taken-last, there) refl
 
--- what an index that is in bounds reads
-pub is_some-read : {A B : Type 0} (f : A → B) (o : Option A) (xs : List B) (i : ℕ) → option_map f o ≡ slice_get xs i → i < length xs → IsSome o
-is_some-read f None [] i e h = absurd (omega arith)
-is_some-read f None (x ∷ xs) zero e h = absurd (none-some x e)
-is_some-read f None (x ∷ xs) (suc i) e h = is_some-read f None xs i e (omega arith)
-is_some-read f (Some y) xs i e h = refl
-
--- what is read there
-pub some-read : {A B : Type 0} (f : A → B) (o : Option A) (x : A) (xs : List B) (i j : ℕ) → option_map f o ≡ slice_get xs i → i ≡ j → o ≡ Some x → slice_get xs j ≡ Some (f x)
-some-read f o x xs i j e same is = ap (λ k. slice_get xs k) (sym same) ∙ sym e ∙ ap (option_map f) is
-
 -- where the types can't be taken, they aren't alone on the stack
 pub alone-refused : (e : Refusal) (rs : List Token) (s new : Types) → Follows (Err e) (taken rs s) new → Follows (Err e) (provided (same_tokens s (reverse rs)) []) new
 alone-refused (Phase p) rs s new r = (r.0, rw (alone rs s, r.1) refl)
@@ -139,37 +120,3 @@ list_all-at p (y ∷ ys) (suc i) x h at = list_all-at p ys i x (both_true (p y) 
 pub list_all-each : {A : Type 0} (p : A → Bool) (xs : List A) → ((i : ℕ) (x : A) → slice_get xs i ≡ Some x → IsTrue (p x)) → IsTrue (list_all p xs)
 list_all-each p [] each = refl
 list_all-each p (x ∷ xs) each = rw (each 0 x refl) (list_all-each p xs (λ i y h. each (suc i) y h))
-
--- the signatures that a function names are there
-pub record HasSignatures (m : Module) (d : FunctionDefinition) (h : FunctionHandle) : Type 0 where
-  pub named : slice_get m.function_handles d.handle ≡ Some h
-  pub parameters : h.parameters < length m.signatures
-  pub results : h.results < length m.signatures
-  pub locals : d.locals < length m.signatures
-
-signatures_of : (m : Module) (f : ℕ) (d : FunctionDefinition) (default : FunctionHandle) → InBounds m → slice_get m.functions f ≡ Some d → HasSignatures m d (slice_index_or m.function_handles d.handle default)
-signatures_of m f d default bounds at =
-    let in_function = list_all-at (function_in m) m.functions f d bounds.functions at in
-    let three = both_true _ _ in_function in
-    let two = both_true _ _ three.0 in
-    let one = both_true _ _ two.0 in
-    let handle : d.handle < length m.function_handles = ltb-true _ _ one.0 in
-    let named = slice_get-get_or m.function_handles d.handle default handle in
-    let in_handle = list_all-at (function_handle_in m) m.function_handles d.handle (slice_index_or m.function_handles d.handle default) bounds.function_handles named in
-    let last = both_true _ _ in_handle in
-    let front = both_true _ _ last.0 in record {
-      named = named;
-      parameters = ltb-true _ _ front.1;
-      results = ltb-true _ _ last.1;
-      locals = ltb-true _ _ one.1;
-    }
-
--- the same of what is read of a module, part by part
-pub signatures_read : (m read : Module) (f : ℕ) (fs : List FunctionDefinition) (d : FunctionDefinition) (hs : List FunctionHandle) (i : ℕ) (default : FunctionHandle)
-    → InBounds m → read ≡ m → fs ≡ read.functions → f < length m.functions → d ≡ slice_index_or fs f d → hs ≡ read.function_handles → i ≡ d.handle
-    → (slice_get read.functions f ≡ Some d) × HasSignatures read d (slice_index_or hs i default)
-signatures_read m read f fs d hs i default bounds is fs_is there at hs_is i_is =
-    let inside = subst (λ (x : Module). InBounds x) (sym is) bounds in
-    let short : f < length read.functions = subst (λ (x : Module). f < length x.functions) (sym is) there in
-    let found = slice_get-read fs read.functions f d fs_is short at in
-    (found, rw (hs_is, i_is) (signatures_of read f d default inside found))

@@ -2,14 +2,14 @@
 use Rattle.std.proofs.Common.{◌≡◌, ℕ, ◌+◌, ◌-◌, ◌<◌, ◌≤◌, Bool, true, false, cond, ◌||◌, List, [], ◌∷◌, ◌++◌, length, refl, subst, arith}
 use Rattle.mv_move_types.specs.declared.instruction.Instruction.{Instruction}
 use Rattle.mv_move_types.specs.Flow.{ends_block}
-use Rattle.mv_cfg.specs.Blocks.{Stretch, blocks, blocks_at, starts_from, is_target}
+use Rattle.mv_cfg.specs.Blocks.{BasicBlock, blocks, blocks_at, starts_from, is_target}
 
--- each stretch begins where the one before it ends, from one place up to another
-abbrev pub Tiles : ℕ → List Stretch → ℕ → Type 0
+-- each basic_block begins where the one before it ends, from one place up to another
+abbrev pub Tiles : ℕ → List BasicBlock → ℕ → Type 0
 Tiles at [] size = at ≡ size
 Tiles at (s ∷ ss) size = (s.first ≡ at) × ((s.first ≤ s.last) × Tiles (s.last + 1) ss size)
 
-tiles_at : (n at size : ℕ) (ss : List Stretch) → n ≡ at → Tiles n ss size → Tiles at ss size
+tiles_at : (n at size : ℕ) (ss : List BasicBlock) → n ≡ at → Tiles n ss size → Tiles at ss size
 tiles_at n at size ss e t = subst (λ (k : ℕ). Tiles k ss size) e t
 
 -- where a block may begin at i, one block leads up to there, or the block goes on

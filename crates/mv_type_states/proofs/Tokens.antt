@@ -1,6 +1,6 @@
 -- Two types are one where the test says so.
 use Rattle.std.proofs.Common.{◌≡◌, ℕ, ◌==◌, Bool, true, false, cond, ◌&&◌, List, [], ◌∷◌, refl, sym, ap, ◌∙◌, eqb-true, eq-eqb}
-use Rattle.mv_move_types.specs.declared.token.Width.TheVariants.{U8, U64, U128}
+use Rattle.mv_move_types.specs.declared.token.Width.TheVariants.{U8, U16, U32, U64, U128}
 use Rattle.mv_move_types.specs.declared.token.LeafKind.{LeafKind}
 use Rattle.mv_move_types.specs.declared.token.LeafKind.TheVariants.{Boolean, Number, Address, Signer}
 use Rattle.mv_move_types.specs.declared.token.ValueType.{ValueType}
@@ -11,13 +11,15 @@ use Rattle.mv_move_types.specs.Tokens.{kind_code, same_kind, same_value_type, sa
 
 -- the kind of a leaf, by its number
 abbrev kind_of : ℕ → LeafKind
-kind_of n = cond (n == 0) Boolean (cond (n == 1) Address (cond (n == 2) Signer (cond (n == 8) (Number U8) (cond (n == 64) (Number U64) (Number U128)))))
+kind_of n = cond (n == 0) Boolean (cond (n == 1) Address (cond (n == 2) Signer (cond (n == 8) (Number U8) (cond (n == 16) (Number U16) (cond (n == 32) (Number U32) (cond (n == 64) (Number U64) (Number U128)))))))
 
 kind_of-code : (k : LeafKind) → kind_of (kind_code k) ≡ k
 kind_of-code Boolean = refl
 kind_of-code Address = refl
 kind_of-code Signer = refl
 kind_of-code (Number U8) = refl
+kind_of-code (Number U16) = refl
+kind_of-code (Number U32) = refl
 kind_of-code (Number U64) = refl
 kind_of-code (Number U128) = refl
 

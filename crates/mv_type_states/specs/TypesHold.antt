@@ -6,7 +6,7 @@ use Rattle.mv_move_types.specs.declared.instruction.Instruction.{Instruction}
 use Rattle.mv_move_types.specs.Options.{◌>>=◌}
 use Rattle.mv_move_types.specs.Module.{Module, FunctionDefinition}
 use Rattle.mv_type_states.specs.TypeRules.{Types, types_after}
-use Rattle.mv_cfg.specs.Blocks.{Stretch, blocks}
+use Rattle.mv_cfg.specs.Blocks.{BasicBlock, blocks}
 
 -- the types after these instructions, where each finds what it needs and the stack never has more than 128
 abbrev pub types_through : Module → FunctionDefinition → List Instruction → Types → Option Types
@@ -16,7 +16,7 @@ types_through m d (i ∷ is) stack = do
   cond (nat_le (length after) 128) (types_through m d is after) None
 
 -- a block begins and ends with nothing on the stack
-abbrev pub block_is_typed : Module → FunctionDefinition → Stretch → Bool
+abbrev pub block_is_typed : Module → FunctionDefinition → BasicBlock → Bool
 block_is_typed m d b =
     option_map_or (λ stack. length stack == 0) (types_through m d (slice_range d.code b.first (b.last + 1)) []) false
 

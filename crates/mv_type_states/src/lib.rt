@@ -1,7 +1,7 @@
 //! Phases 5 to 8 of publishing, and the types on the stack at each instruction.
 #![tactic(auto)]
 
-ghost use Rattle.std.specs.Prelude.{◌≡◌, ◌<◌, length, map, slice_get, IfOk, IfErr, IfSome, OnOk};
+ghost use Rattle.std.specs.Prelude.{◌≡◌, ◌<◌, length, slice_get, IfOk, IfErr, IfSome, OnOk};
 ghost use Rattle.mv_cfg.specs.FlowGraph.{IsFlowGraph};
 ghost use Rattle.mv_move_types.specs.Refusals.{IsRefusedIn};
 ghost use Rattle.mv_cfg.specs.Blocks.{FlowHolds};
@@ -10,13 +10,17 @@ ghost use Rattle.mv_type_states.specs.Graphs.{AreGraphs};
 ghost use Rattle.mv_type_states.specs.Sound.{IsSound, IsRefusedByTypes, types_before};
 
 mod passes;
+mod rules;
 mod scope;
+mod stack;
+mod stack_types;
 
 use mv_binary_format::Module;
 use mv_bounds::Bounded;
 use mv_cfg::Cfg;
-use mv_move_types::{Refusal, Token};
+use mv_move_types::Refusal;
 use passes::{check_function, function_types};
+pub use stack_types::StackTypes;
 use std::alloc::{AllocError, Global};
 use std::marker::Model;
 
@@ -67,10 +71,10 @@ impl<'a> Typed<'a> {
         &self.graphs[f]
     }
 
-    /// The types of the whole stack before each instruction of function `f`, the topmost first.
-    pub fn stack_types(&self, alloc: Global, f: usize) -> Result<Vec<Vec<Token>>, AllocError>
+    /// The types of the whole stack before each instruction of function `f`.
+    pub fn stack_types(&self, alloc: Global, f: usize) -> Result<StackTypes, AllocError>
         requires { f < length self.now.functions }
-        ensures { IfOk result (λ all. IfSome (slice_get self.now.functions f) (λ d. map (λ types. types.items) all.items ≡ types_before self.now d)) }
+        ensures { IfOk result (λ all. IfSome (slice_get self.now.functions f) (λ d. all ≡ types_before self.now d)) }
     {
         function_types(alloc, &self.bounded, f, &self.graphs[f])
     }

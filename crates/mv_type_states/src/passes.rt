@@ -1,40 +1,52 @@
 // The types through blocks and functions.
-ghost use Rattle.std.specs.Prelude.{◌≡◌, ◌<◌, [], length, reverse, take, drop, map, ◌++◌, slice_get, OnOk, IfErr, IfSome, IsSome, IsTrue, IfOk};
+ghost use Rattle.std.specs.Prelude.{◌≡◌, ◌<◌, ◌++◌, [], length, reverse, slice_get, OnOk, IfErr, IfSome, IsSome, IsTrue, IfOk};
 ghost use Rattle.mv_move_types.specs.Refusals.{IsRefusedIn};
 ghost use Rattle.mv_cfg.specs.FlowGraph.{IsFlowGraph};
+ghost use Rattle.mv_stack_use.specs.Heights.{height_through, function_is_level};
 ghost use Rattle.mv_type_states.specs.TypesHold.{types_through, function_is_typed};
 ghost use Rattle.mv_type_states.specs.Sound.{types_each, types_before};
-ghost use Rattle.mv_type_states.specs.Scopes.{Follows, IsScope};
+ghost use Rattle.mv_type_states.specs.Answers.{Follows};
+ghost use Rattle.mv_type_states.specs.Scopes.{IsScope};
 
 use super::scope::{Scope, scope_of};
-use mv_binary_format::Cursor;
+use super::stack_types::StackTypes;
 use mv_bounds::Bounded;
 use mv_cfg::Cfg;
-use mv_move_types::{Refusal, Token};
+use mv_move_types::{Instruction, Refusal, Token};
 use std::alloc::{AllocError, Global};
 
-/// Carries the types on a stack through the next instructions, so many or all that there are. Refused in phase 8 where
-/// one doesn't find what it needs, or more than 128 types are on the stack.
-fn carry(
-    scope: &Scope<'_, '_>,
-    code: &mut Cursor<'_>,
-    count: usize,
-    stack: &mut Vec<Token>,
-) -> Result<(), Refusal>
-    requires { IsScope scope.now }
-    ensures types { Follows result (types_through scope.now.module.now scope.now.function.now (take count code.old) (reverse stack.old.items)) (reverse stack.new.items) }
-    ensures code { OnOk result (code.new ≡ drop count code.old) }
+/// Carries the types on a stack through these instructions, for which there is always room. Refused in phase 8 where one
+/// doesn't find what it needs.
+fn carry(scope: &Scope<'_, '_>, code: &[Instruction], stack: &mut Vec<Token>) -> Result<(), Refusal>
+    requires scope { IsScope scope.now }
+    requires level { IsSome (height_through scope.now.module.now scope.now.function.now code.now (length (reverse stack.old.items))) }
+    ensures { Follows result (types_through scope.now.module.now scope.now.function.now code.now (reverse stack.old.items)) (reverse stack.new.items) }
 {
-    let mut left = count;
-    while left > 0 {
-        let Some(instruction) = code.next() else {
-            return Ok(());
-        };
-        scope.step(instruction, stack)?;
-        if stack.len() > 128 {
-            return Err(Refusal::Phase(8));
-        }
-        left -= 1;
+    for instruction in code {
+        scope.step(*instruction, stack)?;
+    }
+    Ok(())
+}
+
+/// Accepts a function exactly where each instruction of each block finds the types that it needs, and each block begins
+/// and ends with none. Each block is level already; `code` is the function's code, and `g` its flow graph.
+fn check_blocks(
+    alloc: Global,
+    scope: &Scope<'_, '_>,
+    code: &[Instruction],
+    g: &Cfg,
+) -> Result<(), Refusal>
+    requires scope { IsScope scope.now }
+    requires code { code.now ≡ scope.now.function.now.code }
+    requires graph { IsFlowGraph scope.now.function.now.code g.now }
+    requires level { IsTrue (function_is_level scope.now.module.now scope.now.function.now) }
+    ensures ok { OnOk result (IsTrue (function_is_typed scope.now.module.now scope.now.function.now)) }
+    ensures refused { IfErr result (IsRefusedIn 8 (IsTrue (function_is_typed scope.now.module.now scope.now.function.now))) }
+{
+    // Each block leaves it empty.
+    let mut stack = Vec::new(alloc);
+    for block in &g.blocks {
+        carry(scope, &code[block.first..=block.last], &mut stack)?;
     }
     Ok(())
 }
@@ -49,78 +61,63 @@ pub fn check_function(alloc: Global, m: &Bounded<'_>, f: usize, g: &Cfg) -> Resu
 {
     let scope = scope_of(m, f);
     mv_stack_use::check(m, f, g)?;
-    let mut code = scope.function.code();
-    let mut stack = Vec::new(alloc);
-    for block in &g.blocks {
-        carry(&scope, &mut code, block.last + 1 - block.first, &mut stack)?;
-        if !stack.is_empty() {
-            return Err(Refusal::Phase(8));
-        }
-    }
-    Ok(())
+    check_blocks(alloc, &scope, m.code(f), g)
 }
 
-/// The types on a stack, the topmost first.
-fn from_top(alloc: Global, stack: &[Token]) -> Result<Vec<Token>, AllocError>
-    ensures { IfOk result (λ types. types.items ≡ reverse stack.now) }
-{
-    stack.iter().rev().copied().collect(alloc)
-}
-
-/// Adds the types before each of the next instructions, so many or all that there are, where there are none before the first.
+/// Adds the types before each of these instructions, where there are none before the first.
 fn list_types(
     scope: &Scope<'_, '_>,
     alloc: Global,
-    code: &mut Cursor<'_>,
-    count: usize,
-    all: &mut Vec<Vec<Token>>,
+    code: &[Instruction],
+    all: &mut StackTypes,
 ) -> Result<(), AllocError>
     requires scope { IsScope scope.now }
-    requires typed { IsSome (types_through scope.now.module.now scope.now.function.now (take count code.old) []) }
-    ensures types { OnOk result (map (λ types. types.items) all.new.items ≡ map (λ types. types.items) all.old.items ++ types_each scope.now.module.now scope.now.function.now (take count code.old) []) }
-    ensures code { OnOk result (code.new ≡ drop count code.old) }
+    requires typed { IsSome (types_through scope.now.module.now scope.now.function.now code.now []) }
+    ensures { OnOk result (all.new ≡ all.old ++ types_each scope.now.module.now scope.now.function.now code.now []) }
 {
     let mut stack = Vec::new(alloc);
-    let mut left = count;
-    while left > 0 {
-        let Some(instruction) = code.next() else {
-            return Ok(());
-        };
-        let types = from_top(alloc, &stack)?;
-        all.push(types)?;
-        match scope.step(instruction, &mut stack) {
+    for instruction in code {
+        all.add(&stack)?;
+        match scope.step(*instruction, &mut stack) {
             Ok(()) => {}
             Err(Refusal::Memory) => return Err(AllocError),
             Err(Refusal::Phase(_)) => unreachable!(),
         }
-        left -= 1;
     }
     Ok(())
 }
 
-/// The types of the whole stack before each instruction of function `f`, the topmost first. `g` is its flow graph.
+/// Adds the types before each instruction of a function that is well typed. `code` is its code, and `g` its flow graph.
+fn list_blocks(
+    scope: &Scope<'_, '_>,
+    alloc: Global,
+    code: &[Instruction],
+    g: &Cfg,
+) -> Result<StackTypes, AllocError>
+    requires scope { IsScope scope.now }
+    requires code { code.now ≡ scope.now.function.now.code }
+    requires graph { IsFlowGraph scope.now.function.now.code g.now }
+    requires typed { IsTrue (function_is_typed scope.now.module.now scope.now.function.now) }
+    ensures { IfOk result (λ all. all ≡ types_before scope.now.module.now scope.now.function.now) }
+{
+    let mut all = StackTypes::new(alloc);
+    for block in &g.blocks {
+        list_types(scope, alloc, &code[block.first..=block.last], &mut all)?;
+    }
+    Ok(all)
+}
+
+/// The types of the whole stack before each instruction of function `f`. `g` is its flow graph.
 pub fn function_types(
     alloc: Global,
     m: &Bounded<'_>,
     f: usize,
     g: &Cfg,
-) -> Result<Vec<Vec<Token>>, AllocError>
+) -> Result<StackTypes, AllocError>
     requires function { f < length m.now.functions }
     requires graph { IfSome (slice_get m.now.functions f) (λ d. IsFlowGraph d.code g.now) }
     requires typed { IfSome (slice_get m.now.functions f) (λ d. IsTrue (function_is_typed m.now d)) }
-    ensures { IfOk result (λ all. IfSome (slice_get m.now.functions f) (λ d. map (λ types. types.items) all.items ≡ types_before m.now d)) }
+    ensures { IfOk result (λ all. IfSome (slice_get m.now.functions f) (λ d. all ≡ types_before m.now d)) }
 {
-    let scope = scope_of(m, f);
-    let mut code = scope.function.code();
-    let mut all = Vec::new(alloc);
-    for block in &g.blocks {
-        list_types(
-            &scope,
-            alloc,
-            &mut code,
-            block.last + 1 - block.first,
-            &mut all,
-        )?;
-    }
-    Ok(all)
+    list_blocks(&scope_of(m, f), alloc, m.code(f), g)
 }

@@ -1,5 +1,6 @@
 use Rattle.std.proofs.Common.{◌≡◌, [], Some, ap, arith, subst, sym, ◌∙◌}
 use Rattle.mv_module_text.specs.Parsing.{index_from}
+use Rattle.mv_move_types.specs.Versions.{version_number}
 use Rattle.mv_binary_format.specs.Kinds.{headers_of}
 use Rattle.mv_binary_format.specs.Parsing.{module_of}
 use Rattle.mv_binary_format.specs.Tables.{tables_of}
@@ -11,8 +12,8 @@ pub read-requires : goal.read-requires
 read-requires c = λ m m_is.
     let are = all-are_bytes c.args.bytes.now (λ i. omega (arith, c.type_inv.bytes i)) in
     let none : c.index.new.self ≡ [] = c.is_empty.ensures.0 c.if-not-is_empty.false in
-    let own : index_from c.read_contents.new.reader ≡ Some (c.in_ok-own.own, []) = subst (λ z. index_from c.read_contents.new.reader ≡ Some (c.in_ok-own.own, z)) none c.in_ok-own.ensures.ok in
-    let spelled = module_of-parts c.new-reader.result c.read_preamble.new.reader c.read_headers.new.reader c.read_contents.new.reader
-    (headers_of c.in_ok-headers.headers.items) (tables_of c.in_ok-tables.tables.items) c.in_ok-own.own m
-    c.in_ok-read_preamble.ensures.ok c.in_ok-headers.ensures.ok c.in_ok-tables.ensures.ok own m_is in
+    let own : index_from c.read_contents.new.reader ≡ Some (c.in_ok-own.own, []) = subst (λ z. index_from c.read_contents.new.reader ≡ Some (c.in_ok-own.own, z)) none c.in_ok-own.ensures in
+    let spelled = module_of-parts c.new-reader.result c.read_magic.new.reader c.read_version.new.reader c.read_headers.new.reader c.read_contents.new.reader
+    (version_number c.in_ok-version.version) (headers_of c.in_ok-headers.headers.items) (tables_of c.in_ok-tables.tables.items) c.in_ok-own.own m
+    c.in_ok-read_magic.ensures c.in_ok-version.ensures c.in_ok-headers.ensures c.in_ok-tables.ensures own m_is in
     ((c.modules_are_read_by_text.ensures c.args.bytes.now m are).0 (ap module_of (sym c.new-reader.ensures) ∙ spelled)).fits

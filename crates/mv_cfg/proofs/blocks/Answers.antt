@@ -1,13 +1,14 @@
-use Rattle.std.proofs.Common.{List, subst, sym, ap, ◌∙◌}
+use Rattle.std.proofs.Common.{◌≡◌, ◌<◌, ℕ, List, length, slice_get, Some, refl, sym, ap, ◌∙◌, subst}
+use Rattle.std.proofs.lemmas.Option.{MatchOption-at_some}
 use Rattle.mv_move_types.specs.declared.instruction.Instruction.{Instruction}
-use Rattle.mv_cfg.specs.Splits.{IsSplit}
-use Rattle.mv_cfg.proofs.Graphs.{IsFlowGraph-from_IsSplit, slice_get-read}
+use Rattle.mv_move_types.specs.Module.{FunctionDefinition}
+use Rattle.mv_cfg.specs.Steps.{BranchesInside}
+use Rattle.mv_cfg.proofs.Graphs.{element_at}
+use Rattle.mv_cfg.proofs.Targets.{branches-inside}
 use Rattle.mv_cfg.proofs.blocks.Goals as goal
 
-pub returns-clause-ok : goal.returns-clause-ok
-returns-clause-ok c =
-    let d = c.index-functions-f.result in
-    let functions = c.functions.ensures.value ∙ ap (λ m. m.functions) c.module.ensures.value in
-    rw (slice_get-read c.functions.result.now c.args.m.now.functions c.args.f d functions c.requires c.index-functions-f.is)
-    (IsFlowGraph-from_IsSplit d.code (record { blocks = c.in_ok-blocks.blocks }) (rw c.code.ensures at (sym c.is_ended.ensures ∙ c.if-not-is_ended.false))
-    (subst (λ (code : List Instruction). IsSplit code c.in_ok-blocks.blocks.items) c.code-2.ensures c.in_ok-blocks.ensures))
+pub graph-requires-clause-inside : goal.graph-requires-clause-inside
+graph-requires-clause-inside c =
+    let found = element_at c.args.m.now.functions c.args.f c.requires in
+    let same : c.code-code.result.now ≡ found.0.code = MatchOption-at_some _ (λ (d : FunctionDefinition). c.code-code.result.now ≡ d.code) found.0 found.1 c.code-code.ensures in
+    subst BranchesInside (sym same) (branches-inside c.args.m.now c.args.f found.0 c.module-module.ensures.bounds found.1)

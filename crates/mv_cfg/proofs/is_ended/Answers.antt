@@ -1,7 +1,10 @@
-use Rattle.mv_cfg.proofs.Ends.{ends_by_drains}
+use Rattle.std.proofs.Common.{not, sym, ap, ◌∙◌}
+use Rattle.std.specs.Option.{option_copied}
+use Rattle.mv_move_types.specs.Flow.{exit_falls_through}
+use Rattle.mv_cfg.proofs.Ends.{ends_well-read}
 use Rattle.mv_cfg.proofs.is_ended.Goals as goal
 
-pub returns : goal.returns
-returns c =
-    let h = c.last.ensures.ran in
-    ends_by_drains c.args.code h.0 c.last.result c.is_some_and.result h.1 h.2 c.is_some_and.ensures
+pub returns-in-Some : goal.returns-in-Some
+returns-in-Some c =
+    ap not (c.falls_through.ensures ∙ ap exit_falls_through c.exit.ensures)
+    ∙ sym (ends_well-read c.args.code.now c.in-Some.last.now (sym c.last.ensures.value ∙ ap option_copied c.in-Some.is))

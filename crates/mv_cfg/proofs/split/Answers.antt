@@ -1,28 +1,25 @@
-use Rattle.std.proofs.Common.{◌-◌, length, refl, List, subst, sym, ◌∙◌, arith}
-use Rattle.mv_move_types.specs.declared.instruction.Instruction.{Instruction}
-use Rattle.mv_cfg.proofs.Cuts.{IsCut, IsCut-on, IsCut-end, IsSplit-from_IsCut}
+use Rattle.std.proofs.Common.{◌≡◌, ◌<◌, ◌-◌, ℕ, ◌+◌, length, refl, sym, ap, ◌∙◌, arith}
+use Rattle.std.proofs.lemmas.List.{length_push}
+use Rattle.mv_cfg.proofs.Leads.{block-ends, leads-inside}
+use Rattle.mv_cfg.proofs.Tables.{split_one}
 use Rattle.mv_cfg.proofs.split.Goals as goal
 
-pub loop-instruction-preserved-then-is_block_end : goal.loop-instruction-preserved-then-is_block_end
-loop-instruction-preserved-then-is_block_end c =
-    let at = c.loop-instruction in
-    let i = c.len-size.result - length at.code in
-    let read = subst (λ (rest : List Instruction). IsCut c.args.code at.first i rest at.parts.items) c.in-Some.ensures.steps at.invariant in
-    rw (c.in_ok-push.ensures.items)
-    (IsCut-end c.args.code at.first i c.in-Some.instruction c.next.new.self at.parts.items _ read (sym c.is_block_end.ensures ∙ c.if-is_block_end.true) refl (omega arith) c.new-successors.ensures.items refl
-    (c.len-size.result - c.len.result) (c.len-size.result - length c.next.new.self) (omega arith) (omega arith))
+pub overflow_sub-last : goal.overflow_sub-last
+overflow_sub-last c = (block-ends c.args.code.now c.args.firsts.now c.loop-k.k c.end_of-last.result c.requires.firsts c.loop-k-test.true c.end_of-last.ensures).0
 
-pub loop-instruction-preserved : goal.loop-instruction-preserved
-loop-instruction-preserved c =
-    let at = c.loop-instruction in
-    let i = c.len-size.result - length at.code in
-    let read = subst (λ (rest : List Instruction). IsCut c.args.code at.first i rest at.parts.items) c.in-Some.ensures.steps at.invariant in
-    IsCut-on c.args.code at.first i c.in-Some.instruction c.next.new.self at.parts.items read (sym c.is_block_end.ensures ∙ c.if-is_block_end.false)
-    (c.len-size.result - length c.next.new.self) (omega arith)
+pub link-requires-clause-inside : goal.link-requires-clause-inside
+link-requires-clause-inside c = (block-ends c.args.code.now c.args.firsts.now c.loop-k.k c.end_of-last.result c.requires.firsts c.loop-k-test.true c.end_of-last.ensures).1
 
-pub returns : goal.returns
-returns c =
-    let at = c.loop-instruction in
-    let i = c.len-size.result - length at.code in
-    IsSplit-from_IsCut c.args.code at.first i at.parts.items c.requires
-    (subst (λ (rest : List Instruction). IsCut c.args.code at.first i rest at.parts.items) c.in_default.ensures.steps.0 at.invariant)
+pub link-requires-clause-next : goal.link-requires-clause-next
+link-requires-clause-next c =
+    leads-inside c.args.code.now c.args.firsts.now c.args.places.now c.loop-k.k c.end_of-last.result c.requires.ends c.requires.inside c.requires.firsts c.requires.places.size_is c.loop-k-test.true c.end_of-last.ensures
+
+pub loop-k-preserved : goal.loop-k-preserved
+loop-k-preserved c = record {
+  count = ap length c.in_ok-push.ensures.items ∙ length_push c.loop-k.blocks.items _ ∙ ap (λ n. n + 1) c.loop-k.invariant.count;
+  each = rw (c.in_ok-push.ensures.items) (split_one c.args.code.now c.args.firsts.now c.args.places.now c.loop-k.k c.loop-k.blocks.items _ c.loop-k.invariant.count c.loop-k.invariant.each (record {
+    first = refl;
+    last = ap (λ n. n - 1) c.end_of-last.ensures;
+    successors = c.in_ok-successors.ensures;
+  }));
+}

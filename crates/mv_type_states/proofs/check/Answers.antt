@@ -31,8 +31,8 @@ pub invariant_of-result : goal.invariant_of-result
 invariant_of-result c =
     let graphs = c.in_ok-graphs.ensures.ok in (
       record {
-        bounds = subst (λ (m : Module). InBounds m) c.m.view_is c.m.invariant.0;
-        defined = subst (λ (m : Module). WellDefined m) c.m.view_is c.m.invariant.1;
+        bounds = subst (λ (m : Module). InBounds m) c.m.view_is c.m.invariant.bounds;
+        defined = subst (λ (m : Module). WellDefined m) c.m.view_is c.m.invariant.definitions;
         signed = c.in_ok-check.ensures.ok;
         abilities = c.in_ok-check-2.ensures.ok;
         flow = FlowHolds-from_AreGraphs c.args.m c.in_ok-graphs.graphs.items graphs;

@@ -1,31 +1,39 @@
-use Rattle.std.proofs.Common.{◌≡◌, ◌+◌, ◌<◌, ◌≤◌, ◌++◌, ◌∷◌, [], length, Err, option_map, ap, arith, sym, ◌∙◌, vec_len}
+use Rattle.std.proofs.Common.{◌≡◌, ◌+◌, ◌<◌, ◌≤◌, ◌++◌, ◌∷◌, [], length, Err, option_map, refl, ap, arith, sym, ◌∙◌, vec_len}
 use Rattle.std.proofs.lemmas.Grind.{common_steps}
 use Rattle.std.proofs.lemmas.List.{map_push}
 use Rattle.std.proofs.lemmas.Option.{MatchOption-at_some}
-use Rattle.mv_binary_format.specs.Parsing.{without, begins_at}
+use Rattle.mv_move_types.specs.declared.refusal.Refusal.TheVariants.{Phase}
+use Rattle.mv_binary_format.specs.Parsing.{without, begins_at, contents_from}
 use Rattle.mv_binary_format.specs.Kinds.{header_of, headers_of}
 use Rattle.mv_binary_format.specs.Tables.{table_of, tables_of}
 use Rattle.mv_binary_format.proofs.Placed.{placed-next, placed-gap, placed-beyond, placed-cut, placed-done, length-without}
+use Rattle.mv_binary_format.proofs.Takings.{Takes-refused}
 use Rattle.mv_binary_format.proofs.Taken.{empty_map, some_map}
 use Rattle.mv_binary_format.proofs.contents.read_contents.Goals as goal
 
-pub returns-in_err-header-clause-refused : goal.returns-in_err-header-clause-refused
-returns-in_err-header-clause-refused c is =
+pub returns-in_err-header : goal.returns-in_err-header
+returns-in_err-header c =
     let n : length c.reading.headers.items ≡ vec_len c.reading.headers = grind (arith, common_steps) in
-    placed-gap (tables_of c.reading.tables.items) (headers_of c.reading.headers.items) c.reading.end c.reading.reader _ (some_map header_of c.reading.headers.items _ n c.reading-test.ensures)
-    (sym c.take_header.ensures.first ∙ ap (option_map header_of) c.in_err-header.ensures.ok_part) c.reading.invariant.goes
+    let r_is : c.from_residual-in_err-header.result ≡ Err (Phase 2) = grind (arith, common_steps) in
+    Takes-refused _ (contents_from (length (headers_of c.args.headers.items)) 0 (headers_of c.args.headers.items)) _ _ _ r_is
+    (placed-gap (tables_of c.reading.tables.items) (headers_of c.reading.headers.items) c.reading.end c.reading.reader _ (some_map header_of c.reading.headers.items _ n c.reading-test.ensures)
+    (sym c.take_header.ensures.first ∙ ap (option_map header_of) c.in_err-header.ensures.ok_part) c.reading.invariant.goes)
 
-pub returns-then-end-gt-MOST_BYTES-clause-refused : goal.returns-then-end-gt-MOST_BYTES-clause-refused
-returns-then-end-gt-MOST_BYTES-clause-refused c is =
-    let lt : 65536 < c.reading.end + c.in_ok-header.header.length = omega (arith, c.from-end.ensures) in
-    placed-beyond (tables_of c.reading.tables.items) (headers_of c.reading.headers.items) c.reading.end c.reading.reader (header_of c.in_ok-header.header) _
-    (sym c.take_header.ensures.first ∙ ap (option_map header_of) c.in_ok-header.ensures.ok_part) lt c.reading.invariant.goes
+pub returns-then-end-gt-MOST_BYTES : goal.returns-then-end-gt-MOST_BYTES
+returns-then-end-gt-MOST_BYTES c =
+    let lt : 65536 < c.reading.end + c.in_ok-header.header.length = omega (arith, c.from-end.ensures) in (
+      refl,
+      placed-beyond (tables_of c.reading.tables.items) (headers_of c.reading.headers.items) c.reading.end c.reading.reader (header_of c.in_ok-header.header) _
+      (sym c.take_header.ensures.first ∙ ap (option_map header_of) c.in_ok-header.ensures.ok_part) lt c.reading.invariant.goes,
+    )
 
-pub returns-in_err-content-clause-refused : goal.returns-in_err-content-clause-refused
-returns-in_err-content-clause-refused c is =
+pub returns-in_err-content : goal.returns-in_err-content
+returns-in_err-content c =
     let le : c.reading.end + c.in_ok-header.header.length ≤ 65536 = omega (arith, c.from-end.ensures) in
-    placed-cut (tables_of c.reading.tables.items) (headers_of c.reading.headers.items) c.reading.end c.reading.reader (header_of c.in_ok-header.header) _
-    (sym c.take_header.ensures.first ∙ ap (option_map header_of) c.in_ok-header.ensures.ok_part) le (c.in_err-content.ensures.refused (ap Err c.in_err-content.ensures.errors)) c.reading.invariant.goes
+    let r_is : c.from_residual-in_err-content.result ≡ Err (Phase 2) = grind (arith, common_steps, c.in_err-content.ensures.0) in
+    Takes-refused _ (contents_from (length (headers_of c.args.headers.items)) 0 (headers_of c.args.headers.items)) _ _ _ r_is
+    (placed-cut (tables_of c.reading.tables.items) (headers_of c.reading.headers.items) c.reading.end c.reading.reader (header_of c.in_ok-header.header) _
+    (sym c.take_header.ensures.first ∙ ap (option_map header_of) c.in_ok-header.ensures.ok_part) le c.in_err-content.ensures.1 c.reading.invariant.goes)
 
 pub reading-smaller : goal.reading-smaller
 reading-smaller c =
@@ -41,13 +49,13 @@ reading-preserved c =
     let seen : tables_of c.push.new.self.items ≡ tables_of c.reading.tables.items ++ record { kind = (header_of c.in_ok-header.header).kind; content = c.in_ok-content.content.now } ∷ [] =
     ap tables_of pushed ∙ map_push table_of c.reading.tables.items (record { kind = c.in_ok-header.header.kind; content = c.in_ok-content.content }) in
     let next = placed-next (tables_of c.reading.tables.items) (headers_of c.reading.headers.items) c.reading.end c.reading.reader (header_of c.in_ok-header.header) c.in_ok-content.content.now c.bytes.new.self _
-    (sym c.take_header.ensures.first ∙ ap (option_map header_of) c.in_ok-header.ensures.ok_part) le c.in_ok-content.ensures.ok c.reading.invariant.goes in
+    (sym c.take_header.ensures.first ∙ ap (option_map header_of) c.in_ok-header.ensures.ok_part) le c.in_ok-content.ensures c.reading.invariant.goes in
     record {
       small = omega arith;
       goes = rw (seen, others, c.from-end.ensures) next;
     }
 
-pub returns-clause-ok : goal.returns-clause-ok
-returns-clause-ok c =
+pub returns : goal.returns
+returns c =
     let n : length c.reading.headers.items ≡ vec_len c.reading.headers = grind (arith, common_steps) in
     placed-done (tables_of c.reading.tables.items) (headers_of c.reading.headers.items) c.reading.end c.reading.reader _ (empty_map header_of c.reading.headers.items _ n c.reading-test.ensures) c.reading.invariant.goes

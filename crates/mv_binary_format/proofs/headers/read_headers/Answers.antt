@@ -6,15 +6,10 @@ use Rattle.mv_binary_format.specs.Kinds.{header_of, headers_of}
 use Rattle.mv_binary_format.proofs.Loops.{ReadsOn, ReadsOn-next, ReadsOn-stops}
 use Rattle.mv_binary_format.proofs.headers.read_headers.Goals as goal
 
-pub returns-in_err-header-clause-refused : goal.returns-in_err-header-clause-refused
-returns-in_err-header-clause-refused c is =
-    ReadsOn-stops header_from 8 c.in_ok-count.count c.reading.counter c.args.reader.now c.number.new.self (headers_of c.reading.headers.items) c.reading.reader
-    c.in_ok-count.ensures.ok (omega arith) (c.in_err-header.ensures.refused (ap Err c.in_err-header.ensures.errors)) c.reading.invariant
-
 pub reading-preserved : goal.reading-preserved
 reading-preserved c =
     let pushed : c.push.new.self.items ≡ c.reading.headers.items ++ c.in_ok-header.header ∷ [] = grind (arith, common_steps) in
     let seen : headers_of c.push.new.self.items ≡ headers_of c.reading.headers.items ++ header_of c.in_ok-header.header ∷ [] = ap headers_of pushed ∙ map_push header_of c.reading.headers.items c.in_ok-header.header in
     subst (λ z. ReadsOn header_from c.in_ok-count.count (c.reading.counter + 1) c.number.new.self z c.read_header.new.reader) (sym seen)
     (ReadsOn-next header_from c.in_ok-count.count c.reading.counter c.number.new.self (headers_of c.reading.headers.items) c.reading.reader c.read_header.new.reader (header_of c.in_ok-header.header)
-    (omega arith) c.in_ok-header.ensures.ok c.reading.invariant)
+    (omega arith) c.in_ok-header.ensures c.reading.invariant)

@@ -1,19 +1,19 @@
-use Rattle.std.proofs.Common.{[], ◌∷◌, map}
-use Rattle.mv_module_text.specs.Entries.{module_handle_text, struct_handle_text, function_handle_text, signature_text, identifier_text, address_text, struct_definition_text}
-use Rattle.mv_binary_format.specs.ModuleText.{table}
+use Rattle.std.proofs.Common.{[]}
 use Rattle.mv_binary_format.specs.Written.{written_headers, AreOf}
 use Rattle.mv_binary_format.proofs.Ordered.{AreOf-start}
 use Rattle.mv_binary_format.proofs.layout.lay_out.Goals as goal
 
 pub returns : goal.returns
 returns c =
-    let t0 : AreOf [] (written_headers c.new-headers.result.items) c.new-contents.result.items = rw (c.new-headers.ensures.items, c.new-contents.ensures.items) AreOf-start in
-    let t1 = c.in_ok-add_module_handles.ensures [] t0 in
-    let t2 = c.in_ok-add_struct_handles.ensures (table 0x01 module_handle_text c.module_handles.result.now ∷ []) t1 in
-    let t3 = c.in_ok-add_function_handles.ensures (table 0x01 module_handle_text c.module_handles.result.now ∷ table 0x02 struct_handle_text c.struct_handles.result.now ∷ []) t2 in
-    let t4 = c.in_ok-add_signatures.ensures (table 0x01 module_handle_text c.module_handles.result.now ∷ table 0x02 struct_handle_text c.struct_handles.result.now ∷ table 0x03 function_handle_text c.function_handles.result.now ∷ []) t3 in
-    let t5 = c.in_ok-add_identifiers.ensures (table 0x01 module_handle_text c.module_handles.result.now ∷ table 0x02 struct_handle_text c.struct_handles.result.now ∷ table 0x03 function_handle_text c.function_handles.result.now ∷ table 0x05 signature_text (map (λ s. s.items) c.signatures.result.now) ∷ []) t4 in
-    let t6 = c.in_ok-add_addresses.ensures (table 0x01 module_handle_text c.module_handles.result.now ∷ table 0x02 struct_handle_text c.struct_handles.result.now ∷ table 0x03 function_handle_text c.function_handles.result.now ∷ table 0x05 signature_text (map (λ s. s.items) c.signatures.result.now) ∷ table 0x07 identifier_text (map (λ name. name.now) c.identifiers.result.now) ∷ []) t5 in
-    let t7 = c.in_ok-add_structs.ensures (table 0x01 module_handle_text c.module_handles.result.now ∷ table 0x02 struct_handle_text c.struct_handles.result.now ∷ table 0x03 function_handle_text c.function_handles.result.now ∷ table 0x05 signature_text (map (λ s. s.items) c.signatures.result.now) ∷ table 0x07 identifier_text (map (λ name. name.now) c.identifiers.result.now) ∷ table 0x08 address_text c.addresses.result.now ∷ []) t6 in
-    let t8 = c.in_ok-add_functions.ensures (table 0x01 module_handle_text c.module_handles.result.now ∷ table 0x02 struct_handle_text c.struct_handles.result.now ∷ table 0x03 function_handle_text c.function_handles.result.now ∷ table 0x05 signature_text (map (λ s. s.items) c.signatures.result.now) ∷ table 0x07 identifier_text (map (λ name. name.now) c.identifiers.result.now) ∷ table 0x08 address_text c.addresses.result.now ∷ table 0x0A struct_definition_text c.structs.result.now ∷ []) t7 in
-    rw (← c.module_handles.ensures, ← c.struct_handles.ensures, ← c.function_handles.ensures, ← c.signatures.ensures, ← c.identifiers.ensures, ← c.addresses.ensures, ← c.structs.ensures.value, ← c.functions.ensures.value) t8
+    let t0 : AreOf [] (written_headers c.new.result.items) c.new-2.result.items = rw (c.new.ensures.items, c.new-2.ensures.items) AreOf-start in
+    let t1 = c.in_ok-add_table.ensures _ t0 in
+    let t2 = c.in_ok-add_table-2.ensures _ t1 in
+    let t3 = c.in_ok-add_table-3.ensures _ t2 in
+    let t4 = c.in_ok-add_table-4.ensures _ t3 in
+    let t5 = c.in_ok-add_table-5.ensures _ t4 in
+    let t6 = c.in_ok-add_table-6.ensures _ t5 in
+    let t7 = c.in_ok-add_table-7.ensures _ t6 in
+    let t8 = c.in_ok-add_table-8.ensures _ t7 in
+    let t9 = c.in_ok-add_table-9.ensures _ t8 in
+    let t10 = c.in_ok-add_table-10.ensures _ t9 in
+    rw (← c.module_handles.ensures, ← c.struct_handles.ensures, ← c.function_handles.ensures, ← c.signatures.ensures, ← c.constants.ensures, ← c.identifiers.ensures, ← c.addresses.ensures, ← c.structs.ensures.value, ← c.functions.ensures.value, ← c.field_handles.ensures) t10

@@ -1,12 +1,10 @@
-use Rattle.std.proofs.Common.{◌≡◌, reverse, take, drop}
+use Rattle.std.proofs.Common.{◌≡◌, drop, length, reverse, IsSome}
+use Rattle.mv_stack_use.specs.Heights.{height_through}
 use Rattle.mv_type_states.specs.TypesHold.{types_through}
 use Rattle.mv_type_states.proofs.passes.carry.Given as goal
 
--- what is left leads from the types as they are to where the whole leads from the first
-abbrev pub invariant-loop-left : goal.invariant-loop-left
-invariant-loop-left l =
-    (types_through l.scope.module.now l.scope.function.now (take l.left l.code) (reverse l.stack.items) ≡ types_through l.scope.module.now l.scope.function.now (take l.fn.count l.fn.code) (reverse l.fn.stack.items))
-    × (drop l.left l.code ≡ drop l.fn.count l.fn.code)
-
-abbrev pub decreases-loop-left : goal.decreases-loop-left
-decreases-loop-left l = l.left
+-- what is left leads from the types as they are to where the whole leads from the first, and there is room for it
+abbrev pub invariant-loop-instruction : goal.invariant-loop-instruction
+invariant-loop-instruction l =
+    (types_through l.scope.module.now l.scope.function.now l.code (reverse l.fn.stack.items) ≡ types_through l.scope.module.now l.scope.function.now (drop l.instruction-index l.code) (reverse l.stack.items))
+    × IsSome (height_through l.scope.module.now l.scope.function.now (drop l.instruction-index l.code) (length (reverse l.stack.items)))

@@ -1,15 +1,24 @@
-use Rattle.std.proofs.Common.{refl, reverse}
+use Rattle.std.proofs.Common.{◌≡◌, IfSome, Some, refl, reverse}
+use Rattle.std.proofs.lemmas.Option.{MatchOption-at_some}
 use Rattle.std.proofs.lemmas.Result.{err_from_is_err_and}
+use Rattle.mv_move_types.specs.Module.{FunctionDefinition, result_tokens}
+use Rattle.mv_type_states.proofs.ReturnLemmas.{of_return-results}
 use Rattle.mv_type_states.proofs.Stacks.{alone-refused, alone-left, full_stack}
 use Rattle.mv_type_states.proofs.scope.Scope.ret.Goals as goal
 
 pub returns-in_err-pop_all : goal.returns-in_err-pop_all
 returns-in_err-pop_all c =
+    let m = c.args.self.now.module.now in
+    let d = c.args.self.now.function.now in
+    let known = MatchOption-at_some _ (λ (x : FunctionDefinition). result_tokens m x ≡ Some c.results.result.now) d c.requires c.results.ensures in
     let p = err_from_is_err_and c.from_residual.result c.from_residual.ensures.1 in
-    rw (p.1, p.2, c.requires.is_handle, c.requires.results)
-    (alone-refused _ c.args.self.now.results.now (reverse c.args.stack.now.items) _ c.in_err-pop_all.ensures)
+    rw (p.1, p.2, of_return-results m d c.results.result.now (reverse c.args.stack.now.items) known)
+    (alone-refused _ c.results.result.now (reverse c.args.stack.now.items) _ c.in_err-pop_all.ensures)
 
 pub returns-else-is_empty : goal.returns-else-is_empty
 returns-else-is_empty c =
-    rw (c.requires.is_handle, c.requires.results)
-    (refl, alone-left c.args.self.now.results.now (reverse c.args.stack.now.items) c.pop_all.new.stack.items c.in_ok-pop_all.ensures (full_stack c.pop_all.new.stack c.is_empty.result c.is_empty.ensures c.if-is_empty.false))
+    let m = c.args.self.now.module.now in
+    let d = c.args.self.now.function.now in
+    let known = MatchOption-at_some _ (λ (x : FunctionDefinition). result_tokens m x ≡ Some c.results.result.now) d c.requires c.results.ensures in
+    rw (of_return-results m d c.results.result.now (reverse c.args.stack.now.items) known)
+    (refl, alone-left c.results.result.now (reverse c.args.stack.now.items) c.pop_all.new.stack.items c.in_ok-pop_all.ensures (full_stack c.pop_all.new.stack c.is_empty.result c.is_empty.ensures c.if-is_empty.false))

@@ -1,0 +1,17 @@
+use Rattle.std.proofs.Common.{◌≡◌, ◌-◌, ◌≤◌, true, length, take, drop}
+use Rattle.std.specs.List.{list_all}
+use Rattle.mv_edges.specs.Ascending.{edge_before}
+use Rattle.mv_edges.proofs.Counting.{Spends}
+use Rattle.mv_edges.proofs.search.place_of.Given as goal
+
+abbrev pub invariant-loop-low : goal.invariant-loop-low
+invariant-loop-low l = record {
+  order : l.low ≤ l.high;
+  within : l.high ≤ length l.items;
+  before : list_all (λ x. edge_before x l.e) (take l.low l.items) ≡ true;
+  after : list_all (edge_before l.e) (drop l.high l.items) ≡ true;
+  count : Spends (l.high - l.low) (length l.items) l.fn.comparisons l.comparisons;
+}
+
+abbrev pub decreases-loop-low : goal.decreases-loop-low
+decreases-loop-low l = l.high - l.low

@@ -1,0 +1,139 @@
+// Where one place lies below another: labels and their order.
+ghost use Rattle.std.specs.Prelude.{◌≡◌, IfOk};
+ghost use Rattle.mv_edges.specs.Edges.{here, extended, opened, changed, agrees, label_leq};
+
+use std::alloc::{AllocError, Global};
+use std::marker::Model;
+
+/// A list of field positions: exactly these, or, of an open label, these and any more.
+///
+/// A position fits a byte, since a struct has at most 32 fields (this project's own rule).
+#[derive(Drop, Debug)]
+pub struct Label {
+    path: Vec<u8>,
+    is_open: bool,
+}
+
+impl Model for Label {
+    ghost use Rattle.mv_edges.specs.Edges.{Label as LabelRecord};
+
+    ghost Value = { LabelRecord };
+
+    ghost view = { λ l. record { path = l.path.items; is_open = l.is_open } };
+}
+
+impl Label {
+    /// The label of these positions.
+    pub fn new(path: Vec<u8>, is_open: bool) -> Self
+        ensures { result ≡ record { path = path.items; is_open = is_open } }
+    {
+        Label { path, is_open }
+    }
+
+    /// The label of the place itself: no position, exact.
+    pub fn here(alloc: Global) -> Self
+        ensures { result ≡ here }
+    {
+        Label::new(Vec::new(alloc), false)
+    }
+
+    /// The positions.
+    pub fn path(&self) -> &[u8]
+        ensures { result.now ≡ self.now.path }
+    {
+        &self.path
+    }
+
+    /// Whether any more positions may follow.
+    pub fn is_open(&self) -> bool
+        ensures { result ≡ self.now.is_open }
+    {
+        self.is_open
+    }
+
+    /// An equal label.
+    pub fn copy(&self, alloc: Global) -> Result<Self, AllocError>
+        ensures { IfOk result (λ l. l ≡ self.now) }
+    {
+        Ok(Label::new(Vec::from_slice(alloc, &self.path)?, self.is_open))
+    }
+
+    /// Whether the label is the other, or the other is open and its positions begin this one's.
+    #[tactic(auto, using(crate::proofs::Comparisons::starts_with_begins))]
+    pub fn is_below(&self, other: &Label) -> bool
+        ensures { result ≡ label_leq self.now other.now }
+    {
+        self == other || other.is_open && self.path.starts_with(&other.path)
+    }
+
+    /// Whether the list is empty or begins with the position.
+    #[tactic(auto, using(crate::proofs::Comparisons::agrees_first))]
+    pub fn agrees(&self, position: u8) -> bool
+        ensures { result ≡ agrees position self.now }
+    {
+        match self.path.first() {
+            Some(first) => *first == position,
+            None => true,
+        }
+    }
+
+    /// The label one position longer, if it is exact; what is open stays as it is.
+    pub fn extended(&self, alloc: Global, position: u8) -> Result<Self, AllocError>
+        ensures { IfOk result (λ l. l ≡ extended position self.now) }
+    {
+        let mut path = Vec::from_slice(alloc, &self.path)?;
+        if !self.is_open {
+            path.push(position)?;
+        }
+        Ok(Label::new(path, self.is_open))
+    }
+
+    /// The label that allows anything below, too.
+    pub fn opened(&self, alloc: Global) -> Result<Self, AllocError>
+        ensures { IfOk result (λ l. l ≡ opened self.now) }
+    {
+        Ok(Label::new(Vec::from_slice(alloc, &self.path)?, true))
+    }
+
+    /// The label with a change made to it.
+    pub fn changed(&self, alloc: Global, change: Change) -> Result<Self, AllocError>
+        ensures { IfOk result (λ l. l ≡ changed change self.now) }
+    {
+        match change {
+            Change::Kept => self.copy(alloc),
+            Change::Extended(position) => self.extended(alloc, position),
+            Change::Opened => self.opened(alloc),
+        }
+    }
+}
+
+impl PartialEq for Label {
+    ghost use Rattle.mv_edges.specs.Edges.{same_label};
+    ghost use Rattle.mv_edges.specs.Equality.{same_label_equiv};
+    ghost use Rattle.std.specs.Cmp.{partial_equiv_from_equiv};
+
+    ghost eq = { same_label };
+
+    ghost laws = { partial_equiv_from_equiv same_label_equiv };
+
+    fn eq(&self, other: &Self) -> bool {
+        self.path == other.path && self.is_open == other.is_open
+    }
+}
+
+impl Eq for Label {
+    ghost use Rattle.mv_edges.specs.Equality.{same_label_equiv};
+
+    ghost laws = { same_label_equiv };
+}
+
+/// What becomes of a label where another reference takes over an edge.
+#[derive(Clone, Copy, PartialEq, Eq, Debug)]
+pub enum Change {
+    /// It stays.
+    Kept,
+    /// One position follows, if the label is exact.
+    Extended(u8),
+    /// Any positions may follow.
+    Opened,
+}

@@ -1,0 +1,111 @@
+// A search by halves, and the order of edges.
+ghost use Rattle.std.specs.Prelude.{◌≡◌, ◌+◌, ◌*◌, ◌^◌, ◌≤◌, ◌-◌, min, Some, length, take, drop, slice_get, IfOk, IfErr, IsTrue};
+ghost use Rattle.std.specs.List.{list_all, list_any};
+ghost use Rattle.mv_edges.specs.Edges.{same_edge, edge_leq, edges_leq, longest};
+ghost use Rattle.mv_edges.specs.Ascending.{edge_before, edge_order, are_ascending};
+ghost use Rattle.mv_edges.specs.Counts.{IsWithin};
+
+use super::edge::EdgeView;
+use super::{Edge, Edges};
+use std::cmp::Ordering;
+
+/// The smaller of two numbers.
+fn smaller(a: usize, b: usize) -> usize
+    ensures { result ≡ min a b }
+{
+    if a < b { a } else { b }
+}
+
+/// Compares two edges, and counts it.
+fn counted_order(a: &EdgeView<'_>, b: &EdgeView<'_>, comparisons: &mut u64) -> Ordering
+    ensures order { result ≡ edge_order a.now b.now }
+    ensures count { comparisons.new ≡ min (comparisons.old + 1) (2 ^ 64 - 1) }
+{
+    *comparisons = comparisons.saturating_add(1);
+    a.order(b)
+}
+
+/// The place of an edge among ascending ones, or, as an `Err`, the place where it would stand.
+fn place_of(items: &[Edge], e: &EdgeView<'_>, comparisons: &mut u64) -> Result<usize, usize>
+    requires { IsTrue (are_ascending items.now) }
+    ensures found { IfOk result (λ place. slice_get items.now place ≡ Some e.now) }
+    ensures within { IfErr result (λ place. place ≤ length items.now) }
+    ensures before { IfErr result (λ place. IsTrue (list_all (λ x. edge_before x e.now) (take place items.now))) }
+    ensures after { IfErr result (λ place. IsTrue (list_all (edge_before e.now) (drop place items.now))) }
+    ensures count { IsWithin (length items.now) 1 comparisons.old comparisons.new }
+{
+    let mut low = 0;
+    let mut high = items.len();
+    while low < high {
+        let middle = low + (high - low) / 2;
+        match counted_order(&items[middle].view(), e, comparisons) {
+            Ordering::Less => low = middle + 1,
+            Ordering::Equal => return Ok(middle),
+            Ordering::Greater => high = middle,
+        }
+    }
+    Err(low)
+}
+
+impl Edges {
+    /// The place of an edge, or, as an `Err`, the place where it would stand.
+    pub(crate) fn search(&self, e: &EdgeView<'_>, comparisons: &mut u64) -> Result<usize, usize>
+        ensures found { IfOk result (λ place. slice_get self.now place ≡ Some e.now) }
+        ensures within { IfErr result (λ place. place ≤ length self.now) }
+        ensures before { IfErr result (λ place. IsTrue (list_all (λ x. edge_before x e.now) (take place self.now))) }
+        ensures after { IfErr result (λ place. IsTrue (list_all (edge_before e.now) (drop place self.now))) }
+        ensures count { IsWithin (length self.now) 1 comparisons.old comparisons.new }
+    {
+        place_of(self.as_slice(), e, comparisons)
+    }
+
+    /// Whether an edge is one of them.
+    fn has(&self, e: &EdgeView<'_>, comparisons: &mut u64) -> bool
+        ensures value { result ≡ list_any (same_edge e.now) self.now }
+        ensures count { IsWithin (length self.now) 1 comparisons.old comparisons.new }
+    {
+        self.search(e, comparisons).is_ok()
+    }
+
+    /// Whether one of the edges is above another: that edge itself, or the open one of a prefix of its list.
+    fn reach(&self, e: &EdgeView<'_>, comparisons: &mut u64) -> bool
+        ensures value { result ≡ list_any (edge_leq e.now) self.now }
+        ensures count { IsWithin (length self.now) (longest self.now + 2) comparisons.old comparisons.new }
+    {
+        if self.has(e, comparisons) {
+            return true;
+        }
+        let most = smaller(e.depth(), self.longest());
+        for count in 0..most {
+            if self.has(&e.opened_at(count), comparisons) {
+                return true;
+            }
+        }
+        let last = e.opened_at(most);
+        self.has(&last, comparisons)
+    }
+
+    /// Whether each edge is below one of the other's.
+    pub fn leq(&self, other: &Edges) -> bool
+        ensures { result ≡ edges_leq self.now other.now }
+    {
+        Edges::leq_counted(self, other, &mut 0)
+    }
+
+    /// Whether each edge of `a` is below one of `b`. Each comparison of two edges adds one to the count, which stops at
+    /// `u64::MAX`.
+    ///
+    /// Where `b` has at most 1,024 edges and lists of at most 8 positions, that is at most 110 for each edge of `a`: 10
+    /// searches of at most 11 comparisons.
+    pub fn leq_counted(a: &Edges, b: &Edges, comparisons: &mut u64) -> bool
+        ensures value { result ≡ edges_leq a.now b.now }
+        ensures count { length b.now ≤ 1024 → longest b.now ≤ 8 → comparisons.new ≤ comparisons.old + 110 * length a.now }
+    {
+        for e in a.as_slice() {
+            if !b.reach(&e.view(), comparisons) {
+                return false;
+            }
+        }
+        true
+    }
+}

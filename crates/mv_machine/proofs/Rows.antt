@@ -1,0 +1,145 @@
+-- Worked runs of single functions, by computation.
+use Rattle.std.specs.Prelude.{◌≡◌, refl, ℕ, true, false, List, [], ◌∷◌}
+use Rattle.mv_move_types.specs.declared.token.Token.{Token}
+use Rattle.mv_move_types.specs.declared.instruction.Instruction.{Instruction}
+use Rattle.mv_move_types.specs.declared.tables.Visibility.TheVariants.{Public}
+use Rattle.mv_move_types.specs.declared.token.Width.TheVariants.{U64}
+use Rattle.mv_move_types.specs.declared.token.LeafKind.TheVariants.{Number, Address}
+use Rattle.mv_move_types.specs.declared.token.ValueType.TheVariants.{OfLeaf, OfStruct}
+use Rattle.mv_move_types.specs.declared.token.Token.TheVariants.{Plain, Reference as ReferenceTo, MutableReference as MutableReferenceTo}
+use Rattle.mv_move_types.specs.declared.instruction.Instruction.TheVariants.{Pop, Ret, BrTrue, Branch, LdU64, CopyLoc, MoveLoc, StLoc, MutBorrowLoc, ImmBorrowLoc, MutBorrowField, ImmBorrowField, Pack, ReadRef, WriteRef, Add, Sub, Mod, Eq, Abort, Exists, ImmBorrowGlobal, MoveFrom, FreezeRef, Shl, LdU8, LdU128, CastU8}
+use Rattle.mv_move_types.specs.Module.{Module}
+use Rattle.mv_machine.specs.declared.Kind.TheVariants.{Code, Arith, Missing}
+use Rattle.mv_machine.specs.Value.{Value, Leaf, Struct, NoMore, More}
+use Rattle.mv_machine.specs.State.{Storage}
+use Rattle.mv_machine.specs.Typing.{LostFault, FrozenFault}
+use Rattle.mv_machine.specs.Run.{RunOutcome, Returned, Aborted, Faulted, run}
+use Rattle.mv_machine.proofs.Computed.{computed}
+
+abbrev pub u64 : Token
+u64 = Plain (OfLeaf (Number U64))
+
+-- a module of one function f with these parameters, further locals and code, beside a struct of two numbers with drop and a coin with key
+abbrev pub one_function : List Token → List Token → List Instruction → Module
+one_function parameters others code = record {
+  version = 5;
+  module_handles = record { address = 0; name = 0 } ∷ [];
+  struct_handles = record { «module» = 0; name = 1; abilities = record { copy = false; drop = true; store = false; key = false } } ∷ record { «module» = 0; name = 5; abilities = record { copy = false; drop = false; store = true; key = true } } ∷ [];
+  function_handles = record { «module» = 0; name = 2; parameters = 0; results = 2 } ∷ [];
+  signatures = parameters ∷ others ∷ [] ∷ [];
+  constants = [];
+  identifiers = (77 ∷ []) ∷ (80 ∷ []) ∷ (102 ∷ []) ∷ (97 ∷ []) ∷ (98 ∷ []) ∷ (67 ∷ []) ∷ [];
+  addresses = 1 ∷ [];
+  structs = record { handle = 0; fields = record { name = 3; token = u64 } ∷ record { name = 4; token = u64 } ∷ [] } ∷ record { handle = 1; fields = record { name = 3; token = u64 } ∷ [] } ∷ [];
+  functions = record { handle = 0; visibility = Public; is_entry = true; acquires = []; locals = 1; code = code } ∷ [];
+  field_handles = record { definition = 0; position = 0 } ∷ record { definition = 0; position = 1 } ∷ record { definition = 1; position = 0 } ∷ [];
+  own = 0;
+}
+
+-- the outcome of f with these arguments, in at most so many steps
+abbrev pub of_f : Module → List Value → ℕ → RunOutcome
+of_f m arguments budget = run (m ∷ []) [] (record { function = record { place = 0; index = 0 }; arguments = arguments }) budget
+
+abbrev pub two_numbers : Token
+two_numbers = Plain (OfStruct 0)
+
+-- a loop that writes through a reference to a local
+abbrev pub looping : Module
+looping = one_function (u64 ∷ []) (u64 ∷ MutableReferenceTo (OfLeaf (Number U64)) ∷ []) (LdU64 0 ∷ StLoc 1 ∷ MutBorrowLoc 1 ∷ StLoc 2 ∷ CopyLoc 0 ∷ LdU64 0 ∷ Eq ∷ BrTrue 16 ∷ CopyLoc 0 ∷ LdU64 1 ∷ Sub ∷ StLoc 0 ∷ CopyLoc 0 ∷ CopyLoc 2 ∷ WriteRef ∷ Branch 4 ∷ Ret ∷ [])
+
+looping_2 : of_f looping (Leaf (Number U64) 2 ∷ []) 100 ≡ Returned 33 [] []
+unfolding computed
+looping_2 = refl
+
+looping_0 : of_f looping (Leaf (Number U64) 0 ∷ []) 100 ≡ Returned 9 [] []
+unfolding computed
+looping_0 = refl
+
+-- a write while an immutable reference to the same place is live
+frozen_write : of_f (one_function (u64 ∷ []) (MutableReferenceTo (OfLeaf (Number U64)) ∷ []) (MutBorrowLoc 0 ∷ StLoc 1 ∷ CopyLoc 1 ∷ FreezeRef ∷ LdU64 9 ∷ MoveLoc 1 ∷ WriteRef ∷ Pop ∷ Ret ∷ [])) (Leaf (Number U64) 1 ∷ []) 100 ≡ Faulted FrozenFault 7
+unfolding computed
+frozen_write = refl
+
+-- the same after that reference is gone
+thawed_write : of_f (one_function (u64 ∷ []) (MutableReferenceTo (OfLeaf (Number U64)) ∷ []) (MutBorrowLoc 0 ∷ StLoc 1 ∷ CopyLoc 1 ∷ FreezeRef ∷ Pop ∷ LdU64 9 ∷ MoveLoc 1 ∷ WriteRef ∷ Ret ∷ [])) (Leaf (Number U64) 1 ∷ []) 100 ≡ Returned 9 [] []
+unfolding computed
+thawed_write = refl
+
+-- a write to field b, or to field a, while field a is borrowed
+abbrev pub beside : Instruction → Module
+beside borrow = one_function [] (two_numbers ∷ MutableReferenceTo (OfStruct 0) ∷ []) (LdU64 1 ∷ LdU64 2 ∷ Pack 0 ∷ StLoc 0 ∷ MutBorrowLoc 0 ∷ StLoc 1 ∷ CopyLoc 1 ∷ ImmBorrowField 0 ∷ LdU64 3 ∷ MoveLoc 1 ∷ borrow ∷ WriteRef ∷ ReadRef ∷ Pop ∷ Ret ∷ [])
+
+abbrev pub steps_of : RunOutcome → ℕ
+steps_of (Returned n storage tally) = n
+steps_of _ = 0
+
+other_field : steps_of (of_f (beside (MutBorrowField 1)) [] 100) ≡ 15
+unfolding computed
+other_field = refl
+
+same_field : of_f (beside (MutBorrowField 0)) [] 100 ≡ Faulted FrozenFault 12
+unfolding computed
+same_field = refl
+
+-- a result that refers to the frame that ends
+frozen_end : of_f (record (one_function (u64 ∷ []) [] (ImmBorrowLoc 0 ∷ Ret ∷ [])) { signatures = (u64 ∷ []) ∷ [] ∷ (ReferenceTo (OfLeaf (Number U64)) ∷ []) ∷ [] }) (Leaf (Number U64) 1 ∷ []) 100 ≡ Faulted FrozenFault 2
+unfolding computed
+frozen_end = refl
+
+-- a stored value is taken while an immutable reference to it is live
+abbrev taken_while_borrowed : Module
+taken_while_borrowed = one_function (Plain (OfLeaf Address) ∷ []) [] (CopyLoc 0 ∷ ImmBorrowGlobal 1 ∷ MoveLoc 0 ∷ MoveFrom 1 ∷ Ret ∷ [])
+
+abbrev coin_at_1 : Storage
+coin_at_1 = record { key = record { address = 1; place = 0; index = 1 }; value = Struct (record { home = record { address = 1; name = 77 ∷ [] }; name = 67 ∷ [] }) (More (Leaf (Number U64) 7) NoMore) } ∷ []
+
+frozen_removal : run (taken_while_borrowed ∷ []) coin_at_1 (record { function = record { place = 0; index = 0 }; arguments = Leaf Address 1 ∷ [] }) 100 ≡ Faulted FrozenFault 4
+unfolding computed
+frozen_removal = refl
+
+-- the number is at another address
+missing_there : run (taken_while_borrowed ∷ []) coin_at_1 (record { function = record { place = 0; index = 0 }; arguments = Leaf Address 2 ∷ [] }) 100 ≡ Aborted Missing 0 2
+unfolding computed
+missing_there = refl
+
+-- whether a value is stored
+abbrev asked : ℕ → RunOutcome
+asked address = run (one_function (Plain (OfLeaf Address) ∷ []) [] (MoveLoc 0 ∷ Exists 1 ∷ BrTrue 5 ∷ LdU64 0 ∷ Abort ∷ LdU64 1 ∷ Abort ∷ []) ∷ []) coin_at_1 (record { function = record { place = 0; index = 0 }; arguments = Leaf Address address ∷ [] }) 100
+
+stored_there : asked 1 ≡ Aborted Code 1 5
+unfolding computed
+stored_there = refl
+
+not_stored_there : asked 2 ≡ Aborted Code 0 5
+unfolding computed
+not_stored_there = refl
+
+-- a moved local is read
+moved_read : of_f (one_function (u64 ∷ []) [] (MoveLoc 0 ∷ Pop ∷ CopyLoc 0 ∷ Pop ∷ Ret ∷ [])) (Leaf (Number U64) 1 ∷ []) 100 ≡ Faulted LostFault 3
+unfolding computed
+moved_read = refl
+
+-- arithmetic that leaves its range
+sum_too_large : of_f (one_function [] [] (LdU128 340282366920938463463374607431768211455 ∷ LdU128 1 ∷ Add ∷ Pop ∷ Ret ∷ [])) [] 100 ≡ Aborted Arith 0 3
+unfolding computed
+sum_too_large = refl
+
+shift_too_far : of_f (one_function [] [] (LdU128 3 ∷ LdU8 128 ∷ Shl ∷ Pop ∷ Ret ∷ [])) [] 100 ≡ Aborted Arith 0 3
+unfolding computed
+shift_too_far = refl
+
+cast_too_large : of_f (one_function [] [] (LdU64 256 ∷ CastU8 ∷ Pop ∷ Ret ∷ [])) [] 100 ≡ Aborted Arith 0 2
+unfolding computed
+cast_too_large = refl
+
+no_divisor : of_f (one_function [] [] (LdU64 7 ∷ LdU64 0 ∷ Mod ∷ Pop ∷ Ret ∷ [])) [] 100 ≡ Aborted Arith 0 3
+unfolding computed
+no_divisor = refl
+
+own_code : of_f (one_function [] [] (LdU64 42 ∷ Abort ∷ [])) [] 100 ≡ Aborted Code 42 2
+unfolding computed
+own_code = refl
+
+top_bit : of_f (one_function [] [] (LdU128 3 ∷ LdU8 127 ∷ Shl ∷ LdU128 170141183460469231731687303715884105728 ∷ Eq ∷ BrTrue 8 ∷ LdU64 6 ∷ Abort ∷ Ret ∷ [])) [] 100 ≡ Returned 7 [] []
+unfolding computed
+top_bit = refl

@@ -1,0 +1,56 @@
+// What takes an operand away, returns and calls.
+ghost use Rattle.std.specs.Prelude.{reverse};
+ghost use Rattle.mv_type_states.specs.TypeRules.{of_pop, of_return, of_call};
+ghost use Rattle.mv_type_states.specs.Answers.{Follows};
+ghost use Rattle.mv_type_states.specs.Scopes.{IsScope};
+
+use crate::scope::Scope;
+use crate::stack::{abilities, pop_all, push_all, take_top};
+use mv_bounds::Bounded;
+use mv_move_types::{Refusal, Token};
+
+/// Takes a value that may be dropped.
+pub fn pop_any(m: &Bounded<'_>, stack: &mut Vec<Token>) -> Result<(), Refusal>
+    ensures { Follows result (of_pop m.now (reverse stack.old.items)) (reverse stack.new.items) }
+{
+    let token = take_top(stack)?;
+    let abilities = abilities(m, token)?;
+    if abilities.drop {
+        Ok(())
+    } else {
+        Err(Refusal::Phase(8))
+    }
+}
+
+/// Takes the parameters of a called function, and gives its results.
+pub fn call(m: &Bounded<'_>, index: u16, stack: &mut Vec<Token>) -> Result<(), Refusal>
+    ensures { Follows result (of_call m.now index (reverse stack.old.items)) (reverse stack.new.items) }
+{
+    let module = m.module();
+    let Some(handle) = module.function_handles().get(usize::from(index)) else {
+        return Err(Refusal::Phase(8));
+    };
+    let Some(parameters) = module.signature(usize::from(handle.parameters)) else {
+        return Err(Refusal::Phase(8));
+    };
+    let Some(results) = module.signature(usize::from(handle.results)) else {
+        return Err(Refusal::Phase(8));
+    };
+    pop_all(stack, parameters)?;
+    push_all(stack, results)
+}
+
+impl<'s, 'a> Scope<'s, 'a> {
+    /// Takes the results, where nothing else is on the stack.
+    pub fn ret(&self, stack: &mut Vec<Token>) -> Result<(), Refusal>
+        requires { IsScope self.now }
+        ensures { Follows result (of_return self.now.module.now self.now.function.now (reverse stack.old.items)) (reverse stack.new.items) }
+    {
+        pop_all(stack, self.module.results(self.place))?;
+        if stack.is_empty() {
+            Ok(())
+        } else {
+            Err(Refusal::Phase(8))
+        }
+    }
+}

@@ -1,0 +1,115 @@
+// References: to fields, read, written and frozen.
+ghost use Rattle.std.specs.Prelude.{reverse};
+ghost use Rattle.mv_abilities.specs.Abilities.{value_type_abilities};
+ghost use Rattle.mv_type_states.specs.TypeRules.{target_of, mutable_target_of, field_types as types_of_field, of_mutable_field, of_immutable_field, of_read, of_write, of_freeze};
+ghost use Rattle.mv_type_states.specs.Answers.{Follows, Finds};
+
+use crate::rules::numbers::plain;
+use crate::stack::{abilities, exchange, pop, push, take_top};
+use mv_bounds::Bounded;
+use mv_move_types::{Refusal, Token, ValueType};
+
+/// A mutable reference to a field, from one to its struct.
+pub fn borrow_field_mutably(
+    m: &Bounded<'_>,
+    index: u16,
+    stack: &mut Vec<Token>,
+) -> Result<(), Refusal>
+    ensures { Follows result (of_mutable_field m.now index (reverse stack.old.items)) (reverse stack.new.items) }
+{
+    let (structure, field) = field_types(m, index)?;
+    exchange(
+        stack,
+        &[Token::MutableReference(structure)],
+        Token::MutableReference(field),
+    )
+}
+
+/// An immutable reference to a field, from either reference to its struct.
+pub fn borrow_field(m: &Bounded<'_>, index: u16, stack: &mut Vec<Token>) -> Result<(), Refusal>
+    ensures { Follows result (of_immutable_field m.now index (reverse stack.old.items)) (reverse stack.new.items) }
+{
+    let (structure, field) = field_types(m, index)?;
+    let token = take_top(stack)?;
+    if target(token)? == structure {
+        push(stack, Token::Reference(field))
+    } else {
+        Err(Refusal::Phase(8))
+    }
+}
+
+/// What a reference refers to, which may be copied.
+pub fn read(m: &Bounded<'_>, stack: &mut Vec<Token>) -> Result<(), Refusal>
+    ensures { Follows result (of_read m.now (reverse stack.old.items)) (reverse stack.new.items) }
+{
+    let token = take_top(stack)?;
+    let value = Token::Plain(target(token)?);
+    let abilities = abilities(m, value)?;
+    if abilities.copy {
+        push(stack, value)
+    } else {
+        Err(Refusal::Phase(8))
+    }
+}
+
+/// Takes a value, and a mutable reference to such a one, which may be dropped.
+pub fn write(m: &Bounded<'_>, stack: &mut Vec<Token>) -> Result<(), Refusal>
+    ensures { Follows result (of_write m.now (reverse stack.old.items)) (reverse stack.new.items) }
+{
+    let token = take_top(stack)?;
+    let value = Token::Plain(mutable_target(token)?);
+    let abilities = abilities(m, value)?;
+    pop(stack, value)?;
+    if abilities.drop {
+        Ok(())
+    } else {
+        Err(Refusal::Phase(8))
+    }
+}
+
+/// A mutable reference becomes an immutable one.
+pub fn freeze(stack: &mut Vec<Token>) -> Result<(), Refusal>
+    ensures { Follows result (of_freeze (reverse stack.old.items)) (reverse stack.new.items) }
+{
+    let token = take_top(stack)?;
+    let target = mutable_target(token)?;
+    push(stack, Token::Reference(target))
+}
+
+/// The struct type and the field's type of a field handle.
+fn field_types(m: &Bounded<'_>, index: u16) -> Result<(ValueType, ValueType), Refusal>
+    ensures { Finds result (types_of_field m.now index) }
+{
+    let module = m.module();
+    let Some(handle) = module.field_handles().get(usize::from(index)) else {
+        return Err(Refusal::Phase(8));
+    };
+    let Some(definition) = module.structs().get(usize::from(handle.definition)) else {
+        return Err(Refusal::Phase(8));
+    };
+    let Some(field) = definition.fields().get(usize::from(handle.position)) else {
+        return Err(Refusal::Phase(8));
+    };
+    let field = plain(field.token)?;
+    Ok((ValueType::OfStruct(definition.handle()), field))
+}
+
+/// What a reference type refers to.
+fn target(token: Token) -> Result<ValueType, Refusal>
+    ensures { Finds result (target_of token) }
+{
+    match token {
+        Token::Reference(target) | Token::MutableReference(target) => Ok(target),
+        Token::Plain(_) => Err(Refusal::Phase(8)),
+    }
+}
+
+/// What a mutable reference type refers to.
+fn mutable_target(token: Token) -> Result<ValueType, Refusal>
+    ensures { Finds result (mutable_target_of token) }
+{
+    match token {
+        Token::MutableReference(target) => Ok(target),
+        Token::Plain(_) | Token::Reference(_) => Err(Refusal::Phase(8)),
+    }
+}
