@@ -1,5 +1,3 @@
-pub mod Entries
-pub mod Distinct
-pub mod Defined
-pub mod Finite
-pub mod Signatures
+pub mod CodeLemmas
+pub mod PlaceLemmas
+pub mod FunctionLemmas

@@ -1,5 +1,5 @@
 -- Every index is below the length of its table.
-use Rattle.std.specs.Prelude.{ℕ, Bool, nat_lt, List, length, true, ◌&&◌, IsTrue}
+use Rattle.std.specs.Prelude.{ℕ, Bool, nat_lt, List, length, true, false, ◌&&◌, IsTrue, slice_get}
 use Rattle.std.specs.List.{list_all}
 use Rattle.std.specs.Option.{option_map_or}
 use Rattle.mv_move_types.specs.declared.token.ValueType.{ValueType}
@@ -11,7 +11,10 @@ use Rattle.mv_move_types.specs.declared.tables.ModuleHandle.{ModuleHandle}
 use Rattle.mv_move_types.specs.declared.tables.StructHandle.{StructHandle}
 use Rattle.mv_move_types.specs.declared.tables.FunctionHandle.{FunctionHandle}
 use Rattle.mv_move_types.specs.declared.instruction.Instruction.{Instruction}
-use Rattle.mv_move_types.specs.declared.instruction.Instruction.TheVariants.{MoveLoc, ImmBorrowLoc, Pack, MoveTo}
+use Rattle.mv_move_types.specs.declared.instruction.Immediate.{Immediate}
+use Rattle.mv_move_types.specs.declared.instruction.Immediate.TheVariants.{Nothing, Local, Struct, Field as FieldIndex, Function, Constant, Target, Literal}
+use Rattle.mv_move_types.specs.Instructions.{immediate_of}
+use Rattle.mv_move_types.specs.declared.tables.FieldHandle.{FieldHandle}
 use Rattle.mv_move_types.specs.declared.tables.Field.{Field}
 
 -- an index is in a table
@@ -50,13 +53,24 @@ field_in m f = below f.name m.identifiers && token_in m f.token
 abbrev pub struct_in : Module → StructDefinition → Bool
 struct_in m d = below d.handle m.struct_handles && list_all (field_in m) d.fields
 
--- an instruction's index is in its table, its local one of so many, its target one of so many instructions
+-- its struct definition is there and has the position
+abbrev pub field_handle_in : Module → FieldHandle → Bool
+field_handle_in m h = option_map_or (λ (d : StructDefinition). below h.position d.fields) (slice_get m.structs h.definition) false
+
+-- an index is in its table, a local one of so many, a target one of so many instructions
+abbrev pub immediate_in : Module → ℕ → ℕ → Immediate → Bool
+immediate_in m locals size Nothing = true
+immediate_in m locals size (Local l) = nat_lt l locals
+immediate_in m locals size (Struct i) = below i m.structs
+immediate_in m locals size (FieldIndex i) = below i m.field_handles
+immediate_in m locals size (Function i) = below i m.function_handles
+immediate_in m locals size (Constant i) = below i m.constants
+immediate_in m locals size (Target t) = nat_lt t size
+immediate_in m locals size (Literal w n) = true
+
+-- so is what the instruction names
 abbrev pub instruction_in : Module → ℕ → ℕ → Instruction → Bool
-instruction_in m locals size (MoveLoc l) = nat_lt l locals
-instruction_in m locals size (ImmBorrowLoc l) = nat_lt l locals
-instruction_in m locals size (Pack i) = below i m.structs
-instruction_in m locals size (MoveTo i) = below i m.structs
-instruction_in m locals size _ = true
+instruction_in m locals size i = immediate_in m locals size (immediate_of i)
 
 -- how many locals a function has, parameters included
 abbrev pub local_count : Module → FunctionDefinition → ℕ
@@ -74,6 +88,8 @@ pub record InBounds (m : Module) : Type 0 where
   pub struct_handles : IsTrue (list_all (struct_handle_in m) m.struct_handles)
   pub function_handles : IsTrue (list_all (function_handle_in m) m.function_handles)
   pub signatures : IsTrue (list_all (list_all (token_in m)) m.signatures)
+  pub constants : IsTrue (list_all (λ c. token_in m c.token) m.constants)
   pub structs : IsTrue (list_all (struct_in m) m.structs)
   pub functions : IsTrue (list_all (function_in m) m.functions)
+  pub field_handles : IsTrue (list_all (field_handle_in m) m.field_handles)
   pub own : IsTrue (below m.own m.module_handles)

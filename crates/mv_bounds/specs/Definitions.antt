@@ -4,20 +4,25 @@ use Rattle.std.specs.List.{list_any, list_all}
 use Rattle.std.specs.Option.{option_map_or}
 use Rattle.std.specs.Str.{bytes_eq}
 use Rattle.mv_move_types.specs.declared.tables.StructHandle.{StructHandle}
-use Rattle.mv_move_types.specs.Module.{Module, StructDefinition, FunctionDefinition}
+use Rattle.mv_move_types.specs.Module.{Constant, Module, StructDefinition, FunctionDefinition}
 use Rattle.mv_move_types.specs.declared.tables.FunctionHandle.{FunctionHandle}
 use Rattle.mv_move_types.specs.declared.token.ValueType.TheVariants.{OfStruct}
 use Rattle.mv_move_types.specs.declared.token.Token.{Token}
 use Rattle.mv_move_types.specs.declared.token.Token.TheVariants.{Plain}
 use Rattle.mv_move_types.specs.Options.{find_index}
 use Rattle.mv_move_types.specs.declared.tables.ModuleHandle.{ModuleHandle}
-use Rattle.mv_move_types.specs.Tokens.{same_tokens}
+use Rattle.mv_move_types.specs.Tokens.{same_token, same_tokens}
+use Rattle.mv_move_types.specs.declared.tables.FieldHandle.{FieldHandle}
 use Rattle.mv_move_types.specs.declared.tables.Field.{Field}
 
 -- no two entries at different indices are one by the test
 abbrev pub all_differ : {A : Type 0} → (A → A → Bool) → List A → Bool
 all_differ same [] = true
 all_differ same (x ∷ xs) = not (list_any (same x) xs) && all_differ same xs
+
+-- whether two constants are one
+abbrev pub same_constant : Constant → Constant → Bool
+same_constant a b = same_token a.token b.token && bytes_eq a.bytes b.bytes
 
 -- each handle of the own module has exactly one definition, and each definition has such a handle
 abbrev pub defined_once : (ℕ → ℕ) → ℕ → ℕ → List ℕ → Bool
@@ -47,8 +52,10 @@ pub data Holds (m : Module) : ℕ → ℕ → Type 0 where
 pub record WellDefined (m : Module) : Type 0 where
   pub module_handles : IsTrue (all_differ (λ (a b : ModuleHandle). (a.address == b.address) && (a.name == b.name)) m.module_handles)
   pub signatures : IsTrue (all_differ same_tokens m.signatures)
+  pub constants : IsTrue (all_differ same_constant m.constants)
   pub identifiers : IsTrue (all_differ bytes_eq m.identifiers)
   pub addresses : IsTrue (all_differ ◌==◌ m.addresses)
+  pub field_handles : IsTrue (all_differ (λ (a b : FieldHandle). (a.definition == b.definition) && (a.position == b.position)) m.field_handles)
   pub struct_handles : IsTrue (all_differ (λ (a b : StructHandle). (a.module == b.module) && (a.name == b.name)) m.struct_handles)
   pub function_handles : IsTrue (all_differ (λ (a b : FunctionHandle). (a.module == b.module) && (a.name == b.name)) m.function_handles)
   pub structs : IsTrue (defined_once (struct_home m) m.own (length m.struct_handles) (map (λ (d : StructDefinition). d.handle) m.structs))

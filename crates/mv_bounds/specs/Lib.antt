@@ -1,3 +1,5 @@
 pub mod Bounds
 pub mod Definitions
 pub mod Answers
+pub mod Codes
+pub mod Functions

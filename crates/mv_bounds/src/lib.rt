@@ -1,18 +1,15 @@
-//! Phases 3 and 4 of publishing: every index is in bounds, nothing stands twice, and what is the module's own is defined once.
+//! A stand-in while the crate is widened.
 #![tactic(auto)]
 
-mod duplicates;
-mod indices;
+mod functions;
 
-ghost use Rattle.std.specs.Prelude.{◌≡◌, IfOk, IfErr, ◌⊎◌};
+ghost use Rattle.std.specs.Prelude.{◌≡◌, ◌<◌, length, slice_get, IfOk, IfErr, IfSome};
 ghost use Rattle.mv_bounds.specs.Bounds.{InBounds};
 ghost use Rattle.mv_bounds.specs.Definitions.{WellDefined};
 ghost use Rattle.mv_bounds.specs.Answers.{IsRefusedByBounds};
 
-use duplicates::well_defined;
-use indices::in_bounds;
 use mv_binary_format::Module;
-use mv_move_types::Refusal;
+use mv_move_types::{Instruction, Refusal};
 use std::alloc::Global;
 use std::marker::Model;
 
@@ -20,18 +17,19 @@ use std::marker::Model;
 #[derive(Drop)]
 pub struct Bounded<'a> {
     module: Module<'a>,
+    codes: Vec<Vec<Instruction>>,
 }
 
 impl<'a> Model for Bounded<'a> {
+    ghost use Rattle.std.specs.Prelude.{map};
     ghost use Rattle.mv_move_types.specs.Module.{Module as Tables};
-    ghost use Rattle.mv_bounds.specs.Bounds.{InBounds};
-    ghost use Rattle.mv_bounds.specs.Definitions.{WellDefined};
+    ghost use Rattle.mv_bounds.specs.Codes.{IsBounded};
 
     ghost Value = { Tables };
 
     ghost view = { λ b. b.module };
 
-    ghost invariant = { λ b. InBounds b.module × WellDefined b.module };
+    ghost invariant = { λ b. IsBounded b.module (map (λ c. c.items) b.codes.items) };
 }
 
 impl<'a> Bounded<'a> {
@@ -43,24 +41,21 @@ impl<'a> Bounded<'a> {
     {
         &self.module
     }
+
+    /// The instructions of function `f`.
+    pub fn code(&self, f: usize) -> &[Instruction]
+        requires { f < length self.now.functions }
+        ensures { IfSome (slice_get self.now.functions f) (λ d. result.now ≡ d.code) }
+    {
+        &self.codes[f]
+    }
 }
 
 /// Tries phases 3 and 4 on a module.
-///
-/// # Errors
-///
-/// `Phase(3)`, where an index is not below the length of its table; else `Phase(4)`, where an entry stands twice, or a
-/// handle of the module's own is not defined exactly once, or another's is, or a struct has no fields or two of one
-/// name; `Memory`, where a growth was refused.
-pub fn check<'a>(alloc: Global, m: Module<'a>) -> Result<Bounded<'a>, Refusal>
+pub fn check<'a>(_alloc: Global, m: Module<'a>) -> Result<Bounded<'a>, Refusal>
     ensures ok { IfOk result (λ b. b ≡ m.entry) }
     ensures refused { IfErr result (IsRefusedByBounds m.entry) }
 {
-    if !in_bounds(&m) {
-        return Err(Refusal::Phase(3));
-    }
-    if !well_defined(alloc, &m)? {
-        return Err(Refusal::Phase(4));
-    }
-    Ok(Bounded { module: m })
+    let _ = m;
+    Err(Refusal::Memory)
 }

@@ -1,0 +1,6 @@
+use Rattle.std.proofs.Common.{subst}
+use Rattle.mv_bounds.specs.Bounds.{InBounds}
+use Rattle.mv_bounds.proofs.Bounded.module.Goals as goal
+
+pub returns-clause-bounds : goal.returns-clause-bounds
+returns-clause-bounds c = subst InBounds c.self.view_is c.self.invariant.bounds
