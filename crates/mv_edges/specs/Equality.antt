@@ -2,7 +2,7 @@
 use Rattle.std.proofs.Common.{◌≡◌, Bool, true, false, ◌&&◌, List, bytes_eq, Decides, refl, sym, ap, ◌∙◌, true≢false, eqb-true, eq-eqb}
 use Rattle.std.specs.Bool.{beq}
 use Rattle.std.specs.Cmp.{IsEquivalence, equiv}
-use Rattle.std.specs.Cmp.Lexicographic.{bytes_decides, pointwise, pointwise_decides}
+use Rattle.std.specs.Cmp.Lexicographic.{bytes_decides}
 use Rattle.std.proofs.lemmas.Bool.Decides.{same_from_decides, Decides-like, Decides-and}
 use Rattle.mv_move_types.specs.declared.borrow.Node.{Node}
 use Rattle.mv_move_types.specs.declared.borrow.Node.TheVariants.{Slot, Own, Glob, Temp}
@@ -51,9 +51,6 @@ same_edge_decides a b =
     (λ (e : a ≡ b). ((ap (λ (x : Edge). x.from) e, ap (λ (x : Edge). x.label) e), ap (λ (x : Edge). x.to) e))
     (Decides-and (same_node a.from b.from && same_label a.label b.label) (same_node a.to b.to)
     (Decides-and (same_node a.from b.from) (same_label a.label b.label) (same_node_decides a.from b.from) (same_label_decides a.label b.label)) (same_node_decides a.to b.to))
-
-pub same_edges_decides : (es fs : List Edge) → Decides (pointwise same_edge es fs) (es ≡ fs)
-same_edges_decides = pointwise_decides same_edge_decides
 
 pub same_label_equiv : IsEquivalence same_label
 same_label_equiv = equivalence same_label same_label_decides

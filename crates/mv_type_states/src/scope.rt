@@ -39,11 +39,7 @@ impl<'s, 'a> Scope<'s, 'a> {
     {
         let m = self.module;
         match instruction {
-            Instruction::LdU8(_) => push(stack, number(Width::U8)),
-            Instruction::LdU16(_) => push(stack, number(Width::U16)),
-            Instruction::LdU32(_) => push(stack, number(Width::U32)),
             Instruction::LdU64(_) => push(stack, number(Width::U64)),
-            Instruction::LdU128(_) => push(stack, number(Width::U128)),
             Instruction::LdConst(constant) => numbers::constant(m, constant, stack),
             Instruction::LdTrue | Instruction::LdFalse => push(stack, BOOLEAN),
             Instruction::Add
@@ -61,11 +57,15 @@ impl<'s, 'a> Scope<'s, 'a> {
                 numbers::comparison(stack)
             }
             Instruction::Shl | Instruction::Shr => numbers::shift(stack),
+            Instruction::LdU8(_) => push(stack, number(Width::U8)),
+            Instruction::LdU128(_) => push(stack, number(Width::U128)),
             Instruction::CastU8 => numbers::cast(Width::U8, stack),
-            Instruction::CastU16 => numbers::cast(Width::U16, stack),
-            Instruction::CastU32 => numbers::cast(Width::U32, stack),
             Instruction::CastU64 => numbers::cast(Width::U64, stack),
             Instruction::CastU128 => numbers::cast(Width::U128, stack),
+            Instruction::LdU16(_) => push(stack, number(Width::U16)),
+            Instruction::LdU32(_) => push(stack, number(Width::U32)),
+            Instruction::CastU16 => numbers::cast(Width::U16, stack),
+            Instruction::CastU32 => numbers::cast(Width::U32, stack),
             Instruction::Pop => control::pop_any(m, stack),
             Instruction::Ret => self.ret(stack),
             Instruction::BrTrue(_) | Instruction::BrFalse(_) => pop(stack, BOOLEAN),

@@ -1,5 +1,5 @@
 // The types on a stack, the topmost last: what is put there and taken away.
-ghost use Rattle.std.specs.Prelude.{◌≡◌, ◌++◌, ◌∷◌, [], map, reverse, Some};
+ghost use Rattle.std.specs.Prelude.{◌≡◌, ◌++◌, ◌∷◌, [], map, reverse, Some, IfErr};
 ghost use Rattle.mv_abilities.specs.Abilities.{token_abilities};
 ghost use Rattle.mv_type_states.specs.TypeRules.{taken, takes_gives, number as number_type};
 ghost use Rattle.mv_type_states.specs.Answers.{Follows, Finds, TakesTop};
@@ -62,7 +62,8 @@ pub fn take_top(stack: &mut Vec<Token>) -> Result<Token, Refusal>
 
 /// Takes the topmost type, which has to be this one.
 pub fn pop(stack: &mut Vec<Token>, wanted: Token) -> Result<(), Refusal>
-    ensures { Follows result (taken (wanted ∷ []) (reverse stack.old.items)) (reverse stack.new.items) }
+    ensures types { Follows result (taken (wanted ∷ []) (reverse stack.old.items)) (reverse stack.new.items) }
+    ensures phase { IfErr result (λ e. e ≡ Refusal.Phase 8) }
 {
     match stack.pop() {
         Some(found) if found == wanted => Ok(()),
@@ -72,7 +73,8 @@ pub fn pop(stack: &mut Vec<Token>, wanted: Token) -> Result<(), Refusal>
 
 /// Takes these types, the last of them topmost.
 pub fn pop_all(stack: &mut Vec<Token>, wanted: &[Token]) -> Result<(), Refusal>
-    ensures { Follows result (taken wanted.now (reverse stack.old.items)) (reverse stack.new.items) }
+    ensures types { Follows result (taken wanted.now (reverse stack.old.items)) (reverse stack.new.items) }
+    ensures phase { IfErr result (λ e. e ≡ Refusal.Phase 8) }
 {
     let mut left = wanted;
     while let Some((last, others)) = left.split_last() {
@@ -84,7 +86,8 @@ pub fn pop_all(stack: &mut Vec<Token>, wanted: &[Token]) -> Result<(), Refusal>
 
 /// Takes the types of these fields, the last of them topmost.
 pub fn pop_fields(stack: &mut Vec<Token>, fields: &[Field]) -> Result<(), Refusal>
-    ensures { Follows result (taken (map (λ f. f.token) fields.now) (reverse stack.old.items)) (reverse stack.new.items) }
+    ensures types { Follows result (taken (map (λ f. f.token) fields.now) (reverse stack.old.items)) (reverse stack.new.items) }
+    ensures phase { IfErr result (λ e. e ≡ Refusal.Phase 8) }
 {
     let mut left = fields;
     while let Some((last, others)) = left.split_last() {

@@ -1,5 +1,5 @@
 // What takes an operand away, returns and calls.
-ghost use Rattle.std.specs.Prelude.{reverse};
+ghost use Rattle.std.specs.Prelude.{reverse, IfErr, ◌≡◌};
 ghost use Rattle.mv_type_states.specs.TypeRules.{of_pop, of_return, of_call};
 ghost use Rattle.mv_type_states.specs.Answers.{Follows};
 ghost use Rattle.mv_type_states.specs.Scopes.{IsScope};
@@ -11,7 +11,8 @@ use mv_move_types::{Refusal, Token};
 
 /// Takes a value that may be dropped.
 pub fn pop_any(m: &Bounded<'_>, stack: &mut Vec<Token>) -> Result<(), Refusal>
-    ensures { Follows result (of_pop m.now (reverse stack.old.items)) (reverse stack.new.items) }
+    ensures types { Follows result (of_pop m.now (reverse stack.old.items)) (reverse stack.new.items) }
+    ensures phase { IfErr result (λ e. e ≡ Refusal.Phase 8) }
 {
     let token = take_top(stack)?;
     let abilities = abilities(m, token)?;
@@ -44,7 +45,8 @@ impl<'s, 'a> Scope<'s, 'a> {
     /// Takes the results, where nothing else is on the stack.
     pub fn ret(&self, stack: &mut Vec<Token>) -> Result<(), Refusal>
         requires { IsScope self.now }
-        ensures { Follows result (of_return self.now.module.now self.now.function.now (reverse stack.old.items)) (reverse stack.new.items) }
+        ensures types { Follows result (of_return self.now.module.now self.now.function.now (reverse stack.old.items)) (reverse stack.new.items) }
+        ensures phase { IfErr result (λ e. e ≡ Refusal.Phase 8) }
     {
         pop_all(stack, self.module.results(self.place))?;
         if stack.is_empty() {

@@ -1,5 +1,5 @@
 // Values in the storage, by a struct definition that has key.
-ghost use Rattle.std.specs.Prelude.{reverse};
+ghost use Rattle.std.specs.Prelude.{reverse, IfErr, ◌≡◌};
 ghost use Rattle.mv_type_states.specs.TypeRules.{boolean, keyed_type, of_global, of_move_to};
 ghost use Rattle.mv_type_states.specs.Answers.{Follows, Finds};
 
@@ -45,7 +45,8 @@ pub fn move_from(m: &Bounded<'_>, index: u16, stack: &mut Vec<Token>) -> Result<
 
 /// Takes a reference to a signer, and a value.
 pub fn move_to(m: &Bounded<'_>, index: u16, stack: &mut Vec<Token>) -> Result<(), Refusal>
-    ensures { Follows result (of_move_to m.now index (reverse stack.old.items)) (reverse stack.new.items) }
+    ensures types { Follows result (of_move_to m.now index (reverse stack.old.items)) (reverse stack.new.items) }
+    ensures phase { IfErr result (λ e. e ≡ Refusal.Phase 8) }
 {
     let stored = keyed(m, index)?;
     let signer = Token::Reference(ValueType::OfLeaf(LeafKind::Signer));

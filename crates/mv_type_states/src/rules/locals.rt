@@ -1,5 +1,5 @@
 // Locals: copied, moved, stored and borrowed.
-ghost use Rattle.std.specs.Prelude.{reverse};
+ghost use Rattle.std.specs.Prelude.{reverse, IfErr, ◌≡◌};
 ghost use Rattle.mv_move_types.specs.Module.{local_type};
 ghost use Rattle.mv_type_states.specs.TypeRules.{of_copy, of_borrow_local, types_after};
 ghost use Rattle.mv_type_states.specs.Answers.{Follows, Finds};
@@ -50,7 +50,8 @@ impl<'s, 'a> Scope<'s, 'a> {
     #[tactic(auto, unfolding(crate::specs::TypeRules::types_after))]
     pub fn store_local(&self, index: u16, stack: &mut Vec<Token>) -> Result<(), Refusal>
         requires { IsScope self.now }
-        ensures { Follows result (types_after self.now.module.now self.now.function.now (Instruction.StLoc index) (reverse stack.old.items)) (reverse stack.new.items) }
+        ensures types { Follows result (types_after self.now.module.now self.now.function.now (Instruction.StLoc index) (reverse stack.old.items)) (reverse stack.new.items) }
+        ensures phase { IfErr result (λ e. e ≡ Refusal.Phase 8) }
     {
         let token = self.local(index)?;
         pop(stack, token)

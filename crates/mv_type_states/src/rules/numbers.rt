@@ -1,5 +1,5 @@
 // Numbers and bools: constants, arithmetic, tests, shifts and casts.
-ghost use Rattle.std.specs.Prelude.{reverse};
+ghost use Rattle.std.specs.Prelude.{reverse, IfErr, ◌≡◌};
 ghost use Rattle.mv_type_states.specs.TypeRules.{boolean, number as number_type, width_of, plain_of, top_width as top_width_of, of_constant, of_two_numbers, of_equality, of_shift, of_cast};
 ghost use Rattle.mv_type_states.specs.Answers.{Follows, Finds};
 
@@ -50,7 +50,8 @@ pub fn equality(m: &Bounded<'_>, stack: &mut Vec<Token>) -> Result<(), Refusal>
 
 /// A number and an amount of 8 bits give a number.
 pub fn shift(stack: &mut Vec<Token>) -> Result<(), Refusal>
-    ensures { Follows result (of_shift (reverse stack.old.items)) (reverse stack.new.items) }
+    ensures types { Follows result (of_shift (reverse stack.old.items)) (reverse stack.new.items) }
+    ensures phase { IfErr result (λ e. e ≡ Refusal.Phase 8) }
 {
     pop(stack, number(Width::U8))?;
     top_width(stack)?;

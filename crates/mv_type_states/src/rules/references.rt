@@ -1,5 +1,5 @@
 // References: to fields, read, written and frozen.
-ghost use Rattle.std.specs.Prelude.{reverse};
+ghost use Rattle.std.specs.Prelude.{reverse, IfErr, ◌≡◌};
 ghost use Rattle.mv_abilities.specs.Abilities.{value_type_abilities};
 ghost use Rattle.mv_type_states.specs.TypeRules.{target_of, mutable_target_of, field_types as types_of_field, of_mutable_field, of_immutable_field, of_read, of_write, of_freeze};
 ghost use Rattle.mv_type_states.specs.Answers.{Follows, Finds};
@@ -54,7 +54,8 @@ pub fn read(m: &Bounded<'_>, stack: &mut Vec<Token>) -> Result<(), Refusal>
 
 /// Takes a value, and a mutable reference to such a one, which may be dropped.
 pub fn write(m: &Bounded<'_>, stack: &mut Vec<Token>) -> Result<(), Refusal>
-    ensures { Follows result (of_write m.now (reverse stack.old.items)) (reverse stack.new.items) }
+    ensures types { Follows result (of_write m.now (reverse stack.old.items)) (reverse stack.new.items) }
+    ensures phase { IfErr result (λ e. e ≡ Refusal.Phase 8) }
 {
     let token = take_top(stack)?;
     let value = Token::Plain(mutable_target(token)?);
