@@ -25,3 +25,8 @@ code_at codes functions f code same inside at =
     of_some (slice_get functions f) code.items
     (sym (slice_get-map (λ (d : FunctionDefinition). d.code) functions f) ∙ ap (λ cs. slice_get cs f) (sym same)
     ∙ slice_get-map (λ (c : Vec Instruction Global). c.items) codes f ∙ ap (option_map (λ (c : Vec Instruction Global). c.items)) stands)
+
+-- what stands at one place among the codes and among the functions
+pub same_code : (codes : List (Vec Instruction Global)) (functions : List FunctionDefinition) (f : ℕ) (code : Vec Instruction Global) (d : FunctionDefinition) → map (λ (c : Vec Instruction Global). c.items) codes ≡ map (λ (d : FunctionDefinition). d.code) functions → f < length functions → code ≡ get_or codes f code → d ≡ get_or functions f d → code.items ≡ d.code
+same_code codes functions f code d same inside at is =
+    rw (slice_get_read functions (length functions) f d (λ _. length functions) inside is) at (code_at codes functions f code same inside at)

@@ -1,3 +1,13 @@
 pub mod CodeLemmas
 pub mod PlaceLemmas
 pub mod FunctionLemmas
+pub mod Entries
+pub mod Distinct
+pub mod Defined
+pub mod Signatures
+pub mod TimesLemmas
+pub mod EdgeLemmas
+pub mod ReleaseLemmas
+pub mod RemovalLemmas
+pub mod CountLemmas
+pub mod ContainmentLemmas

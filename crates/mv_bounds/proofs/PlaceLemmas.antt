@@ -1,5 +1,6 @@
 -- The place of the first entry that passes a test, and entries of two lists one after the other.
-use Rattle.std.proofs.Common.{◌≡◌, ℕ, zero, suc, ◌+◌, ◌<◌, Bool, true, false, cond, List, [], ◌∷◌, ◌++◌, length, take, Option, Some, None, option_map, get_or, slice_get, add-one, refl, ap, ◌∙◌, subst, arith}
+use Rattle.std.proofs.Common.{sym, ◌≡◌, ℕ, zero, suc, ◌+◌, ◌<◌, Bool, true, false, cond, List, [], ◌∷◌, ◌++◌, length, take, Option, Some, None, option_map, get_or, slice_get, add-one, refl, ap, ◌∙◌, subst, arith}
+use Rattle.std.proofs.lemmas.List.{length-take-le, get_or-take, take-take}
 use Rattle.mv_move_types.specs.Options.{find_index}
 
 -- the first that passes stands at the index, where those before it fail
@@ -36,3 +37,25 @@ pub slice_get-second : {A : Type 0} (xs ys : List A) (i k : ℕ) → length xs +
 slice_get-second [] ys i k e = let same : i ≡ k = omega arith in rw same refl
 slice_get-second (x ∷ xs) ys zero k e = absurd (omega arith)
 slice_get-second (x ∷ xs) ys (suc i) k e = slice_get-second xs ys i k (omega arith)
+
+-- what is found among the first is found among more
+pub find-kept : {A : Type 0} (p : A → Bool) (xs : List A) (i k : ℕ) → find_index p (take i xs) ≡ Some k → find_index p (take (i + 1) xs) ≡ Some k
+find-kept p xs i k e = ap (λ n. find_index p (take n xs)) (add-one i) ∙ more p xs i k e
+  where
+    more : {A : Type 0} (p : A → Bool) (xs : List A) (i k : ℕ) → find_index p (take i xs) ≡ Some k → find_index p (take (suc i) xs) ≡ Some k
+    more p [] zero k e = e
+    more p [] (suc i) k e = e
+    more p (y ∷ xs) zero k e = cc
+    more p (y ∷ xs) (suc i) k e = later (p y) (find_index p (take i xs)) (find_index p (take (suc i) xs)) k e (λ j h. more p xs i j h)
+      where
+        later : (b : Bool) (old new : Option ℕ) (k : ℕ) → cond b (Some 0) (option_map suc old) ≡ Some k → ((j : ℕ) → old ≡ Some j → new ≡ Some j) → cond b (Some 0) (option_map suc new) ≡ Some k
+        later true old new k e go = e
+        later false None new k e go = cc
+        later false (Some j) new k e go = ap (option_map suc) (go j refl) ∙ e
+
+-- the next one that passes is found, where none did before
+pub find-here : {A : Type 0} (p : A → Bool) (xs : List A) (i : ℕ) (x : A) → i < length xs → x ≡ get_or xs i x → find_index p (take i xs) ≡ None → p x ≡ true → find_index p (take (i + 1) xs) ≡ Some i
+find-here p xs i x low is none passes =
+    let long : length (take (i + 1) xs) ≡ i + 1 = length-take-le (i + 1) xs (omega (arith, low)) in
+    find-first p (take (i + 1) xs) i x (omega (arith, long)) (is ∙ sym (get_or-take (i + 1) xs i x (omega arith)))
+    (ap (find_index p) (take-take i (i + 1) xs (omega arith)) ∙ none) passes

@@ -3,3 +3,6 @@ pub mod Definitions
 pub mod Answers
 pub mod Codes
 pub mod Functions
+pub mod Cycles
+pub mod Removal
+pub mod Containment

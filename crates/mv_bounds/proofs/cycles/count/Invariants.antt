@@ -1,0 +1,6 @@
+use Rattle.std.proofs.Common.{◌≡◌, ℕ, ◌+◌, ◌<◌, length, get_or, take}
+use Rattle.mv_bounds.specs.Removal.{times}
+use Rattle.mv_bounds.proofs.cycles.count.Given as goal
+
+abbrev pub invariant-loop-target : goal.invariant-loop-target
+invariant-loop-target l = (j : ℕ) → j < length l.counts → get_or l.counts j 0 ≡ get_or l.fn.counts j 0 + times j (take l.target-index l.targets)

@@ -1,0 +1,10 @@
+use Rattle.std.proofs.Common.{map, ℕ, Vec, Global}
+use Rattle.mv_bounds.specs.Removal.{Removal}
+use Rattle.mv_bounds.proofs.RemovalLemmas.{remaining}
+use Rattle.mv_bounds.proofs.cycles.is_acyclic.Given as goal
+
+abbrev pub invariant-loop-node : goal.invariant-loop-node
+invariant-loop-node l = Removal (map (λ (s : Vec ℕ Global). s.items) l.graph) l.waiting.items l.removed.items l.ready.items
+
+abbrev pub decreases-loop-node : goal.decreases-loop-node
+decreases-loop-node l = remaining l.removed.items

@@ -1,0 +1,10 @@
+use Rattle.std.proofs.Common.{◌∙◌, map}
+use Rattle.mv_move_types.specs.Module.{StructDefinition}
+use Rattle.mv_move_types.specs.declared.tables.StructHandle.{StructHandle}
+use Rattle.mv_bounds.proofs.Defined.{answer_of_homes}
+use Rattle.mv_bounds.proofs.duplicates.structs_defined_once.Goals as goal
+
+pub returns : goal.returns
+returns c =
+    let m = c.args.m.now in
+    answer_of_homes (λ (h : StructHandle). h.module) m.struct_handles c.deref.result.now c.own.result m.own c.deref-2.result.now (map (λ (d : StructDefinition). d.handle) m.structs) c.defined_once.result (c.deref.ensures.value ∙ c.in_ok-homes.ensures) c.own.ensures (c.deref-2.ensures.value ∙ c.in_ok-defined.ensures) c.defined_once.ensures

@@ -1,0 +1,7 @@
+use Rattle.std.proofs.Common.{◌≡◌, true, take}
+use Rattle.std.specs.List.{list_all}
+use Rattle.mv_bounds.specs.Bounds.{token_in}
+use Rattle.mv_bounds.proofs.indices.signatures_in.Given as goal
+
+abbrev pub invariant-loop-i : goal.invariant-loop-i
+invariant-loop-i l = list_all (list_all (token_in l.m)) (take l.i l.m.signatures) ≡ true

@@ -1,0 +1,49 @@
+-- Nodes are removed from a graph one by one, each once no edge from those that remain leads to it.
+--   times j nodes            how often node j stands in a list
+--   edges_to graph removed j how many edges lead to node j from nodes that are not removed
+--   Released ..              edges to some targets are gone
+--   Removal ..               how far the removal has come
+use Rattle.std.specs.Prelude.{◌≡◌, ◌+◌, ◌<◌, ◌==◌, ℕ, Bool, true, false, cond, List, [], ◌∷◌, length, slice_index, slice_index_or, nat_lt, IsTrue}
+use Rattle.std.specs.List.{list_all}
+use Rattle.mv_bounds.specs.Cycles.{LeadsTo}
+
+-- one for a test that holds, and zero for one that doesn't
+abbrev pub as_number : Bool → ℕ
+as_number true = 1
+as_number false = 0
+
+-- how often a node stands in a list
+abbrev pub times : ℕ → List ℕ → ℕ
+times j [] = 0
+times j (x ∷ xs) = as_number (x == j) + times j xs
+
+-- how many edges lead to a node from nodes that are not removed; a node without a mark is not
+abbrev pub edges_to : List (List ℕ) → List Bool → ℕ → ℕ
+edges_to [] removed j = 0
+edges_to (successors ∷ graph) [] j = times j successors + edges_to graph [] j
+edges_to (successors ∷ graph) (r ∷ removed) j = cond r 0 (times j successors) + edges_to graph removed j
+
+-- one for zero, and zero for the others
+abbrev pub is_zero : ℕ → ℕ
+is_zero n = as_number (n == 0)
+
+-- whether all are nodes, where there are so many
+abbrev pub are_nodes : ℕ → List ℕ → Bool
+are_nodes n xs = list_all (λ x. nat_lt x n) xs
+
+-- edges to these targets are gone from the counts, and a node that no edge leads to any more is ready
+pub record Released (n : ℕ) (before after ready ready' targets : List ℕ) : Type 0 where
+  pub len : length after ≡ n
+  pub edges : (j : ℕ) → j < n → slice_index after j + times j targets ≡ slice_index before j
+  pub sources : (j : ℕ) → j < n → times j ready' + is_zero (slice_index before j) ≡ times j ready + is_zero (slice_index after j)
+  pub nodes : IsTrue (are_nodes n ready) → IsTrue (are_nodes n ready')
+
+-- the counts are of the edges from nodes that remain, those that none leads to are removed or ready, and no node that is
+-- removed leads to itself
+pub record Removal (graph : List (List ℕ)) (counts : List ℕ) (removed : List Bool) (ready : List ℕ) : Type 0 where
+  pub counts_len : length counts ≡ length graph
+  pub marks_len : length removed ≡ length graph
+  pub edges : (j : ℕ) → j < length graph → slice_index counts j ≡ edges_to graph removed j
+  pub sources : (j : ℕ) → j < length graph → times j ready + as_number (slice_index_or removed j false) ≡ is_zero (slice_index counts j)
+  pub nodes : IsTrue (are_nodes (length graph) ready)
+  pub free : (i : ℕ) → i < length graph → slice_index_or removed i false ≡ true → LeadsTo graph i i → ⊥

@@ -1,0 +1,364 @@
+// Phase 4: no entry stands twice, and what is the module's own is defined once.
+ghost use Rattle.std.specs.Prelude.{◌≡◌, ◌↔◌, ◌==◌, ◌&&◌, ◌<◌, ℕ, length, nat_lt, IsTrue, IfOk, map, drop, count_by, slice_index, vec_len};
+ghost use Rattle.std.specs.List.{list_all, list_any};
+ghost use Rattle.std.specs.Str.{bytes_eq};
+ghost use Rattle.std.specs.BTreeSet.{IsFromIterResult};
+ghost use Rattle.mv_move_types.specs.Module.{Constant as ConstantEntry, StructDefinition as StructTable, FunctionDefinition as FunctionTable};
+ghost use Rattle.mv_move_types.specs.Tokens.{same_tokens};
+ghost use Rattle.mv_move_types.specs.declared.tables.ModuleHandle.{ModuleHandle};
+ghost use Rattle.mv_move_types.specs.declared.tables.StructHandle.{StructHandle};
+ghost use Rattle.mv_move_types.specs.declared.tables.FunctionHandle.{FunctionHandle};
+ghost use Rattle.mv_move_types.specs.declared.tables.FieldHandle.{FieldHandle};
+ghost use Rattle.mv_move_types.specs.declared.tables.Field.{Field as FieldEntry};
+ghost use Rattle.mv_bounds.specs.Bounds.{InBounds};
+ghost use Rattle.mv_bounds.specs.Definitions.{all_differ, same_constant, defined_once, struct_home, function_home, WellDefined};
+
+use super::containment::are_finite;
+use mv_binary_format::{Constant, Module};
+use mv_move_types::{Field, Token};
+use std::alloc::{AllocError, Global};
+use std::collections::BTreeSet;
+
+/// The items as a set.
+fn set_of<K: Ord + Copy>(alloc: Global, items: &[K]) -> Result<BTreeSet<K>, AllocError>
+    ensures { IfOk result (IsFromIterResult K.cmp items.now) }
+{
+    items.iter().copied().collect(alloc)
+}
+
+/// Whether no two items are equal.
+fn all_distinct<K: Ord + Copy>(alloc: Global, items: &[K]) -> Result<bool, AllocError>
+    ensures { IfOk result (λ b. b ≡ all_differ K.eq items.now) }
+{
+    let seen = set_of(alloc, items)?;
+    Ok(seen.len() == items.len())
+}
+
+/// The address and the name of each module handle, as indices.
+fn module_names(alloc: Global, m: &Module) -> Result<Vec<(u16, u16)>, AllocError>
+    ensures { IfOk result (λ v. v.items ≡ map (λ (h : ModuleHandle). (h.address, h.name)) m.now.module_handles) }
+{
+    m.module_handles()
+        .iter()
+        .map(|h| (h.address, h.name))
+        .collect(alloc)
+}
+
+/// Whether no two module handles have the same address and name.
+fn module_handles_differ(alloc: Global, m: &Module) -> Result<bool, AllocError>
+    ensures { IfOk result (λ b. b ≡ all_differ (λ (x y : ModuleHandle). (x.address == y.address) && (x.name == y.name)) m.now.module_handles) }
+{
+    let names = module_names(alloc, m)?;
+    all_distinct(alloc, &names)
+}
+
+/// The module and the name of each struct handle, as indices.
+fn struct_names(alloc: Global, m: &Module) -> Result<Vec<(u16, u16)>, AllocError>
+    ensures { IfOk result (λ v. v.items ≡ map (λ (h : StructHandle). (h.module, h.name)) m.now.struct_handles) }
+{
+    m.struct_handles()
+        .iter()
+        .map(|h| (h.module, h.name))
+        .collect(alloc)
+}
+
+/// Whether no two struct handles have the same module and name.
+fn struct_handles_differ(alloc: Global, m: &Module) -> Result<bool, AllocError>
+    ensures { IfOk result (λ b. b ≡ all_differ (λ (x y : StructHandle). (x.module == y.module) && (x.name == y.name)) m.now.struct_handles) }
+{
+    let names = struct_names(alloc, m)?;
+    all_distinct(alloc, &names)
+}
+
+/// The module and the name of each function handle, as indices.
+fn function_names(alloc: Global, m: &Module) -> Result<Vec<(u16, u16)>, AllocError>
+    ensures { IfOk result (λ v. v.items ≡ map (λ (h : FunctionHandle). (h.module, h.name)) m.now.function_handles) }
+{
+    m.function_handles()
+        .iter()
+        .map(|h| (h.module, h.name))
+        .collect(alloc)
+}
+
+/// Whether no two function handles have the same module and name.
+fn function_handles_differ(alloc: Global, m: &Module) -> Result<bool, AllocError>
+    ensures { IfOk result (λ b. b ≡ all_differ (λ (x y : FunctionHandle). (x.module == y.module) && (x.name == y.name)) m.now.function_handles) }
+{
+    let names = function_names(alloc, m)?;
+    all_distinct(alloc, &names)
+}
+
+/// The definition and the position of each field handle.
+fn field_places(alloc: Global, m: &Module) -> Result<Vec<(u16, u16)>, AllocError>
+    ensures { IfOk result (λ v. v.items ≡ map (λ (h : FieldHandle). (h.definition, h.position)) m.now.field_handles) }
+{
+    m.field_handles()
+        .iter()
+        .map(|h| (h.definition, h.position))
+        .collect(alloc)
+}
+
+/// Whether no two field handles have the same definition and position.
+fn field_handles_differ(alloc: Global, m: &Module) -> Result<bool, AllocError>
+    ensures { IfOk result (λ b. b ≡ all_differ (λ (x y : FieldHandle). (x.definition == y.definition) && (x.position == y.position)) m.now.field_handles) }
+{
+    let places = field_places(alloc, m)?;
+    all_distinct(alloc, &places)
+}
+
+/// Whether no two addresses are one.
+fn addresses_differ(alloc: Global, m: &Module) -> Result<bool, AllocError>
+    ensures { IfOk result (λ b. b ≡ all_differ ◌==◌ m.now.addresses) }
+{
+    all_distinct(alloc, m.addresses())
+}
+
+/// The identifiers.
+fn identifiers<'a>(alloc: Global, m: &Module<'a>) -> Result<Vec<&'a [u8]>, AllocError>
+    ensures { IfOk result (λ v. map (λ name. name.now) v.items ≡ m.now.identifiers) }
+{
+    let mut names = Vec::new(alloc);
+    for i in 0..m.identifier_count() {
+        if let Some(name) = m.identifier(i) {
+            names.push(name)?;
+        }
+    }
+    Ok(names)
+}
+
+/// Whether no two identifiers are one.
+fn identifiers_differ(alloc: Global, m: &Module) -> Result<bool, AllocError>
+    ensures { IfOk result (λ b. b ≡ all_differ bytes_eq m.now.identifiers) }
+{
+    let texts = identifiers(alloc, m)?;
+    all_distinct(alloc, &texts)
+}
+
+/// Whether two lists of types are one.
+fn same_tokens(a: &[Token], b: &[Token]) -> bool
+    ensures { result ≡ same_tokens a.now b.now }
+{
+    a == b
+}
+
+/// Whether a signature from this index on has these types.
+fn appears_from(m: &Module, from: usize, tokens: &[Token]) -> bool
+    ensures { result ≡ list_any (same_tokens tokens.now) (drop from m.now.signatures) }
+{
+    for i in from..m.signature_count() {
+        let Some(other) = m.signature(i) else {
+            return false;
+        };
+        if same_tokens(tokens, other) {
+            return true;
+        }
+    }
+    false
+}
+
+/// Whether no two signatures are one. Goes from the last one on, so that the work grows with the square of how many
+/// differ, and not of how many there are.
+fn signatures_differ(m: &Module) -> bool
+    ensures { result ≡ all_differ same_tokens m.now.signatures }
+{
+    let mut left = m.signature_count();
+    while 0 < left {
+        left -= 1;
+        let Some(tokens) = m.signature(left) else {
+            return false;
+        };
+        if appears_from(m, left + 1, tokens) {
+            return false;
+        }
+    }
+    true
+}
+
+/// Whether two constants are one.
+fn same_constant(a: &Constant, b: &Constant) -> bool
+    ensures { result ≡ same_constant a.now b.now }
+{
+    a.token() == b.token() && a.bytes() == b.bytes()
+}
+
+/// Whether one of the constants is this one.
+fn has_constant(constants: &[Constant], c: &Constant) -> bool
+    ensures { result ≡ list_any (same_constant c.now) constants.now }
+{
+    constants.iter().any(|other| same_constant(c, other))
+}
+
+/// Whether no two of the constants are one.
+fn constants_differ(constants: &[Constant]) -> bool
+    ensures { result ≡ all_differ same_constant constants.now }
+{
+    for i in 0..constants.len() {
+        if has_constant(&constants[i + 1..], &constants[i]) {
+            return false;
+        }
+    }
+    true
+}
+
+/// Whether one of the fields has this name.
+fn has_name(fields: &[Field], name: u16) -> bool
+    ensures { result ≡ list_any (λ (f : FieldEntry). name == f.name) fields.now }
+{
+    fields.iter().any(|f| name == f.name)
+}
+
+/// Whether no two of a struct's fields have one name. It has at most 32.
+fn field_names_differ(fields: &[Field]) -> bool
+    ensures { result ≡ all_differ (λ (x y : FieldEntry). x.name == y.name) fields.now }
+{
+    let mut left = fields;
+    while let Some((first, others)) = left.split_first() {
+        if has_name(others, first.name) {
+            return false;
+        }
+        left = others;
+    }
+    true
+}
+
+/// Whether in each struct the fields' names differ.
+fn all_field_names_differ(m: &Module) -> bool
+    ensures { result ≡ list_all (λ (d : StructTable). all_differ (λ (x y : FieldEntry). x.name == y.name) d.fields) m.now.structs }
+{
+    m.structs().iter().all(|d| field_names_differ(d.fields()))
+}
+
+/// Whether each struct has fields.
+fn all_have_fields(m: &Module) -> bool
+    ensures { result ≡ list_all (λ (d : StructTable). nat_lt 0 (length d.fields)) m.now.structs }
+{
+    m.structs().iter().all(|d| !d.fields().is_empty())
+}
+
+/// How often each number below `n` stands among the items.
+fn counts(alloc: Global, n: usize, items: &[u16]) -> Result<Vec<usize>, AllocError>
+    ensures len { IfOk result (λ v. vec_len v ≡ n) }
+    ensures counts { IfOk result (λ v. (k : ℕ) → k < n → slice_index v.items k ≡ count_by (λ x. x == k) items.now) }
+{
+    let mut counts = vec![in alloc; 0usize; n]?;
+    for x in items {
+        let at = usize::from(*x);
+        if at < n {
+            counts[at] += 1;
+        }
+    }
+    Ok(counts)
+}
+
+/// Whether each handle of the own module, and no other handle, has exactly one definition.
+fn defined_once(alloc: Global, homes: &[u16], own: u16, defined: &[u16]) -> Result<bool, AllocError>
+    ensures { IfOk result (λ b. b ≡ defined_once (λ h. slice_index homes.now h) own (length homes.now) defined.now) }
+{
+    let counts = counts(alloc, homes.len(), defined)?;
+    for h in 0..homes.len() {
+        if counts[h] != usize::from(homes[h] == own) {
+            return Ok(false);
+        }
+    }
+    Ok(true)
+}
+
+/// The module handle of each struct handle.
+fn struct_homes(alloc: Global, m: &Module) -> Result<Vec<u16>, AllocError>
+    ensures { IfOk result (λ v. v.items ≡ map (λ (h : StructHandle). h.module) m.now.struct_handles) }
+{
+    m.struct_handles().iter().map(|h| h.module).collect(alloc)
+}
+
+/// The module handle of each function handle.
+fn function_homes(alloc: Global, m: &Module) -> Result<Vec<u16>, AllocError>
+    ensures { IfOk result (λ v. v.items ≡ map (λ (h : FunctionHandle). h.module) m.now.function_handles) }
+{
+    m.function_handles().iter().map(|h| h.module).collect(alloc)
+}
+
+/// The handle of each struct definition.
+fn defined_structs(alloc: Global, m: &Module) -> Result<Vec<u16>, AllocError>
+    ensures { IfOk result (λ v. v.items ≡ map (λ (d : StructTable). d.handle) m.now.structs) }
+{
+    m.structs().iter().map(|d| d.handle()).collect(alloc)
+}
+
+/// The handle of each function definition.
+fn defined_functions(alloc: Global, m: &Module) -> Result<Vec<u16>, AllocError>
+    ensures { IfOk result (λ v. v.items ≡ map (λ (d : FunctionTable). d.handle) m.now.functions) }
+{
+    m.functions().iter().map(|d| d.handle()).collect(alloc)
+}
+
+/// Whether the module defines each struct of its own once, and no other.
+fn structs_defined_once(alloc: Global, m: &Module) -> Result<bool, AllocError>
+    ensures { IfOk result (λ b. b ≡ defined_once (struct_home m.now) m.now.own (length m.now.struct_handles) (map (λ (d : StructTable). d.handle) m.now.structs)) }
+{
+    let homes = struct_homes(alloc, m)?;
+    let defined = defined_structs(alloc, m)?;
+    defined_once(alloc, &homes, m.own(), &defined)
+}
+
+/// Whether the module defines each function of its own once, and no other.
+fn functions_defined_once(alloc: Global, m: &Module) -> Result<bool, AllocError>
+    ensures { IfOk result (λ b. b ≡ defined_once (function_home m.now) m.now.own (length m.now.function_handles) (map (λ (d : FunctionTable). d.handle) m.now.functions)) }
+{
+    let homes = function_homes(alloc, m)?;
+    let defined = defined_functions(alloc, m)?;
+    defined_once(alloc, &homes, m.own(), &defined)
+}
+
+/// Whether no entry of a module stands twice, and what is its own is defined once, by structs that are finite.
+pub fn well_defined(alloc: Global, m: &Module) -> Result<bool, AllocError>
+    requires { InBounds m.now }
+    ensures { IfOk result (λ b. IsTrue b ↔ WellDefined m.now) }
+{
+    Ok(
+        module_handles_differ(alloc, m)?
+            && signatures_differ(m)
+            && constants_differ(m.constants())
+            && identifiers_differ(alloc, m)?
+            && addresses_differ(alloc, m)?
+            && field_handles_differ(alloc, m)?
+            && struct_handles_differ(alloc, m)?
+            && function_handles_differ(alloc, m)?
+            && structs_defined_once(alloc, m)?
+            && functions_defined_once(alloc, m)?
+            && all_field_names_differ(m)
+            && all_have_fields(m)
+            && are_finite(alloc, m)?,
+    )
+}
+
+#[cfg(test)]
+mod tests {
+    use super::*;
+    use std::test::Fail;
+
+    #[test]
+    fn repeats_are_found(rt: HostRuntime) -> Result<(), Fail> {
+        assert!(rt; all_distinct(rt.alloc(), &[3u16, 1, 2])?);
+        assert!(rt; !all_distinct(rt.alloc(), &[3u16, 1, 3])?);
+        Ok(())
+    }
+
+    #[test]
+    fn own_handles_are_defined_once(rt: HostRuntime) -> Result<(), Fail> {
+        let homes = [0, 1, 0];
+        assert!(rt; defined_once(rt.alloc(), &homes, 0, &[2, 0])?);
+        assert!(rt;
+            !defined_once(rt.alloc(), &homes, 0, &[2])?,
+            "one has no definition"
+        );
+        assert!(rt;
+            !defined_once(rt.alloc(), &homes, 0, &[2, 0, 1])?,
+            "one is another module's"
+        );
+        assert!(rt;
+            !defined_once(rt.alloc(), &homes, 0, &[2, 0, 2])?,
+            "one is defined twice"
+        );
+        Ok(())
+    }
+}
