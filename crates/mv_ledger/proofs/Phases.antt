@@ -18,7 +18,7 @@ use Rattle.mv_linker.specs.declared.New.{New}
 use Rattle.mv_linker.specs.News.{published_one, published_of}
 use Rattle.mv_linker.specs.Link.{MayJoin, tables_in}
 use Rattle.mv_ledger.specs.RecordText.{IsShaped}
-use Rattle.mv_ledger.specs.Publishing.{Passes, FailsAt, no_text, no_bounds, not_defined, not_signed, not_able, no_flow, not_typed, no_certificate, no_locals, no_edges, no_acquires, IsRefusedOffer, AllPass, in_offer, in_linking, in_room}
+use Rattle.mv_ledger.specs.Publishing.{IsRead, Passes, FailsAt, no_text, not_today, no_bounds, not_defined, not_signed, not_able, no_flow, not_typed, no_certificate, no_locals, no_edges, no_acquires, IsRefusedOffer, AllPass, in_offer, in_linking, in_room}
 use Rattle.mv_ledger.specs.Exact.{IsRefused, failing}
 use Rattle.mv_ledger.specs.Judging.{IsAcceptedBy, IsRefusedBy}
 
@@ -28,7 +28,7 @@ module _ (o : Offer) where
   refused_text (Phase p) (inl is) none = let same : p ≡ 2 = cc in subst (λ (n : ℕ). FailsAt o n) (sym same) (no_text (none is))
   refused_text (Phase p) (inr is) none = cc
 
-  pub refused_bounds : (m : Module) (e : Refusal) → module_of o.text ≡ Some m → IsRefusedByBounds m e → IsRefusedOffer o e
+  pub refused_bounds : (m : Module) (e : Refusal) → IsRead o m → IsRefusedByBounds m e → IsRefusedOffer o e
   refused_bounds m Memory text h = tt
   refused_bounds m (Phase p) text h = fails h
     where
@@ -36,7 +36,7 @@ module _ (o : Offer) where
       fails (out_of_bounds out) = no_bounds m text out
       fails (ill_defined bounds out) = not_defined m text bounds out
 
-  pub refused_types : (m : Module) (e : Refusal) → module_of o.text ≡ Some m → InBounds m → WellDefined m → IsRefusedByTypes m e → IsRefusedOffer o e
+  pub refused_types : (m : Module) (e : Refusal) → IsRead o m → InBounds m → WellDefined m → IsRefusedByTypes m e → IsRefusedOffer o e
   refused_types m Memory text bounds defined h = tt
   refused_types m (Phase p) text bounds defined h = fails h
     where
@@ -46,19 +46,19 @@ module _ (o : Offer) where
       fails (endless signed able out) = no_flow m text bounds defined signed able out
       fails (ill_typed signed able flow out) = not_typed m text bounds defined signed able flow out
 
-  pub refused_stated : (m : Module) (e : Refusal) → module_of o.text ≡ Some m → IsSound m → (e ≡ Phase 9) ⊎ (e ≡ Memory) → (e ≡ Phase 9 → (c : Certificate) → IsCertificateText m o.certificate c → ⊥) → IsRefusedOffer o e
+  pub refused_stated : (m : Module) (e : Refusal) → IsRead o m → IsSound m → (e ≡ Phase 9) ⊎ (e ≡ Memory) → (e ≡ Phase 9 → (c : Certificate) → IsCertificateText m o.certificate c → ⊥) → IsRefusedOffer o e
   refused_stated m Memory text sound is none = tt
   refused_stated m (Phase p) text sound (inl is) none = let same : p ≡ 9 = cc in subst (λ (n : ℕ). FailsAt o n) (sym same) (no_certificate m text sound (none is))
   refused_stated m (Phase p) text sound (inr is) none = cc
 
-  pub refused_check : (m : Module) (c : Certificate) (e : Refusal) → module_of o.text ≡ Some m → IsSound m → IsCertificateText m o.certificate c → IsRefusedByCertificate m c e → IsRefusedOffer o e
+  pub refused_check : (m : Module) (c : Certificate) (e : Refusal) → IsRead o m → IsSound m → IsCertificateText m o.certificate c → IsRefusedByCertificate m c e → IsRefusedOffer o e
   refused_check m c Memory text sound stated h = tt
   refused_check m c (Phase p) text sound stated h = fails h
     where
       fails : {n : ℕ} → FailsCertificate m c n → FailsAt o n
       fails (bad_locals out) = no_locals m c text sound stated out
-      fails (bad_borrows needs out) = no_edges m c text sound stated needs out
-      fails (bad_acquires needs out) = no_acquires m c text sound stated needs out
+      fails (bad_borrows locals out) = no_edges m c text sound stated locals out
+      fails (bad_acquires holds out) = no_acquires m c text sound stated holds out
 
 module _ (old : List PublishedModule) (payload : List ℕ) (sender : ℕ) (o : Offer) (asked : IsShaped 1 payload (Publish sender (o ∷ []))) where
   -- the offer fails

@@ -72,7 +72,7 @@ module _ (old new : List PublishedModule) (payload : List ℕ) (stored : List Fl
       with_bundle_of b =
           let bundle : List PublishedModule = b.0 in
           let a : IsAccepted (state_of first) payload bundle = b.1.0 in
-          let long : length (one.0 ∷ []) ≡ length bundle = as_long old (one.0 ∷ []) bundle (sym one.1.1 ∙ b.1.1) in
+          let long : length (one.0 ∷ []) ≡ length bundle = as_long old (one.0 ∷ []) bundle (sym one.1.2 ∙ b.1.1) in
           let all : AllPass a.offers bundle = a.published.0 in
           let state : state_of second ≡ with_bundle (state_of first) bundle = with_it bundle b.1.1 store fine tallies in
           record {

@@ -12,7 +12,7 @@ use Rattle.mv_module_text.specs.Entries.{address_text, counted, identifier_text}
 use Rattle.mv_module_text.specs.Fits.{is_byte, address_fits, identifier_fits}
 use Rattle.mv_module_text.specs.Laws.{AreBytes}
 use Rattle.mv_module_text.specs.Parsing.{mark_from, bytes_from, counted_from, identifier_from, address_from}
-use Rattle.mv_module_text.proofs.Texts.{Front, Parts, Whole, on_bind, Front-join, Front-as, number-front, number-whole, mark-front, bytes-front, bytes-whole, bytes_behind, counted-parts, counted-whole}
+use Rattle.mv_module_text.proofs.Texts.{Front, Parts, Whole, on_bind, Front-join, Front-as, number-front, number-whole, mark-front, bytes-front, bytes-whole, bytes_after, counted-parts, counted-whole}
 use Rattle.mv_module_text.proofs.Handles.{identifier-parts, identifier-whole}
 use Rattle.mv_module_text.proofs.Addresses.{address-parts, address-whole}
 use Rattle.mv_machine.specs.Value.{Value}
@@ -35,7 +35,7 @@ sized-parts most lt bytes rest v ok e =
     let q = bytes-front n.0 v n.1 rest p.0.left e1 in
     let count : Front (uleb (length v)) bytes n.1 = subst (λ z. Front (uleb z) bytes n.1) (sym q.1) p.0 in
     let le : length v ≤ most = omega (arith, p.1, q.1) in
-    let well : AreBytes v = (bytes_behind v rest (subst AreBytes q.0.text p.0.left)).0 in
+    let well : AreBytes v = (bytes_after v rest (subst AreBytes q.0.text p.0.left)).0 in
     (Front-join (uleb (length v)) v bytes n.1 rest count q.0, and_from (nat_le (length v) most) (list_all is_byte v) (le-leb (length v) most le) well))
 
 -- they are read

@@ -90,8 +90,8 @@ store-push old p sender store passed join = record {
 -- a module that passed has the texts of its offer
 pub has_its_texts : (n : New) (o : Offer) → n.text.now ≡ o.text → n.certificate.now ≡ o.certificate → (c : Certificate) × Passes o n.module c → HasItsTexts n
 has_its_texts n o text certificate passed = record {
-  text = ap module_of text ∙ passed.1.text;
-  certificate = (passed.0, (subst (λ bytes. IsCertificateText n.module bytes passed.0) (sym certificate) passed.1.certificate, passed.1.needs));
+  text = ap module_of text ∙ passed.1.read.text;
+  certificate = (passed.0, (subst (λ bytes. IsCertificateText n.module bytes passed.0) (sym certificate) passed.1.certificate, passed.1.holds));
 }
 
 -- so it may be published

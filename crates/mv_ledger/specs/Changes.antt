@@ -5,11 +5,11 @@ use Rattle.mv_machine.specs.Flat.{FlatEntry}
 use Rattle.mv_machine.specs.Lines.{Reply as Told, Published as ToldPublished, Refused as ToldRefused, Rejected as ToldRejected, Returned as ToldReturned, Aborted as ToldAborted, Exhausted as ToldExhausted, Broken as ToldBroken}
 use Rattle.mv_linker.specs.Link.{IsPublishable}
 use Rattle.mv_ledger.specs.declared.tallies.Tally.{Tally}
-use Rattle.mv_ledger.specs.View.{LedgerView}
+use Rattle.mv_ledger.specs.View.{RunsToday, LedgerView}
 
--- one module that may be published stands behind those that were there
+-- one module that may be published and runs today stands after those that were there
 abbrev pub AddsOne : List PublishedModule → List PublishedModule → Type 0
-AddsOne old new = (p : PublishedModule) × (IsPublishable p × (new ≡ old ++ p ∷ []))
+AddsOne old new = (p : PublishedModule) × (IsPublishable p × RunsToday p × (new ≡ old ++ p ∷ []))
 
 -- nothing changes but the number of runs
 abbrev pub with_run_had : LedgerView → LedgerView

@@ -1,18 +1,16 @@
--- The bundle or the run that stands at the front of bytes, and the bytes behind it.
+-- The bundle or the run that stands at the front of bytes, and the bytes after it.
 use Rattle.std.specs.Prelude.{ℕ, ◌==◌, nat_lt, cond, List, Option, Some, None, map}
 use Rattle.std.specs.Bool.{then_some}
-use Rattle.byteorder.specs.Endian.{little_number}
 use Rattle.mv_uleb.specs.Parsing.{number_from}
-use Rattle.mv_move_types.specs.declared.token.Width.TheVariants.{U8, U64, U128}
 use Rattle.mv_move_types.specs.declared.token.LeafKind.{LeafKind}
 use Rattle.mv_move_types.specs.declared.token.LeafKind.TheVariants.{Boolean, Number, Address, Signer}
 use Rattle.mv_move_types.specs.Options.{◌>>=◌}
-use Rattle.mv_module_text.specs.Parsing.{Read, byte_from, mark_from, bytes_from, counted_from, identifier_from, address_from}
+use Rattle.mv_module_text.specs.Parsing.{Read, byte_from, mark_from, bytes_from, number_of_from, kind_of, counted_from, identifier_from, address_from}
 use Rattle.mv_interpreter.specs.declared.Arg.{Arg}
 use Rattle.mv_interpreter.specs.Runs.{arg_value}
 use Rattle.mv_machine.specs.Ledger.{Offer, RunRequest}
 
--- bytes behind their number, of at most so many
+-- bytes after their number, of at most so many
 abbrev pub sized_from : ℕ → List ℕ → Read (List ℕ)
 sized_from most bytes = number_from most bytes >>= λ n. bytes_from n.0 n.1
 
@@ -31,30 +29,18 @@ bundle_from bytes = do
   offer ← offer_from rest
   Some ((sender.0, offer.0), offer.1)
 
--- the kind of leaf that a token stands for
-abbrev pub kind_of : ℕ → Option LeafKind
-kind_of code =
-    cond (code == 1) (Some Boolean) (cond (code == 2) (Some (Number U8)) (cond (code == 3) (Some (Number U64))
-    (cond (code == 4) (Some (Number U128)) (cond (code == 5) (Some Address) None))))
-
--- a number of so many bytes, the lowest first
-abbrev pub low_first_from : ℕ → List ℕ → Read ℕ
-low_first_from n bytes = bytes_from n bytes >>= λ x. Some (little_number n x.0, x.1)
-
 -- a leaf of the kind
 abbrev pub leaf_from : LeafKind → List ℕ → Read ℕ
 leaf_from Boolean bytes = byte_from bytes >>= λ b. then_some (nat_lt b.0 2) b
-leaf_from (Number U8) bytes = byte_from bytes
-leaf_from (Number U64) bytes = low_first_from 8 bytes
-leaf_from (Number U128) bytes = low_first_from 16 bytes
+leaf_from (Number w) bytes = number_of_from w bytes
 leaf_from Address bytes = address_from bytes
 leaf_from Signer bytes = None
 
--- an argument: its token and its value
+-- an argument: its token, of any version, and its value
 abbrev pub argument_from : List ℕ → Read Arg
 argument_from bytes = do
   code ← byte_from bytes
-  kind ← kind_of code.0
+  kind ← kind_of 6 code.0
   n ← leaf_from kind code.1
   Some (record { kind = kind; number = n.0 }, n.1)
 

@@ -13,34 +13,39 @@ use Rattle.mv_cfg.specs.Blocks.{FlowHolds}
 use Rattle.mv_type_states.specs.TypesHold.{TypesHold}
 use Rattle.mv_type_states.specs.Sound.{IsSound}
 use Rattle.mv_acquires.specs.Acquires.{AcquiresHold}
-use Rattle.mv_certificate.specs.Certificate.{Certificate, locals_needs_are_met, all_needs_are_met}
-use Rattle.mv_certificate.specs.Needs.{LocalsAtRest, EdgesAtRest}
+use Rattle.mv_certificate.specs.Certificate.{Certificate, all_locals_hold, all_edges_hold, certificate_holds}
+use Rattle.mv_interpreter.specs.Today.{module_runs}
 use Rattle.mv_certificate.specs.CertificateText.{IsCertificateText}
 use Rattle.mv_linker.specs.Link.{MayJoin}
 use Rattle.mv_machine.specs.Ledger.{Offer, LedgerState, modules_of}
 
--- An offer passes phases 2 to 12, with the module and the certificate that it spells. Of phases 10 and 11 it is said that what
--- is stated meets every need of the code, and not yet that each stated state covers what flows into it.
-pub record Passes (o : Offer) (m : Module) (c : Certificate) : Type 0 where
+-- An offer is read as a module: it spells the module, which is one that runs today.
+pub record IsRead (o : Offer) (m : Module) : Type 0 where
   pub text : module_of o.text ≡ Some m
+  pub today : IsTrue (module_runs m)
+
+-- an offer passes phases 2 to 12, with the module and the certificate that it spells
+pub record Passes (o : Offer) (m : Module) (c : Certificate) : Type 0 where
+  pub read : IsRead o m
   pub sound : IsSound m
   pub certificate : IsCertificateText m o.certificate c
-  pub needs : IsTrue (all_needs_are_met m c)
+  pub holds : IsTrue (certificate_holds m c)
   pub acquires : AcquiresHold m
 
--- the first phase that an offer fails; of a refusal in phase 10 or 11 it is said that what is stated isn't at rest
+-- the first phase that an offer fails
 pub data FailsAt (o : Offer) : ℕ → Type 0 where
   no_text : module_of o.text ≡ None → FailsAt o 2
-  no_bounds : (m : Module) → module_of o.text ≡ Some m → ¬ InBounds m → FailsAt o 3
-  not_defined : (m : Module) → module_of o.text ≡ Some m → InBounds m → ¬ WellDefined m → FailsAt o 4
-  not_signed : (m : Module) → module_of o.text ≡ Some m → InBounds m → WellDefined m → ¬ WellSigned m → FailsAt o 5
-  not_able : (m : Module) → module_of o.text ≡ Some m → InBounds m → WellDefined m → WellSigned m → ¬ AbilitiesHold m → FailsAt o 6
-  no_flow : (m : Module) → module_of o.text ≡ Some m → InBounds m → WellDefined m → WellSigned m → AbilitiesHold m → ¬ FlowHolds m → FailsAt o 7
-  not_typed : (m : Module) → module_of o.text ≡ Some m → InBounds m → WellDefined m → WellSigned m → AbilitiesHold m → FlowHolds m → ¬ TypesHold m → FailsAt o 8
-  no_certificate : (m : Module) → module_of o.text ≡ Some m → IsSound m → ((c : Certificate) → ¬ IsCertificateText m o.certificate c) → FailsAt o 9
-  no_locals : (m : Module) (c : Certificate) → module_of o.text ≡ Some m → IsSound m → IsCertificateText m o.certificate c → ¬ LocalsAtRest m c → FailsAt o 10
-  no_edges : (m : Module) (c : Certificate) → module_of o.text ≡ Some m → IsSound m → IsCertificateText m o.certificate c → IsTrue (locals_needs_are_met m c) → ¬ EdgesAtRest m c → FailsAt o 11
-  no_acquires : (m : Module) (c : Certificate) → module_of o.text ≡ Some m → IsSound m → IsCertificateText m o.certificate c → IsTrue (all_needs_are_met m c) → ¬ AcquiresHold m → FailsAt o 12
+  not_today : (m : Module) → module_of o.text ≡ Some m → ¬ IsTrue (module_runs m) → FailsAt o 2
+  no_bounds : (m : Module) → IsRead o m → ¬ InBounds m → FailsAt o 3
+  not_defined : (m : Module) → IsRead o m → InBounds m → ¬ WellDefined m → FailsAt o 4
+  not_signed : (m : Module) → IsRead o m → InBounds m → WellDefined m → ¬ WellSigned m → FailsAt o 5
+  not_able : (m : Module) → IsRead o m → InBounds m → WellDefined m → WellSigned m → ¬ AbilitiesHold m → FailsAt o 6
+  no_flow : (m : Module) → IsRead o m → InBounds m → WellDefined m → WellSigned m → AbilitiesHold m → ¬ FlowHolds m → FailsAt o 7
+  not_typed : (m : Module) → IsRead o m → InBounds m → WellDefined m → WellSigned m → AbilitiesHold m → FlowHolds m → ¬ TypesHold m → FailsAt o 8
+  no_certificate : (m : Module) → IsRead o m → IsSound m → ((c : Certificate) → ¬ IsCertificateText m o.certificate c) → FailsAt o 9
+  no_locals : (m : Module) (c : Certificate) → IsRead o m → IsSound m → IsCertificateText m o.certificate c → ¬ IsTrue (all_locals_hold m c) → FailsAt o 10
+  no_edges : (m : Module) (c : Certificate) → IsRead o m → IsSound m → IsCertificateText m o.certificate c → IsTrue (all_locals_hold m c) → ¬ IsTrue (all_edges_hold m c) → FailsAt o 11
+  no_acquires : (m : Module) (c : Certificate) → IsRead o m → IsSound m → IsCertificateText m o.certificate c → IsTrue (certificate_holds m c) → ¬ AcquiresHold m → FailsAt o 12
 
 -- the phase that is answered is the first that the offer fails, or memory ran out
 abbrev pub IsRefusedOffer : Offer → Refusal → Type 0

@@ -1,34 +1,25 @@
 -- The text of records.
 use Rattle.std.specs.Prelude.{◌==◌, ℕ, List, [], ◌∷◌, Bool, false, ◌++◌, length, ◌&&◌, nat_le, ◌^◌, nat_lt, ◌≡◌, IsTrue, ◌≢◌}
-use Rattle.std.specs.Int.{w64, w128, to_le_bytes}
 use Rattle.std.specs.List.{list_all}
-use Rattle.mv_move_types.specs.declared.token.Width.{Width}
-use Rattle.mv_move_types.specs.declared.token.Width.TheVariants.{U8, U64, U128}
 use Rattle.mv_move_types.specs.declared.token.LeafKind.{LeafKind}
 use Rattle.mv_move_types.specs.declared.token.LeafKind.TheVariants.{Boolean, Number, Address, Signer}
-use Rattle.mv_module_text.specs.Entries.{address_text, kind_code, counted, identifier_text}
+use Rattle.mv_module_text.specs.Entries.{address_text, leaf_token, number_text, counted, identifier_text}
 use Rattle.mv_machine.specs.Value.{Value, Leaf, Struct, Ref}
 use Rattle.mv_machine.specs.Typed.{leaf_fits}
 use Rattle.mv_uleb.specs.Uleb.{uleb}
 use Rattle.mv_machine.specs.Ledger.{Offer, RunRequest, Request, Publish, Run, BadRun, Bad}
 use Rattle.mv_module_text.specs.Fits.{is_byte, address_fits, identifier_fits}
 
--- a number in as many bytes as its width has, the lowest first
-abbrev pub number_bytes : Width → ℕ → List ℕ
-number_bytes U8 n = n ∷ []
-number_bytes U64 n = to_le_bytes w64 n
-number_bytes U128 n = to_le_bytes w128 n
-
 -- a leaf without its token; no leaf is a signer here
 abbrev pub leaf_bytes : LeafKind → ℕ → List ℕ
 leaf_bytes Boolean n = n ∷ []
-leaf_bytes (Number w) n = number_bytes w n
+leaf_bytes (Number w) n = number_text w n
 leaf_bytes Address n = address_text n
 leaf_bytes Signer n = []
 
 -- an argument: its token and its value
 abbrev pub argument_text : Value → List ℕ
-argument_text (Leaf kind n) = kind_code kind ∷ leaf_bytes kind n
+argument_text (Leaf kind n) = leaf_token kind ∷ leaf_bytes kind n
 argument_text (Struct name fields) = []
 argument_text (Ref r) = []
 
@@ -38,7 +29,7 @@ argument_fits (Leaf kind n) = leaf_fits kind n
 argument_fits (Struct name fields) = false
 argument_fits (Ref r) = false
 
--- bytes behind their number
+-- bytes after their number
 abbrev pub sized : List ℕ → List ℕ
 sized bytes = uleb (length bytes) ++ bytes
 

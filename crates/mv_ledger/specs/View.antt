@@ -1,5 +1,5 @@
 -- What a ledger holds, and the machine's state that it stands for.
-use Rattle.std.specs.Prelude.{◌≡◌, ℕ, ◌+◌, ◌*◌, ◌^◌, ◌≤◌, List, [], ◌∷◌, map, length, All, IsSome, unwrap_or}
+use Rattle.std.specs.Prelude.{IsTrue, ◌≡◌, ℕ, ◌+◌, ◌*◌, ◌^◌, ◌≤◌, List, [], ◌∷◌, map, length, All, IsSome, unwrap_or}
 use Rattle.std.specs.List.{flat_map}
 use Rattle.mv_move_types.specs.Module.{Module, name_at}
 use Rattle.mv_move_types.specs.Names.{StructName}
@@ -8,6 +8,7 @@ use Rattle.mv_machine.specs.Flat.{FlatEntry, storage_of}
 use Rattle.mv_machine.specs.Lines.{Tallied}
 use Rattle.mv_machine.specs.Ledger.{LedgerState}
 use Rattle.mv_linker.specs.Link.{tables_in}
+use Rattle.mv_interpreter.specs.Today.{module_runs}
 use Rattle.mv_interpreter.specs.Runs.{IsFineWords}
 use Rattle.mv_ledger.specs.declared.tallies.Tally.{Tally}
 
@@ -61,10 +62,15 @@ IsNamed modules t = IsSome (name_at modules t.place t.index)
 abbrev pub IsSmall : ℕ → Tally → Type 0
 IsSmall runs t = (t.packs ≤ runs * 2 ^ 64) × (t.unpacks ≤ runs * 2 ^ 64)
 
--- A ledger's modules and runs are within their limits, each stored value is one of its key's struct, and each tally one of a
+-- the interpreter runs the module's functions today
+abbrev pub RunsToday : PublishedModule → Type 0
+RunsToday p = IsTrue (module_runs p.tables)
+
+-- A ledger's modules and runs are within their limits, each module runs today, each stored value is one of its key's struct, and each tally one of a
 -- struct in its range; each module has its tallies.
 pub record IsLedger (published : List PublishedModule) (stored : List FlatEntry) (tallies : List (List Tally)) (runs : ℕ) : Type 0 where
   pub few : length published ≤ 4096
+  pub today : All RunsToday published
   pub fine : All (IsFineWords (tables_in published)) stored
   pub placed : length tallies ≡ length published
   pub named : All (IsNamed (tables_in published)) (all_of tallies)

@@ -14,7 +14,7 @@ ghost use Rattle.mv_ledger.specs.Answering.{told, reply_of};
 ghost use Rattle.mv_ledger.specs.Asking.{request_of};
 ghost use Rattle.mv_ledger.specs.Running.{IsAdmitted, IsSettled};
 ghost use Rattle.mv_ledger.specs.Tallying.{HasRoomLeft};
-ghost use Rattle.mv_ledger.specs.View.{all_of, IsNamed, IsSmall};
+ghost use Rattle.mv_ledger.specs.View.{all_of, IsNamed, IsSmall, RunsToday};
 
 use crate::Reply;
 use crate::payload::RunRecord;
@@ -150,6 +150,7 @@ fn are_passed(tokens: &[Token], arguments: &[Arg]) -> bool
 /// `Memory`, where a growth was refused.
 pub fn admitted(store: &Store, runs: u64, asked: RunRecord<'_>) -> Result<Call, Barred>
     requires few { length store.now ≤ 4096 }
+    requires today { All RunsToday store.now }
     requires range { IsTrue (list_all (λ (a : Argument). number_fits a.kind a.number) asked.arguments.items) }
     ensures call { IfOk result (λ c. IsCall (tables_in store.now) c.function c.arguments.items) }
     ensures runs { OnOk result (runs < 4294967296) }

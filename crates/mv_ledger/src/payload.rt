@@ -7,12 +7,11 @@ ghost use Rattle.mv_machine.specs.Ledger.{Publish, Run};
 ghost use Rattle.mv_module_text.specs.Parsing.{counted_from};
 ghost use Rattle.mv_ledger.specs.Asking.{offer_of, request_of};
 ghost use Rattle.mv_ledger.specs.RecordText.{IsShaped, IsShapeless};
-ghost use Rattle.mv_ledger.specs.Payloads.{sized_from, bundle_from, kind_of, leaf_from, argument_from, run_from};
+ghost use Rattle.mv_ledger.specs.Payloads.{sized_from, bundle_from, leaf_from, argument_from, run_from};
 
-use byteorder::{ByteOrder, LittleEndian};
 use mv_interpreter::Arg;
 use mv_module_text::Reader;
-use mv_move_types::{LeafKind, Refusal, Width};
+use mv_move_types::{LeafKind, Refusal, Version};
 use std::alloc::Global;
 
 // What the reader refuses malformed bytes with. So do the functions here.
@@ -37,7 +36,7 @@ pub struct RunRecord<'a> {
     pub arguments: Vec<Arg>,
 }
 
-/// Bytes behind their number.
+/// Bytes after their number.
 fn sized<'a>(reader: &mut Reader<'a>, most: u64) -> Result<&'a [u8], Refusal>
     ensures ok { IfOk result (λ v. sized_from most reader.old ≡ Some (v.now, reader.new)) }
     ensures refused { result ≡ Err (Refusal.Phase 2) → sized_from most reader.old ≡ None }
@@ -64,7 +63,7 @@ fn next_bundle<'a>(reader: &mut Reader<'a>) -> Result<Bundle<'a>, Refusal>
     })
 }
 
-/// Reads the payload of a publish record: a sender and one module with its certificate, and nothing behind them.
+/// Reads the payload of a publish record: a sender and one module with its certificate, and nothing after them.
 ///
 /// # Errors
 ///
@@ -80,20 +79,6 @@ pub fn read_bundle<'a>(payload: &'a [u8]) -> Result<Bundle<'a>, Refusal>
         Ok(offered)
     } else {
         Err(MALFORMED)
-    }
-}
-
-/// The kind of leaf that an argument's token stands for.
-fn kind_by(code: u8) -> Option<LeafKind>
-    ensures { result ≡ kind_of code }
-{
-    match code {
-        1 => Some(LeafKind::Boolean),
-        2 => Some(LeafKind::Number(Width::U8)),
-        3 => Some(LeafKind::Number(Width::U64)),
-        4 => Some(LeafKind::Number(Width::U128)),
-        5 => Some(LeafKind::Address),
-        _ => None,
     }
 }
 
@@ -113,9 +98,7 @@ fn leaf(reader: &mut Reader<'_>, kind: LeafKind) -> Result<u128, Refusal>
                 Err(MALFORMED)
             }
         }
-        LeafKind::Number(Width::U8) => Ok(u128::from(reader.byte()?)),
-        LeafKind::Number(Width::U64) => Ok(u128::from(LittleEndian::read_u64(reader.bytes(8)?))),
-        LeafKind::Number(Width::U128) => Ok(LittleEndian::read_u128(reader.bytes(16)?)),
+        LeafKind::Number(width) => reader.number_of(width),
         LeafKind::Address => reader.address(),
         LeafKind::Signer => Err(MALFORMED),
     }
@@ -129,7 +112,7 @@ fn argument(reader: &mut Reader<'_>) -> Result<Arg, Refusal>
     ensures errors { IfErr result (λ e. e ≡ Refusal.Phase 2) }
 {
     let code = reader.byte()?;
-    match kind_by(code) {
+    match Reader::leaf(Version::Six, code) {
         None => Err(MALFORMED),
         Some(kind) => {
             let number = leaf(reader, kind)?;
@@ -138,7 +121,7 @@ fn argument(reader: &mut Reader<'_>) -> Result<Arg, Refusal>
     }
 }
 
-/// Reads arguments, of which there are at most 16, behind their number.
+/// Reads arguments, of which there are at most 16, after their number.
 fn arguments(alloc: Global, reader: &mut Reader<'_>) -> Result<Vec<Arg>, Refusal>
     ensures ok { IfOk result (λ v. counted_from 16 argument_from reader.old ≡ Some (v.items, reader.new)) }
     ensures range { IfOk result (λ v. IsTrue (list_all (λ (a : Argument). number_fits a.kind a.number) v.items)) }
@@ -177,7 +160,7 @@ fn next_run<'a>(alloc: Global, reader: &mut Reader<'a>) -> Result<RunRecord<'a>,
     })
 }
 
-/// Reads the payload of a run record: a run that is asked for, and nothing behind it.
+/// Reads the payload of a run record: a run that is asked for, and nothing after it.
 ///
 /// # Errors
 ///

@@ -10,6 +10,7 @@ ghost use Rattle.mv_ledger.specs.View.{all_of, IsNamed, IsSmall};
 
 use crate::payload::{Bundle, read_bundle};
 use crate::tallies::{Tallies, Tally, scarce_structs, untouched};
+use mv_interpreter::runs_today;
 use mv_linker::{Linked, New, Store, add, link};
 use mv_move_types::Refusal;
 use std::alloc::{AllocError, Global};
@@ -17,7 +18,8 @@ use std::alloc::{AllocError, Global};
 // How many modules a ledger has at most.
 const MOST_MODULES: usize = 4096;
 
-/// The offered module with what it passed: phases 2 to 12 in order.
+/// The offered module with what it passed: phases 2 to 12 in order. A module that the interpreter doesn't run today is
+/// refused in phase 2.
 fn verified<'a>(alloc: Global, bundle: &Bundle<'a>) -> Result<New<'a>, Refusal>
     ensures text { IfOk result (λ n. n.text.now ≡ bundle.now.text.now) }
     ensures certificate { IfOk result (λ n. n.certificate.now ≡ bundle.now.certificate.now) }
@@ -25,6 +27,9 @@ fn verified<'a>(alloc: Global, bundle: &Bundle<'a>) -> Result<New<'a>, Refusal>
     ensures refused { IfErr result (IsRefusedOffer (record { text = bundle.now.text.now; certificate = bundle.now.certificate.now })) }
 {
     let module = mv_binary_format::decode(alloc, bundle.text)?;
+    if !runs_today(&module) {
+        return Err(Refusal::Phase(2));
+    }
     let bounded = mv_bounds::check(alloc, module)?;
     let _defined = bounded.module();
     let typed = mv_type_states::check(alloc, bounded)?;

@@ -32,7 +32,14 @@ join-requires-clause-placed c =
 pub returns-clause-ok : goal.returns-clause-ok
 returns-clause-ok c =
     let added : c.in_ok-linked.linked ≡ published_one c.in_ok-new.new ∷ [] = c.in_ok-linked.ensures.ok ∙ ap published_of c.in_ok-news.ensures in
-    (published_one c.in_ok-new.new, (publishable c.in_ok-new.new _ c.in_ok-new.ensures.text c.in_ok-new.ensures.certificate c.in_ok-new.ensures.passes, c.in_ok-join.ensures.ok ∙ ap (λ l. c.args.store.now ++ l) added))
+    (
+      published_one c.in_ok-new.new,
+      (
+        publishable c.in_ok-new.new _ c.in_ok-new.ensures.text c.in_ok-new.ensures.certificate c.in_ok-new.ensures.passes,
+        c.in_ok-new.ensures.passes.1.read.today,
+        c.in_ok-join.ensures.ok ∙ ap (λ l. c.args.store.now ++ l) added,
+      ),
+    )
 
 pub returns-in_default-clause-refused : goal.returns-in_default-clause-refused
 returns-in_default-clause-refused c = λ s is. no_bundle c.in_default.ensures.refused
