@@ -7,18 +7,17 @@ use Rattle.std.specs.Cmp.{first_so, second_so}
 use Rattle.std.specs.Str.{bytes_eq}
 use Rattle.std.proofs.lemmas.Bool.{ltb-true}
 use Rattle.std.proofs.lemmas.Option.{slice_get-map}
-use Rattle.mv_move_types.specs.declared.tables.Field.{Field}
 use Rattle.mv_move_types.specs.declared.tables.ModuleHandle.{ModuleHandle}
 use Rattle.mv_move_types.specs.declared.tables.StructHandle.{StructHandle}
 use Rattle.mv_move_types.specs.Options.{find_index}
 use Rattle.mv_move_types.specs.Names.{ModuleName, StructName, same_module, same_struct}
-use Rattle.mv_move_types.specs.Module.{Module, StructDefinition, module_name, own_name, struct_name, name_of_struct}
+use Rattle.mv_move_types.specs.Module.{Module, StructDefinition, FunctionDefinition, module_name, own_name, struct_name, name_of_struct}
 use Rattle.mv_move_types.specs.Named.{is_module, module_place, module_named, is_struct}
 use Rattle.mv_move_types.specs.Published.{PublishedModule}
-use Rattle.mv_signatures.specs.Signatures.{may_be_field}
 use Rattle.mv_bounds.specs.Bounds.{InBounds, below, struct_in, field_in, struct_handle_in, module_handle_in}
 use Rattle.mv_bounds.specs.Definitions.{WellDefined, all_differ, struct_home}
 use Rattle.mv_linker.specs.Link.{IsStore, IsPublishable, tables_in, have_one_name}
+use Rattle.mv_interpreter.specs.Today.{function_runs, struct_runs, module_runs}
 use Rattle.mv_interpreter.specs.Works.{IsOwn, IsHome}
 use Rattle.mv_interpreter.proofs.Names.{some_is, eqb-same, bytes-same, same_module-same, same_module-is, same_struct-same, same_struct-is, both}
 use Rattle.mv_interpreter.proofs.Lists.{each, there_at, on_some, then_found, mapped_at, All-at}
@@ -139,13 +138,23 @@ own_of modules place m bounds defined once home_at i d d_at =
       definition = then_found (module_named modules own.0) _ m (m, d.fields) module_is (then_found (find_index (is_struct m name) m.structs) _ i (m, d.fields) index (then_found (slice_get m.structs i) _ d (m, d.fields) d_at refl));
     }
 
--- a module of a store at its place
-pub home_of_store : (published : List PublishedModule) (place : ℕ) (m : Module) → IsStore published → slice_get (tables_in published) place ≡ Some m → IsHome (tables_in published) place m
-home_of_store published place m store at =
+-- the structs of a module of a store are found by their names
+pub own_of_store : (published : List PublishedModule) (place : ℕ) (m : Module) → IsStore published → slice_get (tables_in published) place ≡ Some m → (i : ℕ) (d : StructDefinition) → slice_get m.structs i ≡ Some d → IsOwn (tables_in published) m i d
+own_of_store published place m store at =
     let p = mapped_at (λ (p : PublishedModule). p.tables) published place m at in
     let passed : IsPublishable p.0 = All-at IsPublishable published place p.0 store.passed p.1 in
-    subst (λ (x : Module). slice_get (tables_in published) place ≡ Some x → IsHome (tables_in published) place x) p.2 (λ at. record {
+    subst (λ (x : Module). slice_get (tables_in published) place ≡ Some x → (i : ℕ) (d : StructDefinition) → slice_get x.structs i ≡ Some d → IsOwn (tables_in published) x i d) p.2
+    (own_of (tables_in published) place p.0.tables passed.sound.bounds passed.sound.defined store.once) at
+
+-- a module of a store at its place, if the interpreter runs it
+pub home_of_store : (published : List PublishedModule) (place : ℕ) (m : Module) → IsStore published → slice_get (tables_in published) place ≡ Some m → IsTrue (module_runs m) → IsHome (tables_in published) place m
+home_of_store published place m store at runs =
+    record {
       at = at;
-      own = own_of (tables_in published) place p.0.tables passed.sound.bounds passed.sound.defined store.once at;
-      fields = λ i d d_at. each (λ (d : StructDefinition). list_all (λ (f : Field). may_be_field f.token) d.fields) p.0.tables.structs i d passed.sound.signed.fields d_at;
-    }) at
+      own = own_of_store published place m store at;
+      fields = λ i d d_at. each struct_runs m.structs i d (second_so (list_all function_runs m.functions) (list_all struct_runs m.structs) runs) d_at;
+    }
+
+-- each instruction of a function runs, if its module does
+pub code_runs : (m : Module) (f : ℕ) (d : FunctionDefinition) → IsTrue (module_runs m) → slice_get m.functions f ≡ Some d → IsTrue (function_runs d)
+code_runs m f d runs d_at = each function_runs m.functions f d (first_so (list_all function_runs m.functions) (list_all struct_runs m.structs) runs) d_at

@@ -7,7 +7,7 @@ use Rattle.std.proofs.lemmas.Bool.{eqb-true}
 use Rattle.std.proofs.lemmas.Slice.Eq.{bytes_eq-Decides}
 use Rattle.std.proofs.lemmas.Bool.Decides.{Decides-eqb}
 use Rattle.mv_move_types.specs.declared.token.Width.{Width}
-use Rattle.mv_move_types.specs.declared.token.Width.TheVariants.{U8, U64, U128}
+use Rattle.mv_move_types.specs.declared.token.Width.TheVariants.{U8, U16, U32, U64, U128}
 use Rattle.mv_move_types.specs.declared.token.LeafKind.{LeafKind}
 use Rattle.mv_move_types.specs.declared.token.LeafKind.TheVariants.{Boolean, Number, Address, Signer}
 use Rattle.mv_move_types.specs.Names.{ModuleName, StructName, same_module, same_struct}
@@ -32,11 +32,15 @@ both false b h k = h
 
 pub same_width-same : (w : Width) → same_width w w ≡ true
 same_width-same U8 = refl
+same_width-same U16 = refl
+same_width-same U32 = refl
 same_width-same U64 = refl
 same_width-same U128 = refl
 
 pub same_width-is : (v w : Width) → same_width v w ≡ true → v ≡ w
 same_width-is U8 U8 h = refl
+same_width-is U16 U16 h = refl
+same_width-is U32 U32 h = refl
 same_width-is U64 U64 h = refl
 same_width-is U128 U128 h = refl
 same_width-is _ _ h = absurd cc
@@ -53,15 +57,23 @@ same_kind-is Address Address h = refl
 same_kind-is Signer Signer h = refl
 same_kind-is (Number v) (Number w) h = ap Number (same_width-is v w h)
 same_kind-is Boolean (Number U8) h = absurd cc
+same_kind-is Boolean (Number U16) h = absurd cc
+same_kind-is Boolean (Number U32) h = absurd cc
 same_kind-is Boolean (Number U64) h = absurd cc
 same_kind-is Boolean (Number U128) h = absurd cc
 same_kind-is Address (Number U8) h = absurd cc
+same_kind-is Address (Number U16) h = absurd cc
+same_kind-is Address (Number U32) h = absurd cc
 same_kind-is Address (Number U64) h = absurd cc
 same_kind-is Address (Number U128) h = absurd cc
 same_kind-is Signer (Number U8) h = absurd cc
+same_kind-is Signer (Number U16) h = absurd cc
+same_kind-is Signer (Number U32) h = absurd cc
 same_kind-is Signer (Number U64) h = absurd cc
 same_kind-is Signer (Number U128) h = absurd cc
 same_kind-is (Number U8) _ h = absurd cc
+same_kind-is (Number U16) _ h = absurd cc
+same_kind-is (Number U32) _ h = absurd cc
 same_kind-is (Number U64) _ h = absurd cc
 same_kind-is (Number U128) _ h = absurd cc
 same_kind-is _ _ h = absurd cc

@@ -18,7 +18,6 @@ use Rattle.mv_move_types.specs.Tags.{Tag, LeafTag, ReferenceTag, same_tag}
 use Rattle.mv_move_types.specs.Names.{StructName, same_struct}
 use Rattle.mv_move_types.specs.Module.{Module, StructDefinition, FunctionDefinition, name_at, struct_name}
 use Rattle.mv_move_types.specs.Results.{for_each}
-use Rattle.mv_module_text.specs.Fits.{struct_definition_fits}
 use Rattle.mv_machine.specs.declared.Ending.{Ending}
 use Rattle.mv_machine.specs.Value.{Value, Struct, Local, fields_of}
 use Rattle.mv_machine.specs.State.{State, Event, place_value}
@@ -31,6 +30,7 @@ use Rattle.mv_frames.specs.declared.operand.Operand.TheVariants.{Leaf as LeafOpe
 use Rattle.mv_interpreter.specs.declared.StructTally.{StructTally}
 use Rattle.mv_interpreter.specs.declared.RunError.{RunError}
 use Rattle.mv_interpreter.specs.declared.RunError.TheVariants.{Broken}
+use Rattle.mv_interpreter.specs.Today.{is_leaf_type}
 use Rattle.mv_interpreter.specs.Runs.{Tallies, packs_in, unpacks_in, is_tally_of}
 use Rattle.mv_interpreter.specs.Works.{Work, IsHome, IsFine, IsFineOperand, Represents, Matches, value_of, is_leaf_of, are_leaves_of, with_pack, is_tally_at}
 use Rattle.mv_interpreter.proofs.Binds.{on_need, on_part, goes_so}
@@ -39,7 +39,7 @@ use Rattle.mv_interpreter.proofs.Lists.{map-turned}
 use Rattle.mv_interpreter.proofs.Names.{some_is}
 use Rattle.mv_interpreter.proofs.Owning.{own-faults, own-is, on_bind, ok_is}
 use Rattle.mv_interpreter.proofs.Stepping.{operands-faults, each-faults}
-use Rattle.mv_interpreter.proofs.Values.{made, taken-fine, leaf_fields, is_leaf_type}
+use Rattle.mv_interpreter.proofs.Values.{made, taken-fine}
 use Rattle.mv_interpreter.proofs.Packs.{Packed, packed_frame, packed_is}
 
 -- the tag of a leaf
@@ -140,10 +140,10 @@ module _ (modules : List Module) (home : Module) (function : FunctionDefinition)
       absurd (omega (arith, sized, stack, enough, few))))
 
   -- the operands are other values
-  pub no_leaves : (i : ℕ) (d : StructDefinition) (fs : List Field) (os : List Operand) (n : ℕ) (test : Bool) (new : Work) → IsTrue (list_all struct_definition_fits home.structs) → Some d ≡ slice_get home.structs i → fs ≡ d.fields → n ≡ length fs → os ≡ reverse (take n w.frame.operands)
+  pub no_leaves : (i : ℕ) (d : StructDefinition) (fs : List Field) (os : List Operand) (n : ℕ) (test : Bool) (new : Work) → Some d ≡ slice_get home.structs i → fs ≡ d.fields → n ≡ length fs → os ≡ reverse (take n w.frame.operands)
       → test ≡ are_leaves_of os fs → test ≡ false → Matches modules (rule (Pack i) here) (Err Broken) new
   unfolding rule pack
-  no_leaves i d fs os n test new fits d_is fs_are n_is os_is test_is failed =
+  no_leaves i d fs os n test new d_is fs_are n_is os_is test_is failed =
       on_part modules (Err Broken) new (own_struct here i) _ (pack here i) (own-faults here i) refl (λ struct struct_is e.
       on_part modules (Err Broken) new (operands (length struct.fields) s.top.stack) _ (pack here i) (operands-faults (length struct.fields) s.top.stack) e (λ taken taken_is e1.
       on_part modules (Err Broken) new (for_each (λ (f : Field). tag_named modules home f.token) struct.fields) _ (pack here i) (each-faults (λ (f : Field). tag_named modules home f.token) struct.fields (λ f. tag_named-faults modules home f.token)) e1 (λ tags tags_is e2.
@@ -151,7 +151,7 @@ module _ (modules : List Module) (home : Module) (function : FunctionDefinition)
       let own = own-is here i struct struct_is in
       let same : own.d ≡ d = some_is own.d d (sym own.d_is ∙ sym d_is) in
       let fields_are : struct.fields ≡ d.fields = own.fields ∙ ap (λ (x : StructDefinition). x.fields) same in
-      let leaves = leaf_fields modules place home at fits i d (sym d_is) in
+      let leaves = at.fields i d (sym d_is) in
       let sized : length struct.fields ≡ n = ap length (fields_are ∙ sym fs_are) ∙ sym n_is in
       let all = operands_are (length struct.fields) s.top.stack taken taken_is in
       let values : taken.0 ≡ map v os = sym all.1 ∙ ap (λ (m : ℕ). reverse (take m s.top.stack)) sized ∙ taken_are n ∙ ap (map v) (sym os_is) in
@@ -227,7 +227,7 @@ module _ (modules : List Module) (home : Module) (function : FunctionDefinition)
   packed i words n f1 f2 f3 tally p tally_is a b c =
       let new : Work = record { frame = f3; entries = w.entries; tally = tally } in
       let result : Result (Option Ending) RunError = Ok None in
-      let value = made modules place home at p.fits i p.d p.d_is p.os p.leaves (taken-fine modules place w.frame.operands p.os n fine.operands p.os_is) in
+      let value = made modules place home at i p.d p.d_is p.os p.leaves (taken-fine modules place w.frame.operands p.os n fine.operands p.os_is) in
       on_part modules result new (own_struct here i) _ (pack here i) (own-faults here i) refl (λ struct struct_is e.
       on_part modules result new (operands (length struct.fields) s.top.stack) _ (pack here i) (operands-faults (length struct.fields) s.top.stack) e (λ taken taken_is e1.
       on_part modules result new (for_each (λ (f : Field). tag_named modules home f.token) struct.fields) _ (pack here i) (each-faults (λ (f : Field). tag_named modules home f.token) struct.fields (λ f. tag_named-faults modules home f.token)) e1 (λ tags tags_is e2.

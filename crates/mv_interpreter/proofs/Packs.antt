@@ -1,11 +1,9 @@
 -- What packing leaves.
 use Rattle.std.proofs.Common.{◌≡◌, ℕ, ◌+◌, Bool, true, List, ◌∷◌, map, reverse, length, take, drop, sym, ap, subst, ◌∙◌, Some}
-use Rattle.std.specs.Prelude.{slice_get, IsTrue}
-use Rattle.std.specs.List.{list_all}
+use Rattle.std.specs.Prelude.{slice_get}
 use Rattle.std.proofs.lemmas.List.Elements.{All-cons, All-drop}
 use Rattle.mv_move_types.specs.declared.tables.Field.{Field}
 use Rattle.mv_move_types.specs.Module.{Module, StructDefinition}
-use Rattle.mv_module_text.specs.Fits.{struct_definition_fits}
 use Rattle.mv_frames.specs.Frames.{FrameState}
 use Rattle.mv_frames.specs.declared.operand.Operand.{Operand}
 use Rattle.mv_frames.specs.declared.operand.Operand.TheVariants.{Struct as StructOperand}
@@ -15,7 +13,6 @@ use Rattle.mv_interpreter.proofs.Values.{made, taken-fine}
 
 -- the operands that are packed
 pub record Packed (home : Module) (ops : List Operand) (i : ℕ) (words : List ℕ) (n : ℕ) : Type 0 where
-  pub fits : IsTrue (list_all struct_definition_fits home.structs)
   pub d : StructDefinition
   pub d_is : slice_get home.structs i ≡ Some d
   pub os : List Operand
@@ -25,11 +22,10 @@ pub record Packed (home : Module) (ops : List Operand) (i : ℕ) (words : List �
   pub words_are : words ≡ map number_of os
 
 -- the facts of the code
-pub packed_so : (home : Module) (ops : List Operand) (i : ℕ) (words : List ℕ) (n : ℕ) (d : StructDefinition) (fs : List Field) (os : List Operand) (test : Bool) → IsTrue (list_all struct_definition_fits home.structs)
+pub packed_so : (home : Module) (ops : List Operand) (i : ℕ) (words : List ℕ) (n : ℕ) (d : StructDefinition) (fs : List Field) (os : List Operand) (test : Bool)
     → Some d ≡ slice_get home.structs i → fs ≡ d.fields → n ≡ length fs → os ≡ reverse (take n ops) → test ≡ are_leaves_of os fs → test ≡ true → words ≡ map number_of os → Packed home ops i words n
-packed_so home ops i words n d fs os test fits d_is fs_are n_is os_is test_is passed words_are =
+packed_so home ops i words n d fs os test d_is fs_are n_is os_is test_is passed words_are =
     record {
-      fits = fits;
       d = d;
       d_is = sym d_is;
       os = os;
@@ -53,7 +49,7 @@ pub packed-fine : (modules : List Module) (home : Module) (w : Work) (tally : Li
 packed-fine modules home w tally i words n f1 f2 f3 at fine p a b c =
     let place : ℕ = w.frame.function.place in
     let P : Operand → Type 0 = IsFineOperand modules place in
-    let value = made modules place home at p.fits i p.d p.d_is p.os p.leaves (taken-fine modules place w.frame.operands p.os n fine.operands p.os_is) in
+    let value = made modules place home at i p.d p.d_is p.os p.leaves (taken-fine modules place w.frame.operands p.os n fine.operands p.os_is) in
     subst (λ (f : FrameState). IsFine modules (record { frame = f; entries = w.entries; tally = tally })) (sym (packed_is w.frame f1 f2 f3 i words n a b c)) (record {
       locals = fine.locals;
       operands = All-cons P (StructOperand i words) (drop n w.frame.operands) (subst (λ (ws : List ℕ). AreOfStruct modules place i ws) (sym p.words_are) value.0) (All-drop P n w.frame.operands fine.operands);

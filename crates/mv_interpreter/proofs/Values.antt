@@ -15,45 +15,16 @@ use Rattle.mv_move_types.specs.Names.{StructName}
 use Rattle.mv_move_types.specs.Module.{Module, StructDefinition, name_of_struct, name_at}
 use Rattle.mv_move_types.specs.Named.{definition_of}
 use Rattle.mv_move_types.specs.Options.{◌>>=◌}
-use Rattle.mv_module_text.specs.Fits.{token_fits, field_fits, struct_definition_fits, is_index}
-use Rattle.std.specs.Prelude.{nat_le}
-use Rattle.mv_signatures.specs.Signatures.{may_be_field}
 use Rattle.mv_machine.specs.Value.{Value, Values, Leaf, Struct, fields_of}
 use Rattle.mv_machine.specs.Flat.{flat, flat_fields, value_from, fields_from, struct_from}
 use Rattle.mv_machine.specs.Typed.{leaf_fits, is_of_type, are_of_types}
 use Rattle.mv_frames.specs.declared.operand.Operand.{Operand}
 use Rattle.mv_frames.specs.declared.operand.Operand.TheVariants.{Leaf as LeafOperand, Struct as StructOperand, Reference as ReferenceOperand}
+use Rattle.mv_interpreter.specs.Today.{is_leaf_type}
 use Rattle.mv_interpreter.specs.Runs.{number_fits}
 use Rattle.mv_interpreter.specs.Works.{IsHome, IsOwn, IsFineOperand, AreOfStruct, value_of, is_leaf_of, are_leaves_of, number_of}
 use Rattle.mv_interpreter.proofs.Names.{same_kind-is, same_struct-same, both}
 use Rattle.mv_interpreter.proofs.Lists.{then_found, each, All-reverse}
-
--- whether a type is a leaf that a field may have
-abbrev pub is_leaf_type : Token → Bool
-is_leaf_type (Plain (OfLeaf Signer)) = false
-is_leaf_type (Plain (OfLeaf kind)) = true
-is_leaf_type _ = false
-
-leaf_type : (t : Token) → may_be_field t ≡ true → token_fits t ≡ true → is_leaf_type t ≡ true
-leaf_type (Plain (OfLeaf Signer)) h k = h
-leaf_type (Plain (OfLeaf Boolean)) h k = refl
-leaf_type (Plain (OfLeaf (Number w))) h k = refl
-leaf_type (Plain (OfLeaf Address)) h k = refl
-leaf_type (Plain (OfStruct i)) h k = k
-leaf_type (Reference t) h k = h
-leaf_type (MutableReference t) h k = h
-
-leaf_types : (fs : List Field) → list_all (λ (f : Field). may_be_field f.token) fs ≡ true → list_all field_fits fs ≡ true → list_all (λ (f : Field). is_leaf_type f.token) fs ≡ true
-leaf_types [] h k = refl
-leaf_types (f ∷ fs) h k =
-    both _ _ (leaf_type f.token (first_so (may_be_field f.token) (list_all (λ (f : Field). may_be_field f.token) fs) h) (second_so (is_index f.name) (token_fits f.token) (first_so (field_fits f) (list_all field_fits fs) k)))
-    (leaf_types fs (second_so (may_be_field f.token) (list_all (λ (f : Field). may_be_field f.token) fs) h) (second_so (field_fits f) (list_all field_fits fs) k))
-
--- the fields of a struct of the module are leaves
-pub leaf_fields : (modules : List Module) (place : ℕ) (home : Module) → IsHome modules place home → IsTrue (list_all struct_definition_fits home.structs) → (i : ℕ) (d : StructDefinition) → slice_get home.structs i ≡ Some d → list_all (λ (f : Field). is_leaf_type f.token) d.fields ≡ true
-leaf_fields modules place home at fits i d d_is =
-    let fine = each struct_definition_fits home.structs i d fits d_is in
-    leaf_types d.fields (at.fields i d d_is) (second_so (is_index d.handle && nat_le (length d.fields) 32) (list_all field_fits d.fields) fine)
 
 cond_parts : (a b : Bool) → cond a b false ≡ true → (a ≡ true) × (b ≡ true)
 cond_parts true b h = (refl, h)
@@ -126,15 +97,15 @@ module _ (modules : List Module) (place : ℕ) where
       then_found (slice_get modules place) _ home name at.at (then_found (slice_get home.structs i) _ d name d_is named)
 
   -- leaves that are a struct's fields make a value of it
-  pub made : (home : Module) → IsHome modules place home → IsTrue (list_all struct_definition_fits home.structs) → (i : ℕ) (d : StructDefinition) (d_is : slice_get home.structs i ≡ Some d) (os : List Operand)
+  pub made : (home : Module) → IsHome modules place home → (i : ℕ) (d : StructDefinition) (d_is : slice_get home.structs i ≡ Some d) (os : List Operand)
       → are_leaves_of os d.fields ≡ true → All (IsFineOperand modules place) os
       → (made : AreOfStruct modules place i (map number_of os)) × (made.fields ≡ fields_of (map v os)) × (name_of_struct home d ≡ Some made.name)
   unfolding value_of
-  made home at fits i d d_is os leaves fine =
+  made home at i d d_is os leaves fine =
       let own = at.own i d d_is in
       let fields : Values = fields_of (map v os) in
       let name_found = name_is home at i d d_is own.name own.named in
-      let typed : are_of_types modules home d.fields fields ≡ true = typed-leaves home os d.fields leaves (leaf_fields modules place home at fits i d d_is) fine in (
+      let typed : are_of_types modules home d.fields fields ≡ true = typed-leaves home os d.fields leaves (at.fields i d d_is) fine in (
         record {
           name = own.name;
           fields = fields;

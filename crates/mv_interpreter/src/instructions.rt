@@ -1,8 +1,6 @@
 // The instructions, each by a function that does it and goes on to the next.
-ghost use Rattle.std.specs.Prelude.{◌≡◌, ◌<◌, ◌+◌, ◌-◌, ◌^◌, List, OnOk, IsTrue, ◌↔◌, option_and_then, option_map, slice_get, false};
+ghost use Rattle.std.specs.Prelude.{◌≡◌, ◌<◌, ◌+◌, ◌-◌, ◌^◌, List, OnOk, option_and_then, option_map, slice_get, false};
 ghost use Rattle.std.specs.Option.{option_map_or};
-ghost use Rattle.std.specs.List.{list_all};
-ghost use Rattle.mv_module_text.specs.Fits.{struct_definition_fits};
 ghost use Rattle.mv_move_types.specs.Module.{struct_abilities};
 ghost use Rattle.mv_move_types.specs.declared.instruction.Instruction.TheVariants.{MoveLoc as MovesLocal, ImmBorrowLoc as BorrowsLocal, Pack as Packs, MoveTo as MovesTo};
 ghost use Rattle.mv_machine.specs.Flat.{FlatEntry as Stored};
@@ -102,8 +100,7 @@ pub(crate) fn pack(
 
 // The struct definition at an index, if it is there.
 fn struct_at<'a>(home: &'a Module<'_>, index: u16) -> Option<&'a StructDefinition>
-    ensures value { option_map (λ d. d.now) result ≡ slice_get home.now.structs index }
-    ensures fits { IsTrue (list_all struct_definition_fits home.now.structs) }
+    ensures { option_map (λ d. d.now) result ≡ slice_get home.now.structs index }
 {
     home.structs().get(index as usize)
 }

@@ -5,6 +5,7 @@ ghost use Rattle.mv_linker.specs.Link.{tables_in};
 ghost use Rattle.mv_machine.specs.State.{Storage as Stored, State};
 ghost use Rattle.mv_machine.specs.Flat.{flat_storage};
 ghost use Rattle.mv_machine.specs.Run.{first_state};
+ghost use Rattle.mv_interpreter.specs.Today.{instruction_runs};
 ghost use Rattle.mv_interpreter.specs.Runs.{IsCall, call_of, IsFineWords};
 ghost use Rattle.mv_interpreter.specs.Works.{IsAt, IsFine, Represents, Starts, locals_for};
 
@@ -46,7 +47,8 @@ pub(crate) fn start<'a>(
     args: &[Arg],
 ) -> Result<Started<'a>, RunError>
     requires { IsCall (tables_in s.now) f args.now }
-    ensures { Starts (tables_in s.now) f args.now result }
+    ensures begins { Starts (tables_in s.now) f args.now result }
+    ensures runs { IfOk result (λ started. IsTrue (list_all instruction_runs started.code.items)) }
 {
     let home = s.module(f.place as usize)?;
     let Some(function) = function_at(&home, f.index) else {
