@@ -87,8 +87,12 @@ impl<'a> Module<'a> {
         let identifiers = read_entries(alloc, version, TableKind::Identifiers, t)?;
         let addresses = read_entries(alloc, version, TableKind::Addresses, t)?;
         let structs = read_entries(alloc, version, TableKind::Structs, t)?;
-        let functions: Vec<FunctionDefinition<'a>> =
-            read_entries(alloc, version, TableKind::Functions, t)?;
+        let functions: Vec<FunctionDefinition<'a>> = read_entries(
+            alloc,
+            version,
+            TableKind::Functions,
+            t,
+        )?;
         let field_handles = read_entries(alloc, version, TableKind::FieldHandles, t)?;
         if !tables.is_empty() || functions.len() > MOST_FUNCTIONS {
             return Err(Refusal::Phase(2));

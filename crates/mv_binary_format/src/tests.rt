@@ -112,9 +112,10 @@ fn takes_headers_in_any_order(rt: HostRuntime) -> Result<(), Fail> {
 
 // The bytes with another version.
 fn of_version(rt: &HostRuntime, bytes: &[u8], version: u8) -> Result<Vec<u8>, AllocError> {
-    let mut text = Vec::from_slice(rt.alloc(), &bytes[..4])?;
-    text.push(version)?;
-    text.extend_from_slice(&bytes[5..])?;
+    let mut text = Vec::from_slice(rt.alloc(), bytes)?;
+    if let Some(low) = text.get_mut(4) {
+        *low = version;
+    }
     Ok(text)
 }
 
@@ -243,7 +244,7 @@ fn reads_constants_and_field_handles(rt: HostRuntime) -> Result<(), Fail> {
     let m = decode(rt.alloc(), &text)?;
     assert!(rt; m.version() == Version::Five);
     assert_eq!(rt; m.constants().len(), 1);
-    assert_eq!(rt; m.constants()[0].bytes(), &[7u8]);
+    assert_eq!(rt; m.constants()[0].bytes(), [7u8].as_slice());
     assert_eq!(rt; m.field_handles().len(), 1);
     assert_eq!(rt; m.field_handles()[0].definition, 1);
     assert_eq!(rt; m.field_handles()[0].position, 2);
@@ -275,7 +276,12 @@ fn takes_u16_and_u32_in_version_6_alone(rt: HostRuntime) -> Result<(), Fail> {
     // A constant, and a struct's field.
     let text = text_of(&rt, &[1, 0x06, 0x00, 0x04, 0x0D, 0x02, 0x01], &[0x00], 1)?;
     assert!(rt; is_late(&rt, &text)?);
-    let text = text_of(&rt, &[1, 0x0A, 0x00, 0x05, 0x00, 0x02, 0x01, 0x00], &[0x0D], 1)?;
+    let text = text_of(
+        &rt,
+        &[1, 0x0A, 0x00, 0x05, 0x00, 0x02, 0x01, 0x00],
+        &[0x0D],
+        1,
+    )?;
     assert!(rt; is_late(&rt, &text)?);
     // Functions of one instruction: LdU16 and LdU32 with their numbers, CastU16 and CastU32.
     let text = text_of(&rt, &[1, 0x0C, 0x00, 9, 0, 0, 0, 0, 0, 1, 0x48], &[1], 2)?;

@@ -1,3 +1,1 @@
 pub mod BorrowRules
-pub mod Domain
-pub mod Laws

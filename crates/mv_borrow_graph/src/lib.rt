@@ -1,7 +1,2 @@
-//! Which references lead into which values before each instruction of a function, as a domain of states.
+//! A stand-in while the crate is widened.
 #![tactic(auto)]
-
-mod domain;
-mod site;
-
-pub use domain::BorrowDomain;

@@ -1,11 +1,1 @@
-pub mod Loops
-pub mod Texts
 pub mod Marks
-pub mod States
-pub mod Refusals
-pub mod Carried
-pub mod SameEdges
-pub mod Needs
-pub mod Whole
-pub mod Functions
-pub mod OneCertificate

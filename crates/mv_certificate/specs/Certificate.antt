@@ -19,17 +19,6 @@ pub record Known : Type 0 where
   pub locals : List Availability
   pub edges : List Edge
 
--- what is known is below what else could be known, in both parts
-abbrev pub known_leq : Known → Known → Bool
-known_leq a b = locals_leq a.locals b.locals && edges_leq a.edges b.edges
-
--- what is known after an instruction
-abbrev pub known_after : Point → Instruction → Known → Option Known
-known_after p i known = do
-  locals ← locals_after p i known.locals
-  edges ← edges_after p i known.edges
-  Some (record { locals = locals; edges = edges })
-
 -- what is known where a function begins
 abbrev pub known_at_start : Module → FunctionDefinition → Option Known
 known_at_start m d = do
@@ -110,23 +99,3 @@ all_edges_hold m c = each_function (edges_hold m) m.functions c
 -- the certificate holds of the module
 abbrev pub certificate_holds : Module → Certificate → Bool
 certificate_holds m c = all_locals_hold m c && all_edges_hold m c
-
--- a reached block meets every need
-abbrev pub block_goes : {S : Type 0} → Rule S → Module → FunctionDefinition → BasicBlock × Option S → Bool
-block_goes rule m d b = option_map_or (λ known. is_some (through rule m d (instructions_of d b.0) (known, []))) b.1 true
-
--- each reached block meets every need; nothing is said of where control goes on
-abbrev pub flow_goes : {S : Type 0} → Rule S → Module → FunctionDefinition → List (Option S) → Bool
-flow_goes rule m d stated = list_all (block_goes rule m d) (zip (blocks d.code) stated)
-
--- the stated availabilities meet every need in every function
-abbrev pub locals_needs_are_met : Module → Certificate → Bool
-locals_needs_are_met m c = each_function (λ d stated. flow_goes locals_after m d (map (option_map (λ k. k.locals)) stated)) m.functions c
-
--- the stated edges meet every need in every function
-abbrev pub edges_needs_are_met : Module → Certificate → Bool
-edges_needs_are_met m c = each_function (λ d stated. flow_goes edges_after m d (map (option_map (λ k. k.edges)) stated)) m.functions c
-
--- the stated availabilities and the stated edges meet every need in every function
-abbrev pub all_needs_are_met : Module → Certificate → Bool
-all_needs_are_met m c = locals_needs_are_met m c && edges_needs_are_met m c

@@ -24,7 +24,7 @@ returns-then-end-gt-MOST_BYTES c =
     let lt : 65536 < c.reading.end + c.in_ok-header.header.length = omega (arith, c.from-end.ensures) in (
       refl,
       placed-beyond (tables_of c.reading.tables.items) (headers_of c.reading.headers.items) c.reading.end c.reading.reader (header_of c.in_ok-header.header) _
-      (sym c.take_header.ensures.first ∙ ap (option_map header_of) c.in_ok-header.ensures.ok_part) lt c.reading.invariant.goes,
+          (sym c.take_header.ensures.first ∙ ap (option_map header_of) c.in_ok-header.ensures.ok_part) lt c.reading.invariant.goes,
     )
 
 pub returns-in_err-content : goal.returns-in_err-content
