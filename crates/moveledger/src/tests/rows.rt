@@ -65,7 +65,7 @@ const FOUR_U64S: &str = "0307000000000000000307000000000000000307000000000000000
 const TWO_NAMES: &str = "014d016600000000000000000000000000000001";
 
 /// Inputs that are published, run, rejected and exhausted.
-pub const RUNS: [Row; 14] = [
+pub const RUNS: [Row; 15] = [
     Row {
         input: &[PUBLISH_39, NAME_ALONE, NAME_ALONE_REST, "0000"],
         count: 1,
@@ -345,10 +345,21 @@ pub const RUNS: [Row; 14] = [
         count: 1,
         report: "1 published 1\n",
     },
+    // A module of version 6.
+    Row {
+        input: &[
+            PUBLISH_39,
+            "a11ceb0b0600000003010002070202080410",
+            NAME_ALONE_REST,
+            "0000",
+        ],
+        count: 1,
+        report: "1 published 1\n",
+    },
 ];
 
 /// Inputs whose records are refused, each for another reason.
-pub const REFUSED: [Row; 28] = [
+pub const REFUSED: [Row; 30] = [
     // No module, and two.
     Row {
         input: &["01110000000000000000000000000000000100"],
@@ -440,11 +451,11 @@ pub const REFUSED: [Row; 28] = [
         count: 1,
         report: "1 refused 2\n",
     },
-    // Another version.
+    // A version that there isn't.
     Row {
         input: &[
             PUBLISH_39,
-            "a11ceb0b0600000003010002070202080410",
+            "a11ceb0b0700000003010002070202080410",
             NAME_ALONE_REST,
             "0000",
         ],
@@ -502,7 +513,7 @@ pub const REFUSED: [Row; 28] = [
         count: 1,
         report: "1 refused 4\n",
     },
-    // A field that is a signer.
+    // A field that is a signer: no run makes such a struct today.
     Row {
         input: &[
             PUBLISH_99,
@@ -517,7 +528,40 @@ pub const REFUSED: [Row; 28] = [
             CERTIFICATE,
         ],
         count: 1,
-        report: "1 refused 5\n",
+        report: "1 refused 2\n",
+    },
+    // A reference to a local that is handed out: f(x: u64): &u64.
+    Row {
+        input: &[
+            "015c",
+            ONE,
+            "0146",
+            "a11ceb0b0500000006010002030205050706070d040811100c2109",
+            "00000001010200000103010603",
+            TWO_NAMES,
+            "0001000000020e0002",
+            ITSELF,
+            "03010100",
+        ],
+        count: 1,
+        report: "1 refused 11\n",
+    },
+    // Code with Nop, which no run does today.
+    Row {
+        input: &[
+            "0158",
+            ONE,
+            "0142",
+            "a11ceb0b0500000006010002030205050703070a04080e100c1e08",
+            "00000001010000",
+            "00010c",
+            TWO_NAMES,
+            "0001040000022802",
+            ITSELF,
+            "03010100",
+        ],
+        count: 1,
+        report: "1 refused 2\n",
     },
     // A local more than a function may have.
     Row {
