@@ -1,1 +1,3 @@
 pub mod BorrowRules
+pub mod Domain
+pub mod Laws

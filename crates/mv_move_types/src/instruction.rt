@@ -173,8 +173,8 @@ impl Instruction {
             | Instruction::StLoc(local)
             | Instruction::MutBorrowLoc(local)
             | Instruction::ImmBorrowLoc(local) => Immediate::Local(local),
-            Instruction::MutBorrowField(field)
-            | Instruction::ImmBorrowField(field) => Immediate::Field(field),
+            Instruction::MutBorrowField(field) | Instruction::ImmBorrowField(field) =>
+                Immediate::Field(field),
             Instruction::Call(function) => Immediate::Function(function),
             Instruction::Pack(definition)
             | Instruction::Unpack(definition)

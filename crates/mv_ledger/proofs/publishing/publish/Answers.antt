@@ -31,8 +31,7 @@ join-requires-clause-placed c =
 
 pub returns-clause-ok : goal.returns-clause-ok
 returns-clause-ok c =
-    let added : c.in_ok-linked.linked ≡ published_one c.in_ok-new.new ∷ [] = c.in_ok-linked.ensures.ok ∙ ap published_of c.in_ok-news.ensures in
-    (
+    let added : c.in_ok-linked.linked ≡ published_one c.in_ok-new.new ∷ [] = c.in_ok-linked.ensures.ok ∙ ap published_of c.in_ok-news.ensures in (
       published_one c.in_ok-new.new,
       (
         publishable c.in_ok-new.new _ c.in_ok-new.ensures.text c.in_ok-new.ensures.certificate c.in_ok-new.ensures.passes,

@@ -1,0 +1,134 @@
+-- What the rows of the rules make of edges.
+use Rattle.std.proofs.Common.{◌≡◌, ℕ, Bool, true, false, not, List, [], ◌∷◌, ◌++◌, length, take, drop, get_or, slice_get, ◌+◌, ◌-◌, ◌<◌, ◌≤◌, Option, Some, None, Result, refl, sym, ap, ◌∙◌, subst, arith, append_assoc, append-nil}
+use Rattle.std.specs.Bool.{then_some}
+use Rattle.std.specs.List.{list_all, list_any, flat_map}
+use Rattle.std.proofs.Common.{◌&&◌}
+use Rattle.std.proofs.lemmas.List.{take_more, drop_more, drop_all, flat_map_more}
+use Rattle.mv_move_types.specs.declared.token.Token.{Token}
+use Rattle.mv_move_types.specs.declared.token.Token.TheVariants.{Plain, Reference, MutableReference}
+use Rattle.mv_move_types.specs.declared.token.ValueType.{ValueType}
+use Rattle.mv_move_types.specs.declared.borrow.Node.{Node}
+use Rattle.mv_move_types.specs.declared.borrow.Node.TheVariants.{Slot, Glob, Temp}
+use Rattle.mv_move_types.specs.declared.tables.FunctionHandle.{FunctionHandle}
+use Rattle.mv_move_types.specs.Options.{◌>>=◌}
+use Rattle.mv_move_types.specs.Module.{own_acquires}
+use Rattle.mv_type_states.specs.TypesHold.{Point}
+use Rattle.mv_edges.specs.declared.label.Change.TheVariants.{Kept, Extended, Opened}
+use Rattle.mv_lattice.specs.declared.StepError.{StepError}
+use Rattle.mv_edges.specs.Edges.{Edge, same_node, here, changed, extended, opened, inherited, out_of, without, an_edge}
+use Rattle.mv_edges.specs.Ascending.{are_ascending}
+use Rattle.mv_edges.specs.Sorted.{sorted}
+use Rattle.mv_edges.proofs.Sorting.{sorted-ascending, ascending-sorted, sorted-append_swap, sorted-append_sorted, any_filter}
+use Rattle.mv_borrow_graph.specs.BorrowRules.{next_temp, top_temp, no_edge_out, copy_edges, field_edges, opened_edges, result_edges, reference_nodes, without_all, call_edges, is_mutable_token, is_reference_token}
+use Rattle.mv_borrow_graph.specs.Domain.{ordered, Follows, is_picked}
+
+-- edges that ascend are in their order
+pub kept_order : (es : List Edge) → are_ascending es ≡ true → sorted es ≡ es
+kept_order = sorted-ascending
+
+-- the first part may be sorted first
+pub sorted_first : (es fs : List Edge) → sorted (sorted es ++ fs) ≡ sorted (es ++ fs)
+sorted_first es fs = sorted-append_swap (sorted es) fs ∙ sorted-append_sorted fs es ∙ sorted-append_swap fs es
+
+-- a test of the edges out of a node
+pub none_out : (n : Node) (p : Edge → Bool) (s : List Edge) (found : Bool) → found ≡ list_any (λ e. same_node e.from n && p e) s → not found ≡ not (list_any p (out_of n s))
+none_out n p s found is = ap not (is ∙ sym (any_filter (λ e. same_node e.from n) p s))
+
+-- a copied reference has the edges of its original
+pub with_copy : (slot next : Node) (p : Point) (s new all : List Edge) → next ≡ next_temp p → new ≡ sorted (inherited (changed Kept) slot next s) → all ≡ sorted (s ++ new)
+    → all ≡ sorted (s ++ inherited (λ label. label) slot (next_temp p) s)
+with_copy slot next p s new all is_next is_new is =
+    is ∙ ap (λ x. sorted (s ++ x)) (is_new ∙ ap (λ n. sorted (inherited (changed Kept) slot n s)) is_next) ∙ sorted-append_sorted s (inherited (changed Kept) slot (next_temp p) s)
+
+-- a part may be sorted before a test
+ordered_first : (test : Bool) (es fs : List Edge) → ordered (then_some test (sorted es ++ fs)) ≡ ordered (then_some test (es ++ fs))
+ordered_first true es fs = ap Some (sorted_first es fs)
+ordered_first false es fs = refl
+
+-- a mutable one is its child, too
+pub copied_mutably : (p : Point) (l : ℕ) (token : Token) (t : ValueType) (s both : List Edge) (next : Node) (free : Bool) (r : Result (List Edge) StepError)
+    → token ≡ MutableReference t → free ≡ no_edge_out (Slot l) s → both ≡ sorted (s ++ inherited (λ label. label) (Slot l) (next_temp p) s) → next ≡ next_temp p
+    → Follows r (ordered (then_some free (both ++ an_edge (Slot l) here next ∷ []))) → Follows r (ordered (copy_edges p l token s))
+copied_mutably p l token t s both next free r is_token tested is_both is_next f =
+    let own : List Edge = s ++ inherited (λ label. label) (Slot l) (next_temp p) s in
+    let same : ordered (then_some free (both ++ an_edge (Slot l) here next ∷ [])) ≡ ordered (copy_edges p l token s) =
+    (λ i. ordered (then_some (tested i) (is_both i ++ an_edge (Slot l) here (is_next i) ∷ [])))
+    ∙ ordered_first (no_edge_out (Slot l) s) own (an_edge (Slot l) here (next_temp p) ∷ [])
+    ∙ ap (λ x. ordered (copy_edges p l x s)) (sym is_token) in
+    subst (λ (o : Option (List Edge)). Follows r o) same f
+
+-- the reference to a field stands where its operand stood
+pub field_made : (p : Point) (f : ℕ) (s new removed all : List Edge) (top : Node) → top ≡ top_temp p → new ≡ sorted (inherited (changed (Extended f)) top top s) → removed ≡ without top s → all ≡ sorted (removed ++ new)
+    → ordered (Some (field_edges p f s)) ≡ Some all
+field_made p f s new removed all top is_top is_new is_removed is =
+    ap Some (sym (is ∙ (λ i. sorted (is_removed i ++ is_new i)) ∙ sorted-append_sorted (without top s) (inherited (changed (Extended f)) top top s) ∙ ap (λ n. sorted (without n s ++ inherited (changed (Extended f)) n n s)) is_top))
+
+-- ---- calls
+
+-- no edge is added
+pub added_none : (s : List Edge) → are_ascending s ≡ true → s ≡ sorted (s ++ [])
+added_none s h = sym (ap sorted (append-nil s) ∙ sorted-ascending s h)
+
+-- the edges of one more node
+pub opened_more : (first all given new : List Edge) (nodes : List Node) (k : ℕ) (d to : Node) (s : List Edge) → k < length nodes
+    → all ≡ sorted (first ++ opened_edges (take k nodes) to s) → given ≡ sorted (inherited (changed Opened) (get_or nodes k d) to s) → new ≡ sorted (all ++ given) → new ≡ sorted (first ++ opened_edges (take (k + 1) nodes) to s)
+opened_more first all given new nodes k d to s h is_all is_given is =
+    let f : Node → List Edge = λ m. inherited (changed Opened) m to s in
+    let before : List Edge = first ++ flat_map f (take k nodes) in
+    let one : List Edge = f (get_or nodes k d) in
+    is ∙ (λ i. sorted (is_all i ++ is_given i)) ∙ sorted-append_sorted (sorted before) one ∙ sorted_first before one
+    ∙ ap sorted (flat_map_more f first (take k nodes) (get_or nodes k d)) ∙ ap (λ ns. sorted (first ++ flat_map f ns)) (sym (take_more nodes k d h))
+
+-- a value has no edges
+pub plain_result : (m a : List Node) (k : ℕ) (token : Token) (t : ValueType) (s edges : List Edge) → token ≡ Plain t → are_ascending edges ≡ true → edges ≡ sorted (edges ++ result_edges m a k (token ∷ []) s)
+plain_result m a k token t s edges is_token ascend = added_none edges ascend ∙ ap (λ x. sorted (edges ++ result_edges m a k (x ∷ []) s)) (sym is_token)
+
+-- the edges of the first result, and of the others
+result_edges-first : (m a : List Node) (k : ℕ) (t : Token) (ts : List Token) (s : List Edge) → result_edges m a k (t ∷ ts) s ≡ result_edges m a k (t ∷ []) s ++ result_edges m a (k + 1) ts s
+result_edges-first m a k (Plain t) ts s = refl
+result_edges-first m a k (Reference t) ts s = ap (λ x. x ++ result_edges m a (k + 1) ts s) (sym (append-nil (opened_edges a (Temp k) s)))
+result_edges-first m a k (MutableReference t) ts s = ap (λ x. x ++ result_edges m a (k + 1) ts s) (sym (append-nil (opened_edges m (Temp k) s)))
+
+-- one more result
+pub results_more : (m a : List Node) (place i : ℕ) (results : List Token) (d : Token) (s done new whole : List Edge) → i < length results
+    → new ≡ sorted (done ++ result_edges m a (place + i) (get_or results i d ∷ []) s) → sorted (done ++ result_edges m a (place + i) (drop i results) s) ≡ whole
+    → sorted (new ++ result_edges m a (place + (i + 1)) (drop (i + 1) results) s) ≡ whole
+results_more m a place i results d s done new whole h is_new rest =
+    let one : List Edge = result_edges m a (place + i) (get_or results i d ∷ []) s in
+    let others : List Edge = result_edges m a (place + (i + 1)) (drop (i + 1) results) s in
+    let next : place + i + 1 ≡ place + (i + 1) = omega arith in
+    let both : result_edges m a (place + i) (drop i results) s ≡ one ++ others =
+    ap (λ ts. result_edges m a (place + i) ts s) (drop_more results i d h) ∙ result_edges-first m a (place + i) (get_or results i d) (drop (i + 1) results) s ∙ ap (λ k. one ++ result_edges m a k (drop (i + 1) results) s) next in
+    ap (λ x. sorted (x ++ others)) is_new ∙ sorted_first (done ++ one) others ∙ ap sorted (append_assoc done one others) ∙ ap (λ x. sorted (done ++ x)) (sym both) ∙ rest
+
+-- what is sorted ascends
+pub ascends : (m a : List Node) (k i : ℕ) (results : List Token) (d : Token) (s done new : List Edge) → new ≡ sorted (done ++ result_edges m a k (get_or results i d ∷ []) s) → are_ascending new ≡ true
+ascends m a k i results d s done new is = subst (λ xs. are_ascending xs ≡ true) (sym is) (ascending-sorted (done ++ result_edges m a k (get_or results i d ∷ []) s))
+
+-- no result is left
+pub results_all : (m a : List Node) (place i : ℕ) (results : List Token) (s done whole : List Edge) → length results ≤ i → are_ascending done ≡ true
+    → sorted (done ++ result_edges m a (place + i) (drop i results) s) ≡ whole → done ≡ whole
+results_all m a place i results s done whole h ascend rest =
+    added_none done ascend ∙ ap (λ ts. sorted (done ++ result_edges m a (place + i) ts s)) (sym (drop_all i results h)) ∙ rest
+
+-- the results' edges are added to what is left
+pub tied : (left removed new all more : List Edge) → removed ≡ left → new ≡ sorted more → all ≡ sorted (removed ++ new) → all ≡ sorted (left ++ more)
+tied left removed new all more is_removed is_new is = is ∙ (λ i. sorted (is_removed i ++ is_new i)) ∙ sorted-append_sorted left more
+
+-- a call, by what its handle names
+pub called : (p : Point) (i : ℕ) (s : List Edge) (found : Option FunctionHandle) (h : FunctionHandle) (ps rs : List Token) (base : ℕ) (tested mutable all : List Node) (holds : Bool)
+    → found ≡ slice_get p.home.function_handles i → found ≡ Some h → Some ps ≡ slice_get p.home.signatures h.parameters → Some rs ≡ slice_get p.home.signatures h.results → base ≡ length p.types - length ps
+    → tested ≡ reference_nodes (is_picked true) base ps → mutable ≡ reference_nodes (is_picked true) base ps → all ≡ reference_nodes (is_picked false) base ps
+    → holds ≡ (list_all (λ n. no_edge_out n s) tested && list_all (λ t. no_edge_out (Glob t) s) (own_acquires p.home i))
+    → ordered (then_some holds (without_all all s ++ result_edges mutable all base rs s)) ≡ ordered (call_edges p i s)
+called p i s found h ps rs base tested mutable all holds is_found some is_ps is_rs is_base is_tested is_mutable is_all is_holds =
+    let handle : slice_get p.home.function_handles i ≡ Some h = sym is_found ∙ some in
+    let parameters : slice_get p.home.signatures h.parameters ≡ Some ps = sym is_ps in
+    let results : slice_get p.home.signatures h.results ≡ Some rs = sym is_rs in
+    let acquired : Bool = list_all (λ t. no_edge_out (Glob t) s) (own_acquires p.home i) in
+    let tested_at : tested ≡ reference_nodes is_mutable_token (length p.types - length ps) ps = is_tested ∙ ap (λ b. reference_nodes is_mutable_token b ps) is_base in
+    let mutable_at : mutable ≡ reference_nodes is_mutable_token (length p.types - length ps) ps = is_mutable ∙ ap (λ b. reference_nodes is_mutable_token b ps) is_base in
+    let all_at : all ≡ reference_nodes is_reference_token (length p.types - length ps) ps = is_all ∙ ap (λ b. reference_nodes is_reference_token b ps) is_base in
+    rw (handle, parameters, results)
+    (ap (λ x. ordered (then_some x (without_all all s ++ result_edges mutable all base rs s))) is_holds
+    ∙ (λ j. ordered (then_some (list_all (λ n. no_edge_out n s) (tested_at j) && acquired) (without_all (all_at j) s ++ result_edges (mutable_at j) (all_at j) (is_base j) rs s))))

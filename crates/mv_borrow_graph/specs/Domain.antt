@@ -1,0 +1,53 @@
+-- The edges of a function's borrow graph as a domain of states.
+use Rattle.std.specs.Prelude.{◌≡◌, ⊤, ℕ, Bool, true, false, nat_le, List, length, Option, Some, None, Result, Ok, Err, slice_get}
+use Rattle.mv_move_types.specs.declared.token.Token.{Token}
+use Rattle.mv_move_types.specs.Options.{◌>>=◌}
+use Rattle.mv_move_types.specs.Module.{Module, FunctionDefinition}
+use Rattle.mv_type_states.specs.TypeRules.{Types}
+use Rattle.mv_type_states.specs.TypesHold.{Point}
+use Rattle.mv_type_states.specs.Sound.{types_before}
+use Rattle.mv_edges.specs.Edges.{Edge}
+use Rattle.mv_edges.specs.Sorted.{sorted}
+use Rattle.mv_lattice.specs.declared.StepError.{StepError}
+use Rattle.mv_lattice.specs.declared.StepError.TheVariants.{Need, Memory}
+use Rattle.mv_borrow_graph.specs.BorrowRules.{edges_after, is_mutable_token, is_reference_token}
+
+-- a function, and the tables of its module
+pub record Function : Type 0 where
+  pub home : Module
+  pub function : FunctionDefinition
+
+-- where the rules for edges stand
+abbrev pub point_at : Module → FunctionDefinition → Types → Point
+point_at m d types = record { home = m; function = d; types = types }
+
+-- the edges in their order, if there are any
+abbrev pub ordered : Option (List Edge) → Option (List Edge)
+ordered found = found >>= λ edges. Some (sorted edges)
+
+-- what the instruction at a place makes of the edges
+abbrev pub edges_step : Module → FunctionDefinition → ℕ → List Edge → Option (List Edge)
+edges_step m d at edges = do
+  i ← slice_get d.code at
+  types ← slice_get (types_before m d) at
+  ordered (edges_after (point_at m d types) i edges)
+
+-- a stack never has more than 128 values
+abbrev pub is_low : Types → Bool
+is_low types = nat_le (length types) 128
+
+-- whether a type is a reference, or a mutable one where only those are asked for
+abbrev pub is_picked : Bool → Token → Bool
+is_picked true t = is_mutable_token t
+is_picked false t = is_reference_token t
+
+-- this is found, or a need fails where there is none
+abbrev pub Finds : {A : Type 0} → Result A StepError → Option A → Type 0
+Finds (Ok x) found = found ≡ Some x
+Finds (Err e) found = (e ≡ Need) × (found ≡ None)
+
+-- the state after is this one, or a need fails where there is none
+abbrev pub Follows : {S : Type 0} → Result S StepError → Option S → Type 0
+Follows (Ok t) after = after ≡ Some t
+Follows (Err Need) after = after ≡ None
+Follows (Err Memory) after = ⊤

@@ -1,0 +1,33 @@
+-- The order is one, and a step leaves ascending edges.
+use Rattle.std.specs.Prelude.{◌≡◌, List, true, Option, Some, None, length, slice_get, IsTrue}
+use Rattle.std.proofs.Common.{refl, subst}
+use Rattle.mv_move_types.specs.Options.{◌>>=◌}
+use Rattle.mv_move_types.specs.Module.{Module, FunctionDefinition}
+use Rattle.mv_type_states.specs.Sound.{types_before}
+use Rattle.mv_edges.specs.Edges.{Edge, edges_leq}
+use Rattle.mv_edges.specs.Ascending.{are_ascending}
+use Rattle.mv_edges.specs.Sorted.{sorted}
+use Rattle.mv_edges.proofs.Sorting.{ascending-sorted}
+use Rattle.mv_edges.proofs.Order.{edges_leq_itself, edges_leq-transitive}
+use Rattle.mv_lattice.specs.Laws.{IsLawful}
+use Rattle.mv_borrow_graph.specs.BorrowRules.{edges_after}
+use Rattle.mv_borrow_graph.specs.Domain.{edges_step, ordered, point_at}
+
+-- what comes of two steps comes of the second
+bind_parts : {A B : Type 0} (o : Option A) (f : A → Option B) (y : B) {P : Type 0} → (o >>= f) ≡ Some y → ((x : A) → o ≡ Some x → f x ≡ Some y → P) → P
+bind_parts None f y e k = cc
+bind_parts (Some x) f y e k = k x refl e
+
+ordered_ascend : (found : Option (List Edge)) (b : List Edge) → ordered found ≡ Some b → IsTrue (are_ascending b)
+ordered_ascend None b e = cc
+ordered_ascend (Some edges) b e = let same : sorted edges ≡ b = cc in subst (λ es. are_ascending es ≡ true) same (ascending-sorted edges)
+
+pub edges_lawful : (m : Module) (d : FunctionDefinition) → IsLawful (length d.code) (λ s. IsTrue (are_ascending s)) (λ a b. IsTrue (edges_leq a b)) (edges_step m d)
+edges_lawful m d = record {
+  reflexive = λ a _. edges_leq_itself a;
+  transitive = λ a b c _ _ _ p q. edges_leq-transitive a b c p q;
+  keeps = λ at a b _ _ e.
+      bind_parts (slice_get d.code at) (λ i. slice_get (types_before m d) at >>= λ types. ordered (edges_after (point_at m d types) i a)) b e
+      (λ i _ e2. bind_parts (slice_get (types_before m d) at) (λ types. ordered (edges_after (point_at m d types) i a)) b e2
+      (λ types _ e3. ordered_ascend (edges_after (point_at m d types) i a) b e3));
+}

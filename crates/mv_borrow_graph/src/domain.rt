@@ -1,0 +1,149 @@
+// A function's borrow graph as a domain of states.
+ghost use Rattle.std.specs.Prelude.{◌≡◌, ◌<◌, [], length, reverse, slice_get, Some, option_map, IfOk, IsTrue};
+ghost use Rattle.std.specs.List.{list_all};
+ghost use Rattle.mv_type_states.specs.Sound.{types_before};
+ghost use Rattle.mv_type_states.specs.TypesHold.{TypesHold};
+ghost use Rattle.mv_borrow_graph.specs.Domain.{point_at, is_low};
+
+use super::site::Site;
+use mv_binary_format::FunctionDefinition;
+use mv_bounds::Bounded;
+use mv_edges::Edges;
+use mv_lattice::{Domain, StepError};
+use mv_move_types::Instruction;
+use mv_type_states::{StackTypes, Typed};
+use std::alloc::{AllocError, Global};
+use std::marker::Model;
+
+/// The types of the whole stack before each instruction of function `f`, whose definition is given.
+fn stacks_of(
+    alloc: Global,
+    m: &Typed<'_>,
+    f: usize,
+    function: &FunctionDefinition<'_>,
+) -> Result<StackTypes, AllocError>
+    requires known { slice_get m.now.functions f ≡ Some function.now }
+    requires typed { TypesHold m.now }
+    ensures before { IfOk result (λ all. all ≡ types_before m.now function.now) }
+    ensures low { IfOk result (λ all. IsTrue (list_all is_low (types_before m.now function.now))) }
+{
+    m.stack_types(alloc, f)
+}
+
+/// What the references of a function lead into before each of its instructions.
+#[derive(Drop)]
+pub struct BorrowDomain<'t, 'm> {
+    module: &'t Bounded<'m>,
+    place: usize,
+    function: &'t FunctionDefinition<'m>,
+    code: &'t [Instruction],
+    stacks: StackTypes,
+}
+
+impl<'t, 'm> Model for BorrowDomain<'t, 'm> {
+    ghost use Rattle.std.specs.Prelude.{◌≡◌, Some, slice_get, IsTrue};
+    ghost use Rattle.std.specs.List.{list_all};
+    ghost use Rattle.mv_type_states.specs.Sound.{types_before};
+    ghost use Rattle.mv_borrow_graph.specs.Domain.{Function, is_low};
+
+    ghost Value = { Function };
+
+    ghost view = { λ d. record { home = d.module.now; function = d.function.now } };
+
+    ghost invariant = { λ d. (slice_get d.module.now.functions d.place ≡ Some d.function.now)
+        × (d.code.now ≡ d.function.now.code)
+        × (d.stacks ≡ types_before d.module.now d.function.now)
+        × IsTrue (list_all is_low (types_before d.module.now d.function.now)) };
+}
+
+impl<'t, 'm> BorrowDomain<'t, 'm> {
+    /// The domain of function `f`.
+    pub fn of_function(alloc: Global, m: &'t Typed<'m>, f: usize) -> Result<Self, AllocError>
+        requires { f < length m.now.functions }
+        ensures home { IfOk result (λ d. d.home ≡ m.entry.now) }
+        ensures function { IfOk result (λ d. slice_get m.entry.now.functions f ≡ Some d.function) }
+    {
+        let module = m.bounded();
+        let function = &module.module().functions()[f];
+        let stacks = stacks_of(alloc, m, f, function)?;
+        Ok(BorrowDomain {
+            module,
+            place: f,
+            function,
+            code: module.code(f),
+            stacks,
+        })
+    }
+
+    /// The instruction at a place, if there is one.
+    fn instruction(&self, at: usize) -> Option<Instruction>
+        ensures { result ≡ slice_get self.now.function.code at }
+    {
+        self.code.get(at).copied()
+    }
+
+    /// Where an instruction stands, if types are known before it.
+    fn site(&self, at: usize) -> Option<Site<'_, 'm>>
+        ensures { result ≡ option_map (point_at self.now.home self.now.function) (slice_get (types_before self.now.home self.now.function) at) }
+    {
+        if at >= self.stacks.len() {
+            return None;
+        }
+        Some(Site {
+            module: self.module,
+            place: self.place,
+            function: self.function,
+            stack: self.stacks.before(at),
+        })
+    }
+
+    /// What is known where the function begins: no edges.
+    pub fn start(&self, alloc: Global) -> Edges
+        ensures { result ≡ [] }
+    {
+        Edges::new(alloc)
+    }
+}
+
+impl<'t, 'm> Domain for BorrowDomain<'t, 'm> {
+    ghost use Rattle.std.specs.Prelude.{length, IsTrue};
+    ghost use Rattle.mv_edges.specs.Edges.{edges_leq};
+    ghost use Rattle.mv_edges.specs.Ascending.{are_ascending};
+    ghost use Rattle.mv_borrow_graph.specs.Domain.{edges_step};
+    ghost use Rattle.mv_borrow_graph.specs.Laws.{edges_lawful};
+
+    type State = Edges;
+
+    ghost size = { λ d. length d.function.code };
+
+    ghost is_state = { λ d s. IsTrue (are_ascending s) };
+
+    ghost below = { λ d a b. IsTrue (edges_leq a b) };
+
+    ghost steps = { λ d at s. edges_step d.home d.function at s };
+
+    ghost laws = { λ d. edges_lawful d.home d.function };
+
+    fn copy(&self, alloc: Global, s: &Edges) -> Result<Edges, AllocError> {
+        s.copy(alloc)
+    }
+
+    fn leq(&self, a: &Edges, b: &Edges) -> bool {
+        a.leq(b)
+    }
+
+    fn join(&self, alloc: Global, a: &Edges, b: &Edges) -> Result<Edges, AllocError> {
+        Edges::join(alloc, a, b)
+    }
+
+    #[tactic(auto, using(crate::proofs::Stacks::step_ok, crate::proofs::Stacks::step_need, crate::proofs::Stacks::step_unknown))]
+    fn step(&self, alloc: Global, s: Edges, at: usize) -> Result<Edges, StepError> {
+        let Some(instruction) = self.instruction(at) else {
+            return Err(StepError::Need);
+        };
+        match self.site(at) {
+            Some(site) => site.step(alloc, instruction, s),
+            None => Err(StepError::Need),
+        }
+    }
+}

@@ -1,0 +1,113 @@
+// What types and nodes are, and which nodes the references among types have.
+ghost use Rattle.std.specs.Prelude.{◌≡◌, ◌+◌, ◌≤◌, ◌^◌, ◌++◌, ◌∷◌, [], length, IfOk, OnOk, if◌then◌else◌};
+ghost use Rattle.std.specs.List.{list_all};
+ghost use Rattle.mv_move_types.specs.declared.borrow.Node.TheVariants.{Glob};
+ghost use Rattle.mv_borrow_graph.specs.BorrowRules.{is_mutable_token, is_reference_token, is_root_node, is_temp, no_edge_out, reference_nodes};
+ghost use Rattle.mv_borrow_graph.specs.Domain.{is_picked};
+
+use mv_edges::Edges;
+use mv_move_types::{Node, Token};
+use std::alloc::{AllocError, Global};
+
+/// Whether a type is a mutable reference.
+pub fn is_mutable_reference(token: Token) -> bool
+    ensures { result ≡ is_mutable_token token }
+{
+    match token {
+        Token::MutableReference(_) => true,
+        Token::Plain(_) | Token::Reference(_) => false,
+    }
+}
+
+/// Whether a type is a reference.
+pub fn is_reference(token: Token) -> bool
+    ensures { result ≡ is_reference_token token }
+{
+    match token {
+        Token::Reference(_) | Token::MutableReference(_) => true,
+        Token::Plain(_) => false,
+    }
+}
+
+/// Whether a node is an operand.
+pub fn is_operand(node: Node) -> bool
+    ensures { result ≡ is_temp node }
+{
+    match node {
+        Node::Temp(_) => true,
+        Node::Slot(_) | Node::Own(_) | Node::Glob(_) => false,
+    }
+}
+
+/// Whether a node is a local's value or a global.
+pub fn is_root(node: Node) -> bool
+    ensures { result ≡ is_root_node node }
+{
+    match node {
+        Node::Own(_) | Node::Glob(_) => true,
+        Node::Slot(_) | Node::Temp(_) => false,
+    }
+}
+
+/// Whether no edge leads out of a node.
+pub fn is_free(node: Node, s: &Edges) -> bool
+    ensures { result ≡ no_edge_out node s.now }
+{
+    !s.has_out_of(node)
+}
+
+/// Whether no edge leads out of any of these nodes.
+pub fn are_free(nodes: &[Node], s: &Edges) -> bool
+    ensures { result ≡ list_all (λ n. no_edge_out n s.now) nodes.now }
+{
+    nodes.iter().all(|n| is_free(*n, s))
+}
+
+/// Whether no edge leads out of any of these globals.
+pub fn are_free_globals(definitions: &[u16], s: &Edges) -> bool
+    ensures { result ≡ list_all (λ t. no_edge_out (Glob t) s.now) definitions.now }
+{
+    definitions
+        .iter()
+        .all(|definition| is_free(Node::Glob(*definition), s))
+}
+
+/// Whether a type is a reference, or a mutable one where only those are asked for.
+fn is_picked(only_mutable: bool, token: Token) -> bool
+    ensures { result ≡ is_picked only_mutable token }
+{
+    if only_mutable {
+        is_mutable_reference(token)
+    } else {
+        is_reference(token)
+    }
+}
+
+/// Adds a node at the end, if it is picked.
+fn push_if(nodes: &mut Vec<Node>, picked: bool, node: Node) -> Result<(), AllocError>
+    ensures { OnOk result (nodes.new.items ≡ nodes.old.items ++ (if picked then node ∷ [] else [])) }
+{
+    if picked {
+        nodes.push(node)?;
+    }
+    Ok(())
+}
+
+/// The nodes of the references among these types, which stand on the stack from a place on: of all, or of the mutable
+/// ones alone.
+pub fn nodes_of(
+    alloc: Global,
+    only_mutable: bool,
+    place: usize,
+    tokens: &[Token],
+) -> Result<Vec<Node>, AllocError>
+    requires { place + length tokens.now ≤ 2 ^ 16 }
+    ensures { IfOk result (λ nodes. nodes.items ≡ reference_nodes (is_picked only_mutable) place tokens.now) }
+{
+    let mut nodes = Vec::new(alloc);
+    for (i, token) in tokens.iter().enumerate() {
+        let node = Node::Temp((place + i) as u16);
+        push_if(&mut nodes, is_picked(only_mutable, *token), node)?;
+    }
+    Ok(nodes)
+}

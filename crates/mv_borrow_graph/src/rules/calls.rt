@@ -1,0 +1,232 @@
+// Calls and returns.
+ghost use Rattle.std.specs.Prelude.{◌≡◌, ◌+◌, ◌++◌, ◌∷◌, [], ◌≤◌, ◌^◌, ◌&&◌, ◌||◌, ◌-◌, length, slice_get, option_map, IfOk, IfSome, OnOk, IsTrue};
+ghost use Rattle.std.specs.Bool.{then_some};
+ghost use Rattle.std.specs.List.{list_all, list_any};
+ghost use Rattle.mv_move_types.specs.declared.borrow.Node.TheVariants.{Glob};
+ghost use Rattle.mv_move_types.specs.Module.{own_acquires};
+ghost use Rattle.mv_edges.specs.Ascending.{are_ascending};
+ghost use Rattle.mv_edges.specs.Sorted.{sorted};
+ghost use Rattle.mv_borrow_graph.specs.BorrowRules.{call_edges, is_mutable, is_root_node, is_temp, no_edge_out, opened_edges, result_edges, return_edges, without_all};
+ghost use Rattle.mv_borrow_graph.specs.Domain.{Follows, ordered};
+
+use crate::changes::kept;
+use crate::nodes::{are_free, are_free_globals, is_operand, is_root, nodes_of};
+use crate::site::Site;
+use mv_edges::{Change, Edge, Edges};
+use mv_lattice::StepError;
+use mv_move_types::{FunctionHandle, Node, Token};
+use std::alloc::{AllocError, Global};
+
+/// Takes away the edges at these nodes.
+fn remove_at_all(s: &mut Edges, nodes: &[Node])
+    ensures { s.new ≡ without_all nodes.now s.old }
+{
+    for n in nodes {
+        s.remove_at(*n);
+    }
+}
+
+/// Adds the incoming edges of these nodes, opened, for another node.
+fn add_opened(
+    alloc: Global,
+    nodes: &[Node],
+    to: Node,
+    s: &Edges,
+    edges: &mut Edges,
+) -> Result<(), AllocError>
+    requires { IsTrue (are_ascending edges.old) }
+    ensures { OnOk result (edges.new ≡ sorted (edges.old ++ opened_edges nodes.now to s.now)) }
+{
+    for n in nodes {
+        edges.add_all(s.inherited(alloc, Change::Opened, *n, to)?)?;
+    }
+    Ok(())
+}
+
+/// Adds the edges of a result at a place: a mutable reference comes from the mutable arguments, any other from all.
+fn add_result(
+    alloc: Global,
+    mutable: &[Node],
+    all: &[Node],
+    place: u16,
+    token: Token,
+    s: &Edges,
+    edges: &mut Edges,
+) -> Result<(), AllocError>
+    requires { IsTrue (are_ascending edges.old) }
+    ensures { OnOk result (edges.new ≡ sorted (edges.old ++ result_edges mutable.now all.now place (token ∷ []) s.now)) }
+{
+    match token {
+        Token::Plain(_) => Ok(()),
+        Token::Reference(_) => add_opened(alloc, all, Node::Temp(place), s, edges),
+        Token::MutableReference(_) => add_opened(alloc, mutable, Node::Temp(place), s, edges),
+    }
+}
+
+/// The edges of a call's results, the first of which stands at a place.
+fn edges_of_results(
+    alloc: Global,
+    mutable: &[Node],
+    all: &[Node],
+    place: usize,
+    results: &[Token],
+    s: &Edges,
+) -> Result<Edges, AllocError>
+    requires { place + length results.now ≤ 2 ^ 16 }
+    ensures { IfOk result (λ edges. edges ≡ sorted (result_edges mutable.now all.now place results.now s.now)) }
+{
+    let mut edges = Edges::new(alloc);
+    for (i, token) in results.iter().enumerate() {
+        add_result(
+            alloc,
+            mutable,
+            all,
+            (place + i) as u16,
+            *token,
+            s,
+            &mut edges,
+        )?;
+    }
+    Ok(edges)
+}
+
+/// Ties a call's results to its arguments, which are taken.
+fn tied(
+    alloc: Global,
+    mutable: &[Node],
+    all: &[Node],
+    place: usize,
+    results: &[Token],
+    mut s: Edges,
+) -> Result<Edges, AllocError>
+    requires { place + length results.now ≤ 2 ^ 16 }
+    ensures { IfOk result (λ edges. edges ≡ sorted (without_all all.now s ++ result_edges mutable.now all.now place results.now s)) }
+{
+    let new = edges_of_results(alloc, mutable, all, place, results, &s)?;
+    remove_at_all(&mut s, all);
+    s.add_all(new)?;
+    Ok(s)
+}
+
+/// The same, where a need holds.
+fn tied_if(
+    alloc: Global,
+    holds: bool,
+    mutable: &[Node],
+    all: &[Node],
+    place: usize,
+    results: &[Token],
+    s: Edges,
+) -> Result<Edges, StepError>
+    requires { place + length results.now ≤ 2 ^ 16 }
+    ensures { Follows result (ordered (then_some holds (without_all all.now s ++ result_edges mutable.now all.now place results.now s))) }
+{
+    if !holds {
+        return Err(StepError::Need);
+    }
+    Ok(tied(alloc, mutable, all, place, results, s)?)
+}
+
+impl<'d, 'm> Site<'d, 'm> {
+    /// A function handle, if it is there.
+    fn function_handle(&self, callee: u16) -> Option<FunctionHandle>
+        ensures { result ≡ slice_get self.now.home.function_handles callee }
+    {
+        let module = self.module.module();
+        module.function_handles().get(usize::from(callee)).copied()
+    }
+
+    /// The types of a signature, at most 64, if it is there.
+    fn signature(&self, index: u16) -> Option<&[Token]>
+        ensures value { option_map (λ tokens. tokens.now) result ≡ slice_get self.now.home.signatures index }
+        ensures short { IfSome result (λ tokens. length tokens.now ≤ 64) }
+    {
+        self.module.module().signature(usize::from(index))
+    }
+
+    /// The place of the first of the topmost operands, by how many they are.
+    fn first_of(&self, count: usize) -> usize
+        ensures value { result ≡ length self.now.types - count }
+        ensures low { result ≤ 128 }
+    {
+        self.stack.len().saturating_sub(count)
+    }
+
+    /// Whether no edge leads out of a call's mutable arguments, or of the globals that the function acquires.
+    fn may_call(&self, mutable: &[Node], callee: u16, s: &Edges) -> bool
+        ensures { result ≡ (list_all (λ n. no_edge_out n s.now) mutable.now && list_all (λ t. no_edge_out (Glob t) s.now) (own_acquires self.now.home callee)) }
+    {
+        are_free(mutable, s) && are_free_globals(self.module.own_acquires(callee), s)
+    }
+
+    /// Calls a function: its mutable arguments and the globals that it acquires have to be free.
+    pub fn call(&self, alloc: Global, callee: u16, s: Edges) -> Result<Edges, StepError>
+        ensures { Follows result (ordered (call_edges self.now callee s)) }
+    {
+        let Some(handle) = self.function_handle(callee) else {
+            return Err(StepError::Need);
+        };
+        let Some(parameters) = self.signature(handle.parameters) else {
+            return Err(StepError::Need);
+        };
+        let Some(results) = self.signature(handle.results) else {
+            return Err(StepError::Need);
+        };
+        let place = self.first_of(parameters.len());
+        let mutable = nodes_of(alloc, true, place, parameters)?;
+        let all = nodes_of(alloc, false, place, parameters)?;
+        let holds = self.may_call(&mutable, callee, &s);
+        tied_if(alloc, holds, &mutable, &all, place, results, s)
+    }
+
+    /// Whether an edge keeps a result from being handed out: it leads to it from what the frame or the storage holds, or
+    /// from a mutable result.
+    fn holds_result(&self, e: &Edge) -> bool
+        ensures { result ≡ (is_temp e.now.to && (is_root_node e.now.from || is_temp e.now.from && is_mutable self.now e.now.from)) }
+    {
+        is_operand(e.to())
+            && (is_root(e.from()) || is_operand(e.from()) && self.is_mutable(e.from()))
+    }
+
+    /// Whether an edge keeps a result from being handed out.
+    fn any_holds_result(&self, s: &Edges) -> bool
+        ensures { result ≡ list_any (λ e. is_temp e.to && (is_root_node e.from || is_temp e.from && is_mutable self.now e.from)) s.now }
+    {
+        s.as_slice().iter().any(|e| self.holds_result(e))
+    }
+
+    /// Hands out the results, into which nothing of the frame may lead.
+    pub fn hand_out(&self, s: Edges) -> Result<Edges, StepError>
+        requires { IsTrue (are_ascending s) }
+        ensures { Follows result (ordered (return_edges self.now s)) }
+    {
+        kept(!self.any_holds_result(&s), s)
+    }
+}
+
+#[cfg(test)]
+mod tests {
+    use super::*;
+    use mv_edges::Label;
+    use mv_move_types::{LeafKind, ValueType};
+    use std::test::Fail;
+
+    #[test]
+    fn ties_a_result_to_what_the_argument_came_from(rt: HostRuntime) -> Result<(), Fail> {
+        let alloc = rt.alloc();
+        let address = ValueType::OfLeaf(LeafKind::Address);
+        let mut s = Edges::new(alloc);
+        s.insert(Edge::new(Node::Own(3), Label::here(alloc), Node::Temp(0)))?;
+        let parameters = [Token::MutableReference(address), Token::Plain(address)];
+        let mutable = nodes_of(alloc, true, 0, &parameters)?;
+        let all = nodes_of(alloc, false, 0, &parameters)?;
+        assert_eq!(rt; mutable.len(), 1);
+        let after = tied(alloc, &mutable, &all, 0, &[Token::Reference(address)], s)?;
+        assert_eq!(rt; after.len(), 1);
+        let only = after.get(0).ok_or("first")?;
+        assert_eq!(rt; only.from(), Node::Own(3));
+        assert_eq!(rt; only.to(), Node::Temp(0));
+        assert!(rt; only.label().is_open());
+        Ok(())
+    }
+}

@@ -1,0 +1,41 @@
+// Globals, borrowed.
+ghost use Rattle.mv_borrow_graph.specs.BorrowRules.{edges_after};
+ghost use Rattle.mv_borrow_graph.specs.Domain.{Follows, ordered};
+
+use crate::changes::lent;
+use crate::nodes::is_free;
+use crate::site::Site;
+use mv_edges::Edges;
+use mv_lattice::StepError;
+use mv_move_types::{Instruction, Node};
+use std::alloc::Global;
+
+impl<'d, 'm> Site<'d, 'm> {
+    /// Borrows a global mutably: no edge may lead out of the struct's globals.
+    #[tactic(auto, unfolding(crate::specs::BorrowRules::edges_after))]
+    pub fn borrow_global_mutably(
+        &self,
+        alloc: Global,
+        definition: u16,
+        s: Edges,
+    ) -> Result<Edges, StepError>
+        ensures { Follows result (ordered (edges_after self.now (Instruction.MutBorrowGlobal definition) s)) }
+    {
+        let global = Node::Glob(definition);
+        lent(alloc, is_free(global, &s), global, self.top(), s)
+    }
+
+    /// Borrows a global: no edge may lead from the struct's globals to a mutable reference.
+    #[tactic(auto, unfolding(crate::specs::BorrowRules::edges_after))]
+    pub fn borrow_global(
+        &self,
+        alloc: Global,
+        definition: u16,
+        s: Edges,
+    ) -> Result<Edges, StepError>
+        ensures { Follows result (ordered (edges_after self.now (Instruction.ImmBorrowGlobal definition) s)) }
+    {
+        let global = Node::Glob(definition);
+        lent(alloc, self.is_readable(global, &s), global, self.top(), s)
+    }
+}

@@ -1,0 +1,99 @@
+// References: to fields, read, written and frozen.
+ghost use Rattle.std.specs.Prelude.{◌≡◌, ◌&&◌, not, slice_get, Some};
+ghost use Rattle.std.specs.List.{list_any};
+ghost use Rattle.mv_edges.specs.Edges.{same_node, agrees, out_of, but_out_of};
+ghost use Rattle.std.specs.Bool.{then_some};
+ghost use Rattle.mv_borrow_graph.specs.BorrowRules.{is_mutable, no_mutable_from, position_of, top_temp, field_edges, mutable_field_edges, immutable_field_edges};
+ghost use Rattle.mv_borrow_graph.specs.Domain.{Finds, Follows, ordered};
+
+use crate::site::Site;
+use mv_edges::{Change, Edges};
+use mv_lattice::StepError;
+use mv_move_types::{FieldHandle, Node};
+use std::alloc::Global;
+
+impl<'d, 'm> Site<'d, 'm> {
+    /// A field handle, if it is there.
+    fn field_handle(&self, field: u16) -> Option<FieldHandle>
+        ensures { result ≡ slice_get self.now.home.field_handles field }
+    {
+        let module = self.module.module();
+        module.field_handles().get(usize::from(field)).copied()
+    }
+
+    /// The position that a field handle names.
+    pub fn position(&self, field: u16) -> Result<u8, StepError>
+        ensures { Finds result (position_of self.now field) }
+    {
+        let module = self.module.module();
+        let _structs = module.structs();
+        match self.field_handle(field) {
+            Some(handle) => Ok(handle.position as u8),
+            None => Err(StepError::Need),
+        }
+    }
+
+    /// The new reference to a field stands where its operand stood.
+    fn field_reference(&self, alloc: Global, position: u8, mut s: Edges) -> Result<Edges, StepError>
+        ensures { Follows result (ordered (Some (field_edges self.now position s))) }
+    {
+        let top = self.top();
+        let new = s.inherited(alloc, Change::Extended(position), top, top)?;
+        s.remove_at(top);
+        s.add_all(new)?;
+        Ok(s)
+    }
+
+    /// Borrows a field mutably: no edge out of the operand may agree with the field.
+    pub fn borrow_field_mutably(
+        &self,
+        alloc: Global,
+        position: u8,
+        s: Edges,
+    ) -> Result<Edges, StepError>
+        ensures { Follows result (ordered (mutable_field_edges self.now position s)) }
+    {
+        if s.has_agreeing_out_of(self.top(), position) {
+            return Err(StepError::Need);
+        }
+        self.field_reference(alloc, position, s)
+    }
+
+    /// Whether an edge leads from a node to a mutable reference, and agrees with a position.
+    fn leads_to_mutable_at(&self, from: Node, position: u8, s: &Edges) -> bool
+        ensures { result ≡ list_any (λ e. same_node e.from from && (is_mutable self.now e.to && agrees position e.label)) s.now }
+    {
+        s.as_slice().iter().any(|e| {
+            e.starts_at(from) && (self.is_mutable(e.to()) && e.label().agrees(position))
+        })
+    }
+
+    /// Whether no edge that agrees with a position leads from a node to a mutable reference.
+    fn is_readable_at(&self, node: Node, position: u8, s: &Edges) -> bool
+        ensures { result ≡ not (list_any (λ e. is_mutable self.now e.to && agrees position e.label) (out_of node s.now)) }
+    {
+        !self.leads_to_mutable_at(node, position, s)
+    }
+
+    /// Borrows a field: no edge out of the operand that agrees with the field may lead to a mutable reference.
+    pub fn borrow_field(&self, alloc: Global, position: u8, s: Edges) -> Result<Edges, StepError>
+        ensures { Follows result (ordered (immutable_field_edges self.now position s)) }
+    {
+        if !self.is_readable_at(self.top(), position, &s) {
+            return Err(StepError::Need);
+        }
+        self.field_reference(alloc, position, s)
+    }
+
+    /// Makes a mutable reference an immutable one: no edge may lead from it to a mutable one, and none out of it is left.
+    pub fn freeze(&self, mut s: Edges) -> Result<Edges, StepError>
+        ensures { Follows result (ordered (then_some (no_mutable_from self.now (top_temp self.now) s) (but_out_of (top_temp self.now) s))) }
+    {
+        let top = self.top();
+        if !self.is_readable(top, &s) {
+            return Err(StepError::Need);
+        }
+        s.remove_out_of(top);
+        Ok(s)
+    }
+}

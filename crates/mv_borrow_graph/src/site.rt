@@ -1,0 +1,175 @@
+// Where an instruction stands in its function, and what it does to the edges.
+ghost use Rattle.std.specs.Prelude.{◌≡◌, ◌-◌, ◌&&◌, length, reverse, slice_get, IsTrue};
+ghost use Rattle.std.specs.List.{list_any};
+ghost use Rattle.mv_move_types.specs.declared.borrow.Node.TheVariants.{Temp};
+ghost use Rattle.mv_move_types.specs.Module.{local_type as type_of_local};
+ghost use Rattle.mv_edges.specs.Edges.{same_node};
+ghost use Rattle.mv_edges.specs.Ascending.{are_ascending};
+ghost use Rattle.mv_borrow_graph.specs.BorrowRules.{edges_after, is_mutable, next_temp, top_temp, no_mutable_from};
+ghost use Rattle.mv_borrow_graph.specs.Domain.{Finds, Follows, ordered};
+
+use crate::changes::{kept, released};
+use crate::nodes::{is_free, is_mutable_reference};
+use mv_binary_format::FunctionDefinition;
+use mv_bounds::Bounded;
+use mv_edges::Edges;
+use mv_lattice::StepError;
+use mv_move_types::{Instruction, Node, Token};
+use std::alloc::Global;
+use std::marker::Model;
+
+/// An instruction's place in a function of a module, by the types on the stack before it, the last of them topmost.
+#[derive(Drop)]
+pub struct Site<'d, 'm> {
+    pub module: &'d Bounded<'m>,
+    pub place: usize,
+    pub function: &'d FunctionDefinition<'m>,
+    pub stack: &'d [Token],
+}
+
+impl<'d, 'm> Model for Site<'d, 'm> {
+    ghost use Rattle.std.specs.Prelude.{◌≡◌, ◌≤◌, Some, length, reverse, slice_get};
+    ghost use Rattle.mv_type_states.specs.TypesHold.{Point};
+    ghost use Rattle.mv_borrow_graph.specs.Domain.{point_at};
+
+    ghost Value = { Point };
+
+    ghost view = { λ s. point_at s.module.now s.function.now (reverse s.stack.now) };
+
+    ghost invariant = { λ s. (slice_get s.module.now.functions s.place ≡ Some s.function.now) × (length s.stack.now ≤ 128) };
+}
+
+impl<'d, 'm> Site<'d, 'm> {
+    /// The type of a local, if it is there.
+    fn local(&self, local: u16) -> Option<Token>
+        ensures { result ≡ type_of_local self.now.home self.now.function local }
+    {
+        self.module.local(self.place, local)
+    }
+
+    /// The type of a local.
+    fn local_type(&self, local: u16) -> Result<Token, StepError>
+        ensures { Finds result (type_of_local self.now.home self.now.function local) }
+    {
+        match self.local(local) {
+            Some(token) => Ok(token),
+            None => Err(StepError::Need),
+        }
+    }
+
+    /// The type of an operand by its place from the bottom, if it is there.
+    fn operand(&self, place: u16) -> Option<Token>
+        ensures { result ≡ slice_get (reverse self.now.types) place }
+    {
+        self.stack.get(usize::from(place)).copied()
+    }
+
+    /// Whether the type of a node is a mutable reference.
+    pub fn is_mutable(&self, node: Node) -> bool
+        ensures { result ≡ is_mutable self.now node }
+    {
+        let token = match node {
+            Node::Slot(local) => self.local(local),
+            Node::Temp(place) => self.operand(place),
+            Node::Own(_) | Node::Glob(_) => None,
+        };
+        match token {
+            Some(token) => is_mutable_reference(token),
+            None => false,
+        }
+    }
+
+    /// The node of the next operand.
+    pub fn next(&self) -> Node
+        ensures { result ≡ next_temp self.now }
+    {
+        Node::Temp(self.stack.len() as u16)
+    }
+
+    /// The node of the topmost operand.
+    pub fn top(&self) -> Node
+        ensures { result ≡ top_temp self.now }
+    {
+        Node::Temp(self.stack.len().saturating_sub(1) as u16)
+    }
+
+    /// The node of the operand below the topmost.
+    fn second(&self) -> Node
+        ensures { result ≡ Temp (length self.now.types - 2) }
+    {
+        Node::Temp(self.stack.len().saturating_sub(2) as u16)
+    }
+
+    /// Whether an edge leads from a node to a mutable reference.
+    fn leads_to_mutable(&self, from: Node, s: &Edges) -> bool
+        ensures { result ≡ list_any (λ e. same_node e.from from && is_mutable self.now e.to) s.now }
+    {
+        s.as_slice()
+            .iter()
+            .any(|e| e.starts_at(from) && self.is_mutable(e.to()))
+    }
+
+    /// Whether no edge leads from a node to a mutable reference, so that what it stands for may be read.
+    pub fn is_readable(&self, node: Node, s: &Edges) -> bool
+        ensures { result ≡ no_mutable_from self.now node s.now }
+    {
+        !self.leads_to_mutable(node, s)
+    }
+
+    /// What an instruction here makes of the edges.
+    ///
+    /// Answers `Need` where a need of the instruction fails.
+    #[tactic(auto, using(crate::proofs::Rows::kept_order), unfolding(crate::specs::BorrowRules::edges_after))]
+    pub fn step(
+        &self,
+        alloc: Global,
+        instruction: Instruction,
+        mut s: Edges,
+    ) -> Result<Edges, StepError>
+        requires { IsTrue (are_ascending s) }
+        ensures { Follows result (ordered (edges_after self.now instruction s)) }
+    {
+        match instruction {
+            Instruction::Pop => {
+                s.remove_at(self.top());
+                Ok(s)
+            }
+            Instruction::Ret => self.hand_out(s),
+            Instruction::Call(callee) => self.call(alloc, callee, s),
+            Instruction::CopyLoc(local) => self.copy_local(
+                alloc,
+                local,
+                self.local_type(local)?,
+                s,
+            ),
+            Instruction::MoveLoc(local) => self.move_local(
+                alloc,
+                local,
+                self.local_type(local)?,
+                s,
+            ),
+            Instruction::StLoc(local) => self.store_local(alloc, local, self.local_type(local)?, s),
+            Instruction::MutBorrowLoc(local) => self.borrow_local_mutably(alloc, local, s),
+            Instruction::ImmBorrowLoc(local) => self.borrow_local(alloc, local, s),
+            Instruction::MutBorrowField(field) => {
+                self.borrow_field_mutably(alloc, self.position(field)?, s)
+            }
+            Instruction::ImmBorrowField(field) => {
+                self.borrow_field(alloc, self.position(field)?, s)
+            }
+            Instruction::ReadRef => released(self.is_readable(self.top(), &s), self.top(), s),
+            Instruction::WriteRef => released(is_free(self.top(), &s), self.top(), s),
+            Instruction::FreezeRef => self.freeze(s),
+            Instruction::MutBorrowGlobal(definition) => {
+                self.borrow_global_mutably(alloc, definition, s)
+            }
+            Instruction::ImmBorrowGlobal(definition) => self.borrow_global(alloc, definition, s),
+            Instruction::MoveFrom(definition) => kept(is_free(Node::Glob(definition), &s), s),
+            Instruction::MoveTo(_) => {
+                s.remove_at(self.second());
+                Ok(s)
+            }
+            _ => Ok(s),
+        }
+    }
+}
