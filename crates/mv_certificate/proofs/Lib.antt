@@ -1,1 +1,12 @@
+pub mod Loops
+pub mod Texts
 pub mod Marks
+pub mod States
+pub mod Refusals
+pub mod Carried
+pub mod Flows
+pub mod SameEdges
+pub mod Holds
+pub mod Whole
+pub mod Functions
+pub mod OneCertificate

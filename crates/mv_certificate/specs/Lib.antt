@@ -6,3 +6,4 @@ pub mod Parsing
 pub mod Reads
 pub mod Verified
 pub mod Laws
+pub mod Functions

@@ -2,6 +2,11 @@
 #![tactic(auto)]
 
 mod certificate;
+mod checking;
+mod laws;
+mod reading;
+mod shape;
+mod writing;
 
 ghost use Rattle.std.specs.Prelude.{◌≡◌, Err, IfOk, IfErr, OnOk, IsTrue, ◌⊎◌};
 ghost use Rattle.mv_certificate.specs.Shape.{AllStatedFit};
@@ -11,6 +16,7 @@ ghost use Rattle.mv_certificate.specs.Answers.{IsRefusedByCertificate};
 ghost use Rattle.mv_certificate.specs.Laws.{IsReadBackAs};
 
 pub use certificate::{Cert, Known, Stated};
+pub use laws::texts_are_of_one_certificate;
 use mv_binary_format::Module;
 use mv_move_types::Refusal;
 use mv_type_states::Typed;
@@ -54,35 +60,45 @@ impl<'a> Verified<'a> {
 }
 
 /// Reads a certificate of the module. Bytes are refused in phase 9 exactly where they are no text of one.
-pub fn decode(_alloc: Global, m: &Typed<'_>, bytes: &[u8]) -> Result<Cert, Refusal>
+pub fn decode(alloc: Global, m: &Typed<'_>, bytes: &[u8]) -> Result<Cert, Refusal>
     ensures ok { IfOk result (λ c. IsCertificateText m.now bytes.now c) }
     ensures none { result ≡ Err (Refusal.Phase 9) → (c : Certificate) → IsCertificateText m.now bytes.now c → ⊥ }
     ensures errors { IfErr result (λ e. (e ≡ Refusal.Phase 9) ⊎ (e ≡ Refusal.Memory)) }
 {
-    let _bytes = bytes;
-    let _module = m.module();
-    Err(Refusal::Memory)
+    match reading::read_certificate(alloc, m, bytes) {
+        Ok(c) => Ok(c),
+        Err(Refusal::Memory) => Err(Refusal::Memory),
+        Err(Refusal::Phase(_)) => Err(Refusal::Phase(9)),
+    }
 }
 
 /// The text of a certificate. Of bytes that it wrote, `decode` gives back the certificate: for a module of whose shape that
 /// is, the bytes are a text of it and of no other.
-pub fn encode(_alloc: Global, c: &Cert) -> Result<Vec<u8>, AllocError>
+pub fn encode(alloc: Global, c: &Cert) -> Result<Vec<u8>, AllocError>
     ensures text { IfOk result (λ text. text.items ≡ certificate_text c.now) }
     ensures back { IfOk result (λ text. IsReadBackAs text.items c.now) }
 {
-    let _functions = &c.functions;
-    Err(AllocError)
+    texts_are_of_one_certificate();
+    let mut out = Vec::new(alloc);
+    for stated in &c.functions {
+        writing::write_stated(stated, &mut out)?;
+    }
+    Ok(out)
 }
 
 /// Tries phases 10, 11 and 12 with a certificate of the module's shape: the module, where they hold; else the first that
 /// fails.
-pub fn check<'a>(_alloc: Global, m: Typed<'a>, c: &Cert) -> Result<Verified<'a>, Refusal>
+pub fn check<'a>(alloc: Global, m: Typed<'a>, c: &Cert) -> Result<Verified<'a>, Refusal>
     requires shape { AllStatedFit m m.functions c.now }
     ensures ok { IfOk result (λ v. v ≡ m.entry) }
     ensures holds { OnOk result (IsTrue (certificate_holds m.entry c.now)) }
     ensures refused { IfErr result (IsRefusedByCertificate m.entry c.now) }
 {
-    let _functions = &c.functions;
-    let _ = m;
-    Err(Refusal::Memory)
+    checking::check_locals(alloc, &m, c)?;
+    checking::check_edges(alloc, &m, c)?;
+    checking::check_acquires(&m)?;
+    Ok(Verified { typed: m })
 }
+
+#[cfg(test)]
+mod tests;

@@ -1,6 +1,6 @@
 -- The instruction that makes a struct value.
 use Rattle.std.proofs.Common.{◌≡◌, ℕ, ◌+◌, ◌<◌, ◌≤◌, Bool, true, false, cond, List, [], ◌∷◌, map, reverse, take, drop, length, refl, sym, ap, ◌∙◌, Option, Some, None, Result, Ok, Err, arith}
-use Rattle.std.specs.Prelude.{slice_get, ◌==◌, nat_le, ◌&&◌, IsTrue, All, option_map, option_and_then, not}
+use Rattle.std.specs.Prelude.{slice_get, ◌==◌, nat_le, ◌&&◌, All, option_map, option_and_then, not}
 use Rattle.std.specs.List.{list_all}
 use Rattle.std.specs.Option.{option_map_or}
 use Rattle.std.specs.Cmp.{first_so, second_so}

@@ -1,6 +1,6 @@
 -- Struct values whose fields are leaves.
-use Rattle.std.proofs.Common.{◌≡◌, ℕ, suc, Bool, true, false, cond, List, [], ◌∷◌, ◌++◌, map, reverse, length, take, refl, sym, ap, subst, ◌∙◌, Option, Some}
-use Rattle.std.specs.Prelude.{slice_get, All, IsTrue, ◌&&◌, unwrap_or}
+use Rattle.std.proofs.Common.{◌≡◌, ℕ, suc, Bool, true, false, cond, List, [], ◌∷◌, ◌++◌, map, reverse, take, refl, sym, ap, subst, ◌∙◌, Option, Some}
+use Rattle.std.specs.Prelude.{slice_get, All, IsTrue, unwrap_or}
 use Rattle.std.specs.List.{list_all}
 use Rattle.std.specs.Option.{option_map_or}
 use Rattle.std.specs.Cmp.{first_so, second_so}
@@ -24,7 +24,7 @@ use Rattle.mv_interpreter.specs.Today.{is_leaf_type}
 use Rattle.mv_interpreter.specs.Runs.{number_fits}
 use Rattle.mv_interpreter.specs.Works.{IsHome, IsOwn, IsFineOperand, AreOfStruct, value_of, is_leaf_of, are_leaves_of, number_of}
 use Rattle.mv_interpreter.proofs.Names.{same_kind-is, same_struct-same, both}
-use Rattle.mv_interpreter.proofs.Lists.{then_found, each, All-reverse}
+use Rattle.mv_interpreter.proofs.Lists.{then_found, All-reverse}
 
 cond_parts : (a b : Bool) → cond a b false ≡ true → (a ≡ true) × (b ≡ true)
 cond_parts true b h = (refl, h)

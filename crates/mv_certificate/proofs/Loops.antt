@@ -1,0 +1,140 @@
+-- Reading the parts of a certificate one after another.
+use Rattle.std.proofs.Common.{◌≡◌, ℕ, ◌-◌, ◌+◌, ◌<◌, ◌≤◌, zero, List, [], ◌∷◌, ◌++◌, length, map, drop, get_or, drop-cons, Bool, true, false, true≢false, Option, Some, None, option_map, arith, refl, ap, suc, sym, ◌∙◌, append_assoc, append-nil}
+use Rattle.std.specs.Bool.{then_some}
+use Rattle.std.proofs.lemmas.Bool.{and_parts, and_from}
+use Rattle.std.proofs.lemmas.List.{drop-map}
+use Rattle.mv_uleb.specs.Parsing.{number_from}
+use Rattle.mv_move_types.specs.Options.{◌>>=◌}
+use Rattle.mv_move_types.specs.Module.{Module, FunctionDefinition}
+use Rattle.mv_module_text.specs.Parsing.{Read, entries_from, counted_from}
+use Rattle.mv_module_text.proofs.Entries.{after, ReadsOn, ReadsOn-end}
+use Rattle.mv_edges.specs.Edges.{Edge}
+use Rattle.mv_edges.specs.Ascending.{edge_before, are_ascending}
+use Rattle.mv_certificate.specs.Certificate.{Known, Stated}
+use Rattle.mv_certificate.specs.Parsing.{edge_from, edges_from, block_from, stated_from}
+
+-- an entry that can't be read
+entries_from-none : {A : Type 0} (each : List ℕ → Read A) (k : ℕ) (cur : List ℕ) → each cur ≡ None → entries_from each (suc k) cur ≡ None
+entries_from-none each k cur e = rw e refl
+
+-- one of so many entries can't be read
+pub ReadsOn-breaks : {A : Type 0} (each : List ℕ → Read A) (n i : ℕ) (start : List ℕ) (items : List A) (cur : List ℕ)
+    → i < n → each cur ≡ None → ReadsOn each n i start items cur → entries_from each n start ≡ None
+ReadsOn-breaks each n i start items cur lt none g =
+    let k : n - i ≡ suc (n - (i + 1)) = omega arith in
+    g.goes ∙ ap (λ z. option_map (after items) (entries_from each z cur)) k
+    ∙ ap (option_map (after items)) (entries_from-none each (n - (i + 1)) cur none)
+
+-- the first of ascending edges ascend
+pub ascending-front : (xs ys : List Edge) → are_ascending (xs ++ ys) ≡ true → are_ascending xs ≡ true
+ascending-front [] ys h = refl
+ascending-front (a ∷ []) ys h = refl
+ascending-front (a ∷ b ∷ xs) ys h =
+    let p = and_parts (edge_before a b) (are_ascending (b ∷ (xs ++ ys))) h in
+    and_from (edge_before a b) (are_ascending (b ∷ xs)) p.0 (ascending-front (b ∷ xs) ys p.1)
+
+-- no edges behind those that don't ascend make them ascend
+refuted : (b : Bool) → (b ≡ true → ⊥) → b ≡ false
+refuted true h = absurd (h refl)
+refuted false h = refl
+
+not_ascending : (xs ys : List Edge) → are_ascending xs ≡ false → are_ascending (xs ++ ys) ≡ false
+not_ascending xs ys h = refuted (are_ascending (xs ++ ys)) (λ t. true≢false (sym (ascending-front xs ys t) ∙ h))
+
+-- edges of which the first don't ascend
+test_fails : (items : List Edge) (o : Read (List Edge)) → are_ascending items ≡ false
+    → (option_map (after items) o >>= λ es. then_some (are_ascending es.0) es) ≡ None
+test_fails items None h = refl
+test_fails items (Some r) h = rw (not_ascending items r.0 h) refl
+
+-- the edges behind a count
+counted_at : {A : Type 0} (each : List ℕ → Read A) (n : ℕ) (bytes start : List ℕ) → number_from 1024 bytes ≡ Some (n, start)
+    → counted_from 1024 each bytes ≡ entries_from each n start
+counted_at each n bytes start e = ap (λ r. r >>= λ c. entries_from each c.0 c.1) e
+
+-- an edge is out of order
+pub edges-fail : (m : Module) (d : FunctionDefinition) (n i : ℕ) (bytes start : List ℕ) (items : List Edge) (cur : List ℕ)
+    → number_from 1024 bytes ≡ Some (n, start) → ReadsOn (edge_from m d) n i start items cur → are_ascending items ≡ false → edges_from m d bytes ≡ None
+edges-fail m d n i bytes start items cur e g h =
+    ap (λ r. r >>= λ es. then_some (are_ascending es.0) es) (counted_at (edge_from m d) n bytes start e ∙ g.goes)
+    ∙ test_fails items (entries_from (edge_from m d) (n - i) cur) h
+
+-- an edge can't be read
+pub edges-break : (m : Module) (d : FunctionDefinition) (n i : ℕ) (bytes start : List ℕ) (items : List Edge) (cur : List ℕ)
+    → number_from 1024 bytes ≡ Some (n, start) → i < n → edge_from m d cur ≡ None → ReadsOn (edge_from m d) n i start items cur → edges_from m d bytes ≡ None
+edges-break m d n i bytes start items cur e lt none g =
+    ap (λ r. r >>= λ es. then_some (are_ascending es.0) es) (counted_at (edge_from m d) n bytes start e ∙ ReadsOn-breaks (edge_from m d) n i start items cur lt none g)
+
+-- all edges are read
+pub edges-end : (m : Module) (d : FunctionDefinition) (n i : ℕ) (bytes start : List ℕ) (items : List Edge) (cur : List ℕ)
+    → number_from 1024 bytes ≡ Some (n, start) → n ≤ i → ReadsOn (edge_from m d) n i start items cur → are_ascending items ≡ true
+    → edges_from m d bytes ≡ Some (items, cur)
+edges-end m d n i bytes start items cur e le g h =
+    ap (λ r. r >>= λ es. then_some (are_ascending es.0) es) (ReadsOn-end (edge_from m d) 1024 n i bytes start items cur e le g)
+    ∙ ap (λ b. then_some b (items, cur)) h
+
+-- what was read of the first i blocks
+pub record StatedOn (m : Module) (d : FunctionDefinition) (marks : List Bool) (i : ℕ) (start : List ℕ) (items : Stated) (cur : List ℕ) : Type 0 where
+  pub goes : stated_from m d marks start ≡ option_map (after items) (stated_from m d (drop i marks) cur)
+
+-- nothing before
+after_nothing : {A : Type 0} (o : Read (List A)) → o ≡ option_map (after []) o
+after_nothing None = refl
+after_nothing (Some r) = refl
+
+-- none are read yet
+pub StatedOn-start : (m : Module) (d : FunctionDefinition) (marks : List Bool) (start : List ℕ) → StatedOn m d marks 0 start [] start
+StatedOn-start m d marks start = record { goes = after_nothing (stated_from m d marks start) }
+
+-- one before the others
+after_one : {A : Type 0} (items : List A) (x : A) (o : Read (List A))
+    → option_map (after items) (o >>= λ xs. Some (x ∷ xs.0, xs.1)) ≡ option_map (after (items ++ x ∷ [])) o
+after_one items x None = refl
+after_one items x (Some r) = ap (λ z. Some (z, r.1)) (sym (append_assoc items (x ∷ []) r.0))
+
+-- what reading the next gives
+stated-next : (m : Module) (d : FunctionDefinition) (b : Bool) (marks : List Bool) (cur next : List ℕ) (x : Option Known) → block_from m d b cur ≡ Some (x, next)
+    → stated_from m d (b ∷ marks) cur ≡ (stated_from m d marks next >>= λ xs. Some (x ∷ xs.0, xs.1))
+stated-next m d b marks cur next x e = ap (λ r. r >>= λ first. stated_from m d marks first.1 >>= λ more. Some (first.0 ∷ more.0, more.1)) e
+
+-- the marks from a place on
+marks_at : {A : Type 0} (f : A → Bool) (xs : List A) (i : ℕ) (x : A) → i < length xs → x ≡ get_or xs i x → drop i (map f xs) ≡ f x ∷ drop (i + 1) (map f xs)
+marks_at f xs i x lt is =
+    let one : i + 1 ≡ suc i = omega arith in
+    drop-map f i xs ∙ ap (map f) (drop-cons xs i x lt) ∙ ap (λ z. f z ∷ map f (drop (suc i) xs)) (sym is)
+    ∙ ap (λ z. f x ∷ z) (sym (drop-map f (suc i) xs)) ∙ ap (λ z. f x ∷ drop z (map f xs)) (sym one)
+
+-- one more is read
+pub StatedOn-next : {A : Type 0} (f : A → Bool) (blocks : List A) (b : A) (m : Module) (d : FunctionDefinition) (i : ℕ) (start : List ℕ) (items : Stated) (cur next : List ℕ) (x : Option Known)
+    → i < length blocks → b ≡ get_or blocks i b → block_from m d (f b) cur ≡ Some (x, next)
+    → StatedOn m d (map f blocks) i start items cur → StatedOn m d (map f blocks) (i + 1) start (items ++ x ∷ []) next
+StatedOn-next f blocks b m d i start items cur next x lt is e g = record {
+  goes = g.goes ∙ ap (λ z. option_map (after items) (stated_from m d z cur)) (marks_at f blocks i b lt is)
+      ∙ ap (option_map (after items)) (stated-next m d (f b) (drop (i + 1) (map f blocks)) cur next x e)
+      ∙ after_one items x (stated_from m d (drop (i + 1) (map f blocks)) next);
+}
+
+-- nothing is behind the end
+drop_after : {A : Type 0} (i : ℕ) (xs : List A) → length xs ≤ i → drop i xs ≡ []
+drop_after zero [] le = refl
+drop_after zero (x ∷ xs) le = absurd (omega arith)
+drop_after (suc i) [] le = refl
+drop_after (suc i) (x ∷ xs) le = drop_after i xs (omega arith)
+
+-- all are read
+pub StatedOn-end : (m : Module) (d : FunctionDefinition) (marks : List Bool) (i : ℕ) (start : List ℕ) (items : Stated) (cur : List ℕ)
+    → length marks ≤ i → StatedOn m d marks i start items cur → stated_from m d marks start ≡ Some (items, cur)
+StatedOn-end m d marks i start items cur le g =
+    g.goes ∙ ap (λ z. option_map (after items) (stated_from m d z cur)) (drop_after i marks le) ∙ ap (λ z. Some (z, cur)) (append-nil items)
+
+-- what reading nothing gives
+stated-none : (m : Module) (d : FunctionDefinition) (b : Bool) (marks : List Bool) (cur : List ℕ) → block_from m d b cur ≡ None → stated_from m d (b ∷ marks) cur ≡ None
+stated-none m d b marks cur e = ap (λ r. r >>= λ first. stated_from m d marks first.1 >>= λ more. Some (first.0 ∷ more.0, more.1)) e
+
+-- one can't be read
+pub StatedOn-breaks : {A : Type 0} (f : A → Bool) (blocks : List A) (b : A) (m : Module) (d : FunctionDefinition) (i : ℕ) (start : List ℕ) (items : Stated) (cur : List ℕ)
+    → i < length blocks → b ≡ get_or blocks i b → block_from m d (f b) cur ≡ None
+    → StatedOn m d (map f blocks) i start items cur → stated_from m d (map f blocks) start ≡ None
+StatedOn-breaks f blocks b m d i start items cur lt is none g =
+    g.goes ∙ ap (λ z. option_map (after items) (stated_from m d z cur)) (marks_at f blocks i b lt is)
+    ∙ ap (option_map (after items)) (stated-none m d (f b) (drop (i + 1) (map f blocks)) cur none)

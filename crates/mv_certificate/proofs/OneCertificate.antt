@@ -1,0 +1,88 @@
+-- No bytes are texts of two certificates of one module.
+use Rattle.std.proofs.Common.{◌≡◌, ℕ, zero, suc, ◌≤◌, List, [], ◌∷◌, ◌++◌, length, map, flat_map, arith, refl, ap, sym, ◌∙◌, Option, Some, None, is_some, true, slice_get, nat_le}
+use Rattle.std.specs.Option.{option_map_or}
+use Rattle.std.specs.List.{list_all}
+use Rattle.std.proofs.lemmas.List.{length-append}
+use Rattle.std.proofs.lemmas.Bool.{and_parts, leb-true}
+use Rattle.std.proofs.lemmas.Option.{same_Some, some_pair_parts, slice_get_within}
+use Rattle.mv_move_types.specs.declared.token.Token.{Token}
+use Rattle.mv_move_types.specs.declared.tables.FunctionHandle.{FunctionHandle}
+use Rattle.mv_move_types.specs.Options.{◌>>=◌}
+use Rattle.mv_move_types.specs.Module.{Module, FunctionDefinition}
+use Rattle.mv_module_text.specs.Fits.{signature_fits, token_fits}
+use Rattle.mv_bounds.specs.Bounds.{local_count}
+use Rattle.mv_binary_format.specs.ModuleText.{HasText}
+use Rattle.mv_binary_format.proofs.Fitting.{few_structs}
+use Rattle.mv_cfg.specs.Blocks.{blocks}
+use Rattle.mv_certificate.specs.Certificate.{Stated, Certificate}
+use Rattle.mv_certificate.specs.Shape.{StatedFits, AllStatedFit}
+use Rattle.mv_certificate.specs.CertificateText.{stated_text, certificate_text, IsCertificateText}
+use Rattle.mv_certificate.specs.Parsing.{stated_from}
+use Rattle.mv_certificate.proofs.Marks.{at_below}
+use Rattle.mv_certificate.proofs.Whole.{stated-whole, same_marks, same_bools}
+
+-- a signature that is there is short
+signature_short : (version : ℕ) (ss : List (List Token)) (i : ℕ) (s : List Token) → list_all (signature_fits version) ss ≡ true → slice_get ss i ≡ Some s → length s ≤ 64
+signature_short version [] i s h e = cc
+signature_short version (x ∷ ss) zero s h e =
+    let p = and_parts (signature_fits version x) (list_all (signature_fits version) ss) h in
+    let q = and_parts (nat_le (length x) 64) (list_all (token_fits version) x) p.0 in
+    let le : length x ≤ 64 = leb-true (length x) 64 q.0 in
+    let same : x ≡ s = same_Some x s e in
+    omega (arith, ap length same)
+signature_short version (x ∷ ss) (suc i) s h e = signature_short version ss i s ((and_parts (signature_fits version x) (list_all (signature_fits version) ss) h).1) e
+
+-- so a function of a module that has a text has few locals
+few_locals : (m : Module) (d : FunctionDefinition) → HasText m → local_count m d ≤ 65536
+few_locals m d has = by_handle (slice_get m.function_handles d.handle)
+  where
+    short : (i : ℕ) (s : List Token) → slice_get m.signatures i ≡ Some s → length s ≤ 64
+    short i s e = signature_short m.version m.signatures i s has.signatures e
+
+    by_others : (parameters : List Token) → length parameters ≤ 64 → (o : Option (List Token)) → ((s : List Token) → o ≡ Some s → length s ≤ 64)
+        → option_map_or length (o >>= λ others. Some (parameters ++ others)) 0 ≤ 65536
+    by_others parameters le None each = omega arith
+    by_others parameters le (Some others) each = omega (arith, le, each others refl, length-append parameters others)
+
+    by_parameters : (o q : Option (List Token)) → ((s : List Token) → o ≡ Some s → length s ≤ 64) → ((s : List Token) → q ≡ Some s → length s ≤ 64)
+        → option_map_or length (o >>= λ parameters. q >>= λ others. Some (parameters ++ others)) 0 ≤ 65536
+    by_parameters None q each others = omega arith
+    by_parameters (Some parameters) q each others = by_others parameters (each parameters refl) q others
+
+    by_handle : (o : Option FunctionHandle) → option_map_or length (o >>= λ handle. slice_get m.signatures handle.parameters >>= λ parameters. slice_get m.signatures d.locals >>= λ others. Some (parameters ++ others)) 0 ≤ 65536
+    by_handle None = omega arith
+    by_handle (Some handle) = by_parameters (slice_get m.signatures handle.parameters) (slice_get m.signatures d.locals) (short handle.parameters) (short d.locals)
+
+-- what fits one function has the same marks
+one-marks : (m : Module) (d : FunctionDefinition) (ks ls : Stated) → StatedFits m d ks → StatedFits m d ls → map is_some ks ≡ map is_some ls
+one-marks m d ks ls p q =
+    same_marks is_some is_some ks ls (p.long ∙ sym q.long) (λ i k l ki li.
+    let b = at_below (blocks d.code) i (omega (arith, slice_get_within ks i k ki, p.long)) in
+    let r = p.marks i b.0 k b.1 ki in
+    let s = q.marks i b.0 l b.1 li in
+    same_bools (is_some k) (is_some l) (λ e. s.1 (r.0 e)) (λ e. r.1 (s.0 e)))
+
+-- bytes begin with the text of one statement alone that fits the function
+one-stated : (m : Module) (d : FunctionDefinition) → HasText m → (ks ls : Stated) (rest behind : List ℕ) → flat_map stated_text ks ++ rest ≡ flat_map stated_text ls ++ behind
+    → StatedFits m d ks → StatedFits m d ls → (ks ≡ ls) × (rest ≡ behind)
+one-stated m d has ks ls rest behind same p q =
+    let few = few_structs m has in
+    let small = few_locals m d has in
+    some_pair_parts ks ls rest behind
+    (sym (stated-whole m d few small rest ks p.fits) ∙ ap (stated_from m d (map is_some ks)) same
+    ∙ ap (λ marks. stated_from m d marks (flat_map stated_text ls ++ behind)) (one-marks m d ks ls p q) ∙ stated-whole m d few small behind ls q.fits)
+
+-- function by function
+one-each : (m : Module) → HasText m → (ds : List FunctionDefinition) (cs es : Certificate) → certificate_text cs ≡ certificate_text es → AllStatedFit m ds cs → AllStatedFit m ds es → cs ≡ es
+one-each m has [] [] [] same p q = refl
+one-each m has [] [] (e ∷ es) same p q = absurd q
+one-each m has [] (c ∷ cs) es same p q = absurd p
+one-each m has (d ∷ ds) [] es same p q = absurd p
+one-each m has (d ∷ ds) (c ∷ cs) [] same p q = absurd q
+one-each m has (d ∷ ds) (c ∷ cs) (e ∷ es) same p q =
+    let first = one-stated m d has c e (certificate_text cs) (certificate_text es) same p.0 q.0 in
+    ap (λ x. x ∷ cs) first.0 ∙ ap (λ xs. e ∷ xs) (one-each m has ds cs es first.1 p.1 q.1)
+
+-- the whole certificate
+pub one-certificate : (m : Module) (bytes : List ℕ) (c d : Certificate) → HasText m → IsCertificateText m bytes c → IsCertificateText m bytes d → c ≡ d
+one-certificate m bytes c d has p q = one-each m has m.functions c d (sym p.0 ∙ q.0) p.1 q.1

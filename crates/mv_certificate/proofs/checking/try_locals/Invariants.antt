@@ -1,0 +1,7 @@
+use Rattle.std.proofs.Common.{◌≡◌, ℕ, ◌<◌, Some, slice_get}
+use Rattle.mv_certificate.specs.Certificate.{Stated}
+use Rattle.mv_certificate.specs.Functions.{LocalsHoldAt}
+use Rattle.mv_certificate.proofs.checking.try_locals.Given as goal
+
+abbrev pub invariant-loop-f : goal.invariant-loop-f
+invariant-loop-f l = (k : ℕ) → k < l.f → (s : Stated) → slice_get l.c k ≡ Some s → LocalsHoldAt l.m k s

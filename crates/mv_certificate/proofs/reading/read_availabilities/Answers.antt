@@ -1,0 +1,18 @@
+use Rattle.std.proofs.Common.{◌≡◌, ◌+◌, ◌++◌, ◌∷◌, [], Err, ap, arith, subst, sym}
+use Rattle.std.proofs.lemmas.Grind.{common_steps}
+use Rattle.mv_certificate.specs.Parsing.{availability_from}
+use Rattle.mv_module_text.proofs.Entries.{ReadsOn, ReadsOn-next}
+use Rattle.mv_certificate.proofs.Loops.{ReadsOn-breaks}
+use Rattle.mv_certificate.proofs.reading.read_availabilities.Goals as goal
+
+pub returns-in_err-local-clause-refused : goal.returns-in_err-local-clause-refused
+returns-in_err-local-clause-refused c is =
+    ReadsOn-breaks availability_from c.args.count c.locals.counter c.args.reader.now c.locals.locals.items c.locals.reader
+    (omega arith) c.in_err-local.ensures.1 c.locals.invariant
+
+pub locals-preserved : goal.locals-preserved
+locals-preserved c =
+    let pushed : c.push.new.self.items ≡ c.locals.locals.items ++ c.in_ok-local.local ∷ [] = grind (arith, common_steps) in
+    subst (λ z. ReadsOn availability_from c.args.count (c.locals.counter + 1) c.args.reader.now z c.read_availability.new.reader) (sym pushed)
+    (ReadsOn-next availability_from c.args.count c.locals.counter c.args.reader.now c.locals.locals.items c.locals.reader c.read_availability.new.reader c.in_ok-local.local
+    (omega arith) c.in_ok-local.ensures c.locals.invariant)

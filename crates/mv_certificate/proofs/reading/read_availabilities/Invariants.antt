@@ -1,0 +1,6 @@
+use Rattle.mv_certificate.specs.Parsing.{availability_from}
+use Rattle.mv_module_text.proofs.Entries.{ReadsOn}
+use Rattle.mv_certificate.proofs.reading.read_availabilities.Given as goal
+
+abbrev pub invariant-locals : goal.invariant-locals
+invariant-locals l = ReadsOn availability_from l.count l.counter l.initial.reader l.locals.items l.reader

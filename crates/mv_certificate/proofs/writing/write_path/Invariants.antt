@@ -1,0 +1,6 @@
+use Rattle.std.proofs.Common.{◌≡◌, ◌++◌, flat_map, take}
+use Rattle.mv_uleb.specs.Uleb.{uleb}
+use Rattle.mv_certificate.proofs.writing.write_path.Given as goal
+
+abbrev pub invariant-loop-position : goal.invariant-loop-position
+invariant-loop-position l = l.out.items ≡ l.initial.out.items ++ flat_map uleb (take l.position-index l.path)

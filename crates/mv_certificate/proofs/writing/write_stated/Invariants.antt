@@ -1,0 +1,6 @@
+use Rattle.std.proofs.Common.{◌≡◌, ◌++◌, flat_map, take}
+use Rattle.mv_certificate.specs.CertificateText.{stated_text}
+use Rattle.mv_certificate.proofs.writing.write_stated.Given as goal
+
+abbrev pub invariant-loop-block : goal.invariant-loop-block
+invariant-loop-block l = l.out.items ≡ l.initial.out.items ++ flat_map stated_text (take l.block-index l.stated)

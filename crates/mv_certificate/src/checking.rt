@@ -1,0 +1,170 @@
+// Whether what a certificate states of a module's functions holds.
+
+ghost use Rattle.std.specs.Prelude.{◌≡◌, ◌<◌, ◌⊎◌, length, map, option_map, slice_get, Some, IfOk, IfErr, OnOk, IsTrue};
+ghost use Rattle.mv_move_types.specs.Refusals.{IsRefusedIn};
+ghost use Rattle.mv_acquires.specs.Acquires.{AcquiresHold};
+ghost use Rattle.mv_certificate.specs.Answers.{IsRefusedByCertificate};
+ghost use Rattle.mv_certificate.specs.Certificate.{Certificate, all_locals_hold, all_edges_hold, certificate_holds};
+ghost use Rattle.mv_certificate.specs.Functions.{LocalsHoldAt, EdgesHoldAt};
+ghost use Rattle.mv_certificate.specs.Shape.{AllStatedFit};
+ghost use Rattle.mv_certificate.specs.Reads.{FitsAt};
+
+use super::certificate::{Cert, Stated};
+use super::shape;
+use mv_borrow_graph::BorrowDomain;
+use mv_edges::Edges;
+use mv_lattice::{StepError, check_flow};
+use mv_locals_safety::{Availabilities, LocalsDomain};
+use mv_move_types::Refusal;
+use mv_type_states::Typed;
+use std::alloc::{AllocError, Global};
+
+/// A flow that is not accepted is refused in the phase.
+fn refusal_in(phase: u8, e: StepError) -> Refusal
+    ensures { ((result ≡ Refusal.Phase phase) × (e ≡ StepError.Need)) ⊎ (result ≡ Refusal.Memory) }
+{
+    match e {
+        StepError::Need => Refusal::Phase(phase),
+        StepError::Memory => Refusal::Memory,
+    }
+}
+
+/// The stated availabilities.
+fn locals_of(alloc: Global, stated: &Stated) -> Result<Vec<Option<Availabilities>>, AllocError>
+    ensures { IfOk result (λ v. v.items ≡ map (option_map (λ k. k.locals)) stated.now) }
+{
+    let mut all = Vec::new(alloc);
+    for block in &stated.blocks {
+        let locals = match block {
+            Some(known) => Some(known.locals.copy(alloc)?),
+            None => None,
+        };
+        all.push(locals)?;
+    }
+    Ok(all)
+}
+
+/// The stated edges.
+fn edges_of(alloc: Global, stated: &Stated) -> Result<Vec<Option<Edges>>, AllocError>
+    ensures { IfOk result (λ v. v.items ≡ map (option_map (λ k. k.edges)) stated.now) }
+{
+    let mut all = Vec::new(alloc);
+    for block in &stated.blocks {
+        let edges = match block {
+            Some(known) => Some(known.edges.copy(alloc)?),
+            None => None,
+        };
+        all.push(edges)?;
+    }
+    Ok(all)
+}
+
+/// Phase 10 for function `f`: the stated availabilities are a flow of its locals.
+fn check_locals_of(alloc: Global, m: &Typed<'_>, f: usize, stated: &Stated) -> Result<(), Refusal>
+    requires inside { f < length m.now.functions }
+    requires fits { FitsAt m.now f stated.now }
+    ensures holds { OnOk result (LocalsHoldAt m.now f stated.now) }
+    ensures refused { IfErr result (IsRefusedIn 10 (LocalsHoldAt m.now f stated.now)) }
+{
+    let domain = LocalsDomain::of_function(alloc, m, f)?;
+    let start = domain.start(alloc)?;
+    let locals = locals_of(alloc, stated)?;
+    let function = shape::function_at(m, f);
+    let graph = shape::graph_of(m, f, function);
+    match check_flow(alloc, &domain, graph, &start, &locals) {
+        Ok(()) => Ok(()),
+        Err(e) => Err(refusal_in(10, e)),
+    }
+}
+
+/// Phase 11 for function `f`: the stated edges are a flow of its borrow graph.
+fn check_edges_of(alloc: Global, m: &Typed<'_>, f: usize, stated: &Stated) -> Result<(), Refusal>
+    requires inside { f < length m.now.functions }
+    requires fits { FitsAt m.now f stated.now }
+    ensures holds { OnOk result (EdgesHoldAt m.now f stated.now) }
+    ensures refused { IfErr result (IsRefusedIn 11 (EdgesHoldAt m.now f stated.now)) }
+{
+    let domain = BorrowDomain::of_function(alloc, m, f)?;
+    let empty = domain.start(alloc);
+    let edges = edges_of(alloc, stated)?;
+    let function = shape::function_at(m, f);
+    let graph = shape::graph_of(m, f, function);
+    shape::has_start(m, f, function);
+    match check_flow(alloc, &domain, graph, &empty, &edges) {
+        Ok(()) => Ok(()),
+        Err(e) => Err(refusal_in(11, e)),
+    }
+}
+
+/// What is stated of the function at a place.
+fn stated_of(c: &Cert, f: usize) -> &Stated
+    requires { f < length c.now }
+    ensures { slice_get c.entry.now f ≡ Some result.now }
+{
+    &c.functions[f]
+}
+
+/// What is stated of function `f`, which fits it.
+fn stated_at<'t>(m: &Typed<'_>, c: &'t Cert, f: usize) -> &'t Stated
+    requires shape { AllStatedFit m.now m.now.functions c.now }
+    requires inside { f < length m.now.functions }
+    ensures at { slice_get c.entry.now f ≡ Some result.now }
+    ensures fits { FitsAt m.entry.now f result.now }
+{
+    stated_of(c, f)
+}
+
+/// Tries the stated availabilities of each function.
+fn try_locals(alloc: Global, m: &Typed<'_>, c: &Cert) -> Result<(), Refusal>
+    requires { AllStatedFit m.now m.now.functions c.now }
+    ensures holds { OnOk result (IsTrue (all_locals_hold m.now c.now)) }
+    ensures refused { IfErr result (IsRefusedIn 10 (IsTrue (all_locals_hold m.now c.now))) }
+{
+    let count = shape::function_count(m);
+    for f in 0..count {
+        let stated = stated_at(m, c, f);
+        check_locals_of(alloc, m, f, stated)?;
+    }
+    Ok(())
+}
+
+/// Tries the stated edges of each function.
+fn try_edges(alloc: Global, m: &Typed<'_>, c: &Cert) -> Result<(), Refusal>
+    requires { AllStatedFit m.now m.now.functions c.now }
+    ensures holds { OnOk result (IsTrue (all_edges_hold m.now c.now)) }
+    ensures refused { IfErr result (IsRefusedIn 11 (IsTrue (all_edges_hold m.now c.now))) }
+{
+    let count = shape::function_count(m);
+    for f in 0..count {
+        let stated = stated_at(m, c, f);
+        check_edges_of(alloc, m, f, stated)?;
+    }
+    Ok(())
+}
+
+/// Phase 10: the stated availabilities of each function are a flow of its locals.
+pub fn check_locals(alloc: Global, m: &Typed<'_>, c: &Cert) -> Result<(), Refusal>
+    requires { AllStatedFit m.now m.now.functions c.now }
+    ensures holds { OnOk result (IsTrue (all_locals_hold m.now c.now)) }
+    ensures refused { IfErr result (IsRefusedByCertificate m.now c.now) }
+{
+    try_locals(alloc, m, c)
+}
+
+/// Phase 11: the stated edges of each function are a flow of its borrow graph.
+pub fn check_edges(alloc: Global, m: &Typed<'_>, c: &Cert) -> Result<(), Refusal>
+    requires shape { AllStatedFit m.now m.now.functions c.now }
+    requires locals { IsTrue (all_locals_hold m.now c.now) }
+    ensures holds { OnOk result (IsTrue (certificate_holds m.now c.now)) }
+    ensures refused { IfErr result (IsRefusedByCertificate m.now c.now) }
+{
+    try_edges(alloc, m, c)
+}
+
+/// Phase 12: the acquires list of each function is right.
+pub fn check_acquires(m: &Typed<'_>) -> Result<(), Refusal>
+    ensures ok { OnOk result (AcquiresHold m.now) }
+    ensures refused { IfErr result (λ e. (c : Certificate) → IsTrue (certificate_holds m.now c) → IsRefusedByCertificate m.now c e) }
+{
+    mv_acquires::check(m.bounded())
+}

@@ -1,0 +1,122 @@
+// Writing the parts of a certificate.
+
+ghost use Rattle.std.specs.Prelude.{◌≡◌, ◌++◌, ◌∷◌, [], map, flat_map, cond, OnOk};
+ghost use Rattle.mv_uleb.specs.Uleb.{uleb};
+ghost use Rattle.mv_module_text.specs.Entries.{counted};
+ghost use Rattle.mv_certificate.specs.CertificateText.{availability_code, node_kind, node_index, node_text, edge_text, known_text, stated_text};
+
+use super::certificate::{Known, Stated};
+use mv_edges::{Edge, Edges};
+use mv_move_types::{Availability, Node};
+use std::alloc::AllocError;
+
+/// An availability's byte.
+fn availability_byte(a: Availability) -> u8
+    ensures { result ≡ availability_code a }
+{
+    match a {
+        Availability::Unavailable => 0,
+        Availability::Available => 1,
+        Availability::Maybe => 2,
+    }
+}
+
+/// Writes availabilities, one byte each.
+fn write_availabilities(locals: &[Availability], out: &mut Vec<u8>) -> Result<(), AllocError>
+    ensures { OnOk result (out.new.items ≡ out.old.items ++ map availability_code locals.now) }
+{
+    for local in locals {
+        out.push(availability_byte(*local))?;
+    }
+    Ok(())
+}
+
+/// A node's kind byte.
+fn kind_byte(node: Node) -> u8
+    ensures { result ≡ node_kind node }
+{
+    match node {
+        Node::Slot(_) => 0,
+        Node::Own(_) => 1,
+        Node::Glob(_) => 2,
+        Node::Temp(_) => 3,
+    }
+}
+
+/// A node's index.
+fn index_of(node: Node) -> u16
+    ensures { result ≡ node_index node }
+{
+    match node {
+        Node::Slot(index) | Node::Own(index) | Node::Glob(index) | Node::Temp(index) => index,
+    }
+}
+
+/// Writes a node: its kind and its index.
+fn write_node(node: Node, out: &mut Vec<u8>) -> Result<(), AllocError>
+    ensures { OnOk result (out.new.items ≡ out.old.items ++ node_text node) }
+{
+    out.push(kind_byte(node))?;
+    mv_uleb::write(u64::from(index_of(node)), out)
+}
+
+/// Writes field positions behind their number.
+fn write_path(path: &[u8], out: &mut Vec<u8>) -> Result<(), AllocError>
+    ensures { OnOk result (out.new.items ≡ out.old.items ++ counted uleb path.now) }
+{
+    mv_uleb::write(path.len() as u64, out)?;
+    for position in path {
+        mv_uleb::write(u64::from(*position), out)?;
+    }
+    Ok(())
+}
+
+/// Writes an edge: its nodes, its positions, and whether its label is open.
+fn write_edge(e: &Edge, out: &mut Vec<u8>) -> Result<(), AllocError>
+    ensures { OnOk result (out.new.items ≡ out.old.items ++ edge_text e.now) }
+{
+    write_node(e.from(), out)?;
+    write_node(e.to(), out)?;
+    write_path(e.label().path(), out)?;
+    out.push(u8::from(e.label().is_open()))?;
+    Ok(())
+}
+
+/// Writes edges behind their number.
+fn write_edges(edges: &Edges, out: &mut Vec<u8>) -> Result<(), AllocError>
+    ensures { OnOk result (out.new.items ≡ out.old.items ++ counted edge_text edges.now) }
+{
+    let edges = edges.as_slice();
+    mv_uleb::write(edges.len() as u64, out)?;
+    for edge in edges {
+        write_edge(edge, out)?;
+    }
+    Ok(())
+}
+
+/// Writes what is stated of a block: its mark, and what is known.
+fn write_block(block: &Option<Known>, out: &mut Vec<u8>) -> Result<(), AllocError>
+    ensures { OnOk result (out.new.items ≡ out.old.items ++ stated_text block.now) }
+{
+    match block {
+        None => {
+            out.push(0)?;
+        }
+        Some(known) => {
+            out.push(1)?;
+            write_availabilities(known.locals.as_slice(), out)?;
+            write_edges(&known.edges, out)?;
+        }
+    }
+    Ok(())
+}
+
+/// Writes what is stated of the blocks of a function.
+pub fn write_stated(stated: &Stated, out: &mut Vec<u8>) -> Result<(), AllocError>
+    ensures { OnOk result (out.new.items ≡ out.old.items ++ flat_map stated_text stated.now) }
+{
+    for block in &stated.blocks {
+        write_block(block, out)?;
+    }
+    Ok(())
+}
