@@ -21,9 +21,9 @@ fine-more old new stored adds fine =
     (λ k d lt. words-more (tables_in old) (adds.0.tables ∷ []) _ (fine k d lt))
 
 -- what holds of the one element holds of each
-one : {A : Type 0} {P : A → Type 0} {x : A} → P x → All P (x ∷ [])
-one p zero d lt = p
-one p (suc k) d lt = absurd (omega (arith, lt))
+one : {A : Type 0} (P : A → Type 0) (x : A) → P x → All P (x ∷ [])
+one P x p zero d lt = p
+one P x p (suc k) d lt = absurd (omega (arith, lt))
 
 -- a ledger whose modules and tallies changed as a publish record's answer says
 pub ledger-published : {T E : Type 0} (r : Result T E) (old new : List PublishedModule) (stored : List FlatEntry) (before after : List (List Tally)) (runs : ℕ)
@@ -32,7 +32,7 @@ pub ledger-published : {T E : Type 0} (r : Result T E) (old new : List Published
     → IsLedger old stored before runs → IsLedger new stored after runs
 ledger-published (Ok x) old new stored before after runs adds room kept same placed named small is = record {
   few = room;
-  today = subst (All RunsToday) (sym adds.1.2) (All-append RunsToday old (adds.0 ∷ []) is.today (one adds.1.1));
+  today = subst (All RunsToday) (sym adds.1.2) (All-append RunsToday old (adds.0 ∷ []) is.today (one RunsToday adds.0 adds.1.1));
   fine = fine-more old new stored adds is.fine;
   placed = placed;
   named = named;

@@ -8,12 +8,12 @@ use Rattle.mv_machine.specs.State.{Storage}
 use Rattle.mv_machine.specs.Flat.{FlatEntry, storage_of}
 use Rattle.mv_machine.specs.Lines.{Tallied, Reply as Told, Published as ToldPublished, Refused as ToldRefused, Rejected as ToldRejected, Returned as ToldReturned, Aborted as ToldAborted, Exhausted as ToldExhausted, Broken as ToldBroken}
 use Rattle.mv_machine.specs.Ledger.{Offer, LedgerState, RunRequest, Publish, Run, BadRun, Bad, AreRead, with_bundle}
-use Rattle.mv_linker.specs.Link.{IsStore, tables_in}
+use Rattle.mv_linker.specs.Link.{tables_in}
 use Rattle.mv_interpreter.specs.Runs.{IsFineWords}
 use Rattle.mv_ledger.specs.declared.tallies.Tally.{Tally}
 use Rattle.mv_ledger.specs.declared.executing.Call.{Call}
 use Rattle.mv_ledger.specs.declared.executing.Barred.TheVariants.{Rejected as BarredRejected}
-use Rattle.mv_ledger.specs.View.{LedgerView, state_of, view_of}
+use Rattle.mv_ledger.specs.View.{LedgerView, state_of, view_of, RunsToday}
 use Rattle.mv_ledger.specs.RecordText.{IsShaped, IsShapeless}
 use Rattle.mv_ledger.specs.Answering.{Spells, AnswersRecord, Replies}
 use Rattle.mv_ledger.specs.Changes.{AddsOne, IsKept, RunsTo, Leaves}
@@ -30,7 +30,7 @@ read_as : (offers : List Offer) (bundle : List PublishedModule) → AllPass offe
 read_as [] [] h = tt
 read_as [] (p ∷ ps) h = h
 read_as (o ∷ os) [] h = h
-read_as (o ∷ os) (p ∷ ps) h = (h.0, h.1, h.2.1.text, read_as os ps h.3)
+read_as (o ∷ os) (p ∷ ps) h = (h.0, h.1, h.2.1.read.text, read_as os ps h.3)
 
 as_many : (offers : List Offer) (bundle : List PublishedModule) → AllPass offers bundle → length bundle ≡ length offers
 as_many [] [] h = refl
@@ -59,14 +59,14 @@ module _ (old new : List PublishedModule) (payload : List ℕ) (stored : List Fl
   second = view_of new stored after runs
 
   -- the ledger with the bundle behind what it had
-  with_it : (bundle : List PublishedModule) → new ≡ old ++ bundle → IsStore old → All (IsFineWords (tables_in old)) stored → AddsTallies old new before after → state_of second ≡ with_bundle (state_of first) bundle
-  with_it bundle added store fine tallies =
+  with_it : (bundle : List PublishedModule) → new ≡ old ++ bundle → All RunsToday old → All (IsFineWords (tables_in old)) stored → AddsTallies old new before after → state_of second ≡ with_bundle (state_of first) bundle
+  with_it bundle added today fine tallies =
       let tables : tables_in new ≡ tables_in old ++ tables_in bundle = ap tables_in added ∙ tables-append old bundle in
       same_state new (old ++ bundle) (storage_of (tables_in new) stored) (storage_of (tables_in old) stored) _ _ runs added
-      (ap (λ (l : List Module). storage_of l stored) tables ∙ stored-more (tables_in old) (tables_in bundle) stored (store-flat old store) fine) (tallies bundle added)
+      (ap (λ (l : List Module). storage_of l stored) tables ∙ stored-more (tables_in old) (tables_in bundle) stored (store-flat old today) fine) (tallies bundle added)
 
-  pub published_replies : AddsOne old new → IsAcceptedBy old payload new → IsStore old → All (IsFineWords (tables_in old)) stored → AddsTallies old new before after → Replies 1 payload (Some (ToldPublished 1)) first second
-  published_replies one accepted store fine tallies = with_bundle_of (accepted (state_of first) refl)
+  pub published_replies : AddsOne old new → IsAcceptedBy old payload new → All RunsToday old → All (IsFineWords (tables_in old)) stored → AddsTallies old new before after → Replies 1 payload (Some (ToldPublished 1)) first second
+  published_replies one accepted today fine tallies = with_bundle_of (accepted (state_of first) refl)
     where
       with_bundle_of : (bundle : List PublishedModule) × (IsAccepted (state_of first) payload bundle × (new ≡ old ++ bundle)) → Replies 1 payload (Some (ToldPublished 1)) first second
       with_bundle_of b =
@@ -74,7 +74,7 @@ module _ (old new : List PublishedModule) (payload : List ℕ) (stored : List Fl
           let a : IsAccepted (state_of first) payload bundle = b.1.0 in
           let long : length (one.0 ∷ []) ≡ length bundle = as_long old (one.0 ∷ []) bundle (sym one.1.2 ∙ b.1.1) in
           let all : AllPass a.offers bundle = a.published.0 in
-          let state : state_of second ≡ with_bundle (state_of first) bundle = with_it bundle b.1.1 store fine tallies in
+          let state : state_of second ≡ with_bundle (state_of first) bundle = with_it bundle b.1.1 today fine tallies in
           record {
             answers = (Publish a.sender a.offers, (a.asked, (bundle, read_as a.offers bundle all, long ∙ as_many a.offers bundle all, state)));
             leaves = (refl, refl);

@@ -18,82 +18,48 @@ use Rattle.mv_move_types.specs.Names.{StructName, same_struct}
 use Rattle.mv_move_types.specs.Module.{Module, StructDefinition, name_at}
 use Rattle.mv_move_types.specs.Named.{module_place, module_named, is_struct, definition_of}
 use Rattle.mv_move_types.specs.Published.{PublishedModule}
-use Rattle.mv_module_text.specs.Fits.{address_fits, token_fits, field_fits, struct_definition_fits, is_index}
-use Rattle.mv_module_text.specs.Parsing.{module_handle_from, struct_handle_from, function_handle_from, signature_from, identifier_from, address_from, struct_definition_from, function_definition_from, counted_from, index_from}
-use Rattle.mv_binary_format.specs.ModuleText.{Table}
-use Rattle.mv_binary_format.specs.Parsing.{preamble, marks_from, header_from, contents_from, entries_of, module_from, module_of}
-use Rattle.mv_binary_format.proofs.Shorter.{bind_some, then_some_parts, struct_definition-reads}
-use Rattle.mv_binary_format.proofs.Loops.{entries_of-fits}
+use Rattle.mv_module_text.specs.Fits.{address_fits}
+use Rattle.mv_binary_format.proofs.Binds.{bind_some}
 use Rattle.mv_machine.specs.Value.{Value, Leaf, Struct, Ref, Values, NoMore, More}
 use Rattle.mv_machine.specs.State.{Storage}
 use Rattle.mv_machine.specs.Typed.{leaf_fits, is_of_type, are_of_types, is_of_struct, is_fine_entry, is_fine_storage, abilities_at}
 use Rattle.mv_machine.specs.Flat.{FlatEntry, flat, flat_fields, flat_storage, value_from, fields_from, struct_from, value_under, storage_of}
-use Rattle.mv_linker.specs.Link.{IsStore, IsPublishable, tables_in}
+use Rattle.mv_linker.specs.Link.{tables_in}
 use Rattle.mv_interpreter.specs.Runs.{IsFineWords}
+use Rattle.mv_interpreter.specs.Today.{is_leaf_type, struct_runs, function_runs}
 use Rattle.mv_interpreter.proofs.Names.{same_kind-is, same_struct-is, both, some_is}
 use Rattle.mv_interpreter.proofs.Lists.{each, then_found, mapped_at, All-at}
+use Rattle.mv_ledger.specs.View.{RunsToday}
 use Rattle.mv_ledger.proofs.Longer.{name-more, definition-more}
 
--- the fields of each struct can be written, so that none of them is a struct
+-- the fields of each struct are leaves, so that none of them is a struct
 abbrev pub HasFlatFields : List Module → Type 0
-HasFlatFields modules = (name : StructName) (d : Module × List Field) → definition_of modules name ≡ Some d → list_all field_fits d.1 ≡ true
+HasFlatFields modules = (name : StructName) (d : Module × List Field) → definition_of modules name ≡ Some d → list_all (λ (f : Field). is_leaf_type f.token) d.1 ≡ true
 
--- ---- the modules of a store
-
--- the structs of a module that was read can be written
-module_from-fits : (own : ℕ) (tables : List Table) (m : Module) → module_from own tables ≡ Some m → list_all struct_definition_fits m.structs ≡ true
-unfolding module_from
-module_from-fits own ts m e =
-    bind_some (entries_of 0x01 module_handle_from ts) _ m e (λ a a_is e1.
-    bind_some (entries_of 0x02 struct_handle_from a.1) _ m e1 (λ b b_is e2.
-    bind_some (entries_of 0x03 function_handle_from b.1) _ m e2 (λ c c_is e3.
-    bind_some (entries_of 0x05 signature_from c.1) _ m e3 (λ d d_is e4.
-    bind_some (entries_of 0x07 identifier_from d.1) _ m e4 (λ f f_is e5.
-    bind_some (entries_of 0x08 address_from f.1) _ m e5 (λ g g_is e6.
-    bind_some (entries_of 0x0A struct_definition_from g.1) _ m e6 (λ h h_is e7.
-    bind_some (entries_of 0x0C function_definition_from h.1) _ m e7 (λ i i_is e8.
-    let p = then_some_parts ((length i.1 == 0) && nat_le (length i.0) 256) _ m e8 in
-    subst (λ (m : Module). list_all struct_definition_fits m.structs ≡ true) p.1
-    (entries_of-fits 0x0A struct_definition_from struct_definition_fits struct_definition-reads g.1 h.0 h.1 h_is)))))))))
-
-module_of-fits : (bytes : List ℕ) (m : Module) → module_of bytes ≡ Some m → list_all struct_definition_fits m.structs ≡ true
-unfolding module_of
-module_of-fits bytes m e =
-    bind_some (marks_from preamble bytes) _ m e (λ rest rest_is e1.
-    bind_some (counted_from 8 header_from rest) _ m e1 (λ headers headers_are e2.
-    bind_some (contents_from (length headers.0) 0 headers.0 headers.1) _ m e2 (λ contents contents_are e3.
-    bind_some (index_from contents.1) _ m e3 (λ own own_is e4.
-    by_case (length own.1 == 0) (module_from own.0 contents.0) e4 (module_from-fits own.0 contents.0 m)))))
-  where
-    by_case : (b : Bool) (o : Option Module) → cond b o None ≡ Some m → (o ≡ Some m → list_all struct_definition_fits m.structs ≡ true) → list_all struct_definition_fits m.structs ≡ true
-    by_case true o e go = go e
-    by_case false o e go = absurd cc
-
--- the modules of a store have such fields
-pub store-flat : (published : List PublishedModule) → IsStore published → HasFlatFields (tables_in published)
-store-flat published store name d e =
+-- the structs of modules that the interpreter runs have such fields
+pub store-flat : (published : List PublishedModule) → All RunsToday published → HasFlatFields (tables_in published)
+store-flat published today name d e =
     bind_some (module_named (tables_in published) name.home) _ d e (λ m m_is e1.
     bind_some (find_index (is_struct m name) m.structs) _ d e1 (λ i i_is e2.
     bind_some (slice_get m.structs i) _ d e2 (λ s s_is e3.
     let fields : s.fields ≡ d.1 = fields_are m s d e3 in
-    let fits = each struct_definition_fits m.structs i s (by_place (module_place (tables_in published) name.home) m m_is) s_is in
-    subst (λ (fs : List Field). list_all field_fits fs ≡ true) fields
-    (second_so (is_index s.handle && nat_le (length s.fields) 32) (list_all field_fits s.fields) fits))))
+    let runs : struct_runs s ≡ true = each struct_runs m.structs i s (by_place (module_place (tables_in published) name.home) m m_is) s_is in
+    subst (λ (fs : List Field). list_all (λ (f : Field). is_leaf_type f.token) fs ≡ true) fields runs)))
   where
     fields_are : (m : Module) (s : StructDefinition) (d : Module × List Field) → Some (m, s.fields) ≡ Some d → s.fields ≡ d.1
     fields_are m s d e = let pair : Module × List Field = (m, s.fields) in let same : pair ≡ d = some_is pair d e in ap (λ (x : Module × List Field). x.1) same
 
-    by_place : (o : Option ℕ) (m : Module) → option_and_then (slice_get (tables_in published)) o ≡ Some m → list_all struct_definition_fits m.structs ≡ true
+    by_place : (o : Option ℕ) (m : Module) → option_and_then (slice_get (tables_in published)) o ≡ Some m → list_all struct_runs m.structs ≡ true
     by_place None m e = absurd cc
     by_place (Some k) m e =
         let p = mapped_at (λ (p : PublishedModule). p.tables) published k m e in
-        let passed : IsPublishable p.0 = All-at IsPublishable published k p.0 store.passed p.1 in
-        subst (λ (m : Module). list_all struct_definition_fits m.structs ≡ true) p.2 (module_of-fits p.0.text p.0.tables passed.text)
+        let runs : RunsToday p.0 = All-at RunsToday published k p.0 today p.1 in
+        subst (λ (m : Module). list_all struct_runs m.structs ≡ true) p.2 (second_so (list_all function_runs p.0.tables.functions) (list_all struct_runs p.0.tables.structs) runs)
 
 -- ---- values of their words
 
 module _ (struct : StructName → List ℕ → Option (Value × List ℕ)) (modules : List Module) (m home : Module) where
-  leaf-under : (t : Token) (v : Value) (rest : List ℕ) → token_fits t ≡ true → is_of_type modules m t v ≡ true → value_from struct home t (flat v ++ rest) ≡ Some (v, rest)
+  leaf-under : (t : Token) (v : Value) (rest : List ℕ) → is_leaf_type t ≡ true → is_of_type modules m t v ≡ true → value_from struct home t (flat v ++ rest) ≡ Some (v, rest)
   leaf-under (Plain (OfLeaf k)) (Leaf j n) rest f h = ap (λ k. Some (Leaf k n, rest)) (sym (same_kind-is j k (first_so (same_kind j k) (leaf_fits k n) h)))
   leaf-under (Plain (OfLeaf k)) (Struct name fields) rest f h = absurd cc
   leaf-under (Plain (OfLeaf k)) (Ref r) rest f h = absurd cc
@@ -101,15 +67,15 @@ module _ (struct : StructName → List ℕ → Option (Value × List ℕ)) (modu
   leaf-under (Reference t) v rest f h = absurd cc
   leaf-under (MutableReference t) v rest f h = absurd cc
 
-  fields-under : (fs : List Field) (vs : Values) → list_all field_fits fs ≡ true → are_of_types modules m fs vs ≡ true → fields_from (value_from struct home) fs (flat_fields vs) ≡ Some (vs, [])
+  fields-under : (fs : List Field) (vs : Values) → list_all (λ (f : Field). is_leaf_type f.token) fs ≡ true → are_of_types modules m fs vs ≡ true → fields_from (value_from struct home) fs (flat_fields vs) ≡ Some (vs, [])
   fields-under [] NoMore f h = refl
   fields-under [] (More v vs) f h = absurd cc
   fields-under (x ∷ fs) NoMore f h = absurd cc
   fields-under (x ∷ fs) (More v vs) f h =
       let whole : Values × List ℕ = (More v vs, []) in
-      let first = leaf-under x.token v (flat_fields vs) (second_so (is_index x.name) (token_fits x.token) (first_so (field_fits x) (list_all field_fits fs) f))
+      let first = leaf-under x.token v (flat_fields vs) (first_so (is_leaf_type x.token) (list_all (λ (f : Field). is_leaf_type f.token) fs) f)
       (first_so (is_of_type modules m x.token v) (are_of_types modules m fs vs) h) in
-      let rest = fields-under fs vs (second_so (field_fits x) (list_all field_fits fs) f) (second_so (is_of_type modules m x.token v) (are_of_types modules m fs vs) h) in
+      let rest = fields-under fs vs (second_so (is_leaf_type x.token) (list_all (λ (f : Field). is_leaf_type f.token) fs) f) (second_so (is_of_type modules m x.token v) (are_of_types modules m fs vs) h) in
       then_found (value_from struct home x.token (flat v ++ flat_fields vs)) _ (v, flat_fields vs) whole first
       (then_found (fields_from (value_from struct home) fs (flat_fields vs)) _ (vs, []) whole rest refl)
 

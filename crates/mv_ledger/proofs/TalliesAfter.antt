@@ -26,7 +26,7 @@ use Rattle.mv_interpreter.specs.Works.{IsOwn, is_tally_at}
 use Rattle.mv_interpreter.proofs.Names.{some_is, eqb-same, both, same_module-same, same_struct-same, same_struct-is}
 use Rattle.mv_interpreter.proofs.Lists.{on_some, then_found, there_at, each, mapped_at, All-at}
 use Rattle.mv_interpreter.proofs.Owns.{one_place}
-use Rattle.mv_interpreter.proofs.Homes.{home_of_store}
+use Rattle.mv_interpreter.proofs.Homes.{own_of_store}
 use Rattle.mv_ledger.specs.declared.tallies.Tally.{Tally}
 use Rattle.mv_ledger.specs.View.{IsNamed, IsSmall, tallied, no_struct}
 use Rattle.mv_ledger.specs.Tallying.{packs_at, unpacks_at, tally_after, HasRoomLeft}
@@ -104,7 +104,7 @@ module _ (published : List PublishedModule) (store : IsStore published) where
       on_some (slice_get m.structs i) _ name e1 (λ d d_is e2.
       on_some (slice_get (tables_in published) q) _ name g (λ n n_is g1.
       on_some (slice_get n.structs j) _ name g1 (λ f f_is g2.
-      one m n d f m_is n_is e2 g2 ((home_of_store published p m store m_is).own i d d_is) ((home_of_store published q n store n_is).own j f f_is)))))
+      one m n d f m_is n_is e2 g2 (own_of_store published p m store m_is i d d_is) (own_of_store published q n store n_is j f f_is)))))
     where
       one : (m n : Module) (d f : StructDefinition) → slice_get (tables_in published) p ≡ Some m → slice_get (tables_in published) q ≡ Some n
           → name_of_struct m d ≡ Some name → name_of_struct n f ≡ Some name → IsOwn (tables_in published) m i d → IsOwn (tables_in published) n j f → (p ≡ q) × (i ≡ j)

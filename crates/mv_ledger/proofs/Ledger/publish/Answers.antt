@@ -22,7 +22,7 @@ returns c =
       | in-Ok w ↦
           rw w.result-is
           (published_replies c.self.inside.store c.publish.new.store c.args.payload.now c.self.inside.storage (all_of c.self.inside.tallies) (all_of c.publish.new.tallies) c.self.inside.runs
-          w.in-Ok.ensures.ok w.in-Ok.ensures.accepted w.in-Ok.ensures.store c.self.invariant.fine w.in-Ok.ensures.tallied)
+          w.in-Ok.ensures.ok w.in-Ok.ensures.accepted c.self.invariant.today c.self.invariant.fine w.in-Ok.ensures.tallied)
       | in-Err-Phase w ↦
           rw w.result-is
           (refused_replies c.self.inside.store c.publish.new.store c.args.payload.now c.self.inside.storage (all_of c.self.inside.tallies) (all_of c.publish.new.tallies) c.self.inside.runs w.in-Err-Phase.phase
