@@ -1,3 +1,4 @@
 pub mod Tables
 pub mod Stacks
 pub mod Rows
+pub mod Rising

@@ -48,7 +48,7 @@ impl<'d, 'm> Site<'d, 'm> {
     }
 
     /// The type of a local.
-    fn local_type(&self, local: u16) -> Result<Token, StepError>
+    fn type_of(&self, local: u16) -> Result<Token, StepError>
         ensures { Finds result (type_of_local self.now.home self.now.function local) }
     {
         match self.local(local) {
@@ -136,19 +136,9 @@ impl<'d, 'm> Site<'d, 'm> {
             }
             Instruction::Ret => self.hand_out(s),
             Instruction::Call(callee) => self.call(alloc, callee, s),
-            Instruction::CopyLoc(local) => self.copy_local(
-                alloc,
-                local,
-                self.local_type(local)?,
-                s,
-            ),
-            Instruction::MoveLoc(local) => self.move_local(
-                alloc,
-                local,
-                self.local_type(local)?,
-                s,
-            ),
-            Instruction::StLoc(local) => self.store_local(alloc, local, self.local_type(local)?, s),
+            Instruction::CopyLoc(local) => self.copy_local(alloc, local, self.type_of(local)?, s),
+            Instruction::MoveLoc(local) => self.move_local(alloc, local, self.type_of(local)?, s),
+            Instruction::StLoc(local) => self.store_local(alloc, local, self.type_of(local)?, s),
             Instruction::MutBorrowLoc(local) => self.borrow_local_mutably(alloc, local, s),
             Instruction::ImmBorrowLoc(local) => self.borrow_local(alloc, local, s),
             Instruction::MutBorrowField(field) => {
