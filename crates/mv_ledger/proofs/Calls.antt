@@ -1,5 +1,5 @@
 -- What stands at the places that a run record's names lead to.
-use Rattle.std.proofs.Common.{◌≡◌, ℕ, zero, suc, ◌+◌, ◌<◌, Bool, true, false, cond, List, [], ◌∷◌, length, take, Option, Some, None, option_map, get_or, add-one, refl, sym, ap, ◌∙◌, subst, arith}
+use Rattle.std.proofs.Common.{◌≡◌, ℕ, zero, suc, ◌+◌, ◌<◌, Bool, true, false, cond, List, [], ◌∷◌, length, Option, Some, None, option_map, get_or, refl, sym, ap, ◌∙◌, subst, arith}
 use Rattle.std.specs.Prelude.{slice_get, IfSome, All, IsTrue}
 use Rattle.std.specs.Option.{option_map_or}
 use Rattle.std.specs.Str.{bytes_eq}
@@ -21,31 +21,6 @@ find_index-below p (x ∷ xs) k e = step (p x) (find_index p xs) k e (λ j. find
     step true o k e below = let z : 0 ≡ k = cc in omega arith
     step false None k e below = cc
     step false (Some j) k e below = let lt : j < length xs = below j refl in let s : suc j ≡ k = cc in omega arith
-
--- the first that passes stands at the index, where those before it fail
-pub find-first : {A : Type 0} (p : A → Bool) (xs : List A) (k : ℕ) (x : A) → k < length xs → x ≡ get_or xs k x → find_index p (take k xs) ≡ None → p x ≡ true → find_index p xs ≡ Some k
-find-first p [] k x lt e none is = absurd (omega (arith, lt))
-find-first p (y ∷ xs) zero x lt e none is = let first : p y ≡ true = subst (λ z. p z ≡ true) e is in ap (λ b. cond b (Some 0) (option_map suc (find_index p xs))) first
-find-first p (y ∷ xs) (suc k) x lt e none is = later (p y) (find_index p (take k xs)) (find_index p xs) none (λ before. find-first p xs k x (omega (arith, lt)) e before is)
-  where
-    later : (b : Bool) (old new : Option ℕ) → cond b (Some 0) (option_map suc old) ≡ None → (old ≡ None → new ≡ Some k) → cond b (Some 0) (option_map suc new) ≡ Some (suc k)
-    later true old new none go = cc
-    later false None new none go = ap (option_map suc) (go refl)
-    later false (Some j) new none go = cc
-
--- one more that fails
-pub find-none : {A : Type 0} (p : A → Bool) (xs : List A) (k : ℕ) (x : A) → k < length xs → x ≡ get_or xs k x → find_index p (take k xs) ≡ None → p x ≡ false → find_index p (take (k + 1) xs) ≡ None
-find-none p xs k x lt e none is = ap (λ n. find_index p (take n xs)) (add-one k) ∙ more p xs k x lt e none is
-  where
-    more : {A : Type 0} (p : A → Bool) (xs : List A) (k : ℕ) (x : A) → k < length xs → x ≡ get_or xs k x → find_index p (take k xs) ≡ None → p x ≡ false → find_index p (take (suc k) xs) ≡ None
-    more p [] k x lt e none is = refl
-    more p (y ∷ xs) zero x lt e none is = let first : p y ≡ false = subst (λ z. p z ≡ false) e is in ap (λ b. cond b (Some 0) None) first
-    more p (y ∷ xs) (suc k) x lt e none is = later (p y) (find_index p (take k xs)) (find_index p (take (suc k) xs)) none (λ before. more p xs k x (omega (arith, lt)) e before is)
-      where
-        later : (b : Bool) (old new : Option ℕ) → cond b (Some 0) (option_map suc old) ≡ None → (old ≡ None → new ≡ None) → cond b (Some 0) (option_map suc new) ≡ None
-        later true old new none go = none
-        later false None new none go = ap (option_map suc) (go refl)
-        later false (Some j) new none go = cc
 
 tables-length : (published : List PublishedModule) → length (tables_in published) ≡ length published
 tables-length [] = refl

@@ -3,7 +3,7 @@ use Rattle.std.specs.Option.{option_map_or}
 use Rattle.std.specs.Str.{bytes_eq}
 use Rattle.mv_move_types.specs.Module.{FunctionDefinition, name_of_function}
 use Rattle.mv_move_types.specs.Options.{find_index}
-use Rattle.mv_ledger.proofs.Calls.{find-first, find-none}
+use Rattle.mv_bounds.proofs.PlaceLemmas.{find-first, find-none}
 use Rattle.mv_ledger.proofs.executing.function_of.Goals as goal
 
 pub returns-then-is_named : goal.returns-then-is_named
