@@ -1,1 +1,3 @@
 pub mod Frames
+pub mod FlatState
+pub mod WordLists

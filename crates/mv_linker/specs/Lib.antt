@@ -1,3 +1,10 @@
+pub mod Code
 pub mod Kept
 pub mod Link
+pub mod Linked
+pub mod Links
 pub mod News
+pub mod Operations
+pub mod TypesByName
+pub mod Upgrades
+pub mod Widths

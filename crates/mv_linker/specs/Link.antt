@@ -4,7 +4,7 @@ use Rattle.std.specs.Option.{option_map_or}
 use Rattle.std.specs.List.{list_all, list_any}
 use Rattle.mv_move_types.specs.Module.{Module, own_name}
 use Rattle.mv_move_types.specs.Published.{PublishedModule}
-use Rattle.mv_move_types.specs.Named.{is_module}
+pub use Rattle.mv_move_types.specs.Named.{have_one_name}
 use Rattle.mv_binary_format.specs.Parsing.{module_of}
 use Rattle.mv_bounds.specs.Definitions.{all_differ}
 use Rattle.mv_type_states.specs.Sound.{IsSound}
@@ -14,10 +14,6 @@ use Rattle.mv_certificate.specs.Verified.{IsCertifiedBy}
 -- the module's own address is the sender
 abbrev pub is_sent_by : ℕ → Module → Bool
 is_sent_by sender m = option_map_or (λ name. name.address == sender) (own_name m) false
-
--- whether two modules have one name
-abbrev pub have_one_name : Module → Module → Bool
-have_one_name m n = option_map_or (λ name. is_module name n) (own_name m) false
 
 -- no module of the store has the module's name
 abbrev pub is_new : List Module → Module → Bool

@@ -3,12 +3,12 @@ use Rattle.std.specs.Prelude.{ℕ, List, [], map, ◌||◌, cond, Option, None, 
 use Rattle.std.specs.Option.{option_map_or}
 use Rattle.mv_machine.specs.State.{Storage, Event}
 use Rattle.mv_machine.specs.Lines.{Tallied, Reply, Returned as RanToEnd, Aborted as RanToAbort, Exhausted as RanOut, Rejected, Published, Refused, show_lines, audit_lines, show_json, audit_json}
-use Rattle.mv_move_types.specs.Published.{PublishedModule}
-use Rattle.mv_move_types.specs.Module.{Module, StructDefinition, name_of_struct, struct_abilities, own_name, parameter_tokens}
+pub use Rattle.mv_move_types.specs.Published.{PublishedModule, has_name_of, with_module, with_modules}
+use Rattle.mv_move_types.specs.Module.{Module, StructDefinition, name_of_struct, struct_abilities, parameter_tokens}
 use Rattle.mv_move_types.specs.Names.{ModuleName, StructName, same_struct}
 use Rattle.mv_machine.specs.Value.{Value, Leaf}
 use Rattle.mv_machine.specs.Run.{run, packs, unpacks, FunctionCall, RunOutcome, Returned, Aborted, Exhausted, Faulted}
-use Rattle.mv_move_types.specs.Named.{is_module, module_place, function_place}
+use Rattle.mv_move_types.specs.Named.{module_place, function_place}
 use Rattle.mv_move_types.specs.declared.token.ValueType.TheVariants.{OfLeaf}
 use Rattle.mv_move_types.specs.declared.token.Token.{Token}
 use Rattle.mv_move_types.specs.declared.token.Token.TheVariants.{Plain}
@@ -71,15 +71,6 @@ untouched_tally s = record { struct = s; packs = 0; unpacks = 0 }
 -- a struct's tally among these, or an empty one
 abbrev pub tally_of : List Tallied → StructName → Tallied
 tally_of tallies s = unwrap_or (find (λ t. same_struct t.struct s) tallies) (untouched_tally s)
-
--- whether a published module has this module's name
-abbrev pub has_name_of : Module → PublishedModule → Bool
-has_name_of m p = option_map_or (λ name. is_module name p.tables) (own_name m) false
-
--- the modules with one more, which takes the place of the module of its name, or the last place
-abbrev pub with_module : List PublishedModule → PublishedModule → List PublishedModule
-with_module [] new = new ∷ []
-with_module (p ∷ ps) new = cond (has_name_of new.tables p) (new ∷ ps) (p ∷ with_module ps new)
 
 -- the ledger after a bundle: its modules stand after those that were there, and their structs have empty tallies
 abbrev pub with_bundle : LedgerState → List PublishedModule → LedgerState

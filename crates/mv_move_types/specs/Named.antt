@@ -1,16 +1,21 @@
 -- What names stand for among modules: a module, a struct with its fields and abilities, a function.
-use Rattle.std.specs.Prelude.{Bool, false, ℕ, List, Option, option_and_then, slice_get, option_map, Some}
+use Rattle.std.specs.Prelude.{Bool, true, false, ℕ, List, Option, option_and_then, slice_get, option_map, Some}
 use Rattle.std.specs.Option.{option_map_or}
 use Rattle.std.specs.Str.{bytes_eq}
 use Rattle.mv_move_types.specs.Names.{ModuleName, same_module, StructName, same_struct}
-use Rattle.mv_move_types.specs.Module.{Module, own_name, StructDefinition, name_of_struct, name_of_function}
+use Rattle.mv_move_types.specs.Module.{Module, own_name, StructDefinition, FunctionDefinition, name_of_struct, name_of_function}
 use Rattle.mv_move_types.specs.Options.{find_index, ◌>>=◌}
 use Rattle.mv_move_types.specs.declared.token.Abilities.{Abilities}
 use Rattle.mv_move_types.specs.declared.tables.Field.{Field}
+use Rattle.mv_move_types.specs.declared.tables.Visibility.TheVariants.{Private, Public}
 
 -- whether a module has this name
 abbrev pub is_module : ModuleName → Module → Bool
 is_module name m = option_map_or (λ own. same_module own name) (own_name m) false
+
+-- whether two modules have one name
+abbrev pub have_one_name : Module → Module → Bool
+have_one_name m n = option_map_or (λ name. is_module name n) (own_name m) false
 
 -- the place of the module with this name, and the module
 abbrev pub module_place : List Module → ModuleName → Option ℕ
@@ -39,6 +44,10 @@ declared modules name = option_and_then (declared_in name) (module_named modules
 -- the place of the module's function with this identifier
 abbrev pub function_place : Module → List ℕ → Option ℕ
 function_place m name = find_index (λ d. option_map_or (bytes_eq name) (name_of_function m d) false) m.functions
+
+-- whether other modules may call a function
+abbrev pub is_public : FunctionDefinition → Bool
+is_public d = elim d.visibility [ Private ↦ false | Public ↦ true ]
 
 -- a struct's module, and its fields there
 abbrev pub definition_of : List Module → StructName → Option (Module × List Field)

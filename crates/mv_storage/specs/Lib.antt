@@ -1,3 +1,4 @@
 pub mod Words
 pub mod Map
 pub mod Slots
+pub mod FlatStorage

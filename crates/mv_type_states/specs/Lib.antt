@@ -5,3 +5,4 @@ pub mod Answers
 pub mod Scopes
 pub mod Stacks
 pub mod Graphs
+pub mod TypesAt

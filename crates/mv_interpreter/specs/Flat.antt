@@ -1,0 +1,3 @@
+-- Runs of linked code over words.
+pub mod FlatRun
+pub mod FlatStep

@@ -1,0 +1,51 @@
+-- What a module has to keep of the one that it replaces: rule h of linking.
+use Rattle.std.specs.Prelude.{Bool, true, false, not, ◌&&◌, ◌||◌, List, [], ◌∷◌, Option, Some, slice_get}
+use Rattle.std.specs.List.{list_all}
+use Rattle.std.specs.Option.{option_map_or}
+use Rattle.std.specs.Str.{bytes_eq}
+use Rattle.mv_move_types.specs.declared.tables.FunctionHandle.{FunctionHandle}
+use Rattle.mv_move_types.specs.declared.tables.Field.{Field}
+use Rattle.mv_move_types.specs.Options.{◌>>=◌}
+use Rattle.mv_move_types.specs.AbilitySets.{same_abilities}
+use Rattle.mv_move_types.specs.Tags.{same_tag}
+use Rattle.mv_move_types.specs.Module.{Module, StructDefinition, FunctionDefinition, name_of_struct, name_of_function, struct_abilities}
+use Rattle.mv_move_types.specs.Named.{is_public}
+use Rattle.mv_linker.specs.TypesByName.{token_named, same_signature}
+use Rattle.mv_linker.specs.Links.{function_named}
+
+-- two lists of fields have the same names and types, in order
+abbrev pub same_fields : Module → List Field → Module → List Field → Bool
+same_fields m [] n [] = true
+same_fields m [] n (g ∷ gs) = false
+same_fields m (f ∷ fs) n [] = false
+same_fields m (f ∷ fs) n (g ∷ gs) =
+    option_map_or (λ a. option_map_or (bytes_eq a) (slice_get n.identifiers g.name) false) (slice_get m.identifiers f.name) false
+    && option_map_or (λ a. option_map_or (same_tag a) (token_named n g.token) false) (token_named m f.token) false
+    && same_fields m fs n gs
+
+-- two definitions have one name, the same abilities and the same fields
+abbrev pub same_struct_definition : Module → StructDefinition → Module → StructDefinition → Bool
+same_struct_definition m d n e =
+    option_map_or (λ a. option_map_or (λ b. bytes_eq a.name b.name) (name_of_struct n e) false) (name_of_struct m d) false
+    && option_map_or (λ a. option_map_or (same_abilities a) (struct_abilities n e) false) (struct_abilities m d) false
+    && same_fields m d.fields n e.fields
+
+-- the old struct definitions stand in the new module in their places
+abbrev pub structs_stay : Module → List StructDefinition → Module → List StructDefinition → Bool
+structs_stay m [] n es = true
+structs_stay m (d ∷ ds) n [] = false
+structs_stay m (d ∷ ds) n (e ∷ es) = same_struct_definition m d n e && structs_stay m ds n es
+
+-- a public function stays public, with the same types
+abbrev pub function_stays : Module → Module → FunctionDefinition → Bool
+function_stays m n d =
+    not (is_public d)
+    || option_map_or (λ (e : FunctionDefinition). is_public e
+    && option_map_or (λ (a : FunctionHandle). option_map_or (λ (b : FunctionHandle).
+    same_signature m a.parameters n b.parameters && same_signature m a.results n b.results)
+    (slice_get n.function_handles e.handle) false) (slice_get m.function_handles d.handle) false)
+    (name_of_function m d >>= function_named n) false
+
+-- the new module may take the old one's place
+abbrev pub may_replace : Module → Module → Bool
+may_replace m n = structs_stay m m.structs n n.structs && list_all (function_stays m n) m.functions
