@@ -2,11 +2,7 @@
 use Rattle.std.specs.Prelude.{ℕ, cond, List, [], ◌∷◌, Option, Some, None}
 use Rattle.mv_move_types.specs.declared.tables.Key.{Key}
 use Rattle.mv_machine.specs.State.{key_before, same_key}
-
--- a stored value's words under its key
-pub record FlatEntry : Type 0 where
-  pub key : Key
-  pub words : List ℕ
+pub use Rattle.mv_machine.specs.Flat.{FlatEntry}
 
 -- the entries by ascending key
 abbrev pub FlatStorage : Type 0
