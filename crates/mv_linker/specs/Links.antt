@@ -1,5 +1,5 @@
 -- What the modules of a store have to be to each other: rules c to g of linking.
-use Rattle.std.specs.Prelude.{⊥, ℕ, ◌+◌, Bool, true, false, not, ◌&&◌, ◌||◌, nat_le, IsTrue, List, [], ◌∷◌, length, Option, Some, None, Contains, slice_get}
+use Rattle.std.specs.Prelude.{ℕ, zero, suc, ◌+◌, Bool, true, false, not, ◌&&◌, ◌||◌, nat_le, IsTrue, List, [], ◌∷◌, length, Option, Some, None, Contains, slice_get}
 use Rattle.std.specs.List.{list_all, list_any}
 use Rattle.std.specs.Option.{option_map_or}
 use Rattle.mv_move_types.specs.declared.tables.StructHandle.{StructHandle}
