@@ -1,4 +1,5 @@
 pub mod Tables
 pub mod Stacks
 pub mod Rows
-pub mod Rising
+pub mod Unions
+pub mod Abstract

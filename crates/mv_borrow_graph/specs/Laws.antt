@@ -11,6 +11,9 @@ use Rattle.mv_edges.proofs.Sorting.{ascending-sorted}
 use Rattle.mv_edges.proofs.Order.{edges_leq_itself, edges_leq-transitive}
 use Rattle.mv_lattice.specs.Laws.{IsLawful}
 use Rattle.mv_borrow_graph.specs.BorrowRules.{edges_after}
+use Rattle.mv_borrow_graph.specs.Rising.{step_below}
+use Rattle.mv_borrow_graph.specs.Nodes.{may_begin_with, IsGraphOf}
+use Rattle.mv_borrow_graph.specs.BlocksThere.{begins_again}
 use Rattle.mv_borrow_graph.specs.Domain.{edges_step, ordered, point_at}
 
 -- what comes of two steps comes of the second
@@ -22,10 +25,12 @@ ordered_ascend : (found : Option (List Edge)) (b : List Edge) → ordered found 
 ordered_ascend None b e = cc
 ordered_ascend (Some edges) b e = let same : sorted edges ≡ b = cc in subst (λ es. are_ascending es ≡ true) same (ascending-sorted edges)
 
-pub edges_lawful : (m : Module) (d : FunctionDefinition) → IsLawful (length d.code) (λ s. IsTrue (are_ascending s)) (λ a b. IsTrue (edges_leq a b)) (edges_step m d)
+pub edges_lawful : (m : Module) (d : FunctionDefinition) → IsLawful (length d.code) (λ s. IsTrue (are_ascending s)) (λ s. IsTrue (may_begin_with m d s)) (λ a b. IsTrue (edges_leq a b)) (edges_step m d) (IsGraphOf m d)
 edges_lawful m d = record {
   reflexive = λ a _. edges_leq_itself a;
   transitive = λ a b c _ _ _ p q. edges_leq-transitive a b c p q;
+  monotone = λ at a b v _ _ _ le e. step_below m d at a b le v e;
+  begins = λ g k n b a t graph block next _ begin e. begins_again m d g k n b a t graph block next begin e;
   keeps = λ at a b _ _ e.
       bind_parts (slice_get d.code at) (λ i. slice_get (types_before m d) at >>= λ types. ordered (edges_after (point_at m d types) i a)) b e
       (λ i _ e2. bind_parts (slice_get (types_before m d) at) (λ types. ordered (edges_after (point_at m d types) i a)) b e2

@@ -1,14 +1,15 @@
 // A function's borrow graph as a domain of states.
-ghost use Rattle.std.specs.Prelude.{◌≡◌, ◌<◌, [], length, reverse, slice_get, Some, option_map, IfOk, IsTrue};
+ghost use Rattle.std.specs.Prelude.{◌≡◌, ◌<◌, nat_le, [], length, reverse, slice_get, Some, option_map, IfOk, IsTrue};
 ghost use Rattle.std.specs.List.{list_all};
 ghost use Rattle.mv_type_states.specs.Sound.{types_before};
 ghost use Rattle.mv_type_states.specs.TypesHold.{TypesHold};
 ghost use Rattle.mv_borrow_graph.specs.Domain.{point_at, is_low};
+ghost use Rattle.mv_borrow_graph.specs.Nodes.{are_few as few};
 
 use super::site::Site;
 use mv_binary_format::FunctionDefinition;
 use mv_bounds::Bounded;
-use mv_edges::Edges;
+use mv_edges::{Edge, Edges};
 use mv_lattice::{Domain, StepError};
 use mv_move_types::Instruction;
 use mv_type_states::{StackTypes, Typed};
@@ -105,22 +106,44 @@ impl<'t, 'm> BorrowDomain<'t, 'm> {
     }
 }
 
+/// Whether each edge has a label of at most 8 positions.
+fn are_short(edges: &[Edge]) -> bool
+    ensures { result ≡ list_all (λ e. nat_le (length e.label.path) 8) edges.now }
+{
+    edges.iter().all(|e| e.label().path().len() <= 8)
+}
+
+/// Whether a search may state the edges: at most 1,024, each with a label of at most 8 positions.
+fn are_few(edges: &[Edge]) -> bool
+    ensures { result ≡ few edges.now }
+{
+    edges.len() <= 1024 && are_short(edges)
+}
+
 impl<'t, 'm> Domain for BorrowDomain<'t, 'm> {
-    ghost use Rattle.std.specs.Prelude.{length, IsTrue};
-    ghost use Rattle.mv_edges.specs.Edges.{edges_leq};
+    ghost use Rattle.std.specs.Prelude.{◌≡◌, ◌++◌, List, length, IfOk, IsTrue};
+    ghost use Rattle.mv_edges.specs.Edges.{Edge as EdgeRecord, edges_leq};
+    ghost use Rattle.mv_edges.specs.Sorted.{sorted};
     ghost use Rattle.mv_edges.specs.Ascending.{are_ascending};
     ghost use Rattle.mv_borrow_graph.specs.Domain.{edges_step};
     ghost use Rattle.mv_borrow_graph.specs.Laws.{edges_lawful};
+    ghost use Rattle.mv_borrow_graph.specs.Nodes.{may_begin_with, are_few, IsGraphOf};
 
     type State = Edges;
 
     ghost size = { λ d. length d.function.code };
 
+    ghost is_graph = { λ d g. IsGraphOf d.home d.function g };
+
     ghost is_state = { λ d s. IsTrue (are_ascending s) };
+
+    ghost may_begin = { λ d s. IsTrue (may_begin_with d.home d.function s) };
 
     ghost below = { λ d a b. IsTrue (edges_leq a b) };
 
     ghost steps = { λ d at s. edges_step d.home d.function at s };
+
+    ghost is_small = { λ d s. IsTrue (are_few s) };
 
     ghost laws = { λ d. edges_lawful d.home d.function };
 
@@ -132,7 +155,15 @@ impl<'t, 'm> Domain for BorrowDomain<'t, 'm> {
         a.leq(b)
     }
 
-    fn join(&self, alloc: Global, a: &Edges, b: &Edges) -> Result<Edges, AllocError> {
+    /// The edges of both, each of them.
+    fn join(&self, alloc: Global, a: &Edges, b: &Edges) -> Result<Edges, AllocError>
+        ensures union { IfOk result (λ c. c ≡ sorted (a.now ++ b.now)) }
+        ensures state { IfOk result (λ c. IsTrue (are_ascending c)) }
+        ensures left { IfOk result (λ c. IsTrue (edges_leq a.now c)) }
+        ensures right { IfOk result (λ c. IsTrue (edges_leq b.now c)) }
+        ensures least { IfOk result (λ c. (u : List EdgeRecord) → IsTrue (are_ascending u) → IsTrue (edges_leq a.now u) → IsTrue (edges_leq b.now u) → IsTrue (edges_leq c u)) }
+        ensures begins { IfOk result (λ c. IsTrue (may_begin_with self.now.home self.now.function a.now) → IsTrue (may_begin_with self.now.home self.now.function b.now) → IsTrue (may_begin_with self.now.home self.now.function c)) }
+    {
         Edges::join(alloc, a, b)
     }
 
@@ -145,5 +176,9 @@ impl<'t, 'm> Domain for BorrowDomain<'t, 'm> {
             Some(site) => site.step(alloc, instruction, s),
             None => Err(StepError::Need),
         }
+    }
+
+    fn fits(&self, s: &Edges) -> bool {
+        are_few(s.as_slice())
     }
 }

@@ -17,7 +17,8 @@ use Rattle.mv_type_states.specs.TypesHold.{function_is_typed}
 use Rattle.mv_type_states.proofs.Tiling.{Tiles, blocks-tile}
 use Rattle.mv_lattice.specs.Flow.{IsFlow, IsClosed, IsClosedAt, IsBelowEach, IsStated, carried, through as carried_through}
 use Rattle.mv_certificate.specs.Certificate.{Rule, through, instructions_of, stated_at, flows_into, block_holds, flow_holds}
-use Rattle.mv_certificate.proofs.Carried.{Alike, DoAlike, Ends, tiles_behind, block_at, block_alike}
+use Rattle.mv_borrow_graph.specs.Standing.{tiles_behind, block_at}
+use Rattle.mv_certificate.proofs.Carried.{Alike, DoAlike, Ends, block_alike}
 use Rattle.mv_certificate.proofs.Marks.{block_of, at_below}
 
 -- one test of each pair

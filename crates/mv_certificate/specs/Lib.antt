@@ -7,3 +7,4 @@ pub mod Reads
 pub mod Verified
 pub mod Laws
 pub mod Functions
+pub mod Known

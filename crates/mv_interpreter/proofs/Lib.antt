@@ -17,3 +17,7 @@ pub mod Storing
 pub mod Counting
 pub mod Computed
 pub mod Coin
+pub mod Typing
+pub mod Flat
+pub mod Borrows
+pub mod Guided

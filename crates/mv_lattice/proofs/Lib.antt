@@ -1,2 +1,4 @@
 pub mod Flows
+pub mod Rises
 pub mod Singles
+pub mod Visits

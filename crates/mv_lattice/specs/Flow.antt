@@ -1,4 +1,4 @@
--- What a flow over a graph is, when its blocks go on, and when it is closed.
+-- What a closed flow over a graph is, when its blocks go on, and what rises.
 use Rattle.std.specs.Prelude.{◌≡◌, ℕ, zero, suc, ◌+◌, ◌-◌, List, length, slice_get, option_and_then, Option, Some, All}
 use Rattle.mv_cfg.specs.declared.Block.{Block}
 use Rattle.mv_cfg.specs.declared.Cfg.{Cfg}
@@ -36,3 +36,12 @@ IsClosedAt {S} below step flow b s = (t : S) × ((through step b s ≡ Some t) �
 pub record IsClosed {S : Type 0} (below : S → S → Type 0) (step : ℕ → S → Option S) (g : Cfg) (start : S) (flow : List (Option S)) : Type 0 where
   pub entry : (s : S) → IsStated flow 0 s → below start s
   pub closed : (k : ℕ) (b : Block) (s : S) → IsBlock g k b → IsStated flow k s → IsClosedAt below step flow b s
+
+-- each state of the one flow is below that of the other
+abbrev pub IsFlowBelow : {S : Type 0} → (S → S → Type 0) → List (Option S) → List (Option S) → Type 0
+IsFlowBelow {S} below low high = (k : ℕ) (s u : S) → IsStated low k s → IsStated high k u → below s u
+
+-- s is the last of n + 1 states with P that rise one after the other: each is below the next, and the next is not below it
+unfoldable pub IsRisen : {S : Type 0} → (S → Type 0) → (S → S → Type 0) → ℕ → S → Type 0
+IsRisen P below zero s = P s
+IsRisen {S} P below (suc n) s = P s × ((r : S) × (IsRisen P below n r × below r s × (below s r → ⊥)))

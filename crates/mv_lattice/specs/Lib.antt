@@ -1,3 +1,4 @@
 pub mod Flow
 pub mod Laws
 pub mod Takes
+pub mod Work

@@ -2,11 +2,15 @@
 #![tactic(auto)]
 
 ghost use Rattle.std.specs.Prelude.{◌≡◌, ℕ, ◌+◌, ◌-◌, ◌<◌, ◌≤◌, ◌↔◌, Option, length, IsTrue, IfOk, OnOk, IsErrOf, All, [], ◌∷◌};
+ghost use Rattle.mv_cfg.specs.declared.Cfg.{Cfg};
 ghost use Rattle.mv_cfg.specs.Graph.{IsGraph};
 ghost use Rattle.mv_lattice.specs.Flow.{IsFlow, IsClosed, IsClosedAt, IsBelowEach, IsStated, carried};
 ghost use Rattle.mv_lattice.specs.Laws.{IsLawful};
 
+mod search;
+
 use mv_cfg::{Block, Cfg};
+pub use search::{SolveError, solve};
 use std::alloc::{AllocError, Global};
 
 /// Why a state cannot be carried through an instruction, or a flow is not accepted.
@@ -36,14 +40,23 @@ pub trait Domain {
     /// How many instructions the function has.
     ghost size: { Self → ℕ };
 
+    /// The flow graph of the function.
+    ghost is_graph: { Self → Cfg → Type 0 };
+
     /// The states of the function.
     ghost is_state: { Self → Self.State → Type 0 };
+
+    /// The states with which a block may begin.
+    ghost may_begin: { Self → Self.State → Type 0 };
 
     /// The first state is below the second.
     ghost below: { Self → Self.State → Self.State → Type 0 };
 
     /// What an instruction makes of a state, none where a need of it fails.
     ghost steps: { Self → ℕ → Self.State → Option Self.State };
+
+    /// The states that are small enough to be stated by a search.
+    ghost is_small: { Self → Self.State → Type 0 };
 
     /// An equal state.
     fn copy(&self, alloc: Global, s: &Self::State) -> Result<Self::State, AllocError>
@@ -68,7 +81,8 @@ pub trait Domain {
         ensures state { IfOk result (λ c. is_state self.now c) }
         ensures left { IfOk result (λ c. below self.now a.now c) }
         ensures right { IfOk result (λ c. below self.now b.now c) }
-        ensures least { IfOk result (λ c. (u : Self.State) → is_state self.now u → below self.now a.now u → below self.now b.now u → below self.now c u) };
+        ensures least { IfOk result (λ c. (u : Self.State) → is_state self.now u → below self.now a.now u → below self.now b.now u → below self.now c u) }
+        ensures begins { IfOk result (λ c. may_begin self.now a.now → may_begin self.now b.now → may_begin self.now c) };
 
     /// What the instruction at `at` makes of the state.
     ///
@@ -79,8 +93,13 @@ pub trait Domain {
         ensures ok { IfOk result (λ t. steps self.now at s ≡ Option.Some t) }
         ensures need { IsErrOf result StepError.Need → steps self.now at s ≡ Option.None };
 
+    /// Whether the state is small enough to be stated by a search.
+    fn fits(&self, s: &Self::State) -> bool
+        requires { is_state self.now s.now }
+        ensures { IsTrue result ↔ is_small self.now s.now };
+
     /// The laws of the order and of the steps.
-    ghost laws: { (d : Self) → IsLawful (size d) (is_state d) (below d) (steps d) };
+    ghost laws: { (d : Self) → IsLawful (size d) (is_state d) (may_begin d) (below d) (steps d) (is_graph d) };
 }
 
 /// Carries a copy of the state through the instructions from `first` to `last`.
@@ -202,11 +221,17 @@ mod tests {
 
         ghost size = { λ d. d.count };
 
+        ghost is_graph = { λ d g. ⊤ };
+
         ghost is_state = { λ d s. ⊤ };
+
+        ghost may_begin = { λ d s. ⊤ };
 
         ghost below = { λ d a b. IsBelow a b };
 
         ghost steps = { λ d at s. taken s };
+
+        ghost is_small = { λ d s. ⊤ };
 
         ghost laws = { λ d. takes_lawful d.count };
 
@@ -248,6 +273,10 @@ mod tests {
                 Availability::Maybe => Err(StepError::Need),
             }
         }
+
+        fn fits(&self, _s: &Availability) -> bool {
+            true
+        }
     }
 
     /// The block alone.
@@ -276,6 +305,40 @@ mod tests {
             blocks: alone(alloc, block)?,
         };
         check_flow(alloc, &Takes { count }, &g, &start, &[Some(stated)])
+    }
+
+    /// What a search states for the one block of so many instructions.
+    fn solve_one_block(
+        alloc: Global,
+        count: usize,
+        start: Availability,
+    ) -> Result<Option<Availability>, SolveError>
+        requires { 0 < count }
+    {
+        let block = Block {
+            first: 0,
+            last: count - 1,
+            successors: Vec::new(alloc),
+            reached: true,
+        };
+        let g = Cfg {
+            blocks: alone(alloc, block)?,
+        };
+        let states = solve(alloc, &Takes { count }, &g, &start)?;
+        match states.first() {
+            Some(state) => Ok(*state),
+            None => Ok(None),
+        }
+    }
+
+    #[test]
+    fn searches_over_one_block(rt: HostRuntime) {
+        let alloc = rt.alloc();
+        let (held, unknown) = (Availability::Available, Availability::Maybe);
+        assert_eq!(rt; solve_one_block(alloc, 1, held), Ok(Some(held)));
+        // an instruction finds nothing to take, whatever is stated
+        assert_eq!(rt; solve_one_block(alloc, 2, held), Err(SolveError::Need));
+        assert_eq!(rt; solve_one_block(alloc, 1, unknown), Err(SolveError::Need));
     }
 
     #[test]

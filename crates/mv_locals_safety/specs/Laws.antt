@@ -1,5 +1,5 @@
--- A step leaves one availability a local.
-use Rattle.std.specs.Prelude.{◌≡◌, ℕ, List, [], ◌∷◌, Bool, true, false, ◌&&◌, IsTrue, Option, Some, None, length, slice_get, slice_set}
+-- The order is one, and a step leaves one availability a local, and keeps the order.
+use Rattle.std.specs.Prelude.{⊤, ◌≡◌, ℕ, List, [], ◌∷◌, Bool, true, false, ◌&&◌, IsTrue, Option, Some, None, length, slice_get, slice_set}
 use Rattle.std.specs.Bool.{then_some}
 use Rattle.std.proofs.Common.{refl, sym, ap, ◌∙◌}
 use Rattle.std.proofs.lemmas.Bool.{and_parts}
@@ -14,6 +14,7 @@ use Rattle.mv_type_states.specs.TypesHold.{Point}
 use Rattle.mv_lattice.specs.Laws.{IsLawful}
 use Rattle.mv_locals_safety.specs.LocalsRules.{availability_leq, locals_leq, locals_after, is_available, needs_available, may_overwrite, may_leave}
 use Rattle.mv_locals_safety.specs.Domain.{IsOfLocals, locals_step, point_in}
+use Rattle.mv_locals_safety.specs.Rising.{step_below}
 
 -- what comes of two steps comes of the second
 bind_parts : {A B : Type 0} (o : Option A) (f : A → Option B) (y : B) {P : Type 0} → (o >>= f) ≡ Some y → ((x : A) → o ≡ Some x → f x ≡ Some y → P) → P
@@ -74,9 +75,11 @@ leq_transitive (x ∷ a) (y ∷ b) (z ∷ c) p q =
     let qs = and_parts (availability_leq y z) (locals_leq b c) q in
     rw (transitive_one x y z ps.0 qs.0) (leq_transitive a b c ps.1 qs.1)
 
-pub locals_lawful : (m : Module) (d : FunctionDefinition) → IsLawful (length d.code) (IsOfLocals m d) (λ a b. IsTrue (locals_leq a b)) (locals_step m d)
+pub locals_lawful : (m : Module) (d : FunctionDefinition) → IsLawful (length d.code) (IsOfLocals m d) (λ s. ⊤) (λ a b. IsTrue (locals_leq a b)) (locals_step m d) (λ g. ⊤)
 locals_lawful m d = record {
   reflexive = λ a h. leq_reflexive a;
   transitive = λ a b c ha hb hc p q. leq_transitive a b c p q;
   keeps = λ at a b within h e. bind_parts (slice_get d.code at) (λ i. locals_after (point_in m d) i a) b e (λ i _ after. locals_after_keeps (point_in m d) i a b after ∙ h);
+  monotone = λ at a b v within ha hb le e. step_below m d at a b le v e;
+  begins = λ g k n b a t graph block next ha begin e. tt;
 }

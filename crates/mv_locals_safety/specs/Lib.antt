@@ -1,3 +1,4 @@
-pub mod LocalsRules
 pub mod Domain
 pub mod Laws
+pub mod LocalsRules
+pub mod Rising

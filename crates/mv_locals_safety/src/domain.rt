@@ -182,7 +182,7 @@ impl<'t, 'm> LocalsDomain<'t, 'm> {
 }
 
 impl<'t, 'm> Domain for LocalsDomain<'t, 'm> {
-    ghost use Rattle.std.specs.Prelude.{length, IsTrue};
+    ghost use Rattle.std.specs.Prelude.{⊤, length, IsTrue};
     ghost use Rattle.mv_locals_safety.specs.LocalsRules.{locals_leq};
     ghost use Rattle.mv_locals_safety.specs.Domain.{IsOfLocals, locals_step};
     ghost use Rattle.mv_locals_safety.specs.Laws.{locals_lawful};
@@ -191,11 +191,17 @@ impl<'t, 'm> Domain for LocalsDomain<'t, 'm> {
 
     ghost size = { λ d. length d.function.code };
 
+    ghost is_graph = { λ d g. ⊤ };
+
     ghost is_state = { λ d s. IsOfLocals d.home d.function s };
+
+    ghost may_begin = { λ d s. ⊤ };
 
     ghost below = { λ d a b. IsTrue (locals_leq a b) };
 
     ghost steps = { λ d at s. locals_step d.home d.function at s };
+
+    ghost is_small = { λ d s. ⊤ };
 
     ghost laws = { λ d. locals_lawful d.home d.function };
 
@@ -227,5 +233,9 @@ impl<'t, 'm> Domain for LocalsDomain<'t, 'm> {
             Some(instruction) => self.after(instruction, s),
             None => Err(StepError::Need),
         }
+    }
+
+    fn fits(&self, _s: &Availabilities) -> bool {
+        true
     }
 }

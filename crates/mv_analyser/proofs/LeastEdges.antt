@@ -1,0 +1,212 @@
+-- What is stated of a function, with the least edges, fits it, and holds.
+use Rattle.std.proofs.Common.{◌≡◌, ◌==◌, ℕ, zero, suc, Bool, true, false, not, ◌&&◌, List, [], ◌∷◌, ◌++◌, length, map, take, drop, get_or, ◌<◌, ◌+◌, Option, Some, None, IsSome, is_some, option_map, slice_get, nat_le, IsTrue, refl, sym, ap, ◌∙◌, subst, arith, true≢false}
+use Rattle.std.specs.List.{list_all}
+use Rattle.std.specs.Option.{option_map_or}
+use Rattle.std.specs.Prelude.{⊤, nat_lt}
+use Rattle.std.proofs.lemmas.Bool.{and_parts, and_from, false≢true}
+use Rattle.std.proofs.lemmas.List.{length-map}
+use Rattle.std.proofs.lemmas.Option.{none-some, same_Some}
+use Rattle.mv_move_types.specs.declared.borrow.Node.{Node}
+use Rattle.mv_move_types.specs.declared.borrow.Node.TheVariants.{Slot, Own, Glob, Temp}
+use Rattle.mv_move_types.specs.declared.token.Token.{Token}
+use Rattle.mv_move_types.specs.Module.{Module, FunctionDefinition, StructDefinition, local_tokens, local_type}
+use Rattle.mv_cfg.specs.declared.Block.{Block}
+use Rattle.mv_cfg.specs.declared.Cfg.{Cfg}
+use Rattle.mv_cfg.specs.Blocks.{blocks}
+use Rattle.mv_cfg.specs.FlowGraph.{IsFlowGraph, basic_block_of}
+use Rattle.mv_type_states.specs.TypesHold.{function_is_typed}
+use Rattle.mv_lattice.specs.Flow.{IsFlow, IsClosed, IsStated}
+use Rattle.mv_lattice.specs.Work.{AllStated}
+use Rattle.mv_locals_safety.specs.LocalsRules.{locals_after, locals_leq}
+use Rattle.mv_edges.specs.Edges.{Edge, same_node, edges_leq}
+use Rattle.mv_edges.specs.Ascending.{are_ascending}
+use Rattle.mv_borrow_graph.specs.BorrowRules.{is_reference_token}
+use Rattle.mv_borrow_graph.specs.Domain.{edges_step, point_at}
+use Rattle.mv_borrow_graph.specs.Nodes.{leads_out, leads_in, edge_is_there, may_begin_with, are_few, IsGraphOf}
+use Rattle.mv_borrow_graph.specs.There.{there_parts}
+use Rattle.mv_certificate.specs.Certificate.{Known, Stated, flow_holds, known_at_start}
+use Rattle.mv_certificate.specs.Functions.{LocalsHoldAt, EdgesHoldAt}
+use Rattle.mv_certificate.specs.Reads.{FitsAt}
+use Rattle.mv_certificate.specs.Shape.{StatedFits, known_fits, edge_fits, is_source, is_target}
+use Rattle.mv_certificate.proofs.Texts.{block_fits}
+use Rattle.mv_certificate.proofs.Marks.{stated-fits}
+use Rattle.mv_certificate.proofs.States.{edges-flow-at}
+use Rattle.mv_certificate.proofs.Holds.{edges_exact_at}
+use Rattle.mv_certificate.proofs.Whole.{marks-fit}
+use Rattle.mv_analyser.specs.Principal.{HasPlainLocals}
+use Rattle.mv_analyser.specs.States.{known_with, with_edges, IsSimpleAt}
+use Rattle.mv_analyser.proofs.LeastLocals.{at_function}
+use Rattle.mv_analyser.proofs.Marks.{flow-marks}
+
+-- ---- what is stated, with edges
+
+-- both are there, block by block, or neither is
+abbrev Paired : Stated → List (Option (List Edge)) → Type 0
+Paired [] [] = ⊤
+Paired [] (e ∷ es) = ⊥
+Paired (k ∷ ss) [] = ⊥
+Paired (k ∷ ss) (e ∷ es) = (is_some k ≡ is_some e) × Paired ss es
+
+paired : (ss : Stated) (es : List (Option (List Edge))) → map is_some ss ≡ map is_some es → Paired ss es
+paired [] [] h = tt
+paired [] (e ∷ es) h = let long = ap length h in absurd (omega (arith, long))
+paired (k ∷ ss) [] h = let long = ap length h in absurd (omega (arith, long))
+paired (k ∷ ss) (e ∷ es) h = (ap (λ xs. get_or xs 0 true) h, paired ss es (ap (drop 1) h))
+
+with_marks : (ss : Stated) (es : List (Option (List Edge))) → Paired ss es → map is_some (with_edges ss es) ≡ map is_some ss
+with_marks [] es p = refl
+with_marks (k ∷ ss) [] p = absurd p
+with_marks (None ∷ ss) (e ∷ es) p = ap (λ r. false ∷ r) (with_marks ss es p.1)
+with_marks (Some k ∷ ss) (None ∷ es) p = absurd (true≢false p.0)
+with_marks (Some k ∷ ss) (Some e ∷ es) p = ap (λ r. true ∷ r) (with_marks ss es p.1)
+
+with_locals : (ss : Stated) (es : List (Option (List Edge))) → Paired ss es → map (option_map (λ k. k.locals)) (with_edges ss es) ≡ map (option_map (λ k. k.locals)) ss
+with_locals [] es p = refl
+with_locals (k ∷ ss) [] p = absurd p
+with_locals (None ∷ ss) (e ∷ es) p = ap (λ r. None ∷ r) (with_locals ss es p.1)
+with_locals (Some k ∷ ss) (None ∷ es) p = absurd (true≢false p.0)
+with_locals (Some k ∷ ss) (Some e ∷ es) p = ap (λ r. Some k.locals ∷ r) (with_locals ss es p.1)
+
+with_these : (ss : Stated) (es : List (Option (List Edge))) → Paired ss es → map (option_map (λ k. k.edges)) (with_edges ss es) ≡ es
+with_these [] [] p = refl
+with_these [] (e ∷ es) p = absurd p
+with_these (k ∷ ss) [] p = absurd p
+with_these (None ∷ ss) (None ∷ es) p = ap (λ r. None ∷ r) (with_these ss es p.1)
+with_these (None ∷ ss) (Some e ∷ es) p = absurd (true≢false (sym p.0))
+with_these (Some k ∷ ss) (None ∷ es) p = absurd (true≢false p.0)
+with_these (Some k ∷ ss) (Some e ∷ es) p = ap (λ r. Some e ∷ r) (with_these ss es p.1)
+
+-- one more of them
+pub with_more : (ss : Stated) (es : List (Option (List Edge))) (i : ℕ) (k : Option Known) (e : Option (List Edge)) → i < length ss → i < length es
+    → with_edges (take (i + 1) ss) (take (i + 1) es) ≡ with_edges (take i ss) (take i es) ++ known_with (get_or ss i k) (get_or es i e) ∷ []
+with_more [] es i k e h g = absurd (omega arith)
+with_more (s ∷ ss) [] i k e h g = absurd (omega arith)
+with_more (s ∷ ss) (x ∷ es) zero k e h g = refl
+with_more (s ∷ ss) (x ∷ es) (suc i) k e h g =
+    let next : suc i + 1 ≡ suc (i + 1) = omega arith in
+    ap (λ n. with_edges (take n (s ∷ ss)) (take n (x ∷ es))) next ∙ ap (λ r. known_with s x ∷ r) (with_more ss es i k e (omega arith) (omega arith))
+
+-- the same of what was read of both lists
+pub with_next : (blocks new view ss : Stated) (es : List (Option (List Edge))) (i : ℕ) (k x : Option Known) (e : Option (List Edge)) → new ≡ blocks ++ x ∷ [] → x ≡ known_with k e → view ≡ ss → i < length view → k ≡ get_or view i k → i < length es → e ≡ get_or es i e
+    → blocks ≡ with_edges (take i ss) (take i es) → new ≡ with_edges (take (i + 1) ss) (take (i + 1) es)
+with_next blocks new view ss es i k x e pushed made same low read_k high read_e before =
+    let ss_low : i < length ss = subst (λ (z : Stated). i < length z) same low in
+    let k_is : k ≡ get_or ss i k = read_k ∙ ap (λ (z : Stated). get_or z i k) same in
+    let x_is : x ≡ known_with (get_or ss i k) (get_or es i e) = made ∙ ap (λ z. known_with z e) k_is ∙ ap (λ z. known_with (get_or ss i k) z) read_e in
+    pushed ∙ ap (λ z. z ++ x ∷ []) before ∙ ap (λ z. with_edges (take i ss) (take i es) ++ z ∷ []) x_is ∙ sym (with_more ss es i k e ss_low high)
+
+-- ---- the shape
+
+source_from : (m : Module) (d : FunctionDefinition) (n : Node) → leads_out (point_at m d []) n ≡ true → is_source m d n ≡ true
+source_from m d (Slot l) h = h
+source_from m d (Own l) h = h
+source_from m d (Glob t) h = h
+source_from m d (Temp k) h = h
+
+target_from : (m : Module) (d : FunctionDefinition) (n : Node) → leads_in (point_at m d []) n ≡ true → is_target m d n ≡ true
+target_from m d (Slot l) h = h
+target_from m d (Own l) h = h
+target_from m d (Glob t) h = h
+target_from m d (Temp k) h = h
+
+edge_has_shape : (m : Module) (d : FunctionDefinition) (e : Edge) → edge_is_there (point_at m d []) e ≡ true → nat_le (length e.label.path) 8 ≡ true → edge_fits m d e ≡ true
+edge_has_shape m d e h short =
+    let t = there_parts (point_at m d []) e h in
+    and_from (is_source m d e.from && is_target m d e.to && not (same_node e.from e.to) && nat_le (length e.label.path) 8) (list_all (λ i. nat_lt i 32) e.label.path)
+    (and_from (is_source m d e.from && is_target m d e.to && not (same_node e.from e.to)) (nat_le (length e.label.path) 8)
+    (and_from (is_source m d e.from && is_target m d e.to) (not (same_node e.from e.to))
+    (and_from (is_source m d e.from) (is_target m d e.to) (source_from m d e.from t.out) (target_from m d e.to t.into)) (ap not t.apart))
+    short)
+    t.small
+
+edges_have_shape : (m : Module) (d : FunctionDefinition) (es : List Edge) → may_begin_with m d es ≡ true → list_all (λ e. nat_le (length e.label.path) 8) es ≡ true → list_all (edge_fits m d) es ≡ true
+edges_have_shape m d [] h g = refl
+edges_have_shape m d (e ∷ es) h g =
+    let there = and_parts (edge_is_there (point_at m d []) e) (may_begin_with m d es) h in
+    let short = and_parts (nat_le (length e.label.path) 8) (list_all (λ e. nat_le (length e.label.path) 8) es) g in
+    and_from (edge_fits m d e) (list_all (edge_fits m d) es) (edge_has_shape m d e there.0 short.0) (edges_have_shape m d es there.1 short.1)
+
+known_has_shape : (m : Module) (d : FunctionDefinition) (k : Known) (es : List Edge) → known_fits m d k ≡ true → are_ascending es ≡ true → may_begin_with m d es ≡ true → are_few es ≡ true
+    → known_fits m d (record { locals = k.locals; edges = es }) ≡ true
+known_has_shape m d k es h ascend begin few =
+    let sizes : Bool = option_map_or (λ ts. length k.locals == length ts) (local_tokens m d) false in
+    let three = and_parts (sizes && nat_le (length k.edges) 1024 && list_all (edge_fits m d) k.edges) (are_ascending k.edges) h in
+    let two = and_parts (sizes && nat_le (length k.edges) 1024) (list_all (edge_fits m d) k.edges) three.0 in
+    let one = and_parts sizes (nat_le (length k.edges) 1024) two.0 in
+    let small = and_parts (nat_le (length es) 1024) (list_all (λ e. nat_le (length e.label.path) 8) es) few in
+    and_from (sizes && nat_le (length es) 1024 && list_all (edge_fits m d) es) (are_ascending es)
+    (and_from (sizes && nat_le (length es) 1024) (list_all (edge_fits m d) es) (and_from sizes (nat_le (length es) 1024) one.0 small.0) (edges_have_shape m d es begin small.1))
+    ascend
+
+-- the edges of a block that a search may state
+record MayState (m : Module) (d : FunctionDefinition) (es : List Edge) : Type 0 where
+  ascend : are_ascending es ≡ true
+  begin : may_begin_with m d es ≡ true
+  few : are_few es ≡ true
+
+with_shape : (m : Module) (d : FunctionDefinition) (ss : Stated) (es : List (Option (List Edge))) → list_all (block_fits m d) ss ≡ true → ((k : ℕ) (s : List Edge) → IsStated es k s → MayState m d s)
+    → list_all (block_fits m d) (with_edges ss es) ≡ true
+with_shape m d [] es h each = refl
+with_shape m d (k ∷ ss) [] h each = refl
+with_shape m d (None ∷ ss) (e ∷ es) h each = with_shape m d ss es h (λ k s is. each (suc k) s is)
+with_shape m d (Some k ∷ ss) (None ∷ es) h each = with_shape m d ss es (and_parts (known_fits m d k) (list_all (block_fits m d) ss) h).1 (λ k s is. each (suc k) s is)
+with_shape m d (Some k ∷ ss) (Some e ∷ es) h each =
+    let parts = and_parts (known_fits m d k) (list_all (block_fits m d) ss) h in
+    let here = each 0 e refl in
+    and_from (known_fits m d (record { locals = k.locals; edges = e })) (list_all (block_fits m d) (with_edges ss es))
+    (known_has_shape m d k e parts.0 here.ascend here.begin here.few) (with_shape m d ss es parts.1 (λ k s is. each (suc k) s is))
+
+-- ---- a function at a place
+
+abbrev Ascend : List Edge → Type 0
+Ascend s = IsTrue (are_ascending s)
+
+module _ (m m' : Module) (f : ℕ) (d d' : FunctionDefinition) (g : Cfg) (home : m' ≡ m) (at : slice_get m.functions f ≡ Some d) (at' : slice_get m.functions f ≡ Some d')
+    (fg : IsFlowGraph d.code g) (typed : IsTrue (function_is_typed m d))
+  where
+    same : d' ≡ d
+    same = same_Some d' d (sym at' ∙ at)
+
+    -- the graph is that of the domain's function
+    pub graph_is : IsTrue (list_all (λ (s : StructDefinition). list_all (λ t. not (is_reference_token t.token)) s.fields) m.structs) → IsTrue (list_all (λ (s : StructDefinition). nat_le (length s.fields) 32) m.structs) → IsGraphOf m' d' g
+    graph_is plain few =
+        subst (λ z. IsGraphOf z d' g) (sym home) (subst (λ z. IsGraphOf m z g) (sym same) (record { flow = fg; typed = typed; fields = plain; few = few }))
+
+    -- no local of the domain's function is a reference
+    pub plain_locals : IsSimpleAt m f → HasPlainLocals m' d'
+    plain_locals simple = subst (λ z. HasPlainLocals z d') (sym home) (simple d' at')
+
+    pub blocks_counted : (old : Stated) → FitsAt m f old → length old ≡ length g.blocks.items
+    blocks_counted old fits = (fits d at).long ∙ ap length (sym fg.basic_blocks) ∙ length-map g.blocks.items (basic_block_of g)
+
+    module _ (v : List (Option (List Edge))) (old stated : Stated) (is : stated ≡ with_edges old v) (fits : FitsAt m f old) (flow : IsFlow Ascend g v) where
+      pairs : Paired old v
+      pairs = paired old v (marks-fit m d g old fg (fits d at) ∙ sym (flow-marks Ascend g (length d.code) v fg.graph flow))
+
+      pub edges_fit : AllStated (λ s. IsTrue (may_begin_with m' d' s)) v → AllStated (λ s. IsTrue (are_few s)) v → FitsAt m f stated
+      edges_fit begin few =
+          let begin1 : AllStated (λ s. IsTrue (may_begin_with m d s)) v =
+          subst (λ z. AllStated (λ s. IsTrue (may_begin_with m z s)) v) same (subst (λ z. AllStated (λ s. IsTrue (may_begin_with z d' s)) v) home begin) in
+          subst (FitsAt m f) (sym is)
+          (at_function m f d (λ x. StatedFits m x (with_edges old v)) at
+          (stated-fits m d g (with_edges old v) fg (with_marks old v pairs ∙ marks-fit m d g old fg (fits d at))
+          (with_shape m d old v (fits d at).fits (λ k s e. record { ascend = flow.states k s e; begin = begin1 k s e; few = few k s e }))))
+
+      pub locals_stay : LocalsHoldAt m f old → LocalsHoldAt m f stated
+      locals_stay holds =
+          subst (LocalsHoldAt m f) (sym is)
+          (λ x e. subst (λ z. option_map_or (λ (start : Known). flow_holds locals_after locals_leq m x start.locals z) (known_at_start m x) false ≡ true) (sym (with_locals old v pairs)) (holds x e))
+
+      pub edges_hold_there : (start : List Edge) → start ≡ [] → IsSome (known_at_start m d) → IsClosed (λ a b. IsTrue (edges_leq a b)) (edges_step m' d') g start v → EdgesHoldAt m f stated
+      edges_hold_there start none known closed =
+          subst (EdgesHoldAt m f) (sym is)
+          ((edges_exact_at m m' f d d' g (with_edges old v) home at at' fg typed start v none known (sym (with_these old v pairs)) flow).0 closed)
+
+    -- where there is no closed flow, no edges hold
+    pub no_edges_hold : (start : List Edge) → start ≡ [] → IsSome (known_at_start m d)
+        → ((flow : List (Option (List Edge))) → IsFlow Ascend g flow → IsClosed (λ a b. IsTrue (edges_leq a b)) (edges_step m' d') g start flow → ⊥)
+        → (stated : Stated) → FitsAt m f stated → EdgesHoldAt m f stated → ⊥
+    no_edges_hold start none known never stated fits holds =
+        let all : List (Option (List Edge)) = map (option_map (λ k. k.edges)) stated in
+        let flow = edges-flow-at m f d g stated all at fg fits refl in
+        never all flow ((edges_exact_at m m' f d d' g stated home at at' fg typed start all none known refl flow).1 holds)

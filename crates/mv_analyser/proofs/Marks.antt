@@ -1,0 +1,20 @@
+-- A flow states something exactly where a block is marked as reached.
+use Rattle.std.proofs.Common.{◌≡◌, ℕ, Bool, true, List, length, map, is_some, Option, Some, None, slice_get, refl, sym, ap, ◌∙◌, subst, true≢false}
+use Rattle.std.proofs.lemmas.Option.{same_Some}
+use Rattle.mv_cfg.specs.declared.Block.{Block}
+use Rattle.mv_cfg.specs.declared.Cfg.{Cfg}
+use Rattle.mv_cfg.specs.Graph.{IsGraph}
+use Rattle.mv_lattice.specs.Flow.{IsFlow}
+use Rattle.mv_certificate.proofs.Whole.{same_marks, same_bools}
+
+there : {S : Type 0} (o : Option S) → is_some o ≡ true → (s : S) × (o ≡ Some s)
+there None h = absurd (true≢false (sym h))
+there (Some s) h = (s, refl)
+
+pub flow-marks : {S : Type 0} (P : S → Type 0) (g : Cfg) (size : ℕ) (v : List (Option S)) → IsGraph g size → IsFlow P g v → map is_some v ≡ map (λ (b : Block). b.reached) g.blocks.items
+flow-marks P g size v graph flow =
+    same_marks is_some (λ (b : Block). b.reached) v g.blocks.items flow.entries (λ i o b vi bi.
+    let marks = graph.marks i b bi in
+    same_bools (is_some o) b.reached
+    (λ h. let s = there o h in marks.1 (flow.reached i s.0 (vi ∙ ap Some s.1)))
+    (λ h. let s = flow.stated i (marks.0 h) in ap is_some (same_Some o (Some s.0) (sym vi ∙ s.1))))

@@ -1,0 +1,115 @@
+-- From the functions of a module to the module.
+use Rattle.std.proofs.Common.{◌≡◌, ℕ, zero, suc, Bool, true, ◌&&◌, List, [], ◌∷◌, ◌++◌, length, ◌<◌, ◌+◌, Some, slice_get, IsTrue, refl, sym, ap, ◌∙◌, subst, arith, ⊎_elim, ◌⊎◌, Result, Ok, Err, IfOk, OnOk}
+use Rattle.std.specs.Prelude.{⊤}
+use Rattle.std.proofs.lemmas.Bool.{and_parts, and_from}
+use Rattle.std.proofs.lemmas.List.{length-append}
+use Rattle.std.proofs.lemmas.Option.{slice_get_within}
+use Rattle.mv_move_types.specs.Module.{Module, FunctionDefinition}
+use Rattle.mv_move_types.specs.declared.refusal.Refusal.{Refusal}
+use Rattle.mv_move_types.specs.declared.refusal.Refusal.TheVariants.{Phase, Memory as OutOfMemory}
+use Rattle.mv_acquires.specs.Acquires.{AcquiresHold}
+use Rattle.mv_cfg.proofs.Tables.{slice_get-push}
+use Rattle.mv_certificate.specs.Answers.{FailsCertificate, bad_locals, bad_borrows, bad_acquires}
+use Rattle.mv_certificate.specs.Certificate.{Stated, Certificate, locals_hold, edges_hold, all_locals_hold, all_edges_hold, certificate_holds}
+use Rattle.mv_certificate.specs.Functions.{LocalsHoldAt, EdgesHoldAt}
+use Rattle.mv_certificate.specs.Reads.{FitsAt}
+use Rattle.mv_certificate.specs.Shape.{StatedFits, AllStatedFit}
+use Rattle.mv_certificate.proofs.Marks.{at_below}
+use Rattle.mv_certificate.proofs.States.{fit-length, fit-at}
+use Rattle.mv_certificate.proofs.Holds.{each-passes, passes-each}
+use Rattle.mv_analyser.specs.Principal.{FailsEach, no_locals, no_edges, no_lists, IsUnproved, IsWithoutReferences, IsOfLimits, IsProvable, PassesCheck}
+use Rattle.mv_analyser.specs.States.{IsErrorAt, IsSimpleAt}
+use Rattle.mv_analyser.specs.declared.ProveError.{ProveError}
+use Rattle.mv_analyser.specs.declared.ProveError.TheVariants.{Refused, TooComplex, Memory}
+
+-- what is stated of the first functions
+pub record UpTo (P : ℕ → Stated → Type 0) (n : ℕ) (cs : List Stated) : Type 0 where
+  pub long : length cs ≡ n
+  pub each : (k : ℕ) (s : Stated) → slice_get cs k ≡ Some s → P k s
+
+pub up_to_none : (P : ℕ → Stated → Type 0) (cs : List Stated) → cs ≡ [] → UpTo P 0 cs
+up_to_none P cs is =
+    subst (UpTo P 0) (sym is) (record { long = refl; each = λ k s e. absurd (let low = slice_get_within [] k s e in let no : ⊥ = omega (arith, low) in no) })
+
+pub up_to_more : (P : ℕ → Stated → Type 0) (n : ℕ) (cs new : List Stated) (s : Stated) → new ≡ cs ++ s ∷ [] → P n s → UpTo P n cs → UpTo P (n + 1) new
+up_to_more P n cs new s is p before =
+    subst (UpTo P (n + 1)) (sym is) (record {
+      long = let sum = length-append cs (s ∷ []) in let was = before.long in omega (arith, sum, was);
+      each = λ k z e. ⊎_elim (λ old. before.each k z old) (λ last. subst (λ i. P i z) (sym (last.0 ∙ before.long)) (subst (P n) (sym last.1) p)) (slice_get-push cs s k z e);
+    })
+
+fit_each : (m : Module) (ds : List FunctionDefinition) (cs : List Stated) → length ds ≡ length cs → ((f : ℕ) (d : FunctionDefinition) (c : Stated) → slice_get ds f ≡ Some d → slice_get cs f ≡ Some c → StatedFits m d c) → AllStatedFit m ds cs
+fit_each m [] [] long each = tt
+fit_each m [] (c ∷ cs) long each = absurd (omega arith)
+fit_each m (d ∷ ds) [] long each = absurd (omega arith)
+fit_each m (d ∷ ds) (c ∷ cs) long each = (each 0 d c refl refl, fit_each m ds cs (omega arith) (λ f x y e1 e2. each (suc f) x y e1 e2))
+
+module _ (m : Module) (P : ℕ → Stated → Type 0) (n : ℕ) (cs : List Stated) (all : UpTo P n cs) (count : n ≡ length m.functions) where
+  pub all_fit : ((k : ℕ) (s : Stated) → P k s → FitsAt m k s) → AllStatedFit m m.functions cs
+  all_fit fits = fit_each m m.functions cs (sym (all.long ∙ count)) (λ f d c e1 e2. fits f c (all.each f c e2) d e1)
+
+  pub all_hold : ((k : ℕ) (s : Stated) → P k s → LocalsHoldAt m k s) → IsTrue (all_locals_hold m cs)
+  all_hold holds = each-passes (locals_hold m) m.functions cs (sym (all.long ∙ count)) (λ f d c e1 e2. holds f c (all.each f c e2) d e1)
+
+  pub all_edges : ((k : ℕ) (s : Stated) → P k s → EdgesHoldAt m k s) → IsTrue (all_edges_hold m cs)
+  all_edges holds = each-passes (edges_hold m) m.functions cs (sym (all.long ∙ count)) (λ f d c e1 e2. holds f c (all.each f c e2) d e1)
+
+pub both_hold : (m : Module) (c : Certificate) → IsTrue (all_locals_hold m c) → IsTrue (all_edges_hold m c) → IsTrue (certificate_holds m c)
+both_hold m c a b = and_from (all_locals_hold m c) (all_edges_hold m c) a b
+
+-- what is stated of the function at a place
+module _ (m : Module) (f : ℕ) (inside : f < length m.functions) (c : Certificate) (fits : AllStatedFit m m.functions c) where
+  stated_there : (s : Stated) × (slice_get c f ≡ Some s)
+  stated_there = let long = fit-length m m.functions c fits in at_below c f (omega (arith, inside, long))
+
+  pub locals_there : IsTrue (all_locals_hold m c) → (s : Stated) × (FitsAt m f s × LocalsHoldAt m f s)
+  locals_there holds =
+      (stated_there.0, (λ d e. fit-at m m.functions c f d stated_there.0 fits e stated_there.1, λ d e. passes-each (locals_hold m) m.functions c holds f d stated_there.0 e stated_there.1))
+
+  pub edges_there : IsTrue (all_edges_hold m c) → (s : Stated) × (FitsAt m f s × EdgesHoldAt m f s)
+  edges_there holds =
+      (stated_there.0, (λ d e. fit-at m m.functions c f d stated_there.0 fits e stated_there.1, λ d e. passes-each (edges_hold m) m.functions c holds f d stated_there.0 e stated_there.1))
+
+-- what the error at a function says of the module
+pub unproved_locals : (m : Module) (f : ℕ) → f < length m.functions → (e : ProveError) → IsErrorAt m f 10 (LocalsHoldAt m f) ⊤ e → IsUnproved m e
+unproved_locals m f inside (Refused p) h =
+    subst (FailsEach m) (sym h.0) (no_locals (λ c fits holds. let s = locals_there m f inside c fits holds in h.1 s.0 s.1.0 s.1.1))
+unproved_locals m f inside TooComplex h = λ _. h tt
+unproved_locals m f inside Memory h = tt
+
+pub unproved_edges : (m : Module) (f : ℕ) → f < length m.functions → (c : Certificate) → AllStatedFit m m.functions c → IsTrue (all_locals_hold m c) → (e : ProveError)
+    → IsErrorAt m f 11 (EdgesHoldAt m f) (IsSimpleAt m f) e → IsUnproved m e
+unproved_edges m f inside c fits holds (Refused p) h =
+    subst (FailsEach m) (sym h.0) (no_edges c fits holds (λ c fits holds. let s = edges_there m f inside c fits holds in h.1 s.0 s.1.0 s.1.1))
+unproved_edges m f inside c fits holds TooComplex h = λ plain. h (λ d e. plain f d e)
+unproved_edges m f inside c fits holds Memory h = tt
+
+pub unproved_lists : (m : Module) (c : Certificate) → AllStatedFit m m.functions c → IsTrue (certificate_holds m c) → (p : ℕ) → p ≡ 12 → (AcquiresHold m → ⊥) → FailsEach m p
+unproved_lists m c fits holds p is none = subst (FailsEach m) (sym is) (no_lists (c, (fits, holds)) none)
+
+-- a certificate that holds, of a module whose acquires lists are right, passes
+never_fails : (m : Module) (c : Certificate) → IsTrue (certificate_holds m c) → AcquiresHold m → (p : ℕ) → FailsCertificate m c p → ⊥
+never_fails m c holds lists _ (bad_locals none) = none (and_parts (all_locals_hold m c) (all_edges_hold m c) holds).0
+never_fails m c holds lists _ (bad_borrows locals none) = none (and_parts (all_locals_hold m c) (all_edges_hold m c) holds).1
+never_fails m c holds lists _ (bad_acquires whole none) = none lists
+
+passes_check : (m : Module) (c : Certificate) → IsTrue (certificate_holds m c) → AcquiresHold m → PassesCheck m c
+passes_check m c holds lists (Phase p) h = absurd (never_fails m c holds lists p h)
+passes_check m c holds lists OutOfMemory h = refl
+
+pub found_passes : (m : Module) (r : Result Certificate ProveError) → IfOk r (λ c. IsTrue (certificate_holds m c)) → OnOk r (AcquiresHold m) → IfOk r (PassesCheck m)
+found_passes m (Ok c) holds lists = passes_check m c holds lists
+found_passes m (Err e) holds lists = tt
+
+-- where some certificate passes, none is refused
+never_refused : (m : Module) → IsProvable m → (p : ℕ) → FailsEach m p → ⊥
+never_refused m provable _ (no_locals none) =
+    let c = provable.0 in none c.0 c.1.0 (and_parts (all_locals_hold m c.0) (all_edges_hold m c.0) c.1.1).0
+never_refused m provable _ (no_edges other fits holds none) =
+    let c = provable.0 in none c.0 c.1.0 (and_parts (all_locals_hold m c.0) (all_edges_hold m c.0) c.1.1).1
+never_refused m provable _ (no_lists whole none) = none provable.1
+
+pub only_limits : (m : Module) → IsProvable m → (e : ProveError) → IsUnproved m e → IsOfLimits e
+only_limits m provable (Refused p) h = never_refused m provable p h
+only_limits m provable TooComplex h = tt
+only_limits m provable Memory h = tt

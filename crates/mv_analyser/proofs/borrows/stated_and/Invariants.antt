@@ -1,0 +1,6 @@
+use Rattle.std.proofs.Common.{◌≡◌, take}
+use Rattle.mv_analyser.specs.States.{with_edges}
+use Rattle.mv_analyser.proofs.borrows.stated_and.Given as goal
+
+abbrev pub invariant-loop-k : goal.invariant-loop-k
+invariant-loop-k l = l.blocks.items ≡ with_edges (take l.k l.stated) (take l.k l.edges)

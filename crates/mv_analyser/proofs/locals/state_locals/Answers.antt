@@ -1,0 +1,39 @@
+use Rattle.std.proofs.Common.{◌≡◌, ◌∙◌, ap, sym, subst, ⊎_elim}
+use Rattle.std.specs.Prelude.{⊤}
+use Rattle.mv_bounds.specs.Bounds.{local_count}
+use Rattle.mv_certificate.specs.Functions.{LocalsHoldAt}
+use Rattle.mv_certificate.proofs.States.{graph-at}
+use Rattle.mv_analyser.specs.States.{locals_alone, IsErrorAt}
+use Rattle.mv_analyser.proofs.Chains.{few_rises}
+use Rattle.mv_analyser.proofs.LeastLocals.{least_fits, least_holds, none_holds, few_locals, search_error}
+use Rattle.mv_analyser.proofs.locals.state_locals.Goals as goal
+
+pub solve-requires-clause-graph : goal.solve-requires-clause-graph
+solve-requires-clause-graph c =
+    graph-at c.args.m.now c.args.f c.function_at-function.result.now c.in_ok-domain.domain.function c.graph_of-graph.result.now
+    c.function_at-function.ensures.at c.in_ok-domain.ensures.function c.graph_of-graph.ensures
+
+pub returns-in-Ok-clause-fits : goal.returns-in-Ok-clause-fits
+returns-in-Ok-clause-fits c =
+    least_fits c.args.m.now c.in_ok-domain.domain.home c.args.f c.function_at-function.result.now c.in_ok-domain.domain.function c.graph_of-graph.result.now
+    c.in_ok-domain.ensures.home c.function_at-function.ensures.at c.in_ok-domain.ensures.function c.graph_of-graph.ensures c.function_at-function.ensures.typed c.in_ok-start.start c.in_ok-start.ensures.start
+    c.in-Ok.least.items c.in_ok-alone-in-Ok.field-0 (c.in_ok-alone-in-Ok.ensures ∙ ap locals_alone c.deref.ensures.value) c.in-Ok.ensures.flow
+
+pub returns-in-Ok-clause-holds : goal.returns-in-Ok-clause-holds
+returns-in-Ok-clause-holds c =
+    least_holds c.args.m.now c.in_ok-domain.domain.home c.args.f c.function_at-function.result.now c.in_ok-domain.domain.function c.graph_of-graph.result.now
+    c.in_ok-domain.ensures.home c.function_at-function.ensures.at c.in_ok-domain.ensures.function c.graph_of-graph.ensures c.function_at-function.ensures.typed c.in_ok-start.start c.in_ok-start.ensures.start
+    c.in-Ok.least.items c.in_ok-alone-in-Ok.field-0 (c.in_ok-alone-in-Ok.ensures ∙ ap locals_alone c.deref.ensures.value) c.in-Ok.ensures.flow c.in-Ok.ensures.closed
+
+pub returns-clause-refused : goal.returns-clause-refused
+returns-clause-refused c =
+    subst (IsErrorAt c.args.m.now c.args.f 10 (LocalsHoldAt c.args.m.now c.args.f) ⊤) (sym c.error_in.ensures)
+    (search_error c.args.m.now c.args.f 10 (LocalsHoldAt c.args.m.now c.args.f) ⊤ c.in-Err.e
+    (λ h stated fits holds.
+    none_holds c.args.m.now c.in_ok-domain.domain.home c.args.f c.function_at-function.result.now c.in_ok-domain.domain.function c.graph_of-graph.result.now
+    c.in_ok-domain.ensures.home c.function_at-function.ensures.at c.in_ok-domain.ensures.function c.graph_of-graph.ensures c.function_at-function.ensures.typed c.in_ok-start.start c.in_ok-start.ensures.start
+    (c.in-Err.ensures.need h) stated fits holds)
+    (λ h _.
+    let few = few_locals c.args.m.now c.in_ok-domain.domain.home c.args.f c.function_at-function.result.now c.in_ok-domain.domain.function c.graph_of-graph.result.now
+    c.in_ok-domain.ensures.home c.function_at-function.ensures.at c.in_ok-domain.ensures.function c.graph_of-graph.ensures c.function_at-function.ensures.typed c.in_ok-start.start c.in_ok-start.ensures.start c.function_at-function.ensures.small in
+    ⊎_elim (λ large. large.1.1.1 tt) (few_rises c.in_ok-domain.domain.home c.in_ok-domain.domain.function few) (c.in-Err.ensures.complex h)))

@@ -1,0 +1,2 @@
+pub mod Principal
+pub mod States

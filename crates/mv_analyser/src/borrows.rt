@@ -1,0 +1,120 @@
+// The least edges of each function that hold.
+ghost use Rattle.std.specs.Prelude.{◌≡◌, ◌<◌, not, length, Some, slice_get, nat_le, IfOk, IfErr, IsTrue};
+ghost use Rattle.std.specs.List.{list_all};
+ghost use Rattle.mv_borrow_graph.specs.BorrowRules.{is_reference_token};
+ghost use Rattle.mv_certificate.specs.Certificate.{all_locals_hold, certificate_holds};
+ghost use Rattle.mv_certificate.specs.Functions.{LocalsHoldAt, EdgesHoldAt};
+ghost use Rattle.mv_certificate.specs.Reads.{FitsAt};
+ghost use Rattle.mv_certificate.specs.Shape.{AllStatedFit};
+ghost use Rattle.mv_analyser.specs.Principal.{IsUnproved};
+ghost use Rattle.mv_analyser.specs.States.{known_with, with_edges, IsErrorAt, IsSimpleAt};
+
+use crate::{ProveError, error_in};
+use mv_borrow_graph::BorrowDomain;
+use mv_certificate::{Cert, Known, Stated, function_at, function_count, graph_of, has_start};
+use mv_edges::Edges;
+use mv_lattice::solve;
+use mv_type_states::Typed;
+use std::alloc::{AllocError, Global};
+
+/// What is known of a block, with these edges.
+fn known_and(
+    alloc: Global,
+    known: &Option<Known>,
+    edges: &Option<Edges>,
+) -> Result<Option<Known>, AllocError>
+    ensures { IfOk result (λ k. k ≡ known_with known.now edges.now) }
+{
+    match (known, edges) {
+        (Some(known), Some(edges)) => Ok(Some(Known {
+            locals: known.locals.copy(alloc)?,
+            edges: edges.copy(alloc)?,
+        })),
+        (_, _) => Ok(None),
+    }
+}
+
+/// What is stated of a function's blocks, with these edges.
+fn stated_and(alloc: Global, stated: &Stated, edges: &[Option<Edges>]) -> Result<Stated, AllocError>
+    requires { length edges.now ≡ length stated.now }
+    ensures { IfOk result (λ s. s ≡ with_edges stated.now edges.now) }
+{
+    let mut blocks = Vec::new(alloc);
+    for (k, known) in stated.blocks.iter().enumerate() {
+        blocks.push(known_and(alloc, known, &edges[k])?)?;
+    }
+    Ok(Stated { blocks })
+}
+
+/// No struct has more than 32 fields, and no field is a reference.
+fn has_plain_fields(m: &Typed<'_>)
+    ensures few { IsTrue (list_all (λ d. nat_le (length d.fields) 32) m.now.structs) }
+    ensures plain { IsTrue (list_all (λ d. list_all (λ f. not (is_reference_token f.token)) d.fields) m.now.structs) }
+{
+    let _structs = m.module().structs();
+}
+
+/// What is stated of function `f`, with the least edges that hold.
+fn state_edges(
+    alloc: Global,
+    m: &Typed<'_>,
+    f: usize,
+    stated: &Stated,
+) -> Result<Stated, ProveError>
+    requires inside { f < length m.now.functions }
+    requires fits { FitsAt m.now f stated.now }
+    requires locals { LocalsHoldAt m.now f stated.now }
+    ensures fits { IfOk result (FitsAt m.now f) }
+    ensures locals { IfOk result (LocalsHoldAt m.now f) }
+    ensures edges { IfOk result (EdgesHoldAt m.now f) }
+    ensures refused { IfErr result (IsErrorAt m.now f 11 (EdgesHoldAt m.now f) (IsSimpleAt m.now f)) }
+{
+    let domain = BorrowDomain::of_function(alloc, m, f)?;
+    let start = domain.start(alloc);
+    let function = function_at(m, f);
+    let graph = graph_of(m, f, function);
+    has_start(m, f, function);
+    has_plain_fields(m);
+    match solve(alloc, &domain, graph, &start) {
+        Ok(least) => Ok(stated_and(alloc, stated, &least)?),
+        Err(e) => Err(error_in(11, e)),
+    }
+}
+
+/// What is stated of the function at a place.
+fn stated_of(c: &Cert, f: usize) -> &Stated
+    requires { f < length c.now }
+    ensures { slice_get c.entry.now f ≡ Some result.now }
+{
+    &c.functions[f]
+}
+
+/// What is stated of function `f`, which fits it and whose availabilities hold.
+fn stated_at<'t>(m: &Typed<'_>, c: &'t Cert, f: usize) -> &'t Stated
+    requires shape { AllStatedFit m.now m.now.functions c.now }
+    requires locals { IsTrue (all_locals_hold m.now c.now) }
+    requires inside { f < length m.now.functions }
+    ensures at { slice_get c.entry.now f ≡ Some result.now }
+    ensures fits { FitsAt m.entry.now f result.now }
+    ensures locals { LocalsHoldAt m.entry.now f result.now }
+{
+    stated_of(c, f)
+}
+
+/// The certificate with the least edges that hold in each function.
+pub fn with_least_edges(alloc: Global, m: &Typed<'_>, c: &Cert) -> Result<Cert, ProveError>
+    requires shape { AllStatedFit m.now m.now.functions c.now }
+    requires locals { IsTrue (all_locals_hold m.now c.now) }
+    ensures shape { IfOk result (λ v. AllStatedFit m.now m.now.functions v) }
+    ensures holds { IfOk result (λ v. IsTrue (certificate_holds m.now v)) }
+    ensures refused { IfErr result (IsUnproved m.now) }
+{
+    let count = function_count(m);
+    let mut functions = Vec::new(alloc);
+    for f in 0..count {
+        let stated = stated_at(m, c, f);
+        let with_edges = state_edges(alloc, m, f, stated)?;
+        functions.push(with_edges).map_err(|_| ProveError::Memory)?;
+    }
+    Ok(Cert { functions })
+}

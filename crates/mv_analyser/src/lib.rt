@@ -1,0 +1,95 @@
+//! Certificates made: for a module that some certificate passes with, one that passes.
+#![tactic(auto)]
+
+mod borrows;
+mod locals;
+
+ghost use Rattle.std.specs.Prelude.{◌≡◌, IfOk, IfErr, OnOk, IsTrue};
+ghost use Rattle.mv_acquires.specs.Acquires.{AcquiresHold};
+ghost use Rattle.mv_certificate.specs.Certificate.{certificate_holds};
+ghost use Rattle.mv_certificate.specs.Shape.{AllStatedFit};
+ghost use Rattle.mv_analyser.specs.Principal.{IsUnproved, IsOfLimits, IsProvable, PassesCheck};
+ghost use Rattle.mv_analyser.specs.States.{error_of};
+
+use mv_certificate::Cert;
+use mv_lattice::SolveError;
+use mv_move_types::Refusal;
+use mv_type_states::Typed;
+use std::alloc::{AllocError, Global};
+
+/// Why no certificate is answered.
+#[derive(Drop, Clone, Copy, PartialEq, Eq, Debug)]
+pub enum ProveError {
+    /// No certificate passes this phase: 10, 11 or 12.
+    Refused(u8),
+    /// A block would be visited a 257th time, or a state would have more than 1,024 edges or a label of more than 8 positions.
+    TooComplex,
+    /// An allocation failed.
+    Memory,
+}
+
+impl From<AllocError> for ProveError {
+    ghost use Rattle.mv_analyser.specs.declared.ProveError.TheVariants.{Memory};
+
+    ghost from_gives = { λ _ e. e ≡ Memory };
+
+    fn from(_: AllocError) -> Self {
+        ProveError::Memory
+    }
+}
+
+/// What the error of a search says in a phase.
+fn error_in(phase: u8, e: SolveError) -> ProveError
+    ensures { result ≡ error_of phase e }
+{
+    match e {
+        SolveError::Need => ProveError::Refused(phase),
+        SolveError::TooComplex => ProveError::TooComplex,
+        SolveError::Memory => ProveError::Memory,
+    }
+}
+
+/// Phase 12: the acquires list of each function is right.
+fn check_acquires(m: &Typed<'_>, c: &Cert) -> Result<(), ProveError>
+    requires shape { AllStatedFit m.now m.now.functions c.now }
+    requires holds { IsTrue (certificate_holds m.now c.now) }
+    ensures ok { OnOk result (AcquiresHold m.now) }
+    ensures refused { IfErr result (IsUnproved m.now) }
+{
+    match mv_acquires::check(m.bounded()) {
+        Ok(()) => Ok(()),
+        Err(Refusal::Phase(phase)) => Err(ProveError::Refused(phase)),
+        Err(Refusal::Memory) => Err(ProveError::Memory),
+    }
+}
+
+/// The least states that hold in each function, where the acquires lists are right.
+fn find(alloc: Global, m: &Typed<'_>) -> Result<Cert, ProveError>
+    ensures shape { IfOk result (λ c. AllStatedFit m.now m.now.functions c) }
+    ensures holds { IfOk result (λ c. IsTrue (certificate_holds m.now c)) }
+    ensures acquires { OnOk result (AcquiresHold m.now) }
+    ensures refused { IfErr result (IsUnproved m.now) }
+{
+    let locals = locals::least_locals(alloc, m)?;
+    let c = borrows::with_least_edges(alloc, m, &locals)?;
+    check_acquires(m, &c)?;
+    Ok(c)
+}
+
+/// A certificate of the module that passes `check`, made of the least states that hold in each function. It is principal: where
+/// some certificate passes, this one is answered, unless the search reaches its limits or an allocation fails.
+///
+/// # Errors
+/// `Refused` with the first of phases 10, 11 and 12 that no certificate passes. `TooComplex` where the search reaches its limits,
+/// which it never does in a module without a local of reference type, parameters included. `Memory` if an allocation failed.
+pub fn prove(alloc: Global, m: &Typed<'_>) -> Result<Cert, ProveError>
+    ensures shape { IfOk result (λ c. AllStatedFit m.now m.now.functions c) }
+    ensures passes { IfOk result (PassesCheck m.now) }
+    ensures refused { IfErr result (IsUnproved m.now) }
+    ensures principal { IsProvable m.now → IfErr result IsOfLimits }
+{
+    find(alloc, m)
+}
+
+#[cfg(test)]
+mod tests;

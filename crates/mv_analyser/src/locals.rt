@@ -1,0 +1,66 @@
+// The least availabilities of each function that hold.
+ghost use Rattle.std.specs.Prelude.{⊤, ◌≡◌, ◌<◌, length, IfOk, IfErr, IsTrue};
+ghost use Rattle.mv_certificate.specs.Certificate.{all_locals_hold};
+ghost use Rattle.mv_certificate.specs.Functions.{LocalsHoldAt};
+ghost use Rattle.mv_certificate.specs.Reads.{FitsAt};
+ghost use Rattle.mv_certificate.specs.Shape.{AllStatedFit};
+ghost use Rattle.mv_analyser.specs.Principal.{IsUnproved};
+ghost use Rattle.mv_analyser.specs.States.{locals_alone, IsErrorAt};
+
+use crate::{ProveError, error_in};
+use mv_certificate::{Cert, Known, Stated, function_at, function_count, graph_of};
+use mv_edges::Edges;
+use mv_lattice::solve;
+use mv_locals_safety::{Availabilities, LocalsDomain};
+use mv_type_states::Typed;
+use std::alloc::{AllocError, Global};
+
+/// The availabilities, with no edges.
+fn alone(alloc: Global, all: &[Option<Availabilities>]) -> Result<Stated, AllocError>
+    ensures { IfOk result (λ s. s ≡ locals_alone all.now) }
+{
+    let mut blocks = Vec::new(alloc);
+    for block in all {
+        let known = match block {
+            Some(locals) => Some(Known {
+                locals: locals.copy(alloc)?,
+                edges: Edges::new(alloc),
+            }),
+            None => None,
+        };
+        blocks.push(known)?;
+    }
+    Ok(Stated { blocks })
+}
+
+/// The least availabilities of function `f` that hold, with no edges.
+fn state_locals(alloc: Global, m: &Typed<'_>, f: usize) -> Result<Stated, ProveError>
+    requires { f < length m.now.functions }
+    ensures fits { IfOk result (FitsAt m.now f) }
+    ensures holds { IfOk result (LocalsHoldAt m.now f) }
+    ensures refused { IfErr result (IsErrorAt m.now f 10 (LocalsHoldAt m.now f) ⊤) }
+{
+    let domain = LocalsDomain::of_function(alloc, m, f)?;
+    let start = domain.start(alloc)?;
+    let function = function_at(m, f);
+    let graph = graph_of(m, f, function);
+    match solve(alloc, &domain, graph, &start) {
+        Ok(least) => Ok(alone(alloc, &least)?),
+        Err(e) => Err(error_in(10, e)),
+    }
+}
+
+/// The least availabilities of each function that hold, with no edges.
+pub fn least_locals(alloc: Global, m: &Typed<'_>) -> Result<Cert, ProveError>
+    ensures shape { IfOk result (λ c. AllStatedFit m.now m.now.functions c) }
+    ensures holds { IfOk result (λ c. IsTrue (all_locals_hold m.now c)) }
+    ensures refused { IfErr result (IsUnproved m.now) }
+{
+    let count = function_count(m);
+    let mut functions = Vec::new(alloc);
+    for f in 0..count {
+        let stated = state_locals(alloc, m, f)?;
+        functions.push(stated).map_err(|_| ProveError::Memory)?;
+    }
+    Ok(Cert { functions })
+}

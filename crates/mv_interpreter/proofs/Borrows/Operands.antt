@@ -1,0 +1,276 @@
+-- The machine's rules taken apart: what they take off the stack and put on it.
+use Rattle.std.proofs.Common.{◌≡◌, ℕ, zero, suc, List, [], ◌∷◌, ◌++◌, map, length, reverse, take, drop, Bool, true, false, not, cond, refl, sym, ◌∙◌, ap, subst, Option, Some, None, Result, Ok, Err, ap₂}
+use Rattle.std.specs.Prelude.{slice_get, nat_le, ok_or, ◌&&◌, option_map, option_and_then, ⊤}
+use Rattle.std.proofs.lemmas.Grind.{reverse_onto}
+use Rattle.mv_move_types.specs.declared.token.Width.{Width}
+use Rattle.mv_move_types.specs.declared.token.Width.TheVariants.{U8}
+use Rattle.mv_move_types.specs.declared.token.LeafKind.TheVariants.{Number}
+use Rattle.mv_move_types.specs.Names.{StructName}
+use Rattle.mv_move_types.specs.Module.{Module, struct_name}
+use Rattle.mv_move_types.specs.declared.token.LeafKind.{LeafKind}
+use Rattle.mv_move_types.specs.declared.token.ValueType.{ValueType}
+use Rattle.mv_move_types.specs.declared.token.ValueType.TheVariants.{OfLeaf, OfStruct}
+use Rattle.mv_move_types.specs.declared.token.Token.{Token}
+use Rattle.mv_move_types.specs.declared.token.Token.TheVariants.{Plain, Reference as ReferenceTo, MutableReference as MutableReferenceTo}
+use Rattle.std.specs.Bool.{beq}
+use Rattle.std.specs.Option.{option_map_or}
+use Rattle.std.proofs.lemmas.Bool.{and_parts}
+use Rattle.mv_machine.specs.State.{State, place_value}
+use Rattle.mv_machine.specs.Typing.{linked, LinkageFault, value_type_tag, tag_named, have_tags, plain_tag, Failure, Faults, TypeFault, LostFault, entry, tag_of, has_tag}
+use Rattle.mv_move_types.specs.Tags.{Tag, LeafTag, ReferenceTag, StructTag, same_tag}
+use Rattle.mv_move_types.specs.AbilitySets.{same_abilities}
+use Rattle.mv_move_types.specs.Named.{declared}
+use Rattle.mv_interpreter.specs.Borrows.Hypotheses.{token_kind, operand_kind, NoneOf, HoldsNone}
+use Rattle.mv_move_types.specs.Results.{for_each, ◌>>=◌, ◌>>◌, need}
+use Rattle.mv_move_types.specs.Options.{◌>>=◌ as ◌>>>◌}
+use Rattle.mv_move_types.specs.Tokens.{same_width}
+use Rattle.mv_machine.specs.Value.{same_value, Reference, Value, Leaf, Struct, Ref, list_of}
+use Rattle.mv_machine.specs.Live.{reference_of}
+use Rattle.mv_machine.specs.Numbers.{Operator, fitting}
+use Rattle.mv_machine.specs.StepParts.{is_reference_tag, can_drop, Here, operand, operands, as_number, as_boolean, as_reference, as_fields, truth}
+use Rattle.mv_machine.specs.StepLocals.{held}
+use Rattle.mv_machine.specs.StepNumbers.{binary, comparison, shift, cast, logic, negation, equality}
+use Rattle.mv_machine.proofs.Laws.{on_bind, on_need}
+use Rattle.mv_interpreter.proofs.Borrows.Kept.{Falls, falls-popped, falls-pushed, falls-then, falls-same}
+
+-- the same for what lives higher
+pub bind : {A B E : Type 0} {P : Type 1} (r : Result A E) (f : A → Result B E) (y : B) → (r >>= f) ≡ Ok y → ((x : A) → r ≡ Ok x → f x ≡ Ok y → P) → P
+bind (Ok x) f y e go = go x refl e
+bind (Err d) f y e go = absurd cc
+
+pub met : {B E : Type 0} {P : Type 1} (b : Bool) (d : E) (r : Result B E) (y : B) → (need b d >> r) ≡ Ok y → (b ≡ true → r ≡ Ok y → P) → P
+met true d r y e go = go refl e
+met false d r y e go = absurd cc
+
+pub some-bind : {A B : Type 0} {P : Type 1} (r : Option A) (f : A → Option B) (y : B) → (r >>> f) ≡ Some y → ((x : A) → r ≡ Some x → f x ≡ Some y → P) → P
+some-bind (Some x) f y e go = go x refl e
+some-bind None f y e go = absurd cc
+
+pub ok-is : {A E : Type 0} (x y : A) → (let r : Result A E = Ok x in r) ≡ Ok y → x ≡ y
+ok-is x y h = cc
+
+pub some-is : {A : Type 0} (x y : A) → Some x ≡ Some y → x ≡ y
+some-is x y h = cc
+
+pub found-is : {A E : Type 0} (o : Option A) (d : E) (x : A) → ok_or o d ≡ Ok x → o ≡ Some x
+found-is None d x h = absurd cc
+found-is (Some y) d x h = ap Some (ok-is y x h)
+
+pub operand-is : (s : List Value) (x : Value × List Value) → operand s ≡ Ok x → s ≡ x.0 ∷ x.1
+operand-is [] x h = absurd cc
+operand-is (v ∷ s) x h = ap (λ (y : Value × List Value). y.0 ∷ y.1) (ok-is (v, s) x h)
+
+pub operands-is : (n : ℕ) (s : List Value) (x : List Value × List Value) → operands n s ≡ Ok x → (nat_le n (length s) ≡ true) × (x ≡ (reverse (take n s), drop n s))
+operands-is n s x h = by_case (nat_le n (length s)) h
+  where
+    by_case : (b : Bool) → cond b (Ok (reverse (take n s), drop n s)) (Err (Faults TypeFault)) ≡ Ok x → (b ≡ true) × (x ≡ (reverse (take n s), drop n s))
+    by_case true e = (refl, sym (ok-is (reverse (take n s), drop n s) x e))
+    by_case false e = absurd cc
+
+pub held-is : (h : Here) (l : ℕ) (v : Value) → held h l ≡ Ok v → slice_get h.state.top.locals l ≡ Some (Some v)
+unfolding held
+held-is h l v e =
+    on_bind (entry h.state.top.locals l) _ v e (λ local at e1.
+    found-is (slice_get h.state.top.locals l) _ local at ∙ ap Some (found-is local _ v e1))
+
+pub reference-is : (v : Value) (r : Reference) → as_reference v ≡ Ok r → v ≡ Ref r
+reference-is (Leaf k n) r h = absurd cc
+reference-is (Struct n fs) r h = absurd cc
+reference-is (Ref q) r h = ap Ref (ok-is q r h)
+
+pub fields-are : (name : StructName) (v : Value) (fs : List Value) → as_fields name v ≡ Ok fs → HoldsNone v → NoneOf fs
+fields-are name (Leaf j n) fs h k = absurd cc
+fields-are name (Ref r) fs h k = absurd cc
+fields-are name (Struct own vs) fs h k = on_need (same_tag (StructTag own) (StructTag name)) (Faults TypeFault) _ fs h (λ m e. subst NoneOf (ok-is (list_of vs) fs e) k)
+
+-- ---- what falls
+
+refs : List Value → List (Option Reference)
+refs s = map reference_of s
+
+pub one-off : (s : List Value) (a : Value × List Value) → operand s ≡ Ok a → Falls (map reference_of s) (map reference_of a.1)
+one-off s a h = falls-popped (map reference_of s) (map reference_of a.1) (reference_of a.0) (ap (map reference_of) (operand-is s a h))
+
+pub two-off : (s : List Value) (a b : Value × List Value) → operand s ≡ Ok a → operand a.1 ≡ Ok b → Falls (map reference_of s) (map reference_of b.1)
+two-off s a b h k = falls-then (map reference_of s) (map reference_of a.1) (map reference_of b.1) (one-off s a h) (one-off a.1 b k)
+
+-- a value that is no reference comes on top
+pub comes : (s t r : List Value) (v : Value) → reference_of v ≡ None → Falls (map reference_of s) (map reference_of t) → (let y : Result (List Value) Failure = Ok (v ∷ t) in y) ≡ Ok r
+    → Falls (map reference_of s) (map reference_of r)
+comes s t r v h f e = subst (λ (x : List Value). Falls (map reference_of s) (map reference_of x)) (ok-is (v ∷ t) r e) (falls-pushed (map reference_of s) (map reference_of t) (reference_of v) h f)
+
+pub binary-falls : (op : Operator) (s r : List Value) → binary op s ≡ Ok r → Falls (map reference_of s) (map reference_of r)
+unfolding binary
+binary-falls op s r e =
+    on_bind (operand s) _ r e (λ right right_is e1.
+    on_bind (operand right.1) _ r e1 (λ left left_is e2.
+    on_bind (as_number right.0) _ r e2 (λ y y_is e3.
+    on_bind (as_number left.0) _ r e3 (λ x x_is e4.
+    on_need (same_width x.0 y.0) (Faults TypeFault) _ r e4 (λ same e5.
+    on_bind (op x.0 x.1 y.1) _ r e5 (λ n n_is e6.
+    comes s left.1 r (Leaf (Number x.0) n) refl (two-off s right left right_is left_is) e6))))))
+
+pub comparison-falls : (test : ℕ → ℕ → Bool) (s r : List Value) → comparison test s ≡ Ok r → Falls (map reference_of s) (map reference_of r)
+unfolding comparison
+comparison-falls test s r e =
+    on_bind (operand s) _ r e (λ right right_is e1.
+    on_bind (operand right.1) _ r e1 (λ left left_is e2.
+    on_bind (as_number right.0) _ r e2 (λ y y_is e3.
+    on_bind (as_number left.0) _ r e3 (λ x x_is e4.
+    on_need (same_width x.0 y.0) (Faults TypeFault) _ r e4 (λ same e5.
+    comes s left.1 r (truth (test x.1 y.1)) refl (two-off s right left right_is left_is) e5)))))
+
+pub shift-falls : (op : Operator) (s r : List Value) → shift op s ≡ Ok r → Falls (map reference_of s) (map reference_of r)
+unfolding shift
+shift-falls op s r e =
+    on_bind (operand s) _ r e (λ right right_is e1.
+    on_bind (operand right.1) _ r e1 (λ left left_is e2.
+    on_bind (as_number right.0) _ r e2 (λ y y_is e3.
+    on_bind (as_number left.0) _ r e3 (λ x x_is e4.
+    on_need (same_width y.0 U8) (Faults TypeFault) _ r e4 (λ same e5.
+    on_bind (op x.0 x.1 y.1) _ r e5 (λ n n_is e6.
+    comes s left.1 r (Leaf (Number x.0) n) refl (two-off s right left right_is left_is) e6))))))
+
+pub cast-falls : (w : Width) (s r : List Value) → cast w s ≡ Ok r → Falls (map reference_of s) (map reference_of r)
+unfolding cast
+cast-falls w s r e =
+    on_bind (operand s) _ r e (λ top top_is e1.
+    on_bind (as_number top.0) _ r e1 (λ x x_is e2.
+    on_bind (fitting w x.1) _ r e2 (λ n n_is e3.
+    comes s top.1 r (Leaf (Number w) n) refl (one-off s top top_is) e3)))
+
+pub logic-falls : (op : Bool → Bool → Bool) (s r : List Value) → logic op s ≡ Ok r → Falls (map reference_of s) (map reference_of r)
+unfolding logic
+logic-falls op s r e =
+    on_bind (operand s) _ r e (λ right right_is e1.
+    on_bind (operand right.1) _ r e1 (λ left left_is e2.
+    on_bind (as_boolean right.0) _ r e2 (λ y y_is e3.
+    on_bind (as_boolean left.0) _ r e3 (λ x x_is e4.
+    comes s left.1 r (truth (op x y)) refl (two-off s right left right_is left_is) e4))))
+
+pub negation-falls : (s r : List Value) → negation s ≡ Ok r → Falls (map reference_of s) (map reference_of r)
+unfolding negation
+negation-falls s r e =
+    on_bind (operand s) _ r e (λ top top_is e1.
+    on_bind (as_boolean top.0) _ r e1 (λ x x_is e2.
+    comes s top.1 r (truth (not x)) refl (one-off s top top_is) e2))
+
+pub equality-falls : (h : Here) (answer : Bool → Bool) (s r : List Value) → equality h answer s ≡ Ok r → Falls (map reference_of s) (map reference_of r)
+unfolding equality
+equality-falls h answer s r e =
+    on_bind (operand s) _ r e (λ right right_is e1.
+    on_bind (operand right.1) _ r e1 (λ left left_is e2.
+    on_bind (ok_or (tag_of h.state left.0) (Faults TypeFault)) _ r e2 (λ tag tag_is e3.
+    on_need (has_tag h.state right.0 tag) (Faults TypeFault) _ r e3 (λ a e4.
+    on_need (not (is_reference_tag tag)) (Faults TypeFault) _ r e4 (λ b e5.
+    on_need (can_drop h left.0 && can_drop h right.0) (Faults LostFault) _ r e5 (λ d e6.
+    comes s left.1 r (truth (answer (same_value left.0 right.0))) refl (two-off s right left right_is left_is) e6))))))
+
+pub drop-falls : (n : ℕ) (s : List Value) → Falls (map reference_of s) (map reference_of (drop n s))
+drop-falls zero s = falls-same (map reference_of s)
+drop-falls (suc n) [] = falls-same []
+drop-falls (suc n) (v ∷ s) =
+    falls-then (map reference_of (v ∷ s)) (map reference_of s) (map reference_of (drop n s)) (falls-popped (map reference_of (v ∷ s)) (map reference_of s) (reference_of v) refl) (drop-falls n s)
+
+pub none-more : (xs : List Value) (s t : List Value) → NoneOf xs → Falls (map reference_of s) (map reference_of t) → Falls (map reference_of s) (map reference_of (xs ++ t))
+none-more [] s t h f = f
+none-more (v ∷ xs) s t h f = falls-pushed (map reference_of s) (map reference_of (xs ++ t)) (reference_of v) h.0 (none-more xs s t h.1 f)
+
+none-append : (xs ys : List Value) → NoneOf xs → NoneOf ys → NoneOf (xs ++ ys)
+none-append [] ys h k = k
+none-append (v ∷ xs) ys h k = (h.0, none-append xs ys h.1 k)
+
+pub none-reverse : (xs : List Value) → NoneOf xs → NoneOf (reverse xs)
+none-reverse [] h = h
+none-reverse (v ∷ xs) h = subst NoneOf (sym (reverse_onto xs v [])) (none-append (reverse xs) (v ∷ []) (none-reverse xs h.1) (h.0, tt))
+
+-- ---- tags
+
+leaf-tag : (kind : LeafKind) (tag to : Tag) (b : Bool) → tag ≡ ReferenceTag b to → same_tag (LeafTag kind) tag ≡ true → ⊥
+leaf-tag kind tag to b h e = absurd-false (sym (ap (same_tag (LeafTag kind)) h) ∙ e)
+  where
+    absurd-false : false ≡ true → ⊥
+    absurd-false d = cc
+
+struct-tag : (name : StructName) (tag to : Tag) (b : Bool) → tag ≡ ReferenceTag b to → same_tag (StructTag name) tag ≡ true → ⊥
+struct-tag name tag to b h e = absurd-false (sym (ap (same_tag (StructTag name)) h) ∙ e)
+  where
+    absurd-false : false ≡ true → ⊥
+    absurd-false d = cc
+
+-- a plain type's tag is no reference's
+abbrev pub IsPlainTag : Tag → Type 0
+IsPlainTag (LeafTag kind) = ⊤
+IsPlainTag (StructTag name) = ⊤
+IsPlainTag (ReferenceTag b to) = ⊥
+
+plain-tag : (modules : List Module) (m : Module) (t : ValueType) (tag : Tag) → value_type_tag modules m t ≡ Ok tag → IsPlainTag tag
+plain-tag modules m (OfLeaf kind) tag h = subst IsPlainTag (ok-is (LeafTag kind) tag h) tt
+plain-tag modules m (OfStruct i) tag h =
+    on_bind (entry m.struct_handles i) _ tag h (λ handle handle_is e1.
+    on_bind (linked (struct_name m i)) _ tag e1 (λ name name_is e2.
+    on_bind (linked (declared modules name)) _ tag e2 (λ abilities abilities_is e3.
+    on_need (same_abilities abilities handle.abilities) (Faults LinkageFault) _ tag e3 (λ met e4. subst IsPlainTag (ok-is (StructTag name) tag e4) tt))))
+
+reference-tag : (modules : List Module) (m : Module) (b : Bool) (t : ValueType) (tag : Tag) → (value_type_tag modules m t >>= λ to. Ok (ReferenceTag b to)) ≡ Ok tag → (to : Tag) × (tag ≡ ReferenceTag b to)
+reference-tag modules m b t tag h = on_bind (value_type_tag modules m t) _ tag h (λ to to_is e. (to, sym (ok-is (ReferenceTag b to) tag e)))
+
+pub not-plain : (b : Bool) (x tag : Tag) → IsPlainTag tag → same_tag (ReferenceTag b x) tag ≡ true → ⊥
+not-plain b x (LeafTag k) p h = cc
+not-plain b x (StructTag n) p h = cc
+not-plain b x (ReferenceTag c to) p h = p
+
+same-flag : (a b : Bool) (x to tag : Tag) → tag ≡ ReferenceTag b to → same_tag (ReferenceTag a x) tag ≡ true → a ≡ b
+same-flag a b x to tag h e = beq-is a b (and_parts (beq a b) (same_tag x to) (sym (ap (same_tag (ReferenceTag a x)) h) ∙ e)).0
+  where
+    beq-is : (a b : Bool) → beq a b ≡ true → a ≡ b
+    beq-is true true h = refl
+    beq-is false false h = refl
+    beq-is true false h = absurd cc
+    beq-is false true h = absurd cc
+
+pub followed : (o : Option Tag) (a : Bool) (tag : Tag) → option_map_or (λ own. same_tag own tag) (option_map (ReferenceTag a) o) false ≡ true → (x : Tag) × (same_tag (ReferenceTag a x) tag ≡ true)
+followed None a tag h = absurd cc
+followed (Some x) a tag h = (x, h)
+
+-- a value that has a type's tag is a reference where the type is
+pub tag-kind : (modules : List Module) (m : Module) (s : State) (v : Value) (t : Token) (tag : Tag) → tag_named modules m t ≡ Ok tag → has_tag s v tag ≡ true
+    → token_kind t ≡ operand_kind (reference_of v)
+tag-kind modules m s (Leaf kind n) (Plain t) tag h k = refl
+tag-kind modules m s (Struct name fs) (Plain t) tag h k = refl
+tag-kind modules m s (Ref r) (Plain t) tag h k =
+    let x = followed (option_and_then plain_tag (place_value s r.place)) r.is_mutable tag k in
+    absurd (not-plain r.is_mutable x.0 tag (plain-tag modules m t tag h) x.1)
+tag-kind modules m s (Leaf kind n) (ReferenceTo t) tag h k = let y = reference-tag modules m false t tag h in absurd (leaf-tag kind tag y.0 false y.1 k)
+tag-kind modules m s (Struct name fs) (ReferenceTo t) tag h k = let y = reference-tag modules m false t tag h in absurd (struct-tag name tag y.0 false y.1 k)
+tag-kind modules m s (Ref r) (ReferenceTo t) tag h k =
+    let y = reference-tag modules m false t tag h in
+    let x = followed (option_and_then plain_tag (place_value s r.place)) r.is_mutable tag k in
+    ap Some (sym (same-flag r.is_mutable false x.0 y.0 tag y.1 x.1))
+tag-kind modules m s (Leaf kind n) (MutableReferenceTo t) tag h k = let y = reference-tag modules m true t tag h in absurd (leaf-tag kind tag y.0 true y.1 k)
+tag-kind modules m s (Struct name fs) (MutableReferenceTo t) tag h k = let y = reference-tag modules m true t tag h in absurd (struct-tag name tag y.0 true y.1 k)
+tag-kind modules m s (Ref r) (MutableReferenceTo t) tag h k =
+    let y = reference-tag modules m true t tag h in
+    let x = followed (option_and_then plain_tag (place_value s r.place)) r.is_mutable tag k in
+    ap Some (sym (same-flag r.is_mutable true x.0 y.0 tag y.1 x.1))
+
+-- values that have the tags of types
+pub tags-kinds : (modules : List Module) (m : Module) (s : State) (vs : List Value) (ts : List Token) (tags : List Tag) → for_each (tag_named modules m) ts ≡ Ok tags → have_tags s vs tags ≡ true
+    → map token_kind ts ≡ map operand_kind (map reference_of vs)
+tags-kinds modules m s [] [] tags h k = refl
+tags-kinds modules m s (v ∷ vs) [] tags h k = absurd (none tags (ok-is [] tags h) k)
+  where
+    none : (tags : List Tag) → [] ≡ tags → have_tags s (v ∷ vs) tags ≡ true → ⊥
+    none [] h k = cc
+    none (t ∷ tags) h k = cc
+tags-kinds modules m s vs (t ∷ ts) tags h k =
+    on_bind (tag_named modules m t) _ tags h (λ tag tag_is e1.
+    on_bind (for_each (tag_named modules m) ts) _ tags e1 (λ more more_is e2.
+    one vs tag more tag_is (λ us g. tags-kinds modules m s us ts more more_is g) (subst (λ (x : List Tag). have_tags s vs x ≡ true) (sym (ok-is (tag ∷ more) tags e2)) k)))
+  where
+    one : (vs : List Value) (tag : Tag) (more : List Tag) → tag_named modules m t ≡ Ok tag → ((us : List Value) → have_tags s us more ≡ true → map token_kind ts ≡ map operand_kind (map reference_of us))
+        → have_tags s vs (tag ∷ more) ≡ true → token_kind t ∷ map token_kind ts ≡ map operand_kind (map reference_of vs)
+    one [] tag more d g k = absurd cc
+    one (v ∷ vs) tag more d g k =
+        let both = and_parts (has_tag s v tag) (have_tags s vs more) k in
+        ap₂ (λ (x : Option Bool) (xs : List (Option Bool)). x ∷ xs) (tag-kind modules m s v t tag d both.0) (g vs both.1)

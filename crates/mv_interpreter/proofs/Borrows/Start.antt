@@ -1,0 +1,61 @@
+-- The first state of a run, whose arguments are no references.
+use Rattle.std.proofs.Common.{◌≡◌, ℕ, zero, suc, ◌<◌, List, [], ◌∷◌, ◌++◌, map, reverse, refl, sym, ◌∙◌, ap, subst, Some, None}
+use Rattle.std.specs.Prelude.{slice_get, replicate}
+use Rattle.mv_move_types.specs.Module.{Module, FunctionDefinition}
+use Rattle.mv_machine.specs.Value.{Reference, Value}
+use Rattle.mv_machine.specs.State.{State}
+use Rattle.mv_machine.specs.Live.{reference_of}
+use Rattle.mv_edges.specs.Edges.{Edge}
+use Rattle.mv_type_states.specs.TypeRules.{Types}
+use Rattle.mv_borrow_graph.specs.Abstract.Covers.{Node as TheNode, Slot as AtSlot, Own as AtOwn, Glob as AtGlob, Temp as AtTemp, Ref as TheRef, Live}
+use Rattle.mv_borrow_graph.specs.Abstract.Lists.{seen as seen_frame, refs_among, stack_ref}
+use Rattle.mv_borrow_graph.specs.Abstract.Stack.{Bottom}
+use Rattle.mv_interpreter.specs.Borrows.View.{held_as, activation, alone}
+use Rattle.mv_interpreter.specs.Borrows.Hypotheses.{NoneOf}
+use Rattle.mv_interpreter.specs.Borrows.Stood.{StoodOn, Descending, Sound}
+use Rattle.mv_interpreter.proofs.Borrows.Lists.{local-back}
+use Rattle.mv_interpreter.proofs.Borrows.Operands.{none-reverse, some-is}
+use Rattle.mv_interpreter.proofs.Borrows.Calls.{homed}
+use Rattle.mv_interpreter.proofs.Borrows.Transfers.{turned}
+
+none-given : (args : List Value) (n l : ℕ) (v : Value) → NoneOf args → slice_get (map Some args ++ replicate n None) l ≡ Some (Some v) → reference_of v ≡ None
+none-given [] zero l v h e = absurd cc
+none-given [] (suc n) zero v h e = absurd cc
+none-given [] (suc n) (suc l) v h e = none-given [] n l v h e
+none-given (a ∷ args) n zero v h e = ap reference_of (sym (some-is a v (some-is (Some a) (Some v) e))) ∙ h.0
+none-given (a ∷ args) n (suc l) v h e = none-given args n l v h.1 e
+
+none-among : (args : List Value) → NoneOf args → refs_among (map held_as (map reference_of args)) ≡ []
+none-among [] h = refl
+none-among (a ∷ args) h = rw h.0 (none-among args h.1)
+
+pub sound-start : (depends : ℕ → ℕ → Type 0) (s : State) (home : Module) (function : FunctionDefinition) (types : Types) (edges : List Edge) (args : List Value) (n : ℕ) → s.below ≡ []
+    → s.top.entered_with ≡ map reference_of args → s.top.locals ≡ map Some args ++ replicate n None → s.top.stack ≡ [] → NoneOf args → s.top.number < s.entered
+    → Sound depends s (record { home = home; function = function; frame = s.top; lent = []; types = types; edges = edges }) []
+sound-start depends s home function types edges args n below entered locals stack none next = record {
+  stood = (refl, refl, subst (λ fs. StoodOn s.top.entered_with fs []) (sym below) tt);
+  chain = Bottom (record {
+    own = λ m r l h k. absurd (none-live m r h);
+    glob = λ m r a t h k q. absurd (none-live m r h);
+    pairs = λ m k q r d h g o u. absurd (none-live m q h);
+    origin = λ m r h. absurd (none-live m r h);
+  }) (homed function.acquires (alone s.top))
+      (ap (λ l. refs_among (map held_as (reverse l))) entered ∙ ap (λ l. refs_among (map held_as l)) (sym (turned reference_of args)) ∙ none-among (reverse args) (none-reverse args none));
+  links = tt;
+  ordered = subst (λ fs. Descending (s.top ∷ fs)) (sym below) (tt, tt);
+  next = next;
+}
+  where
+    none-live : (m : TheNode) (r : TheRef) → Live (seen_frame (activation function.acquires (alone s.top))) m r → ⊥
+    none-live (AtSlot l) r h =
+        let t = local-back s.top.locals l r h in
+        not-both t.1 (sym (none-given args n l t.0 none (ap (λ xs. slice_get xs l) (sym locals) ∙ t.2)) ∙ t.3)
+      where
+        not-both : (q : Reference) → None ≡ Some q → ⊥
+        not-both q z = cc
+    none-live (AtOwn l) r h = cc
+    none-live (AtGlob t) r h = cc
+    none-live (AtTemp k) r h = no-place (ap (λ (xs : List Value). stack_ref (map held_as (map reference_of xs)) k) (sym stack) ∙ h)
+      where
+        no-place : None ≡ Some r → ⊥
+        no-place z = cc

@@ -1,0 +1,130 @@
+-- The whole: a run of linked code over an accepted store agrees with the machine's run.
+use Rattle.std.proofs.Common.{◌≡◌, ℕ, ◌≤◌, List, [], ◌∷◌, ◌++◌, map, length, refl, sym, ◌∙◌, subst, Option, Some, None, Result, Ok}
+use Rattle.std.specs.Prelude.{flat_map, replicate}
+use Rattle.std.specs.Option.{option_map_or}
+use Rattle.mv_move_types.specs.declared.token.Token.{Token}
+use Rattle.mv_move_types.specs.Module.{Module}
+use Rattle.mv_machine.specs.Value.{Value, Leaf, Struct, Ref}
+use Rattle.mv_machine.specs.State.{State, Storage}
+use Rattle.mv_machine.specs.Flat.{flat}
+use Rattle.mv_machine.specs.Typing.{Failure}
+use Rattle.mv_move_types.specs.Tags.{Tag, LeafTag, StructTag, ReferenceTag}
+use Rattle.mv_linker.specs.TypesByName.{token_named, tokens_named}
+use Rattle.mv_machine.specs.Run.{FunctionCall, outcome_from, run}
+use Rattle.mv_interpreter.specs.Typing.HasType.{Roots, HasType, HaveTypes, fields_by_name}
+use Rattle.mv_interpreter.specs.Typing.StateTyped.{HaveTokens, StorageTyped}
+use Rattle.mv_interpreter.specs.Typing.Facts.{SoundStore}
+use Rattle.mv_interpreter.specs.Typing.Outcome.{Guides}
+use Rattle.mv_interpreter.specs.Typing.Accepted.{StoreAccepted}
+use Rattle.mv_interpreter.proofs.Typing.Within.{some_is}
+use Rattle.mv_interpreter.proofs.Typing.Operands.{on_some}
+use Rattle.mv_interpreter.proofs.Typing.Structs.{names_length}
+use Rattle.mv_interpreter.proofs.Typing.First.{first_is, Nowhere, CallTyped, begun, first_typed}
+use Rattle.mv_interpreter.proofs.Typing.Addresses.{accepted_is_sound}
+use Rattle.mv_linker.specs.Operations.{Program}
+use Rattle.mv_linker.specs.Widths.{width_of_tags, width_of_tokens}
+use Rattle.mv_linker.specs.Linked.{IsLinked}
+use Rattle.mv_interpreter.specs.Flat.FlatRun.{FlatOutcome, FlatStuck, flat_turns, flat_first, flat_run, width_of_others}
+use Rattle.mv_interpreter.specs.Flat.Represents.{History, ValueWords, LocalsWords, Represented, flat_entry}
+use Rattle.mv_interpreter.specs.Flat.Outcomes.{SameOutcome}
+use Rattle.mv_interpreter.proofs.Flat.Wide.{Sized}
+use Rattle.mv_interpreter.proofs.Flat.Sizes.{sizes}
+use Rattle.mv_interpreter.proofs.Flat.Slot.{widths_named}
+use Rattle.mv_interpreter.proofs.Flat.Arguments.{ListWords}
+use Rattle.mv_interpreter.proofs.Flat.Grow.{entered_locals, all_named, named_split}
+use Rattle.mv_interpreter.proofs.Flat.Calls.{types_are}
+use Rattle.mv_interpreter.proofs.Flat.Run.{turns_follow}
+
+-- values of types have the types' names
+types_named : (modules : List Module) (look : Roots) (home : Module) (vs : List Value) (ts : List Token) (tags : List Tag) → HaveTokens modules look home vs ts → tokens_named home ts ≡ Some tags → HaveTypes (fields_by_name modules) look vs tags
+types_named modules look home [] [] tags h e = subst (λ (x : List Tag). HaveTypes (fields_by_name modules) look [] x) (some_is [] tags e) tt
+types_named modules look home [] (t ∷ ts) tags h e = absurd h
+types_named modules look home (v ∷ vs) [] tags h e = absurd h
+types_named modules look home (v ∷ vs) (t ∷ ts) tags h e =
+    on_some (token_named home t) _ tags e (λ tag tag_is e1.
+    on_some (tokens_named home ts) (λ rest. Some (tag ∷ rest)) tags e1 (λ rest rest_is e2.
+    let same : h.0.tag ≡ tag = some_is h.0.tag tag (sym h.0.names ∙ tag_is) in
+    subst (λ (x : List Tag). HaveTypes (fields_by_name modules) look (v ∷ vs) x) (some_is (tag ∷ rest) tags e2)
+    (subst (λ (x : Tag). HasType (fields_by_name modules) look v x) same h.0.typed, types_named modules look home vs ts rest h.1 rest_is)))
+
+module _ (modules : List Module) (history : History) where
+  -- arguments that are no references have the words of their leaves
+  argument_words : (v : Value) (t : Tag) → HasType (fields_by_name modules) Nowhere v t → ValueWords modules history v (flat v)
+  argument_words (Leaf k n) t h = refl
+  argument_words (Struct name fields) t h = refl
+  argument_words (Ref r) (LeafTag k) h = absurd h
+  argument_words (Ref r) (StructTag name) h = absurd h
+  argument_words (Ref r) (ReferenceTag m to) h = absurd (never h.1.root.value h.1.root.is_there)
+    where
+      never : (v : Value) → None ≡ Some v → ⊥
+      never v e = cc
+
+  arguments_words : (vs : List Value) (ts : List Tag) → HaveTypes (fields_by_name modules) Nowhere vs ts → ListWords modules history vs (flat_map flat vs)
+  arguments_words [] ts h = refl
+  arguments_words (v ∷ vs) [] h = absurd h
+  arguments_words (v ∷ vs) (t ∷ ts) h = (flat v, flat_map flat vs, refl, argument_words v t h.0, arguments_words vs ts h.1)
+
+-- the first state of the flat run represents that of the run
+first_represented : (modules : List Module) (storage : Storage) (call : FunctionCall) (c : CallTyped modules call) → SoundStore modules → Sized modules → StorageTyped modules storage →
+    Represented modules (begun storage call (length c.others)) (flat_first (map flat_entry storage) call.function (flat_map flat call.arguments) (width_of_tokens modules c.home c.others))
+first_represented modules storage call c store sized stored =
+    let facts = store.facts c.home c.function (begun storage call (length c.others)) c.is_home c.is_function in
+    let named = all_named c.home (c.parameters ++ c.others) (λ l t e. facts.local_names (c.parameters ++ c.others) l t c.are_tokens e) in
+    let first = named_first c.home c.parameters c.others named.0 named.1 in
+    let apart = named_split c.home c.parameters c.others first.0 named.0 named.1 first.1 in
+    let history : History = record { base = 0; types = named.0 } ∷ [] in
+    let typed = types_named modules Nowhere c.home call.arguments c.parameters first.0 c.arguments first.1 in
+    let zeros : List ℕ = replicate (width_of_tags modules apart.0) 0 in
+    let locals : LocalsWords modules history (map Some call.arguments ++ replicate (length apart.0) None) (first.0 ++ apart.0) (flat_map flat call.arguments ++ zeros) =
+    entered_locals modules history sized Nowhere call.arguments first.0 apart.0 (flat_map flat call.arguments) typed (arguments_words modules history call.arguments first.0 typed) in
+    let long : length apart.0 ≡ length c.others = names_length c.home c.others apart.0 apart.1 in
+    subst (λ (n : ℕ). Represented modules (begun storage call (length c.others)) (flat_first (map flat_entry storage) call.function (flat_map flat call.arguments) n)) (sym (widths_named modules c.home c.others apart.0 apart.1)) (
+      history,
+      record {
+        counted = refl;
+        words = (
+          [],
+          record {
+            types = named.0;
+            area = flat_map flat call.arguments ++ zeros;
+            function = refl;
+            at = refl;
+            base = refl;
+            are_types = types_are modules call.function c.home c.function (c.parameters ++ c.others) named.0 c.is_home c.is_function c.are_tokens named.1;
+            is_known = refl;
+            locals = subst (λ (n : ℕ). LocalsWords modules history (map Some call.arguments ++ replicate n None) named.0 (flat_map flat call.arguments ++ zeros)) long
+                (subst (λ (ts : List Tag). LocalsWords modules history (map Some call.arguments ++ replicate (length apart.0) None) ts (flat_map flat call.arguments ++ zeros)) (sym apart.2) locals);
+            stack = refl;
+          },
+          refl,
+        );
+        storage = refl;
+        steps = refl;
+        tally = tt;
+      },
+    )
+  where
+    named_first : (m : Module) (ts us : List Token) (all : List Tag) → tokens_named m (ts ++ us) ≡ Some all → (a : List Tag) × (tokens_named m ts ≡ Some a)
+    named_first m [] us all e = ([], refl)
+    named_first m (t ∷ ts) us all e =
+        on_some (token_named m t) _ all e (λ tag tag_is e1.
+        on_some (tokens_named m (ts ++ us)) (λ rest. Some (tag ∷ rest)) all e1 (λ rest rest_is e2.
+        let inner = named_first m ts us rest rest_is in
+        (tag ∷ inner.0, rw (tag_is, inner.1) refl)))
+
+others_are : (modules : List Module) (call : FunctionCall) (c : CallTyped modules call) → width_of_others modules call.function ≡ Some (width_of_tokens modules c.home c.others)
+others_are modules call c = rw (c.is_home, c.is_function, c.are_others) refl
+
+-- a run of linked code from a typed call over a typed storage ends as the machine's run does, wherever that meets no fault
+pub flat_run_follows : (modules : List Module) (program : Program) (P : State → Type 0) (storage : Storage) (call : FunctionCall) (budget : ℕ) → StoreAccepted modules → length modules ≤ 65536 → IsLinked modules program → Guides modules P →
+    (c : CallTyped modules call) → StorageTyped modules storage → P (begun storage call (length c.others)) →
+    SameOutcome modules (run modules storage call budget) (flat_run modules program (map flat_entry storage) call.function (flat_map flat call.arguments) budget)
+unfolding run flat_run
+flat_run_follows modules program P storage call budget accepted few linked guides c stored p =
+    let store : SoundStore modules = accepted_is_sound modules accepted in
+    let sized : Sized modules = sizes modules accepted in
+    let flat_ends : Option ℕ → FlatOutcome = λ others. option_map_or (λ others. flat_turns program budget (flat_first (map flat_entry storage) call.function (flat_map flat call.arguments) others)) others FlatStuck in
+    subst (λ (r : Result State Failure). SameOutcome modules (outcome_from modules budget r) (flat_ends (width_of_others modules call.function))) (sym (first_is modules storage call c))
+    (subst (λ (r : Option ℕ). SameOutcome modules (outcome_from modules budget (Ok (begun storage call (length c.others)))) (flat_ends r)) (sym (others_are modules call c))
+    (turns_follow modules program P budget (begun storage call (length c.others)) (flat_first (map flat_entry storage) call.function (flat_map flat call.arguments) (width_of_tokens modules c.home c.others)) store sized few linked guides
+    (first_typed modules storage call c stored) p (first_represented modules storage call c store sized stored)))

@@ -1,0 +1,177 @@
+-- A certificate that holds of a module holds of each of its functions; and what is known where a callee begins.
+use Rattle.std.proofs.Common.{◌≡◌, ℕ, zero, suc, ◌+◌, ◌-◌, List, [], ◌∷◌, ◌++◌, map, length, replicate, true, false, refl, sym, ◌∙◌, ap, subst, arith, Bool, Option, Some, None, option_map, Ok, Err, Result}
+use Rattle.std.specs.Prelude.{slice_get, ◌&&◌, ◌||◌, ◌==◌, ⊤}
+use Rattle.std.specs.Option.{option_map_or}
+use Rattle.std.proofs.lemmas.Bool.{and_parts}
+use Rattle.std.proofs.lemmas.List.{length-append}
+use Rattle.mv_move_types.specs.declared.tables.FunctionHandle.{FunctionHandle}
+use Rattle.mv_move_types.specs.declared.token.Token.{Token}
+use Rattle.mv_move_types.specs.declared.borrow.Availability.TheVariants.{Available, Unavailable}
+use Rattle.mv_move_types.specs.Module.{Module, FunctionDefinition, local_tokens, parameter_tokens, module_name}
+use Rattle.mv_machine.specs.Value.{Value}
+use Rattle.mv_machine.specs.State.{State}
+use Rattle.mv_machine.specs.Typing.{Failure, Faults, TypeFault, LinkageFault, entry, linked, have_tags}
+use Rattle.mv_move_types.specs.Tags.{Tag, same_tag, same_tags}
+use Rattle.mv_move_types.specs.Named.{module_place, is_public, function_place}
+use Rattle.mv_certificate.specs.Certificate.{Known, known_at_start, Certificate, Stated, flow_holds, locals_hold, edges_hold, each_function}
+use Rattle.mv_locals_safety.specs.LocalsRules.{locals_leq, locals_after}
+use Rattle.mv_edges.specs.Edges.{edges_leq}
+use Rattle.mv_borrow_graph.specs.BorrowRules.{edges_after}
+use Rattle.mv_machine.specs.StepParts.{Here, Turn, Goes, Returns, operands}
+use Rattle.mv_machine.specs.StepControl.{Callee, callee, signature_tags, entered_frame, call}
+use Rattle.mv_machine.proofs.Laws.{on_bind, on_need}
+use Rattle.mv_interpreter.proofs.Borrows.Operands.{some-is, ok-is, found-is}
+use Rattle.mv_interpreter.proofs.Borrows.Certified.{some-bind2}
+use Rattle.mv_interpreter.proofs.Borrows.Transfers.{tags-long}
+use Rattle.mv_interpreter.proofs.Borrows.Available.{known-start}
+use Rattle.mv_interpreter.specs.Borrows.Locals.{AsKnown}
+use Rattle.mv_interpreter.specs.Guided.Facts.{StoreFacts}
+
+-- what is stated of a function flows
+pub record Flows (m : Module) (d : FunctionDefinition) (stated : Stated) : Type 0 where
+  pub start : Known
+  pub is_start : known_at_start m d ≡ Some start
+  pub locals : flow_holds locals_after locals_leq m d start.locals (map (option_map (λ (k : Known). k.locals)) stated) ≡ true
+  pub edges : flow_holds edges_after edges_leq m d start.edges (map (option_map (λ (k : Known). k.edges)) stated) ≡ true
+
+each-at : (test : FunctionDefinition → Stated → Bool) (ds : List FunctionDefinition) (cs : Certificate) (k : ℕ) (d : FunctionDefinition) → each_function test ds cs ≡ true → slice_get ds k ≡ Some d
+    → (c : Stated) × (slice_get cs k ≡ Some c) × (test d c ≡ true)
+each-at test [] cs k d h e = absurd cc
+each-at test (x ∷ ds) [] k d h e = absurd cc
+each-at test (x ∷ ds) (c ∷ cs) zero d h e = (c, refl, subst (λ y. test y c ≡ true) (some-is x d e) (and_parts (test x c) (each_function test ds cs) h).0)
+each-at test (x ∷ ds) (c ∷ cs) (suc k) d h e = each-at test ds cs k d (and_parts (test x c) (each_function test ds cs) h).1 e
+
+module _ (depends : ℕ → ℕ → Type 0) (modules : List Module) (certificates : List Certificate) (store : StoreFacts depends modules certificates) where
+  -- each function of the store has something stated, which flows
+  pub function-flows : (place index : ℕ) (m : Module) (d : FunctionDefinition) → slice_get modules place ≡ Some m → slice_get m.functions index ≡ Some d
+      → (c : Certificate) × (stated : Stated) × (slice_get certificates place ≡ Some c) × (slice_get c index ≡ Some stated) × Flows m d stated
+  function-flows place index m d m_at d_at =
+      let c = store.certified place m m_at in
+      let l = each-at (locals_hold m) m.functions c.0 index d c.2 d_at in
+      let e = each-at (edges_hold m) m.functions c.0 index d c.3 d_at in
+      (c.0, l.0, c.1, l.1, by_start l.0 (known_at_start m d) refl l.2 (subst (λ z. edges_hold m d z ≡ true) (some-is e.0 l.0 (sym e.1 ∙ l.1)) e.2))
+    where
+      by_start : (stated : Stated) (o : Option Known) → known_at_start m d ≡ o
+          → option_map_or (λ start. flow_holds locals_after locals_leq m d start.locals (map (option_map (λ (k : Known). k.locals)) stated)) o false ≡ true
+          → option_map_or (λ start. flow_holds edges_after edges_leq m d start.edges (map (option_map (λ (k : Known). k.edges)) stated)) o false ≡ true → Flows m d stated
+      by_start stated None is a b = absurd cc
+      by_start stated (Some start) is a b = record { start = start; is_start = is; locals = a; edges = b }
+
+  -- the same where they are at hand
+  pub flows-at : (place index : ℕ) (m : Module) (d : FunctionDefinition) (c : Certificate) (stated : Stated) → slice_get modules place ≡ Some m → slice_get m.functions index ≡ Some d
+      → slice_get certificates place ≡ Some c → slice_get c index ≡ Some stated → Flows m d stated
+  flows-at place index m d c stated m_at d_at c_at s_at =
+      let t = function-flows place index m d m_at d_at in
+      let same : t.0 ≡ c = some-is t.0 c (sym t.2 ∙ c_at) in
+      let one : t.1 ≡ stated = some-is t.1 stated (sym (subst (λ (z : Certificate). slice_get z index ≡ Some t.1) same t.3) ∙ s_at) in
+      subst (Flows m d) one t.4
+
+-- ---- a callee
+
+same-long : (xs ys : List Tag) → same_tags xs ys ≡ true → length xs ≡ length ys
+same-long [] [] h = refl
+same-long [] (y ∷ ys) h = absurd cc
+same-long (x ∷ xs) [] h = absurd cc
+same-long (x ∷ xs) (y ∷ ys) h = ap suc (same-long xs ys (and_parts (same_tag x y) (same_tags xs ys) h).1)
+
+-- the callee's own parameters
+pub record OwnParameters (c : Callee) : Type 0 where
+  pub handle : FunctionHandle
+  pub parameters : List Token
+  pub is_handle : slice_get c.home.function_handles c.definition.handle ≡ Some handle
+  pub are_parameters : slice_get c.home.signatures handle.parameters ≡ Some parameters
+  pub long : length parameters ≡ length c.parameters
+
+tags-there : (modules : List Module) (m : Module) (i : ℕ) (tags : List Tag) → signature_tags modules m i ≡ Ok tags → (ts : List Token) × (slice_get m.signatures i ≡ Some ts) × (length ts ≡ length tags)
+unfolding signature_tags
+tags-there modules m i tags e = on_bind (entry m.signatures i) _ tags e (λ ts ts_is e1. (ts, found-is (slice_get m.signatures i) _ ts ts_is, tags-long _ ts tags e1))
+
+pub own-parameters : (h : Here) (i : ℕ) (c : Callee) → callee h i ≡ Ok c → OwnParameters c
+unfolding callee
+own-parameters h i c e =
+    on_bind (entry h.home.function_handles i) _ c e (λ handle handle_is e1.
+    on_bind (linked (module_name h.home handle.module)) _ c e1 (λ home_name home_name_is e2.
+    on_bind (entry h.home.identifiers handle.name) _ c e2 (λ name name_is e3.
+    on_bind (signature_tags h.modules h.home handle.parameters) _ c e3 (λ parameters parameters_are e4.
+    on_bind (signature_tags h.modules h.home handle.results) _ c e4 (λ results results_are e5.
+    on_bind (linked (module_place h.modules home_name)) _ c e5 (λ place place_is e6.
+    on_bind (entry h.modules place) _ c e6 (λ home home_is e7.
+    on_bind (linked (function_place home name)) _ c e7 (λ index index_is e8.
+    on_bind (entry home.functions index) _ c e8 (λ d d_is e9.
+    on_bind (entry home.function_handles d.handle) _ c e9 (λ own_handle own_handle_is e10.
+    on_bind (signature_tags h.modules home own_handle.parameters) _ c e10 (λ own_parameters own_parameters_are e11.
+    on_bind (signature_tags h.modules home own_handle.results) _ c e11 (λ own_results own_results_are e12.
+    on_need (same_tags parameters own_parameters && same_tags results own_results) (Faults LinkageFault) _ c e12 (λ same e13.
+    on_need ((place == h.state.top.function.place) || is_public d) (Faults LinkageFault) _ c e13 (λ allowed e14.
+    let p = tags-there h.modules home own_handle.parameters own_parameters own_parameters_are in
+    subst OwnParameters (ok-is (record { function = record { place = place; index = index }; home = home; definition = d; parameters = parameters; results = results }) c e14) (record {
+      handle = own_handle;
+      parameters = p.0;
+      is_handle = found-is (slice_get home.function_handles d.handle) _ own_handle own_handle_is;
+      are_parameters = p.1;
+      long = p.2 ∙ sym (same-long parameters own_parameters (and_parts (same_tags parameters own_parameters) (same_tags results own_results) same).0);
+    })))))))))))))))
+
+-- what a Call enters
+pub record Enters (h : Here) (i : ℕ) (t : State) : Type 0 where
+  pub c : Callee
+  pub is_callee : callee h i ≡ Ok c
+  pub arguments : List Value
+  pub others : List Token
+  pub are_others : slice_get c.home.signatures c.definition.locals ≡ Some others
+  pub long : length arguments ≡ length c.parameters
+  pub top : t.top ≡ entered_frame h.state.entered c.function arguments (length others)
+
+abbrev EntersBy : Here → ℕ → Result Turn Failure → Type 0
+EntersBy h i (Ok (Goes t)) = Enters h i t
+EntersBy h i (Ok (Returns t)) = ⊤
+EntersBy h i (Err e) = ⊤
+
+tagged-long : (s : State) (vs : List Value) (ts : List Tag) → have_tags s vs ts ≡ true → length vs ≡ length ts
+tagged-long s [] [] h = refl
+tagged-long s [] (t ∷ ts) h = absurd cc
+tagged-long s (v ∷ vs) [] h = absurd cc
+tagged-long s (v ∷ vs) (t ∷ ts) h = ap suc (tagged-long s vs ts (and_parts _ (have_tags s vs ts) h).1)
+
+pub enters : (h : Here) (i : ℕ) (t : State) → call h i ≡ Ok (Goes t) → Enters h i t
+unfolding call
+enters h i t e =
+    on_bind (callee h i) _ (Goes t) e (λ c c_is e1.
+    on_bind (operands (length c.parameters) h.state.top.stack) _ (Goes t) e1 (λ taken taken_is e2.
+    on_need (have_tags h.state taken.0 c.parameters) (Faults TypeFault) _ (Goes t) e2 (λ fit e3.
+    on_bind (entry c.home.signatures c.definition.locals) _ (Goes t) e3 (λ others others_are e4.
+    subst (EntersBy h i) e4 (record {
+      c = c;
+      is_callee = c_is;
+      arguments = taken.0;
+      others = others;
+      are_others = found-is (slice_get c.home.signatures c.definition.locals) _ others others_are;
+      long = tagged-long h.state taken.0 c.parameters fit;
+      top = refl;
+    })))))
+
+-- its locals are as known where it begins
+pub entered-known : (m : Module) (d : FunctionDefinition) (start : Known) (handle : FunctionHandle) (parameters others : List Token) (args : List Value) → slice_get m.function_handles d.handle ≡ Some handle → slice_get m.signatures handle.parameters ≡ Some parameters
+    → slice_get m.signatures d.locals ≡ Some others → length args ≡ length parameters → known_at_start m d ≡ Some start → AsKnown start.locals (map Some args ++ replicate (length others) None)
+entered-known m d start handle parameters others args handle_is parameters_are others_are long e =
+    some-bind2 (parameter_tokens m d) _ start e (λ ps ps_are e1.
+    some-bind2 (local_tokens m d) _ start e1 (λ ts ts_are e2.
+    let p : ps ≡ parameters = some-is ps parameters (sym ps_are ∙ found_parameters) in
+    let t : ts ≡ parameters ++ others = some-is ts (parameters ++ others) (sym ts_are ∙ found_locals) in
+    let n : length ps ≡ length args = ap length p ∙ sym long in
+    let k : length ts - length ps ≡ length others = lengths ps ts p t in
+    subst (λ (z : Known). AsKnown z.locals (map Some args ++ replicate (length others) None)) (some-is _ start e2)
+    (subst (λ (z : ℕ). AsKnown (replicate z Available ++ replicate (length ts - length ps) Unavailable) (map Some args ++ replicate (length others) None)) (sym n)
+    (subst (λ (z : ℕ). AsKnown (replicate (length args) Available ++ replicate z Unavailable) (map Some args ++ replicate (length others) None)) (sym k) (known-start args (length others))))))
+  where
+    found_parameters : parameter_tokens m d ≡ Some parameters
+    found_parameters = rw (handle_is, parameters_are) refl
+
+    found_locals : local_tokens m d ≡ Some (parameters ++ others)
+    found_locals = rw (handle_is, parameters_are, others_are) refl
+
+    lengths : (ps ts : List Token) → ps ≡ parameters → ts ≡ parameters ++ others → length ts - length ps ≡ length others
+    lengths ps ts p t =
+        let a : length ts ≡ length parameters + length others = ap length t ∙ length-append parameters others in
+        let b : length ps ≡ length parameters = ap length p in
+        omega (arith, a, b)

@@ -1,0 +1,290 @@
+-- What an accepted certificate says before an instruction, and that it goes on to what it says before each that may come next.
+use Rattle.std.proofs.Common.{◌≡◌, ℕ, ◌+◌, ◌-◌, ◌<◌, ◌≤◌, Bool, true, false, List, [], ◌∷◌, ◌++◌, map, length, take, drop, refl, sym, ap, ◌∙◌, subst, Option, Some, None, option_map, arith, ◌⊎◌, inl, inr}
+use Rattle.std.specs.Prelude.{slice_get, slice_range, nat_le, ◌&&◌, zip}
+use Rattle.std.specs.List.{list_all, list_any}
+use Rattle.std.specs.Bool.{beq}
+use Rattle.std.specs.Option.{option_map_or}
+use Rattle.std.specs.Str.{bytes_eq}
+use Rattle.std.proofs.lemmas.Bool.{true≢false, and_parts, and_from, leb-true, le-leb, or_left, or_right, cases_Bool, false_from_ne_true, eq-eqb}
+use Rattle.std.proofs.lemmas.Slice.Eq.{bytes_eq-Decides}
+use Rattle.mv_move_types.specs.declared.borrow.Availability.{Availability}
+use Rattle.mv_move_types.specs.declared.borrow.Availability.TheVariants.{Unavailable, Available, Maybe}
+use Rattle.mv_move_types.specs.declared.borrow.Node.{Node}
+use Rattle.mv_move_types.specs.declared.borrow.Node.TheVariants.{Slot, Own, Glob, Temp}
+use Rattle.mv_move_types.specs.declared.instruction.Instruction.{Instruction}
+use Rattle.mv_move_types.specs.declared.instruction.Instruction.TheVariants.{Ret, BrTrue, BrFalse, Branch, Abort}
+use Rattle.mv_move_types.specs.Module.{Module, FunctionDefinition}
+use Rattle.mv_cfg.specs.Blocks.{BasicBlock as Block, blocks, starts_from, leads_to}
+use Rattle.mv_move_types.specs.Flow.{ends_block, successors}
+use Rattle.mv_edges.specs.Edges.{Edge, Label, same_node, label_leq, edge_leq, edges_leq}
+use Rattle.mv_certificate.specs.Certificate.{Known, Stated, through, instructions_of, stated_at, flows_into, block_holds, flow_holds}
+use Rattle.mv_locals_safety.specs.LocalsRules.{availability_leq, locals_leq, locals_after}
+use Rattle.mv_certificate.specs.Known.{known_leq, known_after, block_of, known_before}
+use Rattle.mv_type_states.specs.TypesHold.{Point}
+use Rattle.mv_borrow_graph.specs.BorrowRules.{edges_after}
+use Rattle.mv_type_states.specs.TypeRules.{Types, types_after}
+use Rattle.mv_interpreter.proofs.Typing.FlowFacts.{range_split, each, BlockFacts, block_facts, starts_rise, ended_begin}
+use Rattle.mv_interpreter.proofs.Borrows.Operands.{some-is}
+use Rattle.mv_interpreter.proofs.Borrows.Steps.{Among}
+use Rattle.mv_interpreter.proofs.Borrows.Certified.{some-bind2, Inside, inside, held, flows, both-through}
+use Rattle.mv_interpreter.proofs.Guided.Tiles.{Tiles, tiles-blocks, starts-rise, holds_place, tile-found, tile-ordered, find-has, zip-parts, zip-maps, stated-maps, stated-has, next-is}
+
+-- ---- each is below itself
+
+availability-self : (a : Availability) → availability_leq a a ≡ true
+availability-self Available = refl
+availability-self Unavailable = refl
+availability-self Maybe = refl
+
+pub locals-self : (ls : List Availability) → locals_leq ls ls ≡ true
+locals-self [] = refl
+locals-self (l ∷ ls) = and_from (availability_leq l l) (locals_leq ls ls) (availability-self l) (locals-self ls)
+
+beq-self : (b : Bool) → beq b b ≡ true
+beq-self true = refl
+beq-self false = refl
+
+node-self : (n : Node) → same_node n n ≡ true
+node-self (Slot i) = eq-eqb i i refl
+node-self (Own i) = eq-eqb i i refl
+node-self (Glob i) = eq-eqb i i refl
+node-self (Temp i) = eq-eqb i i refl
+
+label-self : (l : Label) → label_leq l l ≡ true
+label-self l = or_left _ _ (and_from (bytes_eq l.path l.path) (beq l.is_open l.is_open) ((bytes_eq-Decides l.path l.path).1 refl) (beq-self l.is_open))
+
+edge-self : (e : Edge) → edge_leq e e ≡ true
+edge-self e = and_from (same_node e.from e.from && same_node e.to e.to) (label_leq e.label e.label) (and_from (same_node e.from e.from) (same_node e.to e.to) (node-self e.from) (node-self e.to)) (label-self e.label)
+
+abbrev all_below : List Edge → List Edge → Bool
+all_below xs ys = list_all (λ a. list_any (edge_leq a) ys) xs
+
+more-above : (xs ys : List Edge) (y : Edge) → all_below xs ys ≡ true → all_below xs (y ∷ ys) ≡ true
+more-above [] ys y h = refl
+more-above (x ∷ xs) ys y h =
+    let t = and_parts (list_any (edge_leq x) ys) (all_below xs ys) h in
+    and_from (list_any (edge_leq x) (y ∷ ys)) (all_below xs (y ∷ ys)) (or_right (edge_leq x y) (list_any (edge_leq x) ys) t.0) (more-above xs ys y t.1)
+
+pub edges-self : (es : List Edge) → edges_leq es es ≡ true
+edges-self [] = refl
+edges-self (e ∷ es) = and_from (list_any (edge_leq e) (e ∷ es)) (all_below es (e ∷ es)) (or_left (edge_leq e e) (list_any (edge_leq e) es) (edge-self e)) (more-above es es e (edges-self es))
+
+-- ---- lists
+
+pub all-among : (p : ℕ → Bool) (xs : List ℕ) (x : ℕ) → list_all p xs ≡ true → Among x xs → p x ≡ true
+all-among p [] x h a = absurd a
+all-among p (y ∷ ys) x h (inl e) = ap p e ∙ (and_parts (p y) (list_all p ys) h).0
+all-among p (y ∷ ys) x h (inr a) = all-among p ys x (and_parts (p y) (list_all p ys) h).1 a
+
+-- where control goes on at the next instruction
+one-successor : (at : ℕ) (c : Instruction) → ends_block c ≡ false → successors at c ≡ (at + 1) ∷ []
+one-successor at (BrTrue t) e = absurd cc
+one-successor at (BrFalse t) e = absurd cc
+one-successor at (Branch t) e = absurd cc
+one-successor at Ret e = absurd cc
+one-successor at Abort e = absurd cc
+one-successor at _ e = refl
+
+-- what is known and the types, alike or apart
+pub known-parts : (p : Point) (i : Instruction) (k next : Known) → known_after p i k ≡ Some next → (locals_after p i k.locals ≡ Some next.locals) × (edges_after p i k.edges ≡ Some next.edges)
+known-parts p i k next e =
+    some-bind2 (locals_after p i k.locals) _ next e (λ l l_is e1.
+    some-bind2 (edges_after p i k.edges) _ next e1 (λ es es_are e2.
+    let same = some-is (record { locals = l; edges = es }) next e2 in
+    (l_is ∙ ap (λ (x : Known). Some x.locals) same, es_are ∙ ap (λ (x : Known). Some x.edges) same)))
+
+module _ (m : Module) (d : FunctionDefinition) (stated : Stated) where
+  abbrev pub with_blocks : List (Block × Option Known)
+  with_blocks = zip (blocks d.code) stated
+
+  tiles : Tiles 0 with_blocks
+  tiles = tiles-blocks d.code (starts_from d.code 0 true d.code) 0 stated (starts-rise d.code 0 (length d.code) true d.code (omega arith))
+
+  -- before an instruction: the block that it stands in, what is stated there, and that this is carried to it
+  pub record Before (at : ℕ) (k : Known) (ts : Types) : Type 0 where
+    pub place : ℕ
+    pub block : Block
+    pub known : Known
+    pub is_block : slice_get (blocks d.code) place ≡ Some block
+    pub is_here : slice_get with_blocks place ≡ Some (block, Some known)
+    pub not_before : block.first ≤ at
+    pub not_behind : at ≤ block.last
+    pub carried : through known_after m d (slice_range d.code block.first at) (known, []) ≡ Some (k, ts)
+
+  -- it is what is known before it
+  pub before-known : (at : ℕ) (k : Known) (ts : Types) → Before at k ts → known_before m d stated at ≡ Some (k, ts)
+  before-known at k ts b =
+      let found = (tile-found 0 with_blocks b.place at (b.block, Some b.known) tiles b.is_here b.not_before b.not_behind).0 in
+      rw found b.carried
+
+  pub known-here : (at : ℕ) (k : Known) (ts : Types) → known_before m d stated at ≡ Some (k, ts) → Before at k ts
+  known-here at k ts e =
+      some-bind2 (block_of at with_blocks) _ (k, ts) e (λ b b_is e1.
+      some-bind2 b.1 _ (k, ts) e1 (λ known known_is e2.
+      let t = find-has (holds_place at) with_blocks b b_is in
+      let bounds = and_parts (nat_le b.0.first at) (nat_le at b.0.last) t.2 in
+      record {
+        place = t.0;
+        block = b.0;
+        known = known;
+        is_block = (zip-parts (blocks d.code) stated t.0 b t.1).0;
+        is_here = t.1 ∙ ap (λ (o : Option Known). Some (b.0, o)) known_is;
+        not_before = leb-true b.0.first at bounds.0;
+        not_behind = leb-true at b.0.last bounds.1;
+        carried = e2;
+      }))
+
+  -- where something is stated, it is known there
+  pub begins-known : (j : ℕ) (k : Known) → stated_at with_blocks j ≡ Some k → known_before m d stated j ≡ Some (k, [])
+  begins-known j k e = from_place (stated-has with_blocks j k e)
+    where
+      from_place : (n : ℕ) × (z : Block × Option Known) × (slice_get with_blocks n ≡ Some z) × (z.0.first ≡ j) × (z.1 ≡ Some k) → known_before m d stated j ≡ Some (k, [])
+      from_place (n, z, there, first, says) =
+          let order : z.0.first ≤ z.0.last = tile-ordered 0 with_blocks n z tiles there in
+          let none : j - z.0.first ≡ 0 = omega (arith, first) in
+          before-known j k [] (record {
+            place = n;
+            block = z.0;
+            known = k;
+            is_block = (zip-parts (blocks d.code) stated n z there).0;
+            is_here = there ∙ ap (λ (o : Option Known). Some (z.0, o)) says;
+            not_before = omega (arith, first);
+            not_behind = omega (arith, first, order);
+            carried = subst (λ (c : ℕ). through known_after m d (take c (drop z.0.first d.code)) (k, []) ≡ Some (k, [])) (sym none) refl;
+          })
+
+  abbrev point : Types → Point
+  point ts = record { home = m; function = d; types = ts }
+
+  -- what the certificate gives of an instruction: its needs are met, and what is known behind it is below what is known before each that may come next
+  pub record Onward (at : ℕ) (i : Instruction) (k : Known) (ts : Types) : Type 0 where
+    pub next : Known
+    pub after : Types
+    pub locals : locals_after (point ts) i k.locals ≡ Some next.locals
+    pub edges : edges_after (point ts) i k.edges ≡ Some next.edges
+    pub typed : types_after m d i ts ≡ Some after
+    pub leads : (j : ℕ) → Among j (successors at i) → (l : Known) × (us : Types) × (known_before m d stated j ≡ Some (l, us)) × (known_leq next l ≡ true)
+
+  module _ (start : Known)
+      (locals_flow : flow_holds locals_after locals_leq m d start.locals (map (option_map (λ (k : Known). k.locals)) stated) ≡ true)
+      (edges_flow : flow_holds edges_after edges_leq m d start.edges (map (option_map (λ (k : Known). k.edges)) stated) ≡ true)
+    where
+      abbrev stated_locals : List (Block × Option (List Availability))
+      stated_locals = zip (blocks d.code) (map (option_map (λ (k : Known). k.locals)) stated)
+
+      abbrev stated_edges : List (Block × Option (List Edge))
+      stated_edges = zip (blocks d.code) (map (option_map (λ (k : Known). k.edges)) stated)
+
+      locals_both : (flows_into locals_leq stated_locals start.locals 0 ≡ true) × (list_all (block_holds locals_after locals_leq m d stated_locals) stated_locals ≡ true)
+      locals_both = and_parts (flows_into locals_leq stated_locals start.locals 0) (list_all (block_holds locals_after locals_leq m d stated_locals) stated_locals) locals_flow
+
+      edges_both : (flows_into edges_leq stated_edges start.edges 0 ≡ true) × (list_all (block_holds edges_after edges_leq m d stated_edges) stated_edges ≡ true)
+      edges_both = and_parts (flows_into edges_leq stated_edges start.edges 0) (list_all (block_holds edges_after edges_leq m d stated_edges) stated_edges) edges_flow
+
+      mapped : {S : Type 0} (f : Known → S) (o : Option Known) (s : S) → option_map f o ≡ Some s → (k : Known) × (o ≡ Some k) × (f k ≡ s)
+      mapped f None s e = absurd cc
+      mapped f (Some k) s e = (k, refl, some-is (f k) s e)
+
+      -- both parts of what is known flow to one place
+      both-flow : (j : ℕ) (ls : List Availability) (es : List Edge) → flows_into locals_leq stated_locals ls j ≡ true → flows_into edges_leq stated_edges es j ≡ true
+          → (l : Known) × (known_before m d stated j ≡ Some (l, [])) × (locals_leq ls l.locals ≡ true) × (edges_leq es l.edges ≡ true)
+      both-flow j ls es h g =
+          let a = flows locals_after m d locals_leq stated_locals ls j h in
+          let b = flows edges_after m d edges_leq stated_edges es j g in
+          let u = mapped (λ (k : Known). k.locals) (stated_at with_blocks j) a.0 (sym (stated-maps (λ (k : Known). k.locals) (blocks d.code) stated j) ∙ a.1) in
+          let v = mapped (λ (k : Known). k.edges) (stated_at with_blocks j) b.0 (sym (stated-maps (λ (k : Known). k.edges) (blocks d.code) stated j) ∙ b.1) in
+          let one : v.0 ≡ u.0 = some-is v.0 u.0 (sym v.1 ∙ u.1) in
+          (u.0, begins-known j u.0 u.1, subst (λ x. locals_leq ls x ≡ true) (sym u.2) a.2, subst (λ x. edges_leq es x ≡ true) (sym v.2 ∙ ap (λ (k : Known). k.edges) one) b.2)
+
+      -- what is known where the function begins
+      pub starts-known : (l : Known) × (known_before m d stated 0 ≡ Some (l, [])) × (locals_leq start.locals l.locals ≡ true) × (edges_leq start.edges l.edges ≡ true)
+      starts-known = both-flow 0 start.locals start.edges locals_both.0 edges_both.0
+
+      at_last_or : (a b : ℕ) → a ≤ b → (a < b) ⊎ (a ≡ b)
+      at_last_or a b h =
+          elim (cases_Bool (nat_le b a)) [
+            | inl t ↦ let g : b ≤ a = leb-true b a t in inr (omega (arith, h, g))
+            | inr t ↦ inl (lower (λ l. true≢false (sym (le-leb b a l) ∙ t)))
+          ]
+        where
+          lower : (b ≤ a → ⊥) → a < b
+          lower f = omega (arith, f)
+
+      -- an instruction that the certificate speaks of meets its needs, and the certificate speaks of each that may come next
+      pub goes-on : (at : ℕ) (k : Known) (ts : Types) (i : Instruction) → known_before m d stated at ≡ Some (k, ts) → slice_get d.code at ≡ Some i → Onward at i k ts
+      goes-on at k ts i e is =
+          let b : Before at k ts = known-here at k ts e in
+          let facts : BlockFacts d.code (starts_from d.code 0 true d.code) 0 b.block =
+          block_facts d.code (starts_from d.code 0 true d.code) 0 b.place b.block (starts_rise d.code 0 (length d.code) true d.code (omega arith)) b.is_block in
+          let low : b.block.first ≤ at = b.not_before in
+          let high : at ≤ b.block.last = b.not_behind in
+          let whole = range_split d.code b.block.first at (b.block.last + 1) i low (omega (arith, high)) is in
+          let front = range_split d.code b.block.first at (at + 1) i low (omega arith) is in
+          let front_is : slice_range d.code b.block.first (at + 1) ≡ slice_range d.code b.block.first at ++ i ∷ [] =
+          front.1 ∙ ap (λ (xs : List Instruction). slice_range d.code b.block.first at ++ i ∷ xs) (front.2 refl) in
+          let l = held locals_after m d locals_leq stated_locals b.block b.known.locals
+          (each (block_holds locals_after locals_leq m d stated_locals) stated_locals b.place (b.block, Some b.known.locals) locals_both.1
+          (zip-maps (option_map (λ (k : Known). k.locals)) (blocks d.code) stated b.place (b.block, Some b.known) b.is_here)) in
+          let g = held edges_after m d edges_leq stated_edges b.block b.known.edges
+          (each (block_holds edges_after edges_leq m d stated_edges) stated_edges b.place (b.block, Some b.known.edges) edges_both.1
+          (zip-maps (option_map (λ (k : Known). k.edges)) (blocks d.code) stated b.place (b.block, Some b.known) b.is_here)) in
+          from_inside b facts i is l.end g.end l.exits g.exits whole.0 whole.2 front_is
+          (inside known_after m d (slice_range d.code b.block.first at) i whole.0 (b.known, []) (record { locals = l.end.0; edges = g.end.0 }, l.end.1)
+          (subst (λ (xs : List Instruction). through known_after m d xs (b.known, []) ≡ Some (record { locals = l.end.0; edges = g.end.0 }, l.end.1)) whole.1
+          (both-through m d (instructions_of d b.block) b.known [] l.end.0 g.end.0 l.end.1 g.end.1 l.goes g.goes)))
+        where
+          from_inside : (b : Before at k ts) → BlockFacts d.code (starts_from d.code 0 true d.code) 0 b.block → (i : Instruction) → slice_get d.code at ≡ Some i
+              → (le : List Availability × Types) (ge : List Edge × Types) → list_all (flows_into locals_leq stated_locals le.0) b.block.next ≡ true → list_all (flows_into edges_leq stated_edges ge.0) b.block.next ≡ true
+              → (rest : List Instruction) → (b.block.last + 1 ≡ at + 1 → rest ≡ []) → slice_range d.code b.block.first (at + 1) ≡ slice_range d.code b.block.first at ++ i ∷ []
+              → Inside known_after m d (slice_range d.code b.block.first at) i rest (b.known, []) (record { locals = le.0; edges = ge.0 }, le.1) → Onward at i k ts
+          from_inside b facts i is le ge exits_l exits_g rest rest_is front_is x =
+              let same : (x.known, x.types) ≡ (k, ts) = some-is (x.known, x.types) (k, ts) (sym x.here ∙ b.carried) in
+              let met : known_after (point ts) i k ≡ Some x.next = subst (λ (z : Known × Types). known_after (point z.1) i z.0 ≡ Some x.next) same x.met in
+              let parts = known-parts (point ts) i k x.next met in
+              let places = at_last_or at b.block.last b.not_behind in
+              record {
+                next = x.next;
+                after = x.next_types;
+                locals = parts.0;
+                edges = parts.1;
+                typed = subst (λ (z : Known × Types). types_after m d i z.1 ≡ Some x.next_types) same x.typed;
+                leads = λ j a. elim places [
+                  | inl p ↦ inner j a p
+                  | inr p ↦ last j a p
+                ];
+              }
+            where
+              inner : (j : ℕ) → Among j (successors at i) → at < b.block.last → (l : Known) × (us : Types) × (known_before m d stated j ≡ Some (l, us)) × (known_leq x.next l ≡ true)
+              inner j a p =
+                  let shut : ends_block i ≡ false = false_from_ne_true (ends_block i) (λ h. facts.alone (at + 1) (let low : b.block.first ≤ at = b.not_before in omega (arith, low)) (omega (arith, p))
+                  (ended_begin d.code 0 at (at + 1) true i d.code is h (let short : b.block.last < length d.code = facts.inside in omega (arith, p, short)) (omega arith))) in
+                  let there : Among j ((at + 1) ∷ []) = subst (λ xs. Among j xs) (one-successor at i shut) a in (
+                    x.next,
+                    x.next_types,
+                    elim there [
+                      | inl e ↦ subst (λ n. known_before m d stated n ≡ Some (x.next, x.next_types)) (sym e) (before-known (at + 1) x.next x.next_types (record {
+                        place = b.place;
+                        block = b.block;
+                        known = b.known;
+                        is_block = b.is_block;
+                        is_here = b.is_here;
+                        not_before = (let low : b.block.first ≤ at = b.not_before in omega (arith, low));
+                        not_behind = omega (arith, p);
+                        carried = subst (λ (xs : List Instruction). through known_after m d xs (b.known, []) ≡ Some (x.next, x.next_types)) (sym front_is) x.behind;
+                      }))
+                      | inr e ↦ absurd e
+                    ],
+                    and_from (locals_leq x.next.locals x.next.locals) (edges_leq x.next.edges x.next.edges) (locals-self x.next.locals) (edges-self x.next.edges),
+                  )
+
+              last : (j : ℕ) → Among j (successors at i) → at ≡ b.block.last → (l : Known) × (us : Types) × (known_before m d stated j ≡ Some (l, us)) × (known_leq x.next l ≡ true)
+              last j a p =
+                  let none : rest ≡ [] = rest_is (ap (λ n. n + 1) (sym p)) in
+                  let ended : (x.next, x.next_types) ≡ (record { locals = le.0; edges = ge.0 }, le.1) =
+                  some-is (x.next, x.next_types) (record { locals = le.0; edges = ge.0 }, le.1)
+                  (subst (λ (is : List Instruction). through known_after m d is (x.next, x.next_types) ≡ Some (record { locals = le.0; edges = ge.0 }, le.1)) none x.onward) in
+                  let next_is : b.block.next ≡ successors at i =
+                  next-is d.code (starts_from d.code 0 true d.code) b.place b.block b.is_block ∙ ap (leads_to d.code) (sym p) ∙ ap (λ (o : Option Instruction). option_map_or (successors at) o []) is in
+                  let there : Among j b.block.next = subst (λ xs. Among j xs) (sym next_is) a in
+                  let t = both-flow j le.0 ge.0 (all-among (flows_into locals_leq stated_locals le.0) b.block.next j exits_l there) (all-among (flows_into edges_leq stated_edges ge.0) b.block.next j exits_g there) in
+                  (t.0, [], t.1, subst (λ (z : Known × Types). known_leq z.0 t.0 ≡ true) (sym ended) (and_from (locals_leq le.0 t.0.locals) (edges_leq ge.0 t.0.edges) t.2 t.3))

@@ -1,0 +1,210 @@
+-- What stays as the types say while a frame waits; results are as the handle of the Call says.
+use Rattle.std.proofs.Common.{◌≡◌, ℕ, zero, suc, List, [], ◌∷◌, ◌++◌, map, length, reverse, take, drop, Bool, true, false, refl, sym, ◌∙◌, ap, ap₂, subst, Option, Some, None, Ok, arith}
+use Rattle.std.specs.Prelude.{slice_get, ◌&&◌, ◌||◌, ◌==◌, option_and_then}
+use Rattle.std.specs.Bool.{beq}
+use Rattle.std.proofs.lemmas.Bool.{and_parts, eqb-true}
+use Rattle.std.proofs.lemmas.List.{append-nil, reverse-reverse, take-append-drop}
+use Rattle.mv_move_types.specs.declared.tables.FunctionHandle.{FunctionHandle}
+use Rattle.mv_move_types.specs.declared.token.ValueType.{ValueType}
+use Rattle.mv_move_types.specs.declared.instruction.Instruction.TheVariants.{Call}
+use Rattle.mv_move_types.specs.declared.token.ValueType.TheVariants.{OfLeaf, OfStruct}
+use Rattle.mv_move_types.specs.declared.token.Token.{Token}
+use Rattle.mv_move_types.specs.declared.token.Token.TheVariants.{Plain, Reference as ReferenceTo, MutableReference as MutableReferenceTo}
+use Rattle.mv_move_types.specs.Results.{for_each}
+use Rattle.mv_move_types.specs.Module.{Module, FunctionDefinition, module_name, struct_name}
+use Rattle.mv_machine.specs.Value.{Value, Reference}
+use Rattle.mv_machine.specs.State.{Frame, State}
+use Rattle.mv_machine.specs.Live.{reference_of}
+use Rattle.mv_machine.specs.Typing.{Faults, TypeFault, LinkageFault, entry, linked, have_tags, tag_named, value_type_tag}
+use Rattle.mv_move_types.specs.Tags.{Tag, LeafTag, StructTag, ReferenceTag, same_tag, same_tags}
+use Rattle.mv_move_types.specs.Named.{module_place, declared, is_public, function_place}
+use Rattle.mv_move_types.specs.AbilitySets.{same_abilities}
+use Rattle.mv_machine.specs.StepParts.{Here, Goes, operands}
+use Rattle.mv_machine.specs.StepControl.{Callee, callee, signature_tags, return_results}
+use Rattle.mv_machine.proofs.Laws.{on_bind, on_need}
+use Rattle.mv_borrow_graph.specs.Abstract.Lists.{Value as TheValue, Plain as NoRef, Reference as Held}
+use Rattle.mv_interpreter.specs.Borrows.View.{local_of, held_as}
+use Rattle.mv_interpreter.specs.Borrows.Hypotheses.{Fits, token_kind, operand_kind}
+use Rattle.mv_interpreter.specs.Borrows.Stood.{Stood, seen_of, point_of, StoodOn}
+use Rattle.mv_interpreter.proofs.Borrows.Same.{SameSeen, SameFrames}
+use Rattle.mv_interpreter.proofs.Borrows.Operands.{some-is, ok-is, found-is, operands-is, tags-kinds}
+use Rattle.mv_interpreter.proofs.Borrows.Transfers.{turned}
+use Rattle.mv_interpreter.proofs.Borrows.Invariant.{refit}
+use Rattle.mv_interpreter.specs.Guided.Guided.{StoodFit, AllAgree}
+
+-- ---- tags
+
+-- whether a tag is a reference's, and whether a mutable one's
+abbrev tag_kind : Tag → Option Bool
+tag_kind (LeafTag kind) = None
+tag_kind (StructTag name) = None
+tag_kind (ReferenceTag m to) = Some m
+
+plain-kind : (modules : List Module) (m : Module) (t : ValueType) (tag : Tag) → value_type_tag modules m t ≡ Ok tag → tag_kind tag ≡ None
+plain-kind modules m (OfLeaf kind) tag e = ap tag_kind (sym (ok-is (LeafTag kind) tag e))
+plain-kind modules m (OfStruct i) tag e =
+    on_bind (entry m.struct_handles i) _ tag e (λ handle handle_is e1.
+    on_bind (linked (struct_name m i)) _ tag e1 (λ name name_is e2.
+    on_bind (linked (declared modules name)) _ tag e2 (λ abilities abilities_is e3.
+    on_need (same_abilities abilities handle.abilities) (Faults LinkageFault) _ tag e3 (λ met e4. ap tag_kind (sym (ok-is (StructTag name) tag e4))))))
+
+named-kind : (modules : List Module) (m : Module) (t : Token) (tag : Tag) → tag_named modules m t ≡ Ok tag → token_kind t ≡ tag_kind tag
+named-kind modules m (Plain t) tag e = sym (plain-kind modules m t tag e)
+named-kind modules m (ReferenceTo t) tag e = on_bind (value_type_tag modules m t) _ tag e (λ to to_is e1. ap tag_kind (ok-is (ReferenceTag false to) tag e1))
+named-kind modules m (MutableReferenceTo t) tag e = on_bind (value_type_tag modules m t) _ tag e (λ to to_is e1. ap tag_kind (ok-is (ReferenceTag true to) tag e1))
+
+named-kinds : (modules : List Module) (m : Module) (ts : List Token) (tags : List Tag) → for_each (tag_named modules m) ts ≡ Ok tags → map token_kind ts ≡ map tag_kind tags
+named-kinds modules m [] tags e = ap (map tag_kind) (ok-is [] tags e)
+named-kinds modules m (t ∷ ts) tags e =
+    on_bind (tag_named modules m t) _ tags e (λ tag tag_is e1.
+    on_bind (for_each (tag_named modules m) ts) _ tags e1 (λ more more_is e2.
+    ap₂ (λ (x : Option Bool) (xs : List (Option Bool)). x ∷ xs) (named-kind modules m t tag tag_is) (named-kinds modules m ts more more_is) ∙ ap (map tag_kind) (ok-is (tag ∷ more) tags e2)))
+
+beq-is : (a b : Bool) → beq a b ≡ true → a ≡ b
+beq-is true true h = refl
+beq-is false false h = refl
+beq-is true false h = absurd cc
+beq-is false true h = absurd cc
+
+same-kind-tags : (a b : Tag) → same_tag a b ≡ true → tag_kind a ≡ tag_kind b
+same-kind-tags (LeafTag j) (LeafTag k) h = refl
+same-kind-tags (StructTag a) (StructTag b) h = refl
+same-kind-tags (ReferenceTag i a) (ReferenceTag j b) h = ap Some (beq-is i j (and_parts (beq i j) (same_tag a b) h).0)
+same-kind-tags (LeafTag j) (StructTag b) h = absurd cc
+same-kind-tags (LeafTag j) (ReferenceTag i b) h = absurd cc
+same-kind-tags (StructTag a) (LeafTag k) h = absurd cc
+same-kind-tags (StructTag a) (ReferenceTag i b) h = absurd cc
+same-kind-tags (ReferenceTag i a) (LeafTag k) h = absurd cc
+same-kind-tags (ReferenceTag i a) (StructTag b) h = absurd cc
+
+same-kinds-tags : (xs ys : List Tag) → same_tags xs ys ≡ true → map tag_kind xs ≡ map tag_kind ys
+same-kinds-tags [] [] h = refl
+same-kinds-tags [] (y ∷ ys) h = absurd cc
+same-kinds-tags (x ∷ xs) [] h = absurd cc
+same-kinds-tags (x ∷ xs) (y ∷ ys) h =
+    let t = and_parts (same_tag x y) (same_tags xs ys) h in
+    ap₂ (λ (x : Option Bool) (xs : List (Option Bool)). x ∷ xs) (same-kind-tags x y t.0) (same-kinds-tags xs ys t.1)
+
+-- ---- results
+
+signature-kinds : (modules : List Module) (m : Module) (i : ℕ) (tags : List Tag) (ts : List Token) → signature_tags modules m i ≡ Ok tags → slice_get m.signatures i ≡ Some ts → map token_kind ts ≡ map tag_kind tags
+unfolding signature_tags
+signature-kinds modules m i tags ts e at =
+    on_bind (entry m.signatures i) _ tags e (λ us us_are e1.
+    ap (map token_kind) (some-is ts us (sym at ∙ found-is (slice_get m.signatures i) _ us us_are)) ∙ named-kinds modules m us tags e1)
+
+-- a callee's results are references where its handle says so
+pub callee-agrees : (h : Here) (j : ℕ) (c : Callee) → callee h j ≡ Ok c → (handle : FunctionHandle) (results : List Token) → slice_get h.home.function_handles j ≡ Some handle → slice_get h.home.signatures handle.results ≡ Some results
+    → (own : FunctionHandle) (own_results : List Token) → slice_get c.home.function_handles c.definition.handle ≡ Some own → slice_get c.home.signatures own.results ≡ Some own_results → map token_kind results ≡ map token_kind own_results
+unfolding callee
+callee-agrees h j c e handle results handle_at results_at own own_results =
+    on_bind (entry h.home.function_handles j) _ c e (λ handle1 handle_is e1.
+    on_bind (linked (module_name h.home handle1.module)) _ c e1 (λ home_name home_name_is e2.
+    on_bind (entry h.home.identifiers handle1.name) _ c e2 (λ name name_is e3.
+    on_bind (signature_tags h.modules h.home handle1.parameters) _ c e3 (λ parameters parameters_are e4.
+    on_bind (signature_tags h.modules h.home handle1.results) _ c e4 (λ tags tags_are e5.
+    on_bind (linked (module_place h.modules home_name)) _ c e5 (λ place place_is e6.
+    on_bind (entry h.modules place) _ c e6 (λ home home_is e7.
+    on_bind (linked (function_place home name)) _ c e7 (λ index index_is e8.
+    on_bind (entry home.functions index) _ c e8 (λ d d_is e9.
+    on_bind (entry home.function_handles d.handle) _ c e9 (λ own_handle own_handle_is e10.
+    on_bind (signature_tags h.modules home own_handle.parameters) _ c e10 (λ own_parameters own_parameters_are e11.
+    on_bind (signature_tags h.modules home own_handle.results) _ c e11 (λ own_tags own_tags_are e12.
+    on_need (same_tags parameters own_parameters && same_tags tags own_tags) (Faults LinkageFault) _ c e12 (λ same e13.
+    on_need ((place == h.state.top.function.place) || is_public d) (Faults LinkageFault) _ c e13 (λ allowed e14.
+    let one : handle ≡ handle1 = some-is handle handle1 (sym handle_at ∙ found-is (slice_get h.home.function_handles j) _ handle1 handle_is) in
+    let left : map token_kind results ≡ map tag_kind tags = signature-kinds h.modules h.home handle1.results tags results tags_are (subst (λ (z : FunctionHandle). slice_get h.home.signatures z.results ≡ Some results) one results_at) in
+    let middle : map tag_kind tags ≡ map tag_kind own_tags = same-kinds-tags tags own_tags (and_parts (same_tags parameters own_parameters) (same_tags tags own_tags) same).1 in
+    subst (λ (z : Callee). slice_get z.home.function_handles z.definition.handle ≡ Some own → slice_get z.home.signatures own.results ≡ Some own_results → map token_kind results ≡ map token_kind own_results)
+    (ok-is (record { function = record { place = place; index = index }; home = home; definition = d; parameters = parameters; results = tags }) c e14)
+    (λ own_at own_results_at.
+    let two : own ≡ own_handle = some-is own own_handle (sym own_at ∙ found-is (slice_get home.function_handles d.handle) _ own_handle own_handle_is) in
+    left ∙ middle ∙ sym (signature-kinds h.modules home own_handle.results own_tags own_results own_tags_are (subst (λ (z : FunctionHandle). slice_get home.signatures z.results ≡ Some own_results) two own_results_at)))))))))))))))))
+
+-- the results of a function that returns are references where its own handle says so
+pub record ReturnsAs (h : Here) : Type 0 where
+  pub own : FunctionHandle
+  pub results : List Token
+  pub is_own : slice_get h.home.function_handles h.function.handle ≡ Some own
+  pub are_results : slice_get h.home.signatures own.results ≡ Some results
+  pub kinds : map token_kind (reverse results) ≡ map operand_kind (map reference_of h.state.top.stack)
+
+pub returns-as : (h : Here) (t : State) → return_results h ≡ Ok (Goes t) → ReturnsAs h
+unfolding return_results signature_tags
+returns-as h t e =
+    on_bind (entry h.home.function_handles h.function.handle) _ (Goes t) e (λ handle handle_is e1.
+    on_bind (signature_tags h.modules h.home handle.results) _ (Goes t) e1 (λ tags tags_are e2.
+    on_bind (operands (length tags) h.state.top.stack) _ (Goes t) e2 (λ taken taken_is e3.
+    on_need (length taken.1 == 0) (Faults TypeFault) _ (Goes t) e3 (λ alone_there e4.
+    on_need (have_tags h.state taken.0 tags) (Faults TypeFault) _ (Goes t) e4 (λ fit e5.
+    on_bind (entry h.home.signatures handle.results) _ tags tags_are (λ ts ts_are named.
+    let o = operands-is (length tags) h.state.top.stack taken taken_is in
+    let all : reverse taken.0 ≡ h.state.top.stack =
+    ap (λ (x : List Value × List Value). reverse x.0) o.1 ∙ reverse-reverse (take (length tags) h.state.top.stack) ∙ whole (length tags) taken.1 (eqb-true (length taken.1) 0 alone_there) (ap (λ (x : List Value × List Value). x.1) o.1) in
+    record {
+      own = handle;
+      results = ts;
+      is_own = found-is (slice_get h.home.function_handles h.function.handle) _ handle handle_is;
+      are_results = found-is (slice_get h.home.signatures handle.results) _ ts ts_are;
+      kinds = turned token_kind ts ∙ ap reverse (tags-kinds h.modules h.home h.state taken.0 ts tags named fit) ∙ sym (turned operand_kind (map reference_of taken.0))
+          ∙ ap (map operand_kind) (sym (turned reference_of taken.0)) ∙ ap (λ (l : List Value). map operand_kind (map reference_of l)) all;
+    }))))))
+  where
+    whole : (n : ℕ) (rest : List Value) → length rest ≡ 0 → rest ≡ drop n h.state.top.stack → take n h.state.top.stack ≡ h.state.top.stack
+    whole n [] z d = sym (append-nil (take n h.state.top.stack)) ∙ ap (λ (r : List Value). take n h.state.top.stack ++ r) d ∙ take-append-drop n h.state.top.stack
+    whole n (v ∷ rest) z d = absurd (omega arith)
+
+-- ---- waiting frames
+
+kind_held : TheValue → Option Bool
+kind_held (NoRef n) = None
+kind_held (Held r) = Some r.mutable
+
+held-kind : (o : Option Reference) → kind_held (held_as o) ≡ operand_kind o
+unfolding kind_held
+held-kind None = refl
+held-kind (Some r) = refl
+
+-- what a local holds after a write is a reference where what it held was
+local-held : (xs ys : List (Option Value)) (l : ℕ) (v : Value) → map local_of xs ≡ map local_of ys → option_and_then (λ (o : Option Value). o) (slice_get ys l) ≡ Some v
+    → (u : Value) × (option_and_then (λ (o : Option Value). o) (slice_get xs l) ≡ Some u) × (operand_kind (reference_of u) ≡ operand_kind (reference_of v))
+local-held [] [] l v h e = absurd cc
+local-held [] (y ∷ ys) l v h e = absurd cc
+local-held (x ∷ xs) [] l v h e = absurd cc
+local-held (x ∷ xs) (y ∷ ys) zero v h e = first x (heads h ∙ ap local_of e)
+  where
+    heads : (local_of x ∷ map local_of xs) ≡ (local_of y ∷ map local_of ys) → local_of x ≡ local_of y
+    heads h = cc
+
+    first : (x : Option Value) → local_of x ≡ Some (held_as (reference_of v)) → (u : Value) × (x ≡ Some u) × (operand_kind (reference_of u) ≡ operand_kind (reference_of v))
+    first None g = absurd cc
+    first (Some u) g = (u, refl, sym (held-kind (reference_of u)) ∙ ap kind_held (some-is (held_as (reference_of u)) (held_as (reference_of v)) g) ∙ held-kind (reference_of v))
+local-held (x ∷ xs) (y ∷ ys) (suc l) v h e = local-held xs ys l v (tails h) e
+  where
+    tails : (local_of x ∷ map local_of xs) ≡ (local_of y ∷ map local_of ys) → map local_of xs ≡ map local_of ys
+    tails h = cc
+
+fits-same : (x : Stood) (g : Frame) → SameSeen x.frame g → Fits (point_of x) (seen_of x) → Fits (point_of x) (record { frame = g; lent = x.lent })
+fits-same x g q fits = record {
+  stack = fits.stack ∙ ap (λ (l : List Value). map operand_kind (reverse x.lent ++ map reference_of l)) (sym q.stack);
+  locals = λ l v e. let u = local-held x.frame.locals g.locals l v (sym q.locals) e in let t = fits.locals l u.0 u.1 in (t.0, t.1, t.2 ∙ u.2);
+}
+
+pub fit-refit : (lent : List (Option Reference)) (fs gs : List Frame) (xs : List Stood) → StoodOn lent fs xs → SameFrames fs gs → StoodFit xs → StoodFit (refit xs gs)
+fit-refit lent [] [] [] s q f = tt
+fit-refit lent [] [] (x ∷ xs) s q f = absurd s
+fit-refit lent [] (g ∷ gs) xs s q f = absurd q
+fit-refit lent (f ∷ fs) [] xs s q t = absurd q
+fit-refit lent (f ∷ fs) (g ∷ gs) [] s q t = absurd s
+fit-refit lent (f ∷ fs) (g ∷ gs) (x ∷ xs) s q t = (fits-same x g (subst (λ z. SameSeen z g) (sym s.0) q.0) t.0, fit-refit f.entered_with fs gs xs s.2 q.1 t.1)
+
+pub agree-refit : (home : Module) (function : FunctionDefinition) (lent : List (Option Reference)) (fs gs : List Frame) (xs : List Stood) → StoodOn lent fs xs → SameFrames fs gs → AllAgree home function xs → AllAgree home function (refit xs gs)
+agree-refit home function lent [] [] [] s q a = tt
+agree-refit home function lent [] [] (x ∷ xs) s q a = absurd s
+agree-refit home function lent [] (g ∷ gs) xs s q a = absurd q
+agree-refit home function lent (f ∷ fs) [] xs s q a = absurd q
+agree-refit home function lent (f ∷ fs) (g ∷ gs) [] s q a = absurd s
+agree-refit home function lent (f ∷ fs) (g ∷ gs) (x ∷ xs) s q a = (
+  λ i handle results at. a.0 i handle results (subst (λ (n : ℕ). slice_get x.function.code n ≡ Some (Call i)) (q.0.at ∙ ap (λ (y : Frame). y.at) (sym s.0)) at),
+  agree-refit x.home x.function f.entered_with fs gs xs s.2 q.1 a.1,
+)

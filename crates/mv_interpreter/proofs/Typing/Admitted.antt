@@ -1,0 +1,119 @@
+-- A run that the ledger admits is a typed call.
+use Rattle.std.proofs.Common.{◌≡◌, ℕ, ◌^◌, true, List, [], ◌∷◌, ◌++◌, length, refl, subst, Option, Some, None, Result, Ok}
+use Rattle.std.specs.Prelude.{slice_get, IsTrue, ◌&&◌, nat_le, nat_lt, ok_or}
+use Rattle.std.specs.List.{list_all}
+use Rattle.std.specs.Cmp.{first_so, second_so}
+use Rattle.mv_move_types.specs.declared.token.LeafKind.{LeafKind}
+use Rattle.mv_move_types.specs.declared.token.LeafKind.TheVariants.{Boolean, Number, Address, Signer}
+use Rattle.mv_move_types.specs.declared.token.ValueType.TheVariants.{OfLeaf, OfStruct}
+use Rattle.mv_move_types.specs.declared.token.Token.{Token}
+use Rattle.mv_move_types.specs.declared.token.Token.TheVariants.{Plain, Reference as ReferenceTo, MutableReference as MutableReferenceTo}
+use Rattle.mv_move_types.specs.Results.{◌>>=◌}
+use Rattle.mv_move_types.specs.Module.{Module, FunctionDefinition, parameter_tokens}
+use Rattle.mv_machine.specs.Value.{Value, Leaf, Struct, Ref}
+use Rattle.mv_move_types.specs.Tokens.{same_kind}
+use Rattle.mv_move_types.specs.Named.{module_place}
+use Rattle.mv_move_types.specs.Named.{function_place}
+use Rattle.mv_machine.specs.Run.{FunctionCall}
+use Rattle.mv_machine.specs.Ledger.{LedgerState, RunRequest, modules_of, are_arguments, with_signer, admitted}
+use Rattle.mv_module_text.specs.Fits.{address_fits, function_definition_fits, instruction_fits}
+use Rattle.mv_bounds.specs.Bounds.{below, function_handle_in, function_in, instruction_in, local_count, token_in}
+use Rattle.mv_type_states.specs.TypesHold.{function_is_typed}
+use Rattle.mv_cfg.specs.Blocks.{ends_well}
+use Rattle.mv_machine.proofs.Laws.{on_need}
+use Rattle.mv_interpreter.specs.Typing.HasType.{in_range}
+use Rattle.mv_interpreter.specs.Typing.StateTyped.{HasToken, HaveTokens}
+use Rattle.mv_interpreter.specs.Typing.Accepted.{ModuleAccepted, StoreAccepted}
+use Rattle.mv_interpreter.proofs.Typing.Tests.{same_kind-is}
+use Rattle.mv_interpreter.proofs.Typing.Operands.{on_some, of_leaf}
+use Rattle.mv_interpreter.proofs.Typing.FlowFacts.{each}
+use Rattle.mv_interpreter.proofs.Typing.Advances.{start_typed}
+use Rattle.mv_interpreter.proofs.Typing.Names.{there_at, tokens_there}
+use Rattle.mv_interpreter.proofs.Typing.OwnDefinitions.{then_found}
+use Rattle.mv_interpreter.proofs.Typing.First.{Nowhere, CallTyped}
+
+-- what is found or is a reason against it
+pub on_there : {A B P : Type 0} (o : Option A) (d : ℕ) (f : A → Result B ℕ) (y : B) → (ok_or o d >>= f) ≡ Ok y → ((x : A) → o ≡ Some x → f x ≡ Ok y → P) → P
+on_there None d f y e go = absurd cc
+on_there (Some x) d f y e go = go x refl e
+
+-- leaves, each in the range of its kind
+abbrev pub Ranged : List Value → Type 0
+Ranged [] = Unit {0}
+Ranged (Leaf k n ∷ vs) = IsTrue (in_range k n) × Ranged vs
+Ranged (Struct name fields ∷ vs) = ⊥
+Ranged (Ref r ∷ vs) = ⊥
+
+signed_ranged : (sender : ℕ) (ts : List Token) (vs : List Value) → IsTrue (address_fits sender) → Ranged vs → Ranged (with_signer sender ts vs)
+signed_ranged sender [] vs a h = h
+signed_ranged sender (Plain (OfLeaf Signer) ∷ ts) vs a h = (a, h)
+signed_ranged sender (Plain (OfLeaf Boolean) ∷ ts) vs a h = h
+signed_ranged sender (Plain (OfLeaf Address) ∷ ts) vs a h = h
+signed_ranged sender (Plain (OfLeaf (Number w)) ∷ ts) vs a h = h
+signed_ranged sender (Plain (OfStruct i) ∷ ts) vs a h = h
+signed_ranged sender (ReferenceTo t ∷ ts) vs a h = h
+signed_ranged sender (MutableReferenceTo t ∷ ts) vs a h = h
+
+module _ (modules : List Module) (home : Module) where
+  pub arguments_typed : (ts : List Token) (vs : List Value) → are_arguments ts vs ≡ true → Ranged vs → HaveTokens modules Nowhere home vs ts
+  arguments_typed [] [] h r = tt
+  arguments_typed [] (v ∷ vs) h r = absurd cc
+  arguments_typed (t ∷ ts) [] h r = absurd cc
+  arguments_typed (Plain (OfLeaf k) ∷ ts) (Leaf j n ∷ vs) h r =
+      let same : j ≡ k = same_kind-is j k (first_so (same_kind j k) (are_arguments ts vs) h) in
+      (subst (λ (x : LeafKind). HasToken modules Nowhere home (Leaf j n) (Plain (OfLeaf x))) same (of_leaf modules Nowhere home j n r.0), arguments_typed ts vs (second_so (same_kind j k) (are_arguments ts vs) h) r.1)
+  arguments_typed (Plain (OfLeaf k) ∷ ts) (Struct name fields ∷ vs) h r = absurd r
+  arguments_typed (Plain (OfLeaf k) ∷ ts) (Ref q ∷ vs) h r = absurd r
+  arguments_typed (Plain (OfStruct i) ∷ ts) (v ∷ vs) h r = absurd cc
+  arguments_typed (ReferenceTo t ∷ ts) (v ∷ vs) h r = absurd cc
+  arguments_typed (MutableReferenceTo t ∷ ts) (v ∷ vs) h r = absurd cc
+
+-- a function of an accepted store, called with arguments of its parameters' types
+pub call_typed : (modules : List Module) → StoreAccepted modules → (place index : ℕ) (home : Module) (d : FunctionDefinition) (tokens : List Token) (arguments : List Value) → slice_get modules place ≡ Some home → slice_get home.functions index ≡ Some d →
+    parameter_tokens home d ≡ Some tokens → HaveTokens modules Nowhere home arguments tokens → CallTyped modules (record { function = record { place = place; index = index }; arguments = arguments })
+call_typed modules store place index home d tokens arguments home_at d_at tokens_are typed =
+    on_some (slice_get home.function_handles d.handle) _ tokens tokens_are (λ handle handle_is e1.
+    let a : ModuleAccepted home = store.each place home home_at in
+    let inside = each (function_in home) home.functions index d a.bounds.functions d_at in
+    let inside3 = first_so (below d.handle home.function_handles && below d.locals home.signatures && list_all (λ i. below i home.structs) d.acquires) (list_all (instruction_in home (local_count home d) (length d.code)) d.code) inside in
+    let inside2 = first_so (below d.handle home.function_handles && below d.locals home.signatures) (list_all (λ i. below i home.structs) d.acquires) inside3 in
+    let others = there_at home.signatures d.locals (second_so (below d.handle home.function_handles) (below d.locals home.signatures) inside2) in
+    let code_inside = second_so (below d.handle home.function_handles && below d.locals home.signatures && list_all (λ i. below i home.structs) d.acquires) (list_all (instruction_in home (local_count home d) (length d.code)) d.code) inside in
+    let written = each (function_definition_fits home.version) home.functions index d a.text.functions d_at in
+    let handle_in = each (function_handle_in home) home.function_handles d.handle handle a.bounds.function_handles handle_is in
+    let results = there_at home.signatures handle.results (second_so (below handle.module home.module_handles && below handle.name home.identifiers && below handle.parameters home.signatures) (below handle.results home.signatures) handle_in) in
+    let result_names = tokens_there home a.bounds results.0 (each (list_all (token_in home)) home.signatures handle.results results.0 a.bounds.signatures results.1) in
+    record {
+      home = home;
+      function = d;
+      parameters = tokens;
+      others = others.0;
+      results = result_names.0;
+      is_home = home_at;
+      is_function = d_at;
+      are_others = others.1;
+      are_tokens = then_found (slice_get home.function_handles d.handle) _ handle (tokens ++ others.0) handle_is (then_found (slice_get home.signatures handle.parameters) _ tokens (tokens ++ others.0) e1 (then_found (slice_get home.signatures d.locals) _ others.0 (tokens ++ others.0) others.1 refl));
+      are_results = then_found (slice_get home.function_handles d.handle) _ handle result_names.0 handle_is (then_found (slice_get home.signatures handle.results) _ results.0 result_names.0 results.1 result_names.1);
+      arguments = typed;
+      starts = start_typed home d (each (function_is_typed home) home.functions index d a.types d_at) (each (λ (d : FunctionDefinition). ends_well d.code) home.functions index d a.flow d_at) code_inside (second_so _ (list_all (instruction_fits home.version) d.code) written);
+    })
+
+-- a run that is admitted is a typed call, if its sender is an address and its arguments are in their ranges
+pub admitted_typed : (s : LedgerState) (r : RunRequest) (call : FunctionCall) → StoreAccepted (modules_of s) → IsTrue (address_fits r.sender) → Ranged r.arguments → admitted s r ≡ Ok call → CallTyped (modules_of s) call
+unfolding admitted
+admitted_typed s r call store sender ranged e =
+    on_need (nat_le r.budget 10000000) _ _ call e (λ few e1.
+    on_there (module_place (modules_of s) r.home) _ _ call e1 (λ place place_is e2.
+    on_there (slice_get (modules_of s) place) _ _ call e2 (λ home home_is e3.
+    on_there (function_place home r.function) _ _ call e3 (λ index index_is e4.
+    on_there (slice_get home.functions index) _ _ call e4 (λ d d_is e5.
+    on_need d.is_entry _ _ call e5 (λ is_entry e6.
+    on_there (parameter_tokens home d) _ _ call e6 (λ tokens tokens_are e7.
+    on_need (are_arguments tokens (with_signer r.sender tokens r.arguments)) _ _ call e7 (λ typed e8.
+    on_need (nat_lt s.runs (2 ^ 32)) _ _ call e8 (λ room e9.
+    let arguments = arguments_typed (modules_of s) home tokens (with_signer r.sender tokens r.arguments) typed (signed_ranged r.sender tokens r.arguments sender ranged) in
+    let same : record { function = record { place = place; index = index }; arguments = with_signer r.sender tokens r.arguments } ≡ call = ok_is _ call e9 in
+    subst (CallTyped (modules_of s)) same (call_typed (modules_of s) store place index home d tokens (with_signer r.sender tokens r.arguments) home_is d_is tokens_are arguments))))))))))
+  where
+    ok_is : (x y : FunctionCall) → (let z : Result FunctionCall ℕ = Ok x in z) ≡ Ok y → x ≡ y
+    ok_is x y h = cc

@@ -1,0 +1,200 @@
+-- A typed instruction leads to typed instructions.
+use Rattle.std.proofs.Common.{◌≡◌, ℕ, zero, suc, ◌+◌, ◌-◌, ◌<◌, ◌≤◌, Bool, true, false, List, [], ◌∷◌, ◌++◌, length, take, drop, refl, sym, ap, subst, ◌∙◌, Option, Some, None, ltb, arith, ◌⊎◌, inl, inr}
+use Rattle.std.specs.Prelude.{slice_get, slice_range, IsTrue, nat_lt, nat_le, ◌||◌, ◌==◌}
+use Rattle.std.specs.List.{list_all, list_any}
+use Rattle.std.specs.Option.{option_map_or}
+use Rattle.std.proofs.lemmas.Bool.{ltb-true, ltb-false, lt-ltb, eqb-true}
+use Rattle.mv_move_types.specs.declared.instruction.Instruction.{Instruction}
+use Rattle.mv_move_types.specs.declared.instruction.Instruction.TheVariants.{Ret, BrTrue, BrFalse, Branch, Abort}
+use Rattle.mv_move_types.specs.Module.{Module, FunctionDefinition}
+use Rattle.mv_cfg.specs.Blocks.{BasicBlock, blocks, starts_from}
+use Rattle.mv_move_types.specs.Flow.{ends_block, targets, successors}
+use Rattle.mv_type_states.specs.TypeRules.{Types, types_after}
+use Rattle.mv_type_states.specs.TypesHold.{types_through, block_is_typed, function_is_typed}
+use Rattle.mv_cfg.specs.Blocks.{ends_well, may_be_last}
+use Rattle.mv_bounds.specs.Bounds.{instruction_in, local_count}
+use Rattle.mv_module_text.specs.Fits.{instruction_fits}
+use Rattle.mv_type_states.specs.TypesAt.{TypesAt}
+use Rattle.mv_interpreter.specs.Typing.Facts.{AllAt, Advance}
+use Rattle.mv_interpreter.proofs.Typing.Within.{some_is}
+use Rattle.mv_interpreter.proofs.Typing.Tests.{eqb-same, both}
+use Rattle.mv_interpreter.proofs.Typing.FlowFacts.{each, some_passes, range_split, through_step, through_apart, through_join, through_one, Among, Rising, rising_bounds, starts_rise, targets_begin, ended_begin, BlockFacts, block_facts, begins_block}
+
+-- where control goes on at the next instruction
+one_successor : (at : ℕ) (c : Instruction) → ends_block c ≡ false → successors at c ≡ (at + 1) ∷ []
+one_successor at (BrTrue t) e = absurd cc
+one_successor at (BrFalse t) e = absurd cc
+one_successor at (Branch t) e = absurd cc
+one_successor at Ret e = absurd cc
+one_successor at Abort e = absurd cc
+one_successor at _ e = refl
+
+-- the last instruction
+last_is : (code : List Instruction) (k : ℕ) (c : Instruction) → ends_well code ≡ true → slice_get code k ≡ Some c → k + 1 ≡ length code → may_be_last c ≡ true
+last_is [] k c h e l = absurd cc
+last_is (x ∷ []) zero c h e l = subst (λ (z : Instruction). may_be_last z ≡ true) (some_is x c e) h
+last_is (x ∷ []) (suc k) c h e l = absurd cc
+last_is (x ∷ y ∷ code) zero c h e l = absurd (omega (arith, l))
+last_is (x ∷ y ∷ code) (suc k) c h e l = last_is (y ∷ code) k c h e (omega (arith, l))
+
+there : {A : Type 0} (xs : List A) (k : ℕ) → k < length xs → (x : A) × (slice_get xs k ≡ Some x)
+there [] k h = absurd (omega (arith, h))
+there (x ∷ xs) zero h = (x, refl)
+there (x ∷ xs) (suc k) h = there xs k (omega (arith, h))
+
+-- types that end with no operand
+through_all : (r : Option Types) → option_map_or (λ stack. length stack == 0) r false ≡ true → r ≡ Some []
+through_all None h = absurd (differ h)
+  where
+    differ : false ≡ true → ⊥
+    differ e = cc
+through_all (Some []) h = refl
+through_all (Some (x ∷ xs)) h = let long : suc (length xs) ≡ 0 = eqb-true (suc (length xs)) 0 h in absurd (omega (arith, long))
+
+module _ (m : Module) (d : FunctionDefinition) (typed : IsTrue (function_is_typed m d)) (ends : IsTrue (ends_well d.code)) (inside : IsTrue (list_all (instruction_in m (local_count m d) (length d.code)) d.code)) (fits : IsTrue (list_all (instruction_fits m.version) d.code)) where
+  abbrev starts : List ℕ
+  starts = starts_from d.code 0 true d.code
+
+  rising : Rising 0 (length d.code) starts
+  rising = starts_rise d.code 0 (length d.code) true d.code (omega arith)
+
+  -- places in the code at which blocks begin
+  abbrev AllBegin : List ℕ → Type 0
+  AllBegin [] = Unit {0}
+  AllBegin (t ∷ ts) = Among t starts × AllBegin ts
+
+  -- a block's beginning is typed by no operands
+  begin_typed : (t : ℕ) → Among t starts → TypesAt m d t []
+  begin_typed t a =
+      let b = begins_block d.code starts t a in
+      let f = block_facts d.code starts 0 b.0 b.1 rising b.2 in
+      record {
+        block = b.1;
+        place = b.0;
+        is_block = b.2;
+        not_before = omega (arith, b.3);
+        not_behind = omega (arith, f.in_order, b.3);
+        carried = let none : t - b.1.first ≡ 0 = omega (arith, b.3) in subst (λ (n : ℕ). types_through m d (take n (drop b.1.first d.code)) [] ≡ Some []) (sym none) refl;
+      }
+
+  all_begin : (ts : List ℕ) → AllBegin ts → AllAt m d [] ts × (list_all (λ t. nat_lt t (length d.code)) ts ≡ true)
+  all_begin [] a = (tt, refl)
+  all_begin (t ∷ ts) a =
+      let rest = all_begin ts a.1 in
+      let bounds = rising_bounds 0 (length d.code) t starts rising a.0 in
+      ((begin_typed t a.0, rest.0), both _ _ (lt-ltb t (length d.code) bounds.1) rest.1)
+
+  -- where a block's last instruction leads
+  last_leads : (at : ℕ) (c : Instruction) → slice_get d.code at ≡ Some c → (at + 1 ≡ length d.code) ⊎ Among (at + 1) starts → AllBegin (successors at c)
+  last_leads at c e next = by_case c (each (instruction_in m (local_count m d) (length d.code)) d.code at c inside e) (λ t p. target t p) ended beyond
+    where
+      target : (t : ℕ) → list_any (λ x. x == t) (targets c) ≡ true → t < length d.code → Among t starts
+      target t p l = targets_begin d.code 0 t true d.code (some_passes (λ x. list_any (λ y. y == t) (targets x)) d.code at c e p) (omega arith) (omega (arith, l))
+
+      beyond : may_be_last c ≡ false → Among (at + 1) starts
+      beyond not_last = elim next [ inl p ↦ absurd (apart (last_is d.code at c ends e p) not_last) | inr a ↦ a ]
+        where
+          apart : {b : Bool} → b ≡ true → b ≡ false → ⊥
+          apart p q = cc
+
+      ended : ends_block c ≡ true → may_be_last c ≡ false → Among (at + 1) starts
+      ended h not_last = beyond not_last
+
+      by_case : (c : Instruction) → instruction_in m (local_count m d) (length d.code) c ≡ true → ((t : ℕ) → list_any (λ x. x == t) (targets c) ≡ true → t < length d.code → Among t starts) →
+          (ends_block c ≡ true → may_be_last c ≡ false → Among (at + 1) starts) → (may_be_last c ≡ false → Among (at + 1) starts) → AllBegin (successors at c)
+      by_case (BrTrue t) i to_target ended beyond = (to_target t (first_or_rest t) (ltb-true t (length d.code) i), (beyond refl, tt))
+        where
+          first_or_rest : (t : ℕ) → ((t == t) || false) ≡ true
+          first_or_rest t = ap (λ b. b || false) (eqb-same t)
+      by_case (BrFalse t) i to_target ended beyond = (to_target t (first_or_rest t) (ltb-true t (length d.code) i), (beyond refl, tt))
+        where
+          first_or_rest : (t : ℕ) → ((t == t) || false) ≡ true
+          first_or_rest t = ap (λ b. b || false) (eqb-same t)
+      by_case (Branch t) i to_target ended beyond = (to_target t (first_or_rest t) (ltb-true t (length d.code) i), tt)
+        where
+          first_or_rest : (t : ℕ) → ((t == t) || false) ≡ true
+          first_or_rest t = ap (λ b. b || false) (eqb-same t)
+      by_case Ret i to_target ended beyond = tt
+      by_case Abort i to_target ended beyond = tt
+      by_case _ i to_target ended beyond = (beyond refl, tt)
+
+  -- the function's beginning
+  pub start_typed : TypesAt m d 0 []
+  unfolding Among
+  start_typed = begin_typed 0 (first_start d.code ends)
+    where
+      first_start : (code : List Instruction) → ends_well code ≡ true → Among 0 (starts_from d.code 0 true code)
+      first_start [] h = absurd cc
+      first_start (c ∷ code) h = inl refl
+
+  -- a typed instruction and what comes behind it
+  pub advances : (at : ℕ) (types : Types) → TypesAt m d at types → Advance m d at types
+  advances at types t =
+      let b : BasicBlock = t.block in
+      let f = block_facts d.code starts 0 t.place b rising t.is_block in
+      let low : b.first ≤ at = t.not_before in
+      let high : at ≤ b.last = t.not_behind in
+      let short : b.last < length d.code = f.inside in
+      let c = there d.code at (omega (arith, high, short)) in
+      let whole = range_split d.code b.first at (b.last + 1) c.0 low (omega (arith, high)) c.1 in
+      let front = range_split d.code b.first at (at + 1) c.0 low (omega arith) c.1 in
+      let front_is : slice_range d.code b.first (at + 1) ≡ slice_range d.code b.first at ++ c.0 ∷ [] = front.1 ∙ ap (λ (xs : List Instruction). slice_range d.code b.first at ++ c.0 ∷ xs) (front.2 refl) in
+      let block_typed : block_is_typed m d b ≡ true = each (block_is_typed m d) (blocks d.code) t.place b typed t.is_block in
+      let all = through_all (types_through m d (slice_range d.code b.first (b.last + 1)) []) block_typed in
+      let all_parts : types_through m d (slice_range d.code b.first at ++ c.0 ∷ whole.0) [] ≡ Some [] = subst (λ (xs : List Instruction). types_through m d xs [] ≡ Some []) whole.1 all in
+      let parts = through_apart m d (slice_range d.code b.first at) (c.0 ∷ whole.0) [] [] all_parts in
+      let same : parts.0 ≡ types = some_is parts.0 types (sym parts.1 ∙ t.carried) in
+      let step = through_step m d c.0 whole.0 types [] (subst (λ (x : Types). types_through m d (c.0 ∷ whole.0) x ≡ Some []) same parts.2) in
+      let fit : instruction_fits m.version c.0 ≡ true = each (instruction_fits m.version) d.code at c.0 fits c.1 in
+      by_place b f c.0 step.0 c.1 step.1 step.2 fit
+      (λ inner. record {
+        block = b;
+        place = t.place;
+        is_block = t.is_block;
+        not_before = omega (arith, low);
+        not_behind = omega (arith, inner);
+        carried = subst (λ (xs : List Instruction). types_through m d xs [] ≡ Some step.0) (sym front_is) (through_join m d (slice_range d.code b.first at) (c.0 ∷ []) [] types step.0 t.carried (through_one m d c.0 types step.0 step.1 step.2));
+      })
+      (λ last. let none : whole.0 ≡ [] = whole.2 (omega (arith, last)) in
+      some_is step.0 [] (subst (λ (xs : List Instruction). types_through m d xs step.0 ≡ Some []) none step.3))
+      (λ inner h. f.alone (at + 1) (omega (arith, low)) (omega (arith, inner)) (ended_begin d.code 0 at (at + 1) true c.0 d.code c.1 h (omega (arith, inner, short)) (omega arith)))
+      (at_last_or at b.last high)
+    where
+      at_last_or : (a b : ℕ) → a ≤ b → (a < b) ⊎ (a ≡ b)
+      at_last_or a b h = by_case (ltb a b) refl
+        where
+          by_case : (f : Bool) → ltb a b ≡ f → (a < b) ⊎ (a ≡ b)
+          by_case true e = inl (ltb-true a b e)
+          by_case false e = let g : b ≤ a = ltb-false a b e in inr (omega (arith, h, g))
+
+      by_place : (b : BasicBlock) → BlockFacts d.code starts 0 b → (c : Instruction) (after : Types) → slice_get d.code at ≡ Some c → types_after m d c types ≡ Some after → nat_le (length after) 128 ≡ true → instruction_fits m.version c ≡ true →
+          (at < b.last → TypesAt m d (at + 1) after) → (at ≡ b.last → after ≡ []) → (at < b.last → ends_block c ≡ true → ⊥) → (at < b.last) ⊎ (at ≡ b.last) → Advance m d at types
+      by_place b f c after e rule small fit inner last within (inl p) =
+          let shut : ends_block c ≡ false = never (ends_block c) (within p) in
+          let one : successors at c ≡ (at + 1) ∷ [] = one_successor at c shut in
+          let short : at + 1 < length d.code = omega (arith, p, f.inside) in
+          record {
+            instruction = c;
+            after = after;
+            is_there = e;
+            rule = rule;
+            leads = subst (λ (ts : List ℕ). AllAt m d after ts) (sym one) (inner p, tt);
+            inside = subst (λ (ts : List ℕ). list_all (λ t. nat_lt t (length d.code)) ts ≡ true) (sym one) (both _ _ (lt-ltb (at + 1) (length d.code) short) refl);
+            fits = fit;
+          }
+        where
+          never : (b : Bool) → (b ≡ true → ⊥) → b ≡ false
+          never true h = absurd (h refl)
+          never false h = refl
+      by_place b f c after e rule small fit inner last within (inr p) =
+          let ends_here : (at + 1 ≡ length d.code) ⊎ Among (at + 1) starts = subst (λ (n : ℕ). (n + 1 ≡ length d.code) ⊎ Among (n + 1) starts) (sym p) f.ends in
+          let all = all_begin (successors at c) (last_leads at c e ends_here) in
+          record {
+            instruction = c;
+            after = after;
+            is_there = e;
+            rule = rule;
+            leads = subst (λ (ts : Types). AllAt m d ts (successors at c)) (sym (last p)) all.0;
+            inside = all.1;
+            fits = fit;
+          }

@@ -1,0 +1,61 @@
+-- The first state of a run is typed, and so the whole run meets no fault of types, links or dangling references.
+use Rattle.std.proofs.Common.{◌≡◌, ℕ, List, [], ◌++◌, length, refl, sym, subst, Some, None, Result, Ok, arith}
+use Rattle.mv_move_types.specs.Module.{Module}
+use Rattle.mv_machine.specs.State.{Storage, State, root_value}
+use Rattle.mv_machine.specs.Live.{references}
+use Rattle.mv_machine.specs.Typing.{Failure}
+use Rattle.mv_machine.specs.Step.{entered_frame}
+use Rattle.mv_machine.specs.Run.{FunctionCall, first_state, outcome_from, run}
+use Rattle.mv_interpreter.specs.Typing.HasType.{Roots}
+use Rattle.mv_interpreter.specs.Typing.StateTyped.{StateTyped, StorageTyped}
+pub use Rattle.mv_interpreter.specs.Typing.CallTyped.{Nowhere, CallTyped}
+use Rattle.mv_interpreter.specs.Typing.Facts.{SoundStore}
+use Rattle.mv_interpreter.specs.Typing.Outcome.{Guides, OutcomeTyped}
+use Rattle.mv_interpreter.proofs.Typing.Keep.{Kept, Nothing, avoid_nothing, keep_stack}
+use Rattle.mv_interpreter.proofs.Typing.Calls.{entered_locals}
+use Rattle.mv_interpreter.proofs.Typing.Rule.{run_typed}
+
+-- the state that a call begins with
+abbrev pub begun : Storage → FunctionCall → ℕ → State
+begun storage call others = record { top = entered_frame 0 call.function call.arguments others; below = []; storage = storage; steps = 0; tally = []; entered = 1 }
+
+from_nowhere : (modules : List Module) (look : Roots) → Kept modules Nowhere look Nothing
+from_nowhere modules look root t far r = absurd (never r.is_there)
+  where
+    never : None ≡ Some r.value → ⊥
+    never e = cc
+
+pub first_typed : (modules : List Module) (storage : Storage) (call : FunctionCall) (c : CallTyped modules call) → StorageTyped modules storage → StateTyped modules (begun storage call (length c.others))
+first_typed modules storage call c stored =
+    let look : Roots = root_value (begun storage call (length c.others)) in
+    let arguments = keep_stack modules Nowhere look Nothing (from_nowhere modules look) c.home call.arguments c.parameters (avoid_nothing (references call.arguments)) c.arguments in
+    record {
+      home = c.home;
+      function = c.function;
+      types = [];
+      is_home = c.is_home;
+      is_function = c.is_function;
+      are_types = c.starts;
+      stands = record {
+        tokens = c.parameters ++ c.others;
+        results = c.results;
+        numbered = (omega arith, tt);
+        are_tokens = c.are_tokens;
+        are_results = c.are_results;
+        locals = entered_locals modules look c.home call.arguments c.parameters c.others arguments;
+        stack = tt;
+        below = tt;
+        storage = stored;
+      };
+    }
+
+pub first_is : (modules : List Module) (storage : Storage) (call : FunctionCall) (c : CallTyped modules call) → first_state modules storage call ≡ Ok (begun storage call (length c.others))
+first_is modules storage call c = rw (c.is_home, c.is_function, c.are_others) refl
+
+-- a run of a typed call over a typed storage
+pub whole_run_typed : (modules : List Module) (P : State → Type 0) (storage : Storage) (call : FunctionCall) (budget : ℕ) → SoundStore modules → Guides modules P → (c : CallTyped modules call) → StorageTyped modules storage →
+    P (begun storage call (length c.others)) → OutcomeTyped modules (run modules storage call budget)
+unfolding run
+whole_run_typed modules P storage call budget store guides c stored p =
+    subst (λ (r : Result State Failure). OutcomeTyped modules (outcome_from modules budget r)) (sym (first_is modules storage call c))
+    (run_typed modules P budget (begun storage call (length c.others)) store guides (first_typed modules storage call c stored) p)

@@ -1,0 +1,229 @@
+-- Rows of the storage.
+use Rattle.std.proofs.Common.{◌≡◌, ℕ, ◌+◌, Bool, true, false, List, [], ◌∷◌, refl, sym, ap, subst, ◌∙◌, Option, Some, None, Ok}
+use Rattle.std.specs.Prelude.{slice_get, ok_or, is_some, not, IsTrue}
+use Rattle.std.specs.Option.{option_map_or}
+use Rattle.mv_move_types.specs.declared.tables.Key.{Key}
+use Rattle.mv_move_types.specs.declared.token.LeafKind.TheVariants.{Address, Signer}
+use Rattle.mv_move_types.specs.declared.token.ValueType.{ValueType}
+use Rattle.mv_move_types.specs.declared.token.ValueType.TheVariants.{OfLeaf, OfStruct}
+use Rattle.mv_move_types.specs.declared.token.Token.{Token}
+use Rattle.mv_move_types.specs.declared.token.Token.TheVariants.{Plain, Reference as ReferenceTo}
+use Rattle.mv_move_types.specs.declared.instruction.Instruction.{Instruction}
+use Rattle.mv_move_types.specs.Results.{◌>>=◌}
+use Rattle.mv_move_types.specs.Module.{struct_abilities, name_at}
+use Rattle.mv_move_types.specs.declared.token.Abilities.{Abilities}
+use Rattle.mv_move_types.specs.Names.{StructName}
+use Rattle.mv_machine.specs.declared.Kind.TheVariants.{Exists as AlreadyThere, Missing}
+use Rattle.mv_machine.specs.Value.{Root, Local, Stored, Reference, Value, Leaf, Struct, Ref}
+use Rattle.mv_machine.specs.State.{Storage, root_value, stored_at, with_stored, without_stored, same_key}
+use Rattle.mv_machine.specs.Live.{references}
+use Rattle.mv_machine.specs.Typing.{Faults, Aborts, DanglingFault, has_tag}
+use Rattle.mv_move_types.specs.Tags.{Tag, LeafTag, StructTag, ReferenceTag}
+use Rattle.mv_type_states.specs.TypeRules.{Types, address, boolean, keyed_type, of_global, of_move_to, takes_gives}
+use Rattle.mv_module_text.specs.Fits.{address_fits}
+use Rattle.mv_machine.specs.Typed.{abilities_at}
+use Rattle.mv_linker.specs.TypesByName.{value_type_named, token_named}
+use Rattle.mv_machine.specs.Step.{Here, OwnStruct, keyed_struct, move_to, key_at, operand, as_reference, as_signer, follow, with_stack, with_storage, goes_on}
+use Rattle.mv_machine.specs.StepGlobals.{exists, borrow_global, move_from}
+use Rattle.mv_machine.specs.StepParts.{untouched, truth, gives}
+use Rattle.mv_interpreter.specs.Typing.HasType.{in_range, Table, Roots, IsOf, Rooted, AtOnce, HasType, fields_by_name}
+use Rattle.mv_type_states.specs.TypesAt.{TypesAt}
+use Rattle.mv_interpreter.specs.Typing.StateTyped.{HasToken, HaveTokens, TurnTyped, StorageTyped}
+use Rattle.mv_interpreter.specs.Typing.Facts.{Row, Facts}
+use Rattle.mv_interpreter.specs.Typing.Unreached.{Avoid, Unreached, Unlent}
+use Rattle.mv_interpreter.proofs.Typing.Within.{some_is}
+use Rattle.mv_interpreter.proofs.Typing.Tests.{same_key-is}
+use Rattle.mv_interpreter.proofs.Typing.Parts.{Part, known, met, tried, tested, frozen}
+use Rattle.mv_interpreter.proofs.Typing.Operands.{on_some, on_test, takes_gives-is, one, leaf}
+use Rattle.mv_interpreter.proofs.Typing.Keep.{Kept, Nothing, avoid_nothing, none_to_nothing, keep_stack, keep_locals, keep_below}
+use Rattle.mv_interpreter.proofs.Typing.Roots.{place_of, typed_has_tag}
+use Rattle.mv_interpreter.proofs.Typing.OwnDefinitions.{then_found}
+use Rattle.mv_interpreter.proofs.Typing.Stays.{gives_typed, moved_typed}
+use Rattle.mv_interpreter.proofs.Typing.Families.{of_truth}
+use Rattle.mv_interpreter.proofs.Typing.Storage.{stored_other, unstored_other, stored_typed, typed_with, typed_without}
+use Rattle.mv_interpreter.proofs.Typing.References.{immutable}
+
+-- an own struct with key
+pub record KeyedFacts (h : Here) (k : ℕ) (u : ValueType) : Type 0 where
+  pub struct : OwnStruct
+  pub is_found : keyed_struct h k ≡ Ok struct
+  pub names : value_type_named h.home u ≡ Some (StructTag struct.name)
+  pub key : name_at h.modules h.state.top.function.place k ≡ Some struct.name
+  pub has_key : IsTrue (option_map_or (λ a. a.key) (abilities_at h.modules h.state.top.function.place k) false)
+
+pub keyed_facts : (h : Here) → Facts h → slice_get h.modules h.state.top.function.place ≡ Some h.home → (k : ℕ) (u : ValueType) → keyed_type h.home k ≡ Some u → KeyedFacts h k u
+unfolding keyed_struct
+keyed_facts h facts home_at k u e =
+    on_some (slice_get h.home.structs k) _ u e (λ d d_is e1.
+    on_some (struct_abilities h.home d) _ u e1 (λ a a_is e2.
+    on_test a.key (OfStruct d.handle) u e2 (λ able same.
+    let own = facts.own k d d_is in
+    let abilities : a ≡ own.struct.abilities = some_is a own.struct.abilities (sym a_is ∙ own.abilities) in
+    let key : own.struct.abilities.key ≡ true = subst (λ (x : Abilities). x.key ≡ true) abilities able in
+    let name : value_type_named h.home (OfStruct d.handle) ≡ Some (StructTag own.struct.name) = rw own.is_named refl in
+    let abilities_are : abilities_at h.modules h.state.top.function.place k ≡ Some a = then_found (slice_get h.modules h.state.top.function.place) _ h.home a home_at (then_found (slice_get h.home.structs k) _ d a d_is a_is) in
+    record { struct = own.struct; is_found = rw (own.is_found, key) refl; names = subst (λ (x : ValueType). value_type_named h.home x ≡ Some (StructTag own.struct.name)) same name; key = own.key; has_key = subst (λ (x : Option Abilities). IsTrue (option_map_or (λ a. a.key) x false)) (sym abilities_are) able })))
+
+module _ (h : Here) (i : Instruction) (types after : Types) (row : Row h i types after) (next : TypesAt h.home h.function (h.state.top.at + 1) after) where
+  -- an address on top, and what is given for it
+  record AtAddress (k : ℕ) (given : Token) : Type 0 where
+    a : ℕ
+    rest : List Value
+    below : Types
+    are : h.state.top.stack ≡ Leaf Address a ∷ rest
+    all : types ≡ address ∷ below
+    typed : HaveTokens h.modules (root_value h.state) h.home rest below
+    given_is : after ≡ given ∷ below
+
+  at_address : (k : ℕ) (given : Token) → takes_gives (address ∷ []) (given ∷ []) types ≡ Some after → AtAddress k given
+  at_address k given e =
+      let parts = takes_gives-is (address ∷ []) (given ∷ []) types after e in
+      let top = one h.modules (root_value h.state) h.home h.state.top.stack address parts.0 (subst (λ (ts : Types). HaveTokens h.modules (root_value h.state) h.home h.state.top.stack ts) parts.1 row.stands.stack) in
+      let x = leaf h.modules (root_value h.state) h.home top.0 Address top.3 in
+      record { a = x.number; rest = top.1; below = parts.0; are = top.2 ∙ ap (λ (v : Value). v ∷ top.1) x.is_leaf; all = parts.1; typed = top.4; given_is = parts.2 }
+
+  pub tells : (k : ℕ) → of_global (λ t. boolean) h.home k types ≡ Some after → Part (TurnTyped h.modules) (exists h k)
+  unfolding exists
+  tells k e =
+      on_some (keyed_type h.home k) _ after e (λ u u_is e1.
+      let f = keyed_facts h row.facts row.is_home k u u_is in
+      let x = at_address k boolean e1 in
+      known (TurnTyped h.modules) (keyed_struct h k) _ f.struct f.is_found
+      (known (TurnTyped h.modules) (operand h.state.top.stack) _ (Leaf Address x.a, x.rest) (ap operand x.are)
+      (gives_typed h i types after (Ok (truth (is_some (stored_at h.state.storage (key_at h k x.a))) ∷ x.rest)) row next
+      (subst (λ (ts : Types). HaveTokens h.modules (root_value h.state) h.home (truth (is_some (stored_at h.state.storage (key_at h k x.a))) ∷ x.rest) ts) (sym x.given_is)
+      (of_truth h.modules (root_value h.state) h.home (is_some (stored_at h.state.storage (key_at h k x.a))), x.typed)))))
+
+  -- what is stored under an own struct's key is one
+  stored_struct : (k : ℕ) (u : ValueType) (f : KeyedFacts h k u) (a : ℕ) (v : Value) → stored_at h.state.storage (key_at h k a) ≡ Some v → IsOf (fields_by_name h.modules) v (StructTag f.struct.name)
+  stored_struct k u f a v there =
+      let entry = stored_typed h.modules h.state.storage (key_at h k a) v row.stands.storage there in
+      subst (λ (n : StructName). IsOf (fields_by_name h.modules) v (StructTag n)) (some_is entry.name f.struct.name (sym entry.is_named ∙ f.key)) entry.typed
+
+  pub borrows_global : (m : Bool) (given : ValueType → Token) → ((t : ValueType) (tag : Tag) → value_type_named h.home t ≡ Some tag → token_named h.home (given t) ≡ Some (ReferenceTag m tag)) →
+      (k : ℕ) → of_global given h.home k types ≡ Some after → Part (TurnTyped h.modules) (borrow_global m h k)
+  unfolding borrow_global
+  borrows_global m given names k e =
+      on_some (keyed_type h.home k) _ after e (λ u u_is e1.
+      let f = keyed_facts h row.facts row.is_home k u u_is in
+      let x = at_address k (given u) e1 in
+      known (TurnTyped h.modules) (keyed_struct h k) _ f.struct f.is_found
+      (known (TurnTyped h.modules) (operand h.state.top.stack) _ (Leaf Address x.a, x.rest) (ap operand x.are)
+      (by_case u f x (stored_at h.state.storage (key_at h k x.a)) refl)))
+    where
+      reference : ℕ → Reference
+      reference a = record { is_mutable = m; place = record { root = Stored (key_at h k a); path = [] } }
+
+      by_case : (u : ValueType) (f : KeyedFacts h k u) (x : AtAddress k (given u)) (found : Option Value) → stored_at h.state.storage (key_at h k x.a) ≡ found →
+          Part (TurnTyped h.modules) (ok_or found (Aborts Missing 0) >>= λ v. gives h (Ok (Ref (record { is_mutable = m; place = record { root = Stored (key_at h k x.a); path = [] } }) ∷ x.rest)))
+      by_case u f x None there = tt
+      by_case u f x (Some v) there =
+          gives_typed h i types after (Ok (Ref (record { is_mutable = m; place = record { root = Stored (key_at h k x.a); path = [] } }) ∷ x.rest)) row next
+          (subst (λ (ts : Types). HaveTokens h.modules (root_value h.state) h.home (Ref (record { is_mutable = m; place = record { root = Stored (key_at h k x.a); path = [] } }) ∷ x.rest) ts) (sym x.given_is) (
+            record {
+              tag = ReferenceTag m (StructTag f.struct.name);
+              names = names u (StructTag f.struct.name) f.names;
+              typed = (refl, record { base = StructTag f.struct.name; root = record { value = v; is_there = there; is_of = stored_struct k u f x.a v there }; leads = AtOnce });
+            },
+            x.typed,
+          ))
+
+  -- the state with another storage and these operands
+  restored : (gone : Root → Type 0) (storage : Storage) (stack : List Value) → Kept h.modules (root_value h.state) (root_value (with_storage h.state storage)) gone → Unreached gone h.state →
+      StorageTyped h.modules storage → HaveTokens h.modules (root_value (with_storage h.state storage)) h.home stack after → Part (TurnTyped h.modules) (goes_on (with_stack (with_storage h.state storage) stack))
+  restored gone storage stack kept free stored typed = moved_typed h i types after row h.state.top.locals stack h.state.below storage h.state.tally (h.state.top.at + 1) next row.stands.numbered.1
+      (keep_locals h.modules (root_value h.state) (root_value (with_storage h.state storage)) gone kept h.home h.state.top.locals row.stands.tokens free.0.0 row.stands.locals)
+      typed
+      (keep_below h.modules (root_value h.state) (root_value (with_storage h.state storage)) gone kept h.state.top.entered_with row.stands.results h.state.below free.1 row.stands.below)
+      stored
+
+  kept_without : (key : Key) → Kept h.modules (root_value h.state) (root_value (with_storage h.state (without_stored h.state.storage key))) (λ root. root ≡ Stored key)
+  kept_without key (Local m l) t far r = record { value = r.value; is_there = r.is_there; is_of = r.is_of }
+  kept_without key (Stored other) t far r = by_case (same_key key other) refl
+    where
+      by_case : (a : Bool) → same_key key other ≡ a → Rooted (fields_by_name h.modules) (root_value (with_storage h.state (without_stored h.state.storage key))) (Stored other) t
+      by_case false p = record { value = r.value; is_there = unstored_other h.state.storage key other p ∙ r.is_there; is_of = r.is_of }
+      by_case true p = absurd (far (ap Stored (sym (same_key-is key other p))))
+
+  pub takes_out : (k : ℕ) → of_global Plain h.home k types ≡ Some after → Unlent h.state k → Part (TurnTyped h.modules) (move_from h k)
+  unfolding move_from
+  takes_out k e free =
+      on_some (keyed_type h.home k) _ after e (λ u u_is e1.
+      let f = keyed_facts h row.facts row.is_home k u u_is in
+      let x = at_address k (Plain u) e1 in
+      known (TurnTyped h.modules) (keyed_struct h k) _ f.struct f.is_found
+      (known (TurnTyped h.modules) (operand h.state.top.stack) _ (Leaf Address x.a, x.rest) (ap operand x.are)
+      (tested (TurnTyped h.modules) (untouched h.state (record { root = Stored (key_at h k x.a); path = [] })) _ (frozen h.state (record { root = Stored (key_at h k x.a); path = [] }))
+      (by_case u f x (stored_at h.state.storage (key_at h k x.a)) refl))))
+    where
+      by_case : (u : ValueType) (f : KeyedFacts h k u) (x : AtAddress k (Plain u)) (found : Option Value) → stored_at h.state.storage (key_at h k x.a) ≡ found →
+          Part (TurnTyped h.modules) (ok_or found (Aborts Missing 0) >>= λ v. goes_on (with_stack (with_storage h.state (without_stored h.state.storage (key_at h k x.a))) (v ∷ x.rest)))
+      by_case u f x None there = tt
+      by_case u f x (Some v) there =
+          let storage : Storage = without_stored h.state.storage (key_at h k x.a) in
+          let gone : Root → Type 0 = λ root. root ≡ Stored (key_at h k x.a) in
+          let unreached : Unreached gone h.state = free x.a x.rest x.are in
+          let kept = kept_without (key_at h k x.a) in
+          let avoided : Avoid gone (references (Leaf Address x.a ∷ x.rest)) = subst (λ (vs : List Value). Avoid gone (references vs)) x.are unreached.0.1 in
+          let rest_typed = keep_stack h.modules (root_value h.state) (root_value (with_storage h.state storage)) gone kept h.home x.rest x.below avoided x.typed in
+          let v_typed : HasToken h.modules (root_value (with_storage h.state storage)) h.home v (Plain u) =
+          record { tag = StructTag f.struct.name; names = f.names; typed = stored_struct k u f x.a v there } in
+          restored gone storage (v ∷ x.rest) kept unreached (typed_without h.modules h.state.storage (key_at h k x.a) row.stands.storage)
+          (subst (λ (ts : Types). HaveTokens h.modules (root_value (with_storage h.state storage)) h.home (v ∷ x.rest) ts) (sym x.given_is) (v_typed, rest_typed))
+
+  kept_with : (key : Key) (v : Value) → stored_at h.state.storage key ≡ None → Kept h.modules (root_value h.state) (root_value (with_storage h.state (with_stored h.state.storage key v))) Nothing
+  kept_with key v none (Local m l) t far r = record { value = r.value; is_there = r.is_there; is_of = r.is_of }
+  kept_with key v none (Stored other) t far r = by_case (same_key key other) refl
+    where
+      by_case : (a : Bool) → same_key key other ≡ a → Rooted (fields_by_name h.modules) (root_value (with_storage h.state (with_stored h.state.storage key v))) (Stored other) t
+      by_case false p = record { value = r.value; is_there = stored_other h.state.storage key other v p ∙ r.is_there; is_of = r.is_of }
+      by_case true p =
+          let there : stored_at h.state.storage key ≡ Some r.value = subst (λ (x : Key). stored_at h.state.storage x ≡ Some r.value) (sym (same_key-is key other p)) r.is_there in
+          absurd (none_some (sym none ∙ there))
+        where
+          none_some : None ≡ Some r.value → ⊥
+          none_some e = cc
+
+  signer_leaf : (table : Table) (v : Value) → IsOf table v (LeafTag Signer) → (n : ℕ) × (v ≡ Leaf Signer n) × IsTrue (address_fits n)
+  signer_leaf table (Leaf k n) e = (n, ap (λ x. Leaf x n) e.0, subst (λ x. IsTrue (in_range x n)) e.0 e.1)
+  signer_leaf table (Struct name fields) e = absurd e
+  signer_leaf table (Ref r) e = absurd e
+
+  pub puts_in : (k : ℕ) → of_move_to h.home k types ≡ Some after → Part (TurnTyped h.modules) (move_to h k)
+  unfolding move_to
+  puts_in k e =
+      on_some (keyed_type h.home k) _ after e (λ u u_is e1.
+      let f = keyed_facts h row.facts row.is_home k u u_is in
+      let table = fields_by_name h.modules in
+      let look : Roots = root_value h.state in
+      let parts = takes_gives-is (ReferenceTo (OfLeaf Signer) ∷ Plain u ∷ []) [] types after e1 in
+      let top = one h.modules look h.home h.state.top.stack (Plain u) (ReferenceTo (OfLeaf Signer) ∷ parts.0) (subst (λ (ts : Types). HaveTokens h.modules look h.home h.state.top.stack ts) parts.1 row.stands.stack) in
+      let under = one h.modules look h.home top.1 (ReferenceTo (OfLeaf Signer)) parts.0 top.4 in
+      let ref = immutable h.modules look h.home under.0 (OfLeaf Signer) under.3 in
+      let r : Reference = ref.reference in
+      let signer_tag : ref.tag ≡ LeafTag Signer = some_is ref.tag (LeafTag Signer) (sym ref.names) in
+      let there = place_of table h.state r ref.tag ref.points in
+      let signer = signer_leaf table there.0 (subst (λ (t : Tag). IsOf table there.0 t) signer_tag there.2) in
+      let value_tag : top.3.tag ≡ StructTag f.struct.name = some_is top.3.tag (StructTag f.struct.name) (sym top.3.names ∙ f.names) in
+      let value_is : IsOf table top.0 (StructTag f.struct.name) = subst (λ (t : Tag). HasType table look top.0 t) value_tag top.3.typed in
+      known (TurnTyped h.modules) (keyed_struct h k) _ f.struct f.is_found
+      (known (TurnTyped h.modules) (operand h.state.top.stack) _ (top.0, top.1) (ap operand top.2)
+      (known (TurnTyped h.modules) (operand top.1) _ (under.0, under.1) (ap operand under.2)
+      (met (TurnTyped h.modules) (has_tag h.state top.0 (StructTag f.struct.name)) _ _ (typed_has_tag table h.state top.0 (StructTag f.struct.name) value_is)
+      (known (TurnTyped h.modules) (as_reference under.0) _ r (ap as_reference ref.is_reference)
+      (met (TurnTyped h.modules) (not r.is_mutable) _ _ (ap not ref.mutable)
+      (known (TurnTyped h.modules) (follow h.state r) _ there.0 (ap (λ (x : Option Value). ok_or x (Faults DanglingFault)) there.1)
+      (known (TurnTyped h.modules) (as_signer there.0) _ signer.0 (ap as_signer signer.1)
+      (tried (TurnTyped h.modules) (not (is_some (stored_at h.state.storage (key_at h k signer.0)))) (Aborts AlreadyThere 0) _ tt (λ free.
+      let key : Key = key_at h k signer.0 in
+      let none : stored_at h.state.storage key ≡ None = nothing_there (stored_at h.state.storage key) free in
+      let storage : Storage = with_stored h.state.storage key top.0 in
+      let kept = kept_with key top.0 none in
+      restored Nothing storage under.1 kept (none_to_nothing h.state)
+      (typed_with h.modules h.state.storage key top.0 row.stands.storage (record { name = f.struct.name; fits = signer.2; is_named = f.key; has_key = f.has_key; typed = value_is }))
+      (subst (λ (ts : Types). HaveTokens h.modules (root_value (with_storage h.state storage)) h.home under.1 ts) (sym parts.2)
+      (keep_stack h.modules look (root_value (with_storage h.state storage)) Nothing kept h.home under.1 parts.0 (avoid_nothing (references under.1)) under.4))))))))))))
+    where
+      nothing_there : (x : Option Value) → not (is_some x) ≡ true → x ≡ None
+      nothing_there None e = refl
+      nothing_there (Some v) e = absurd cc

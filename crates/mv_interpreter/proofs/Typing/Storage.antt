@@ -1,0 +1,79 @@
+-- Look-ups in a storage that was changed.
+use Rattle.std.proofs.Common.{◌≡◌, Bool, true, false, cond, List, [], ◌∷◌, refl, sym, subst, Some}
+use Rattle.mv_move_types.specs.declared.tables.Key.{Key}
+use Rattle.mv_move_types.specs.Module.{Module}
+use Rattle.mv_machine.specs.Value.{Value}
+use Rattle.mv_machine.specs.State.{Entry, Storage, same_key, key_before, stored_at, with_stored, without_stored}
+use Rattle.mv_interpreter.specs.Typing.StateTyped.{EntryTyped, StorageTyped}
+use Rattle.mv_interpreter.proofs.Typing.Within.{some_is}
+use Rattle.mv_interpreter.proofs.Typing.Tests.{same_key-is, same_key-same}
+
+-- an entry of this key and value
+abbrev pub entry_of : Key → Value → Entry
+entry_of key v = record { key = key; value = v }
+
+apart : {b : Bool} → b ≡ true → b ≡ false → ⊥
+apart p q = cc
+
+-- at the key itself
+pub stored_same : (es : Storage) (key : Key) (v : Value) → stored_at (with_stored es key v) key ≡ Some v
+stored_same [] key v = rw (same_key-same key) refl
+stored_same (e ∷ es) key v = by_case (stored_same es key v) (same_key e.key key) (key_before key e.key) refl refl
+  where
+    by_case : stored_at (with_stored es key v) key ≡ Some v → (a b : Bool) → same_key e.key key ≡ a → key_before key e.key ≡ b → stored_at (with_stored (e ∷ es) key v) key ≡ Some v
+    by_case ih true b p q = rw (p, same_key-same key) refl
+    by_case ih false true p q = rw (p, q, same_key-same key) refl
+    by_case ih false false p q = rw (p, q, p) ih
+
+-- at another key
+pub stored_other : (es : Storage) (key other : Key) (v : Value) → same_key key other ≡ false → stored_at (with_stored es key v) other ≡ stored_at es other
+stored_other [] key other v far = rw far refl
+stored_other (e ∷ es) key other v far = by_case (stored_other es key other v far) (same_key e.key key) (key_before key e.key) refl refl
+  where
+    at_entry : same_key e.key key ≡ true → same_key e.key other ≡ false
+    at_entry p = subst (λ (k : Key). same_key k other ≡ false) (sym (same_key-is e.key key p)) far
+
+    by_case : stored_at (with_stored es key v) other ≡ stored_at es other → (a b : Bool) → same_key e.key key ≡ a → key_before key e.key ≡ b → stored_at (with_stored (e ∷ es) key v) other ≡ stored_at (e ∷ es) other
+    by_case ih true b p q = rw (p, far, at_entry p) refl
+    by_case ih false true p q = rw (p, q, far) refl
+    by_case ih false false p q = rw (p, q, ih) refl
+
+pub unstored_other : (es : Storage) (key other : Key) → same_key key other ≡ false → stored_at (without_stored es key) other ≡ stored_at es other
+unstored_other [] key other far = refl
+unstored_other (e ∷ es) key other far = by_case (unstored_other es key other far) (same_key e.key key) refl
+  where
+    at_entry : same_key e.key key ≡ true → same_key e.key other ≡ false
+    at_entry p = subst (λ (k : Key). same_key k other ≡ false) (sym (same_key-is e.key key p)) far
+
+    by_case : stored_at (without_stored es key) other ≡ stored_at es other → (a : Bool) → same_key e.key key ≡ a → stored_at (without_stored (e ∷ es) key) other ≡ stored_at (e ∷ es) other
+    by_case ih true p = rw (p, at_entry p) refl
+    by_case ih false p = rw (p, ih) refl
+
+module _ (modules : List Module) where
+  -- what is stored is typed
+  pub stored_typed : (es : Storage) (key : Key) (v : Value) → StorageTyped modules es → stored_at es key ≡ Some v → EntryTyped modules (entry_of key v)
+  stored_typed [] key v h e = absurd cc
+  stored_typed (x ∷ es) key v h e = by_case (stored_typed es key v h.1) (same_key x.key key) refl
+    where
+      by_case : (stored_at es key ≡ Some v → EntryTyped modules (entry_of key v)) → (a : Bool) → same_key x.key key ≡ a → EntryTyped modules (entry_of key v)
+      by_case ih true p =
+          let value : x.value ≡ v = some_is x.value v (subst (λ (a : Bool). cond a (Some x.value) (stored_at es key) ≡ Some v) p e) in
+          subst (λ (k : Key). EntryTyped modules (entry_of k v)) (same_key-is x.key key p) (subst (λ (w : Value). EntryTyped modules (entry_of x.key w)) value h.0)
+      by_case ih false p = ih (subst (λ (a : Bool). cond a (Some x.value) (stored_at es key) ≡ Some v) p e)
+
+  pub typed_with : (es : Storage) (key : Key) (v : Value) → StorageTyped modules es → EntryTyped modules (entry_of key v) → StorageTyped modules (with_stored es key v)
+  typed_with [] key v h k = (k, tt)
+  typed_with (x ∷ es) key v h k = by_case (typed_with es key v h.1 k) (same_key x.key key) (key_before key x.key) refl refl
+    where
+      by_case : StorageTyped modules (with_stored es key v) → (a b : Bool) → same_key x.key key ≡ a → key_before key x.key ≡ b → StorageTyped modules (with_stored (x ∷ es) key v)
+      by_case ih true b p q = rw p (k, h.1)
+      by_case ih false true p q = rw (p, q) (k, h)
+      by_case ih false false p q = rw (p, q) (h.0, ih)
+
+  pub typed_without : (es : Storage) (key : Key) → StorageTyped modules es → StorageTyped modules (without_stored es key)
+  typed_without [] key h = h
+  typed_without (x ∷ es) key h = by_case (typed_without es key h.1) (same_key x.key key) refl
+    where
+      by_case : StorageTyped modules (without_stored es key) → (a : Bool) → same_key x.key key ≡ a → StorageTyped modules (without_stored (x ∷ es) key)
+      by_case ih true p = rw p h.1
+      by_case ih false p = rw p (h.0, ih)

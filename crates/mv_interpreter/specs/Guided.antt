@@ -1,0 +1,5 @@
+pub mod Guided
+pub mod Facts
+pub mod Store
+pub mod Outcome
+pub mod Published

@@ -1,0 +1,30 @@
+use Rattle.std.proofs.Common.{◌≡◌, get_or, take, ◌++◌, ◌∷◌, [], ◌+◌}
+use Rattle.std.proofs.lemmas.List.{take_more}
+use Rattle.std.proofs.lemmas.List.Elements.{Contains-get_or}
+use Rattle.mv_lattice.specs.Work.{AllStated}
+use Rattle.mv_lattice.proofs.Rises.{raised_trans, raised_keeps}
+use Rattle.mv_lattice.proofs.search.raise_each.Goals as goal
+
+pub raise-requires-clause-begins : goal.raise-requires-clause-begins
+raise-requires-clause-begins g c = c.requires.begins _ (Contains-get_or c.args.blocks.now c.loop-n.n-index 0 c.loop-n-test.true)
+
+pub loop-n-preserved : goal.loop-n-preserved
+loop-n-preserved g c =
+    let m = g.D.Domain in
+    let d = c.args.d.now in
+    let laws = g.met.D.Domain.laws d in
+    let n = get_or c.args.blocks.now c.loop-n.n-index 0 in
+    let xs = take c.loop-n.n-index c.args.blocks.now in
+    let inv = c.loop-n.invariant in
+    let here = c.in_ok-raise.ensures.ok in
+    let valid : AllStated (m.is_state d) c.raise.new.states =
+    raised_keeps laws (m.is_small d) c.args.t.now (n ∷ []) [] c.loop-n.states c.raise.new.states c.raise.new.states c.loop-n.waiting c.raise.new.waiting c.raise.new.waiting (m.is_state d) (λ s a b e. a) inv.valid here in
+    let begins : AllStated (m.may_begin d) c.raise.new.states =
+    raised_keeps laws (m.is_small d) c.args.t.now (n ∷ []) [] c.loop-n.states c.raise.new.states c.raise.new.states c.loop-n.waiting c.raise.new.waiting c.raise.new.waiting (m.may_begin d) (λ s a b e. b) inv.begins here in
+    let more : take (c.loop-n.n-index + 1) c.args.blocks.now ≡ xs ++ (n ∷ []) = take_more c.args.blocks.now c.loop-n.n-index 0 c.loop-n-test.true in
+    let both = raised_trans laws (m.is_small d) c.args.t.now xs (n ∷ []) c.args.states.now c.loop-n.states c.raise.new.states c.args.waiting.now c.loop-n.waiting c.raise.new.waiting c.requires.state c.requires.states inv.valid valid inv.raised here in
+    record {
+      raised = rw more both;
+      valid = valid;
+      begins = begins;
+    }

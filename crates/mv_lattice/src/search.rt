@@ -1,0 +1,314 @@
+// The search for the least closed flow.
+ghost use Rattle.std.specs.Prelude.{◌≡◌, ℕ, ◌<◌, ◌≤◌, Option, length, IfOk, IfSome, IfNone, OnOk, IsErrOf, Contains, All, [], ◌∷◌, List, replicate, slice_set, sum, ◌⊎◌, true, false};
+ghost use Rattle.mv_cfg.specs.Graph.{IsGraph};
+ghost use Rattle.mv_lattice.specs.Flow.{IsFlow, IsClosed, IsFlowBelow, through};
+ghost use Rattle.mv_lattice.specs.Work.{IsAt, HasLarge, HasChain, AllStated, IsWork, IsCounted, IsNewState, IsRaised, IsHigher, IsLeast};
+
+use crate::{Domain, StepError, carry};
+use mv_cfg::{Block, Cfg};
+use std::alloc::{AllocError, Global};
+
+/// Why no closed flow is answered.
+#[derive(Drop, Clone, Copy, PartialEq, Eq, Debug)]
+pub enum SolveError {
+    /// There is no closed flow: a need of an instruction fails.
+    Need,
+    /// A state that would be stated is too large, or a block would be visited a 257th time.
+    TooComplex,
+    /// An allocation failed.
+    Memory,
+}
+
+impl From<AllocError> for SolveError {
+    ghost use Rattle.mv_lattice.specs.declared.search.SolveError.TheVariants.{Memory};
+
+    ghost from_gives = { λ _ e. e ≡ Memory };
+
+    fn from(_: AllocError) -> Self {
+        SolveError::Memory
+    }
+}
+
+/// How often a block is visited at most.
+const VISITS: u16 = 256;
+
+/// The state, if it may be stated.
+fn small<D: Domain>(d: &D, s: D::State) -> Result<D::State, SolveError>
+    requires state { D.is_state d.now s }
+    ensures ok { IfOk result (λ r. (r ≡ s) × D.is_small d.now s) }
+    ensures need { ¬ IsErrOf result SolveError.Need }
+    ensures large { IsErrOf result SolveError.TooComplex → ¬ D.is_small d.now s }
+{
+    if d.fits(&s) {
+        Ok(s)
+    } else {
+        Err(SolveError::TooComplex)
+    }
+}
+
+/// The state of a block after `t` has flowed in, if it is a new one.
+fn joined<D: Domain>(
+    alloc: Global,
+    d: &D,
+    old: &Option<D::State>,
+    t: &D::State,
+) -> Result<Option<D::State>, SolveError>
+    requires state { D.is_state d.now t.now }
+    requires begins { D.may_begin d.now t.now }
+    requires old_state { (s : D.State) → old.now ≡ Option.Some s → D.is_state d.now s }
+    requires old_begins { (s : D.State) → old.now ≡ Option.Some s → D.may_begin d.now s }
+    ensures ok { IfOk result (λ r. IsNewState (D.is_state d.now) (D.may_begin d.now) (D.is_small d.now) (D.below d.now) old.now t.now r) }
+    ensures need { ¬ IsErrOf result SolveError.Need }
+    ensures large { IsErrOf result SolveError.TooComplex → HasLarge (D.is_state d.now) (D.may_begin d.now) (D.is_small d.now) }
+{
+    match old {
+        None => Ok(Some(small(d, d.copy(alloc, t)?)?)),
+        Some(s) => {
+            if d.leq(t, s) {
+                return Ok(None);
+            }
+            Ok(Some(small(d, d.join(alloc, s, t)?)?))
+        }
+    }
+}
+
+/// Lets the state `t` flow into a block.
+fn raise<D: Domain>(
+    alloc: Global,
+    d: &D,
+    states: &mut [Option<D::State>],
+    waiting: &mut [bool],
+    n: usize,
+    t: &D::State,
+) -> Result<(), SolveError>
+    requires inside { n < length states.old }
+    requires marked { n < length waiting.old }
+    requires state { D.is_state d.now t.now }
+    requires begins { D.may_begin d.now t.now }
+    requires states { AllStated (D.is_state d.now) states.old }
+    requires starts { AllStated (D.may_begin d.now) states.old }
+    ensures ok { OnOk result (IsRaised (D.is_state d.now) (D.may_begin d.now) (D.is_small d.now) (D.below d.now) (n ∷ []) t.now states.old states.new waiting.old waiting.new) }
+    ensures need { ¬ IsErrOf result SolveError.Need }
+    ensures large { IsErrOf result SolveError.TooComplex → HasLarge (D.is_state d.now) (D.may_begin d.now) (D.is_small d.now) }
+{
+    if let Some(u) = joined(alloc, d, &states[n], t)? {
+        states[n] = Some(u);
+        waiting[n] = true;
+    }
+    Ok(())
+}
+
+/// Lets the state `t` flow into each of the blocks.
+fn raise_each<D: Domain>(
+    alloc: Global,
+    d: &D,
+    states: &mut [Option<D::State>],
+    waiting: &mut [bool],
+    blocks: &[usize],
+    t: &D::State,
+) -> Result<(), SolveError>
+    requires inside { All (λ n. n < length states.old) blocks.now }
+    requires marked { length waiting.old ≡ length states.old }
+    requires state { D.is_state d.now t.now }
+    requires begins { (n : ℕ) → Contains blocks.now n → D.may_begin d.now t.now }
+    requires states { AllStated (D.is_state d.now) states.old }
+    requires starts { AllStated (D.may_begin d.now) states.old }
+    ensures ok { OnOk result (IsRaised (D.is_state d.now) (D.may_begin d.now) (D.is_small d.now) (D.below d.now) blocks.now t.now states.old states.new waiting.old waiting.new) }
+    ensures need { ¬ IsErrOf result SolveError.Need }
+    ensures large { IsErrOf result SolveError.TooComplex → HasLarge (D.is_state d.now) (D.may_begin d.now) (D.is_small d.now) }
+{
+    for n in blocks {
+        raise(alloc, d, states, waiting, *n, t)?;
+    }
+    Ok(())
+}
+
+/// Carries a copy of the state through the block.
+fn carry_through<D: Domain>(
+    alloc: Global,
+    d: &D,
+    block: &Block,
+    s: &D::State,
+) -> Result<D::State, SolveError>
+    requires state { D.is_state d.now s.now }
+    requires order { block.now.first ≤ block.now.last }
+    requires inside { block.now.last < D.size d.now }
+    ensures state { IfOk result (λ t. D.is_state d.now t) }
+    ensures ok { IfOk result (λ t. through (D.steps d.now) block.now s.now ≡ Option.Some t) }
+    ensures need { IsErrOf result SolveError.Need → through (D.steps d.now) block.now s.now ≡ Option.None }
+    ensures complex { ¬ IsErrOf result SolveError.TooComplex }
+{
+    match carry(alloc, d, s, block.first, block.last) {
+        Ok(t) => Ok(t),
+        Err(StepError::Need) => Err(SolveError::Need),
+        Err(StepError::Memory) => Err(SolveError::Memory),
+    }
+}
+
+/// Carries the state of a block through it, and lets what comes out flow into its successors.
+fn visit<D: Domain>(
+    alloc: Global,
+    d: &D,
+    g: &Cfg,
+    k: usize,
+    states: &mut [Option<D::State>],
+    waiting: &mut [bool],
+) -> Result<(), SolveError>
+    requires graph { IsGraph g.now (D.size d.now) }
+    requires same { D.is_graph d.now g.now }
+    requires inside { k < length g.now.blocks.items }
+    requires work { IsWork (D.is_state d.now) (D.may_begin d.now) (D.is_small d.now) (D.below d.now) (D.steps d.now) g.now k states.old waiting.old }
+    ensures work { OnOk result (IsWork (D.is_state d.now) (D.may_begin d.now) (D.is_small d.now) (D.below d.now) (D.steps d.now) g.now (length g.now.blocks.items) states.new waiting.new) }
+    ensures higher { OnOk result (IsHigher (D.below d.now) states.old states.new) }
+    ensures least { OnOk result (IsLeast (D.is_state d.now) (D.below d.now) (D.steps d.now) g.now states.old states.new) }
+    ensures counts { OnOk result ((left : List ℕ) → IsCounted (λ r. D.is_state d.now r × D.may_begin d.now r) (D.below d.now) left states.old waiting.old → IsCounted (λ r. D.is_state d.now r × D.may_begin d.now r) (D.below d.now) left states.new waiting.new) }
+    ensures need { IsErrOf result SolveError.Need → (start : D.State) (flow : List (Option D.State)) → IsFlow (D.is_state d.now) g.now flow → IsFlowBelow (D.below d.now) states.old flow → ¬ IsClosed (D.below d.now) (D.steps d.now) g.now start flow }
+    ensures large { IsErrOf result SolveError.TooComplex → HasLarge (D.is_state d.now) (D.may_begin d.now) (D.is_small d.now) }
+{
+    let block = &g.blocks[k];
+    let Some(s) = &states[k] else {
+        return Ok(());
+    };
+    match carry_through(alloc, d, block, s) {
+        Ok(t) => raise_each(alloc, d, states, waiting, &block.successors, &t),
+        Err(e) => Err(e),
+    }
+}
+
+/// The first block that waits.
+fn first_waiting(waiting: &[bool]) -> Option<usize>
+    ensures some { IfSome result (λ k. IsAt waiting.now k true) }
+    ensures first { IfSome result (λ k. (j : ℕ) → j < k → IsAt waiting.now j false) }
+    ensures none { IfNone result ((j : ℕ) → j < length waiting.now → IsAt waiting.now j false) }
+{
+    for (k, waits) in waiting.iter().enumerate() {
+        if *waits {
+            return Some(k);
+        }
+    }
+    None
+}
+
+/// Visits the first block that waits, unless it has been visited as often as it may be.
+fn turn<D: Domain>(
+    alloc: Global,
+    d: &D,
+    g: &Cfg,
+    k: usize,
+    states: &mut [Option<D::State>],
+    waiting: &mut [bool],
+    left: &mut [u16],
+) -> Result<(), SolveError>
+    requires graph { IsGraph g.now (D.size d.now) }
+    requires same { D.is_graph d.now g.now }
+    requires waits { IsAt waiting.old k true }
+    requires first { (j : ℕ) → j < k → IsAt waiting.old j false }
+    requires lefts { length left.old ≡ length g.now.blocks.items }
+    requires work { IsWork (D.is_state d.now) (D.may_begin d.now) (D.is_small d.now) (D.below d.now) (D.steps d.now) g.now (length g.now.blocks.items) states.old waiting.old }
+    requires counts { IsCounted (λ r. D.is_state d.now r × D.may_begin d.now r) (D.below d.now) left.old states.old waiting.old }
+    ensures work { OnOk result (IsWork (D.is_state d.now) (D.may_begin d.now) (D.is_small d.now) (D.below d.now) (D.steps d.now) g.now (length g.now.blocks.items) states.new waiting.new) }
+    ensures counts { OnOk result (IsCounted (λ r. D.is_state d.now r × D.may_begin d.now r) (D.below d.now) left.new states.new waiting.new) }
+    ensures higher { OnOk result (IsHigher (D.below d.now) states.old states.new) }
+    ensures least { OnOk result (IsLeast (D.is_state d.now) (D.below d.now) (D.steps d.now) g.now states.old states.new) }
+    ensures fewer { OnOk result (sum left.new < sum left.old) }
+    ensures need { IsErrOf result SolveError.Need → (start : D.State) (flow : List (Option D.State)) → IsFlow (D.is_state d.now) g.now flow → IsFlowBelow (D.below d.now) states.old flow → ¬ IsClosed (D.below d.now) (D.steps d.now) g.now start flow }
+    ensures complex { IsErrOf result SolveError.TooComplex → HasLarge (D.is_state d.now) (D.may_begin d.now) (D.is_small d.now) ⊎ HasChain (D.is_state d.now) (D.may_begin d.now) (D.below d.now) }
+{
+    if left[k] == 0 {
+        return Err(SolveError::TooComplex);
+    }
+    left[k] -= 1;
+    waiting[k] = false;
+    visit(alloc, d, g, k, states, waiting)
+}
+
+/// Visits blocks, the first that waits each time, until none waits.
+fn search_flow<D: Domain>(
+    alloc: Global,
+    d: &D,
+    g: &Cfg,
+    states: &mut [Option<D::State>],
+    waiting: &mut [bool],
+    left: &mut [u16],
+) -> Result<(), SolveError>
+    requires graph { IsGraph g.now (D.size d.now) }
+    requires same { D.is_graph d.now g.now }
+    requires lefts { length left.old ≡ length g.now.blocks.items }
+    requires work { IsWork (D.is_state d.now) (D.may_begin d.now) (D.is_small d.now) (D.below d.now) (D.steps d.now) g.now (length g.now.blocks.items) states.old waiting.old }
+    requires counts { IsCounted (λ r. D.is_state d.now r × D.may_begin d.now r) (D.below d.now) left.old states.old waiting.old }
+    ensures work { OnOk result (IsWork (D.is_state d.now) (D.may_begin d.now) (D.is_small d.now) (D.below d.now) (D.steps d.now) g.now (length g.now.blocks.items) states.new waiting.new) }
+    ensures rests { OnOk result ((j : ℕ) → j < length waiting.new → IsAt waiting.new j false) }
+    ensures higher { OnOk result (IsHigher (D.below d.now) states.old states.new) }
+    ensures least { OnOk result (IsLeast (D.is_state d.now) (D.below d.now) (D.steps d.now) g.now states.old states.new) }
+    ensures need { IsErrOf result SolveError.Need → (start : D.State) (flow : List (Option D.State)) → IsFlow (D.is_state d.now) g.now flow → IsFlowBelow (D.below d.now) states.old flow → ¬ IsClosed (D.below d.now) (D.steps d.now) g.now start flow }
+    ensures complex { IsErrOf result SolveError.TooComplex → HasLarge (D.is_state d.now) (D.may_begin d.now) (D.is_small d.now) ⊎ HasChain (D.is_state d.now) (D.may_begin d.now) (D.below d.now) }
+{
+    while let Some(k) = first_waiting(waiting) {
+        turn(alloc, d, g, k, states, waiting, left)?;
+    }
+    Ok(())
+}
+
+/// So many blocks, the first with this state and the others with none.
+fn first_states<S: Drop>(alloc: Global, n: usize, first: S) -> Result<Vec<Option<S>>, AllocError>
+    requires { 0 < n }
+    ensures { IfOk result (λ v. v.items ≡ slice_set (replicate n Option.None) 0 (Option.Some first)) }
+{
+    let mut states = Vec::new(alloc);
+    for _ in 0..n {
+        states.push(None)?;
+    }
+    states[0] = Some(first);
+    Ok(states)
+}
+
+/// So many marks, of which the first alone is set.
+fn first_marks(alloc: Global, n: usize) -> Result<Vec<bool>, AllocError>
+    requires { 0 < n }
+    ensures { IfOk result (λ v. v.items ≡ slice_set (replicate n false) 0 true) }
+{
+    let mut marks = vec![in alloc; false; n]?;
+    marks[0] = true;
+    Ok(marks)
+}
+
+/// So many full counts of visits.
+fn first_counts(alloc: Global, n: usize) -> Result<Vec<u16>, AllocError>
+    ensures { IfOk result (λ v. v.items ≡ replicate n 256) }
+{
+    vec![in alloc; VISITS; n]
+}
+
+/// The least closed flow above the start state: it is below every closed flow. Of the blocks that wait to be visited, always
+/// the one with the least first instruction is.
+///
+/// # Errors
+/// `Need` where there is no closed flow. `TooComplex` where a block would be visited a 257th time, or where a state that it would
+/// state for a block does not meet `fits`: some state with which a block may begin is too large, or 257 of them rise one
+/// after the other. `Memory` if an allocation failed.
+pub fn solve<D: Domain>(
+    alloc: Global,
+    d: &D,
+    g: &Cfg,
+    start: &D::State,
+) -> Result<Vec<Option<D::State>>, SolveError>
+    requires graph { IsGraph g.now (D.size d.now) }
+    requires same { D.is_graph d.now g.now }
+    requires start { D.is_state d.now start.now }
+    requires begins { D.may_begin d.now start.now }
+    ensures flow { IfOk result (λ v. IsFlow (D.is_state d.now) g.now v.items) }
+    ensures closed { IfOk result (λ v. IsClosed (D.below d.now) (D.steps d.now) g.now start.now v.items) }
+    ensures starts { IfOk result (λ v. AllStated (D.may_begin d.now) v.items) }
+    ensures small { IfOk result (λ v. AllStated (D.is_small d.now) v.items) }
+    ensures least { IfOk result (λ v. (flow : List (Option D.State)) → IsFlow (D.is_state d.now) g.now flow → IsClosed (D.below d.now) (D.steps d.now) g.now start.now flow → IsFlowBelow (D.below d.now) v.items flow) }
+    ensures need { IsErrOf result SolveError.Need → (flow : List (Option D.State)) → IsFlow (D.is_state d.now) g.now flow → ¬ IsClosed (D.below d.now) (D.steps d.now) g.now start.now flow }
+    ensures complex { IsErrOf result SolveError.TooComplex → HasLarge (D.is_state d.now) (D.may_begin d.now) (D.is_small d.now) ⊎ HasChain (D.is_state d.now) (D.may_begin d.now) (D.below d.now) }
+{
+    let first = small(d, d.copy(alloc, start)?)?;
+    let n = g.blocks.len();
+    let mut states = first_states(alloc, n, first)?;
+    let mut waiting = first_marks(alloc, n)?;
+    let mut left = first_counts(alloc, n)?;
+    search_flow(alloc, d, g, &mut states, &mut waiting, &mut left)?;
+    Ok(states)
+}
