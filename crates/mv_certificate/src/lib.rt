@@ -17,10 +17,10 @@ ghost use Rattle.mv_certificate.specs.Laws.{IsReadBackAs};
 
 pub use certificate::{Cert, Known, Stated};
 pub use laws::texts_are_of_one_certificate;
-pub use shape::{function_at, function_count, graph_of, has_start};
 use mv_binary_format::Module;
 use mv_move_types::Refusal;
 use mv_type_states::Typed;
+pub use shape::{function_at, function_count, graph_of, has_start};
 use std::alloc::{AllocError, Global};
 use std::marker::Model;
 
