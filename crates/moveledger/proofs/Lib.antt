@@ -3,5 +3,6 @@ pub mod Lengths
 pub mod Whole
 pub mod Steps
 pub mod One
+pub mod Writing
 pub mod Lines
 pub mod Tasks

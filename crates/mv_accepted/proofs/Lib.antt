@@ -1,0 +1,5 @@
+pub mod Stores
+pub mod Stays
+pub mod Answers
+pub mod Records
+pub mod Instance

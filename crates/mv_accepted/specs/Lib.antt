@@ -1,0 +1,2 @@
+pub mod SoundLedger
+pub mod Records

@@ -1,0 +1,11 @@
+pub mod Words
+pub mod Held
+pub mod Kept
+pub mod Effects
+pub mod Returns
+pub mod Fine
+pub mod Headline
+pub mod Conservation
+pub mod Publishing
+pub mod Ledgers
+pub mod RecordText
