@@ -3,6 +3,5 @@ pub mod Lengths
 pub mod Whole
 pub mod Steps
 pub mod One
-pub mod Writing
 pub mod Lines
 pub mod Tasks

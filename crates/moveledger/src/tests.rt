@@ -3,13 +3,11 @@
 mod fakes;
 mod limits;
 mod line;
-mod reports;
 mod rows;
 
 use crate::engine::{EngineError, engine};
 use fakes::{Pieces, Room};
 use mv_ledger::{Ledger, Reply};
-use reports::REPORTS;
 use rows::{NUMBERED, NUMBERED_REST, REFUSED, RUNS};
 use std::alloc::Global;
 use std::io::ErrorKind;
@@ -112,7 +110,7 @@ fn report(
 
 #[test]
 fn records_are_answered(rt: HostRuntime) -> Result<(), Fail> {
-    for row in RUNS.iter().chain(REFUSED.iter()).chain(REPORTS.iter()) {
+    for row in RUNS.iter().chain(REFUSED.iter()) {
         let wanted = row.report;
         let bytes = bytes_of(rt.alloc(), row.input)?;
         for each in [MANY, 7, 1] {

@@ -1,4 +1,3 @@
-pub mod FlatState
 pub mod Frames
+pub mod FlatState
 pub mod WordLists
-pub mod Moves

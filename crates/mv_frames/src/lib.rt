@@ -1,12 +1,8 @@
-//! Frames: the words of a run's functions at work, one list for them all, and the functions that wait.
+//! Frames: functions at work, with the values of their locals and their operands.
 #![tactic(auto)]
 
 mod frame;
-mod halt;
-#[cfg(test)]
-mod tests;
-mod words;
+mod operand;
 
-pub use frame::{Event, Frame, Top};
-pub use halt::Halt;
-pub use words::Words;
+pub use frame::Frame;
+pub use operand::{Operand, Reference};

@@ -15,3 +15,4 @@ pub mod Whole
 pub mod LinkFacts
 pub mod Tells
 pub mod Published
+pub mod Instance

@@ -1,10 +1,9 @@
+pub mod Longer
 pub mod Stores
-pub mod Places
-pub mod Heirs
-pub mod Staying
 pub mod Calls
 pub mod Ledgers
 pub mod Phases
+pub mod Stored
 pub mod Replying
 pub mod ShapesOfArguments
 pub mod Shapes
@@ -12,10 +11,6 @@ pub mod TalliesAfter
 pub mod TalliesAdding
 pub mod TalliesByModule
 pub mod TalliesFresh
-pub mod TalliesJoined
-pub mod Placing
-pub mod Verifying
-pub mod Joining
 pub mod Admissions
 pub mod AdmissionsAnswered
 pub mod StoredRuns

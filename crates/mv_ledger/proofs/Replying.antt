@@ -1,25 +1,28 @@
 -- What the ledger's calls reply, from what their parts say.
 use Rattle.std.specs.Prelude.{is_some}
-use Rattle.std.proofs.Common.{◌≡◌, ℕ, suc, ◌+◌, true, false, List, [], ◌∷◌, length, map, Option, Some, None, Ok, Err, refl, ap, ◌∙◌, arith}
+use Rattle.std.proofs.Common.{◌≡◌, ℕ, suc, ◌+◌, true, false, All, List, [], ◌∷◌, ◌++◌, length, Option, Some, None, Ok, Err, refl, sym, ap, ◌∙◌, arith}
 use Rattle.mv_move_types.specs.declared.refusal.Refusal.TheVariants.{Phase}
-use Rattle.mv_move_types.specs.Published.{PublishedModule, with_modules}
+use Rattle.mv_move_types.specs.Module.{Module}
+use Rattle.mv_move_types.specs.Published.{PublishedModule}
 use Rattle.mv_machine.specs.State.{Storage}
 use Rattle.mv_machine.specs.Flat.{FlatEntry, storage_of}
-use Rattle.mv_machine.specs.Lines.{Tallied, Reply as Told, Published as ToldPublished, Refused as ToldRefused, Rejected as ToldRejected, Returned as ToldReturned, Aborted as ToldAborted, Exhausted as ToldExhausted, Told as ToldLines}
-use Rattle.mv_machine.specs.Ledger.{Offer, LedgerState, RunRequest, Publish, Run, BadRun, Bad, AreRead, with_bundle, tally_of, scarce_structs}
+use Rattle.mv_machine.specs.Lines.{Tallied, Reply as Told, Published as ToldPublished, Refused as ToldRefused, Rejected as ToldRejected, Returned as ToldReturned, Aborted as ToldAborted, Exhausted as ToldExhausted, Broken as ToldBroken}
+use Rattle.mv_machine.specs.Ledger.{Offer, LedgerState, RunRequest, Publish, Run, BadRun, Bad, AreRead, with_bundle}
 use Rattle.mv_linker.specs.Link.{tables_in}
+use Rattle.mv_interpreter.specs.Runs.{IsFineWords}
 use Rattle.mv_ledger.specs.declared.tallies.Tally.{Tally}
 use Rattle.mv_ledger.specs.declared.executing.Call.{Call}
 use Rattle.mv_ledger.specs.declared.executing.Barred.TheVariants.{Rejected as BarredRejected}
-use Rattle.mv_ledger.specs.View.{LedgerView, state_of, view_of, tallied}
+use Rattle.mv_ledger.specs.View.{LedgerView, state_of, view_of, RunsToday}
 use Rattle.mv_ledger.specs.RecordText.{IsShaped, IsShapeless}
-use Rattle.mv_ledger.specs.Answering.{AnswersRecord, Replies}
-use Rattle.mv_ledger.specs.Changes.{IsKept, RunsTo, Leaves}
-use Rattle.mv_ledger.specs.Publishing.{Spells, AllPass}
+use Rattle.mv_ledger.specs.Answering.{Spells, AnswersRecord, Replies}
+use Rattle.mv_ledger.specs.Changes.{AddsOne, IsKept, RunsTo, Leaves}
+use Rattle.mv_ledger.specs.Publishing.{AllPass}
 use Rattle.mv_ledger.specs.Exact.{IsAccepted, IsRefused, no_bundle, failing}
 use Rattle.mv_ledger.specs.Judging.{IsAcceptedBy, IsRefusedBy}
 use Rattle.mv_ledger.specs.Running.{IsAdmitted, IsSettled}
 use Rattle.mv_ledger.specs.Tallying.{AddsTallies}
+use Rattle.mv_ledger.proofs.Stored.{stored-more, store-flat}
 use Rattle.mv_ledger.proofs.AdmissionsAnswered.{answered-rejected, answered-run}
 
 -- what passed was read from its text, one module for each offer
@@ -27,13 +30,22 @@ read_as : (offers : List Offer) (bundle : List PublishedModule) → AllPass offe
 read_as [] [] h = tt
 read_as [] (p ∷ ps) h = h
 read_as (o ∷ os) [] h = h
-read_as (o ∷ os) (p ∷ ps) h = (h.0, h.1, h.2.1.text, read_as os ps h.3)
+read_as (o ∷ os) (p ∷ ps) h = (h.0, h.1, h.2.1.read.text, read_as os ps h.3)
 
 as_many : (offers : List Offer) (bundle : List PublishedModule) → AllPass offers bundle → length bundle ≡ length offers
 as_many [] [] h = refl
 as_many [] (p ∷ ps) h = absurd h
 as_many (o ∷ os) [] h = absurd h
 as_many (o ∷ os) (p ∷ ps) h = ap suc (as_many os ps h.3)
+
+tables-append : (old more : List PublishedModule) → tables_in (old ++ more) ≡ tables_in old ++ tables_in more
+tables-append [] more = refl
+tables-append (p ∷ old) more = ap (λ l. p.tables ∷ l) (tables-append old more)
+
+-- two lists that continue a third alike are as long
+as_long : {A : Type 0} (xs ys zs : List A) → xs ++ ys ≡ xs ++ zs → length ys ≡ length zs
+as_long [] ys zs e = ap length e
+as_long (x ∷ xs) ys zs e = as_long xs ys zs (cc e)
 
 same_state : (a b : List PublishedModule) (c d : Storage) (e f : List Tallied) (n : ℕ) → a ≡ b → c ≡ d → e ≡ f
     → (let s : LedgerState = record { published = a; storage = c; tallies = e; runs = n } in s) ≡ record { published = b; storage = d; tallies = f; runs = n }
@@ -46,25 +58,27 @@ module _ (old new : List PublishedModule) (payload : List ℕ) (stored : List Fl
   abbrev second : LedgerView
   second = view_of new stored after runs
 
-  -- the ledger with the bundle
-  with_it : (bundle : List PublishedModule) → new ≡ with_modules old bundle → storage_of (tables_in new) stored ≡ storage_of (tables_in old) stored → AddsTallies old new before after → state_of second ≡ with_bundle (state_of first) bundle
-  with_it bundle added same tallies =
-      same_state new (with_modules old bundle) (storage_of (tables_in new) stored) (storage_of (tables_in old) stored) _ _ runs added same
-      (tallies ∙ ap (λ (l : List PublishedModule). map (tally_of (map (tallied (tables_in old)) before)) (scarce_structs (tables_in l))) added)
+  -- the ledger with the bundle behind what it had
+  with_it : (bundle : List PublishedModule) → new ≡ old ++ bundle → All RunsToday old → All (IsFineWords (tables_in old)) stored → AddsTallies old new before after → state_of second ≡ with_bundle (state_of first) bundle
+  with_it bundle added today fine tallies =
+      let tables : tables_in new ≡ tables_in old ++ tables_in bundle = ap tables_in added ∙ tables-append old bundle in
+      same_state new (old ++ bundle) (storage_of (tables_in new) stored) (storage_of (tables_in old) stored) _ _ runs added
+      (ap (λ (l : List Module). storage_of l stored) tables ∙ stored-more (tables_in old) (tables_in bundle) stored (store-flat old today) fine) (tallies bundle added)
 
-  pub published_replies : (count : ℕ) → IsAcceptedBy count old payload new → storage_of (tables_in new) stored ≡ storage_of (tables_in old) stored → AddsTallies old new before after → Replies 1 payload (Some (ToldPublished count)) first second
-  published_replies count accepted same tallies = with_bundle_of (accepted (state_of first) refl)
+  pub published_replies : AddsOne old new → IsAcceptedBy old payload new → All RunsToday old → All (IsFineWords (tables_in old)) stored → AddsTallies old new before after → Replies 1 payload (Some (ToldPublished 1)) first second
+  published_replies one accepted today fine tallies = with_bundle_of (accepted (state_of first) refl)
     where
-      with_bundle_of : (bundle : List PublishedModule) × (IsAccepted (state_of first) payload bundle × (count ≡ length bundle) × (new ≡ with_modules old bundle)) → Replies 1 payload (Some (ToldPublished count)) first second
+      with_bundle_of : (bundle : List PublishedModule) × (IsAccepted (state_of first) payload bundle × (new ≡ old ++ bundle)) → Replies 1 payload (Some (ToldPublished 1)) first second
       with_bundle_of b =
           let bundle : List PublishedModule = b.0 in
           let a : IsAccepted (state_of first) payload bundle = b.1.0 in
+          let long : length (one.0 ∷ []) ≡ length bundle = as_long old (one.0 ∷ []) bundle (sym one.1.2 ∙ b.1.1) in
           let all : AllPass a.offers bundle = a.published.0 in
-          let state : state_of second ≡ with_bundle (state_of first) bundle = with_it bundle b.1.2 same tallies in
+          let state : state_of second ≡ with_bundle (state_of first) bundle = with_it bundle b.1.1 today fine tallies in
           record {
-            answers = (Publish a.sender a.offers, (a.asked, (bundle, read_as a.offers bundle all, b.1.1 ∙ as_many a.offers bundle all, state)));
+            answers = (Publish a.sender a.offers, (a.asked, (bundle, read_as a.offers bundle all, long ∙ as_many a.offers bundle all, state)));
             leaves = (refl, refl);
-            rightly = λ kind. (bundle, (a, b.1.1, state));
+            rightly = λ kind. (bundle, (a, long, state));
           }
 
   same_view : new ≡ old → after ≡ before → second ≡ first
@@ -115,7 +129,7 @@ module _ (published : List PublishedModule) (payload : List ℕ) (stored : List 
     leaves_for (ToldReturned steps) h = tt
     leaves_for (ToldAborted kind n steps) h = same_had h.0 h.1
     leaves_for (ToldExhausted stop steps) h = same_had h.0 h.1
-    leaves_for (ToldLines lines) h = absurd h
+    leaves_for ToldBroken h = same_had h.0 h.1
 
     -- a run that was had
     pub run_replies : (t : Told) → IsSettled published call (Some t) stored new tallies after → RunsTo (Some t) stored new tallies after → Replies 2 payload (Some t) held holds

@@ -1,13 +1,14 @@
--- A store with a bundle that may join it is a store.
-use Rattle.std.proofs.Common.{◌≡◌, ℕ, Bool, true, false, cond, List, [], ◌∷◌, Option, Some, None, refl, sym, ap, ap₂, ◌∙◌, subst, arith}
-use Rattle.std.specs.Prelude.{◌&&◌, ◌||◌, not, ◌==◌, All, fold}
-use Rattle.std.specs.List.{list_any, AllByRecursion}
+-- A store with one more module that may join it is a store.
+use Rattle.std.proofs.Common.{◌≡◌, ℕ, zero, suc, Bool, true, false, List, [], ◌∷◌, ◌++◌, Option, Some, None, refl, sym, ap, ◌∙◌, subst, arith}
+use Rattle.std.specs.Prelude.{◌&&◌, ◌||◌, not, ◌==◌, All}
+use Rattle.std.specs.List.{list_all, list_any}
 use Rattle.std.specs.Option.{option_map_or}
 use Rattle.std.specs.Cmp.{first_so, second_so}
 use Rattle.std.specs.Str.{bytes_eq}
 use Rattle.std.proofs.lemmas.Bool.Decides.{nat_tests}
-use Rattle.std.proofs.lemmas.List.Elements.{recursion_from_All, All-from_recursion}
-use Rattle.mv_move_types.specs.Published.{PublishedModule, has_name_of, with_module, with_modules}
+use Rattle.std.proofs.lemmas.List.Folds.{list_any-append, list_all-append}
+use Rattle.std.proofs.lemmas.List.Elements.{All-append}
+use Rattle.mv_move_types.specs.Published.{PublishedModule}
 use Rattle.mv_move_types.specs.Names.{ModuleName, same_module}
 use Rattle.mv_move_types.specs.Module.{Module, own_name}
 use Rattle.mv_binary_format.specs.Parsing.{module_of}
@@ -16,11 +17,9 @@ use Rattle.mv_certificate.specs.Certificate.{Certificate}
 use Rattle.mv_certificate.specs.CertificateText.{IsCertificateText}
 use Rattle.mv_machine.specs.Ledger.{Offer}
 use Rattle.mv_linker.specs.declared.New.{New}
-use Rattle.mv_linker.specs.News.{HasItsTexts}
+use Rattle.mv_linker.specs.News.{HasItsTexts, AreTexts, published_one}
 use Rattle.mv_ledger.specs.Publishing.{Passes}
-use Rattle.mv_linker.specs.Link.{MayJoin, IsStore, IsPublishable, tables_in, have_one_name}
-use Rattle.mv_move_types.specs.Named.{is_module}
-use Rattle.mv_interpreter.proofs.Names.{same_module-is, both}
+use Rattle.mv_linker.specs.Link.{MayJoin, IsStore, IsPublishable, tables_in, have_one_name, is_new, stands_alone}
 
 -- equality of bytes is symmetric
 nat-turns : (a b : ℕ) → (a == b) ≡ (b == a)
@@ -36,7 +35,7 @@ module-turns : (a b : ModuleName) → same_module a b ≡ same_module b a
 module-turns a b = ap (λ t. t && bytes_eq a.name b.name) (nat-turns a.address b.address) ∙ ap (λ t. (b.address == a.address) && t) (bytes-turn a.name b.name)
 
 -- so two modules have one name whichever comes first
-pub one_name-turns : (m n : Module) → have_one_name m n ≡ have_one_name n m
+one_name-turns : (m n : Module) → have_one_name m n ≡ have_one_name n m
 one_name-turns m n = step (own_name m) (own_name n)
   where
     step : (a b : Option ModuleName) → option_map_or (λ name. option_map_or (λ own. same_module own name) b false) a false ≡ option_map_or (λ name. option_map_or (λ own. same_module own name) a false) b false
@@ -45,103 +44,66 @@ one_name-turns m n = step (own_name m) (own_name n)
     step (Some a) None = refl
     step (Some a) (Some b) = module-turns b a
 
--- a module of a name has that name
-pub own_is : (name : ModuleName) (m : Module) → is_module name m ≡ true → own_name m ≡ Some name
-own_is name m h = step (own_name m) h
+-- one more that differs from all
+differ-push : {A : Type 0} (same : A → A → Bool) → ((x y : A) → same x y ≡ same y x) → (xs : List A) (y : A) → all_differ same xs ≡ true → not (list_any (same y) xs) ≡ true
+    → all_differ same (xs ++ y ∷ []) ≡ true
+differ-push same turns [] y h new = refl
+differ-push same turns (x ∷ xs) y h new =
+    let others : list_any (same x) (xs ++ y ∷ []) ≡ (list_any (same x) xs || (same x y || false)) = list_any-append (same x) xs (y ∷ []) in
+    let fresh : (same x y ≡ false) × (not (list_any (same y) xs) ≡ true) = apart (same y x) (list_any (same y) xs) (same x y) (turns x y) new in
+    ap (λ b. not b && all_differ same (xs ++ y ∷ [])) others
+    ∙ joined (list_any (same x) xs) (same x y) (all_differ same (xs ++ y ∷ [])) (first_so (not (list_any (same x) xs)) (all_differ same xs) h) fresh.0
+    (differ-push same turns xs y (second_so (not (list_any (same x) xs)) (all_differ same xs) h) fresh.1)
   where
-    step : (o : Option ModuleName) → option_map_or (λ own. same_module own name) o false ≡ true → o ≡ Some name
-    step None e = absurd cc
-    step (Some own) e = ap Some (same_module-is own name e)
+    apart : (a b c : Bool) → c ≡ a → not (a || b) ≡ true → (c ≡ false) × (not b ≡ true)
+    apart true b c e h = cc
+    apart false b c e h = (e, h)
 
--- modules with one name have the same name
-pub one_own : (m n : Module) → have_one_name m n ≡ true → own_name m ≡ own_name n
-one_own m n h = step (own_name m) refl h
-  where
-    step : (o : Option ModuleName) → own_name m ≡ o → option_map_or (λ name. is_module name n) o false ≡ true → own_name m ≡ own_name n
-    step None is e = absurd cc
-    step (Some name) is e = is ∙ sym (own_is name n e)
+    joined : (a b c : Bool) → not a ≡ true → b ≡ false → c ≡ true → not (a || (b || false)) && c ≡ true
+    joined true b c p q r = cc
+    joined false true c p q r = cc
+    joined false false c p q r = r
 
--- so that a third has the name of both or of none
-pub one_name-same : (k m n : Module) → have_one_name m n ≡ true → have_one_name k m ≡ have_one_name k n
-one_name-same k m n h = ap (λ (o : Option ModuleName). option_map_or (λ name. option_map_or (λ own. same_module own name) o false) (own_name k) false) (one_own m n h)
+-- the tables of one more
+pub tables-push : (old : List PublishedModule) (p : PublishedModule) → tables_in (old ++ p ∷ []) ≡ tables_in old ++ p.tables ∷ []
+tables-push [] p = refl
+tables-push (q ∷ old) p = ap (λ l. q.tables ∷ l) (tables-push old p)
 
-pub first_name-same : (k m n : Module) → have_one_name m n ≡ true → have_one_name m k ≡ have_one_name n k
-first_name-same k m n h = ap (λ (o : Option ModuleName). option_map_or (λ name. is_module name k) o false) (one_own m n h)
-
--- what holds of each holds with one more
-all_with : (P : PublishedModule → Type 0) (ps : List PublishedModule) (new : PublishedModule) → P new → AllByRecursion P ps → AllByRecursion P (with_module ps new)
-all_with P [] new h a = (h, tt)
-all_with P (p ∷ ps) new h a = by_case (has_name_of new.tables p) (all_with P ps new h a.1)
-  where
-    by_case : (b : Bool) → AllByRecursion P (with_module ps new) → AllByRecursion P (cond b (new ∷ ps) (p ∷ with_module ps new))
-    by_case true ih = (h, a.1)
-    by_case false ih = (a.0, ih)
-
-all_joined : (P : PublishedModule → Type 0) (bundle ps : List PublishedModule) → AllByRecursion P ps → AllByRecursion P bundle → AllByRecursion P (fold with_module ps bundle)
-all_joined P [] ps a b = a
-all_joined P (n ∷ bundle) ps a b = all_joined P bundle (with_module ps n) (all_with P ps n b.0 a) b.1
-
--- one of no name that is there
-none_with : (f : Module → Bool) (ps : List PublishedModule) (new : PublishedModule) → list_any f (tables_in ps) ≡ false → f new.tables ≡ false → list_any f (tables_in (with_module ps new)) ≡ false
-none_with f [] new h e = ap (λ (b : Bool). b || false) e
-none_with f (p ∷ ps) new h e = by_case (has_name_of new.tables p) (none_with f ps new (rest (f p.tables) (list_any f (tables_in ps)) h) e)
-  where
-    first : (a b : Bool) → (a || b) ≡ false → a ≡ false
-    first false b k = refl
-    first true b k = absurd cc
-
-    rest : (a b : Bool) → (a || b) ≡ false → b ≡ false
-    rest false b k = k
-    rest true b k = absurd cc
-
-    neither : (a b : Bool) → a ≡ false → b ≡ false → (a || b) ≡ false
-    neither false b k l = l
-    neither true b k l = absurd cc
-
-    by_case : (b : Bool) → list_any f (tables_in (with_module ps new)) ≡ false → list_any f (tables_in (cond b (new ∷ ps) (p ∷ with_module ps new))) ≡ false
-    by_case true ih = neither (f new.tables) (list_any f (tables_in ps)) e (rest (f p.tables) (list_any f (tables_in ps)) h)
-    by_case false ih = neither (f p.tables) (list_any f (tables_in (with_module ps new))) (first (f p.tables) (list_any f (tables_in ps)) h) ih
-
--- one more module, in place of the one of its name, leaves each name at one module
-once_with : (ps : List PublishedModule) (new : PublishedModule) → all_differ have_one_name (tables_in ps) ≡ true → all_differ have_one_name (tables_in (with_module ps new)) ≡ true
-once_with [] new h = refl
-once_with (p ∷ ps) new h =
-    by_case (has_name_of new.tables p) refl
-    (not-is (list_any (have_one_name p.tables) (tables_in ps)) (first_so (not (list_any (have_one_name p.tables) (tables_in ps))) (all_differ have_one_name (tables_in ps)) h))
-    (second_so (not (list_any (have_one_name p.tables) (tables_in ps))) (all_differ have_one_name (tables_in ps)) h)
-    (once_with ps new (second_so (not (list_any (have_one_name p.tables) (tables_in ps))) (all_differ have_one_name (tables_in ps)) h))
-  where
-    not-is : (b : Bool) → not b ≡ true → b ≡ false
-    not-is true h = absurd cc
-    not-is false h = refl
-
-    any-same : (qs : List PublishedModule) → have_one_name new.tables p.tables ≡ true → list_any (have_one_name p.tables) (tables_in qs) ≡ list_any (have_one_name new.tables) (tables_in qs)
-    any-same [] e = refl
-    any-same (q ∷ qs) e = ap₂ (λ (a b : Bool). a || b) (sym (first_name-same q.tables new.tables p.tables e)) (any-same qs e)
-
-    by_case : (b : Bool) → has_name_of new.tables p ≡ b → list_any (have_one_name p.tables) (tables_in ps) ≡ false → all_differ have_one_name (tables_in ps) ≡ true → all_differ have_one_name (tables_in (with_module ps new)) ≡ true →
-        all_differ have_one_name (tables_in (cond b (new ∷ ps) (p ∷ with_module ps new))) ≡ true
-    by_case true e none rest ih =
-        both (not (list_any (have_one_name new.tables) (tables_in ps))) (all_differ have_one_name (tables_in ps)) (ap not (sym (any-same ps e) ∙ none)) rest
-    by_case false e none rest ih =
-        both (not (list_any (have_one_name p.tables) (tables_in (with_module ps new)))) (all_differ have_one_name (tables_in (with_module ps new)))
-        (ap not (none_with (have_one_name p.tables) ps new none (one_name-turns p.tables new.tables ∙ e))) ih
-
-once_joined : (bundle ps : List PublishedModule) → all_differ have_one_name (tables_in ps) ≡ true → all_differ have_one_name (tables_in (fold with_module ps bundle)) ≡ true
-once_joined [] ps h = h
-once_joined (n ∷ bundle) ps h = once_joined bundle (with_module ps n) (once_with ps n h)
-
--- a bundle that may join leaves a store
-pub store-joined : (old bundle : List PublishedModule) (sender : Option ℕ) → IsStore old → All IsPublishable bundle → MayJoin sender (tables_in old) (tables_in bundle) (tables_in (with_modules old bundle)) → IsStore (with_modules old bundle)
-store-joined old bundle sender store passed join = record {
-  passed = All-from_recursion IsPublishable (with_modules old bundle) (all_joined IsPublishable bundle old (recursion_from_All IsPublishable old store.passed) (recursion_from_All IsPublishable bundle passed));
-  once = once_joined bundle old store.once;
-  links = join.links;
+pub store-push : (old : List PublishedModule) (p : PublishedModule) (sender : ℕ) → IsStore old → IsPublishable p → MayJoin (Some sender) (tables_in old) (tables_in (p ∷ [])) → IsStore (old ++ p ∷ [])
+store-push old p sender store passed join = record {
+  passed = All-append IsPublishable old (p ∷ []) store.passed (one p passed);
+  once =
+      subst (λ (l : List Module). all_differ have_one_name l ≡ true) (sym (tables-push old p))
+      (differ-push have_one_name one_name-turns (tables_in old) p.tables store.once (first_so (is_new (tables_in old) p.tables) true join.fresh));
+  alone =
+      subst (λ (l : List Module). list_all stands_alone l ≡ true) (sym (tables-push old p))
+      (list_all-append stands_alone (tables_in old) (p.tables ∷ []) ∙ ends (list_all stands_alone (tables_in old)) (list_all stands_alone (p.tables ∷ [])) store.alone join.alone);
 }
+  where
+    one : (p : PublishedModule) → IsPublishable p → All IsPublishable (p ∷ [])
+    one p h zero d lt = h
+    one p h (suc k) d lt = absurd (omega (arith, lt))
 
--- a module that passed has its texts
+    ends : (a b : Bool) → a ≡ true → b ≡ true → a && b ≡ true
+    ends a b p q = cc
+
+-- a module that passed has the texts of its offer
 pub has_its_texts : (n : New) (o : Offer) → n.text.now ≡ o.text → n.certificate.now ≡ o.certificate → (c : Certificate) × Passes o n.module c → HasItsTexts n
 has_its_texts n o text certificate passed = record {
-  text = ap module_of text ∙ passed.1.text;
+  text = ap module_of text ∙ passed.1.read.text;
   certificate = (passed.0, (subst (λ bytes. IsCertificateText n.module bytes passed.0) (sym certificate) passed.1.certificate, passed.1.holds));
 }
+
+-- so it may be published
+pub publishable : (n : New) (o : Offer) → n.text.now ≡ o.text → n.certificate.now ≡ o.certificate → (c : Certificate) × Passes o n.module c → IsPublishable (published_one n)
+publishable n o text certificate passed =
+    let texts = has_its_texts n o text certificate passed in
+    record { text = texts.text; sound = passed.1.sound; acquires = passed.1.acquires; certificate = texts.certificate }
+
+-- and linked alone
+pub texts-alone : (news : List New) (n : New) → news ≡ n ∷ [] → HasItsTexts n → AreTexts news
+texts-alone news n is h = subst AreTexts (sym is) alone
+  where
+    alone : AreTexts (n ∷ [])
+    alone zero d lt = h
+    alone (suc k) d lt = absurd (omega (arith, lt))

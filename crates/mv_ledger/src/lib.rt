@@ -31,6 +31,8 @@ pub enum Reply {
     Rejected(u8),
     /// A run was had, and ended so.
     Ran(Outcome),
+    /// A run was had, and met what no run of accepted modules should meet; nothing else changed.
+    Broken,
     /// A growth was refused, and nothing changed.
     Memory,
 }
@@ -90,7 +92,7 @@ impl Ledger {
         ensures { Replies 1 payload.now (told result) self.old self.new }
     {
         match publishing::publish(self.alloc, &mut self.store, &mut self.tallies, payload) {
-            Ok(count) => Reply::Published(count),
+            Ok(()) => Reply::Published(1),
             Err(Refusal::Phase(phase)) => Reply::Refused(phase),
             Err(Refusal::Memory) => Reply::Memory,
         }

@@ -2,3 +2,4 @@ pub mod Keys
 pub mod Maps
 pub mod Shown
 pub mod Steps
+pub mod Trees

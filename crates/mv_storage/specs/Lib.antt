@@ -1,5 +1,4 @@
 pub mod Words
-pub mod WordLists
-pub mod FlatStorage
 pub mod Map
 pub mod Slots
+pub mod FlatStorage

@@ -406,7 +406,7 @@ pub const REFUSED: [Row; 30] = [
     },
     // Kinds that no record has.
     Row {
-        input: &["05000000ff00"],
+        input: &["04000300040101"],
         count: 3,
         report: "1 refused 1\n2 refused 1\n3 refused 1\n",
     },

@@ -1,12 +1,11 @@
 -- Over published modules no run meets a fault, and each state that it comes to is as the certificates say.
-use Rattle.std.proofs.Common.{◌≡◌, ℕ, zero, suc, ◌<◌, List, [], ◌∷◌, length, refl, sym, ◌∙◌, ap, subst, Option, Some, None, Ok}
+use Rattle.std.proofs.Common.{◌≡◌, ℕ, zero, suc, List, [], ◌∷◌, length, refl, sym, ◌∙◌, ap, subst, Option, Some, None}
 use Rattle.std.specs.Prelude.{slice_get, option_map, IsTrue, All}
 use Rattle.std.proofs.lemmas.Bool.{and_parts}
 use Rattle.std.proofs.lemmas.Option.{slice_get-map, slice_get_within, get_or_from_slice_get}
 use Rattle.mv_move_types.specs.Module.{Module}
 use Rattle.mv_move_types.specs.Published.{PublishedModule}
 use Rattle.mv_module_text.specs.Laws.{AreBytes}
-use Rattle.mv_binary_format.specs.ModuleText.{HasText}
 use Rattle.mv_binary_format.specs.Laws.{IsReadByText}
 use Rattle.mv_acquires.specs.Acquires.{AcquiresHold}
 use Rattle.mv_certificate.specs.Certificate.{Certificate, all_locals_hold, all_edges_hold}
@@ -53,8 +52,8 @@ certificates_from (p ∷ ps) each =
 
 module _ (store : List PublishedModule) (is : IsAcceptedStore store) where
   -- the tables of such a store are accepted
-  accepted : StoreAccepted (tables_in store)
-  accepted = record {
+  pub published_accepted : StoreAccepted (tables_in store)
+  published_accepted = record {
     each = λ place m at. each place m (of-tables store place m at);
     once = is.once;
     links = is.links;
@@ -76,7 +75,7 @@ module _ (store : List PublishedModule) (is : IsAcceptedStore store) where
   -- and certified by the certificates that its modules were published with
   pub published_certified : (certificates : List Certificate) → AreCertificates store certificates → StoreCertified (tables_in store) certificates
   published_certified certificates are = record {
-    accepted = accepted;
+    accepted = published_accepted;
     certified = λ place m at. certified place m (of-tables store place m at);
     acquires = λ place m at. let p = of-tables store place m at in subst AcquiresHold p.2 (of-all IsPublishable store place p.0 is.passed p.1).acquires;
   }

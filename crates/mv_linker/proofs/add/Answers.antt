@@ -1,5 +1,4 @@
-use Rattle.std.proofs.Common.{length, refl, sym, ap, ◌∙◌, subst, arith}
-use Rattle.mv_move_types.specs.Published.{with_modules}
+use Rattle.std.proofs.Common.{◌++◌, length, refl, sym, ap, ◌∙◌, subst, arith}
 use Rattle.mv_linker.specs.Kept.{published_in, published_under, AreKeyed}
 use Rattle.mv_linker.specs.Link.{IsStore}
 use Rattle.mv_linker.proofs.Adding.{adding-room, adding-next, adding-done}
@@ -11,9 +10,8 @@ loop-e-init c =
     let gives = c.into_iter-e-iterator.ensures.into_iter_gives in
     record {
       modules =
-          ap (λ l. with_modules (published_under l) (published_in c.into_iter-e-iterator.result.rest.items)) made.entries
-          ∙ ap (λ l. with_modules l (published_in c.into_iter-e-iterator.result.rest.items)) c.s.view_is
-          ∙ ap (λ l. with_modules c.args.s.now (published_in l)) gives.0 ∙ ap (with_modules c.args.s.now) c.l.view_is;
+          ap (λ l. published_under l ++ published_in c.into_iter-e-iterator.result.rest.items) made.entries ∙ ap (λ l. l ++ published_in c.into_iter-e-iterator.result.rest.items) c.s.view_is
+          ∙ ap (λ l. c.args.s.now ++ published_in l) gives.0 ∙ ap (λ l. c.args.s.now ++ l) c.l.view_is;
       keyed = subst AreKeyed (sym made.entries) c.s.invariant.1;
       fits = omega (arith, ap length gives.0, c.len.ensures, made.ok);
     }
@@ -29,14 +27,14 @@ unwrap-requires c = c.insert.ensures.succeeds (adding-room _ _ _ _ _ _ c.loop-e.
 pub loop-e-preserved-in-Some : goal.loop-e-preserved-in-Some
 loop-e-preserved-in-Some c =
     let parts = c.into_parts-name in
-    adding-next _ (λ a b. refl) parts.result.0 parts.result.1 parts.ensures.own c.insert.result c.unwrap.result _ _ _ _ _ _ _ _
-    c.loop-e.invariant c.in-Some.ensures.steps.0 parts.ensures.texts c.unwrap.ensures c.insert.ensures.entries c.insert.ensures.spare
+    adding-next _ (λ a b. refl) c.insert.result c.unwrap.result _ _ _ _ _ _ parts.result.0 parts.result.1 _ _
+    c.requires.once c.loop-e.invariant c.in-Some.ensures.steps.0 parts.ensures.texts parts.ensures.own c.unwrap.ensures c.insert.ensures.entries c.insert.ensures.spare
 
 pub loop-e-preserved : goal.loop-e-preserved
 loop-e-preserved c =
     let parts = c.into_parts-name in
-    adding-next _ (λ a b. refl) parts.result.0 parts.result.1 parts.ensures.own c.insert.result c.unwrap.result _ _ _ _ _ _ _ _
-    c.loop-e.invariant c.in-Some.ensures.steps.0 parts.ensures.texts c.unwrap.ensures c.insert.ensures.entries c.insert.ensures.spare
+    adding-next _ (λ a b. refl) c.insert.result c.unwrap.result _ _ _ _ _ _ parts.result.0 parts.result.1 _ _
+    c.requires.once c.loop-e.invariant c.in-Some.ensures.steps.0 parts.ensures.texts parts.ensures.own c.unwrap.ensures c.insert.ensures.entries c.insert.ensures.spare
 
 pub returns-clause-ok : goal.returns-clause-ok
 returns-clause-ok c =

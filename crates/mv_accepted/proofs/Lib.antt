@@ -1,5 +1,0 @@
-pub mod Stores
-pub mod Stays
-pub mod Answers
-pub mod Records
-pub mod Instance

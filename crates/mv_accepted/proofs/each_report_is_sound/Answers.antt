@@ -1,5 +1,0 @@
-use Rattle.mv_accepted.proofs.Answers.{reports_sound}
-use Rattle.mv_accepted.proofs.each_report_is_sound.Goals as goal
-
-pub returns : goal.returns
-returns c = reports_sound c.runs_are_faultless.ensures c.modules_are_read_by_text.ensures

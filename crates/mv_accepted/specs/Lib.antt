@@ -1,2 +1,0 @@
-pub mod SoundLedger
-pub mod Records
