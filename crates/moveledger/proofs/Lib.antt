@@ -3,5 +3,11 @@ pub mod Lengths
 pub mod Whole
 pub mod Steps
 pub mod One
+pub mod Writing
 pub mod Lines
 pub mod Tasks
+pub mod Phases
+pub mod Digits
+pub mod Texts
+pub mod Verdicts
+pub mod Proved

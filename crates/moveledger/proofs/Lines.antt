@@ -1,80 +1,92 @@
--- The one line of a reply, and what it answers.
+-- What a reply that was written answers.
 use Rattle.std.proofs.Common.{◌≡◌, ◌≢◌, ℕ, List, [], ◌∷◌, refl, sym, ap, ◌∙◌, subst, append-nil, Option, Some, None, inl, inr, flat_map}
-use Rattle.std.specs.Prelude.{Result, Ok, Err, IfOk, IfErr}
-use Rattle.mv_machine.specs.Lines.{Reply, Refused, Published, Rejected, Returned, Aborted, Exhausted, Broken, reply_lines, numbered}
-use Rattle.mv_machine.specs.Ledger.{Publish, Run, BadRun, Bad}
+use Rattle.std.specs.Prelude.{Result, Ok, Err, IfErr, OnOk}
+use Rattle.std.specs.Io.{StartsWith}
+use Rattle.std.specs.Io.KnownBytes.{Appends}
+use Rattle.mv_machine.specs.declared.Ending.{Ending}
+use Rattle.mv_machine.specs.declared.Ending.TheVariants.{Returned as HasReturned, Aborted as HasAborted, Exhausted as HasExhausted}
+use Rattle.mv_machine.specs.Lines.{Reply as Told, Refused as ToldRefused, reply_lines, numbered}
+use Rattle.mv_machine.specs.Ledger.{Publish, Run, Show, Audit, BadRun, Bad}
 use Rattle.mv_ledger.specs.RecordText.{IsShapeless}
-use Rattle.mv_ledger.specs.Answering.{IsReplied, Replies}
-use Rattle.mv_ledger.specs.View.{LedgerView}
-use Rattle.moveledger.specs.Answered.{IsAnswered, MayBeAnswered, line_of}
+use Rattle.mv_ledger.specs.Answering.{Replies, told, told_ending}
+use Rattle.mv_ledger.specs.View.{LedgerView, state_of}
+use Rattle.mv_ledger.specs.Counting.Headline.{IsBalanced}
+use Rattle.mv_ledger.specs.declared.Reply.{Reply}
+use Rattle.mv_ledger.specs.declared.Reply.TheVariants.{Published, Refused, Rejected, Ran, Memory}
+use Rattle.moveledger.specs.Answered.{IsAnswered, MayBeAnswered, WritesReply, WritesReplyPart, line_of}
 
--- a reply has one line
-one_line : (t : Reply) → reply_lines t ≡ line_of t ∷ []
-one_line (Published n) = refl
-one_line (Refused n) = refl
-one_line (Rejected n) = refl
-one_line (Returned n) = refl
-one_line (Aborted kind n m) = refl
-one_line (Exhausted stop n) = refl
-one_line Broken = refl
+-- ---- a reply has one line
+
+ended_line : (ending : Ending) (steps : ℕ) → reply_lines (told_ending ending steps) ≡ line_of (told_ending ending steps) ∷ []
+ended_line HasReturned steps = refl
+ended_line (HasAborted kind number) steps = refl
+ended_line (HasExhausted stop) steps = refl
+
+along : (s t : Told) → Some s ≡ Some t → reply_lines s ≡ line_of s ∷ [] → reply_lines t ≡ line_of t ∷ []
+along s t is one =
+    let same : s ≡ t = cc in
+    let P : Told → Type 0 = λ u. reply_lines u ≡ line_of u ∷ [] in
+    subst P same one
+
+one_line : (reply : Reply) (t : Told) → told reply ≡ Some t → reply_lines t ≡ line_of t ∷ []
+one_line (Published n) t is = along _ t is refl
+one_line (Refused n) t is = along _ t is refl
+one_line (Rejected n) t is = along _ t is refl
+one_line (Ran outcome) t is = along _ t is (ended_line outcome.ending outcome.steps)
+one_line Memory t is = cc
 
 -- the text of its line is that of its lines
-lines_text : (n : ℕ) (t : Reply) (text : List ℕ) → text ≡ numbered n (line_of t) → text ≡ flat_map (numbered n) (reply_lines t)
-lines_text n t text line = line ∙ sym (ap (flat_map (numbered n)) (one_line t) ∙ append-nil (numbered n (line_of t)))
+lines_text : (n : ℕ) (reply : Reply) (t : Told) (text : List ℕ) → told reply ≡ Some t → text ≡ line_of t → numbered n text ≡ flat_map (numbered n) (reply_lines t)
+lines_text n reply t text is line = ap (numbered n) line ∙ sym (ap (flat_map (numbered n)) (one_line reply t is) ∙ append-nil (numbered n (line_of t)))
 
--- a text with the lines of what was told answers the record
-pub answered_by : (n kind : ℕ) (payload text : List ℕ) (reply : Option Reply) (t : Reply) (old new : LedgerView) → Replies kind payload reply old new → reply ≡ Some t → text ≡ numbered n (line_of t)
-    → IsAnswered n kind payload old new text
-answered_by n kind payload text reply t old new replies is line =
-    let P : Option Reply → Type 0 = λ r. Replies kind payload r old new in
-    (reply_lines t, (lines_text n t text line, (t, (subst P is replies, refl))))
+-- a line of what is told was written
+pub reply_is_written : (n : ℕ) (reply : Reply) (held holds : Option (List ℕ)) (text : List ℕ) → ((t : Told) × ((told reply ≡ Some t) × (text ≡ line_of t))) → Appends held holds (numbered n text) → WritesReply n (told reply) held holds
+reply_is_written n reply held holds text h w =
+    let P : Option Told → Type 0 = λ o. WritesReply n o held holds in
+    subst P (sym h.1.0) (subst (Appends held holds) (lines_text n reply h.0 text h.1.0 h.1.1) w)
 
--- whatever was told, the record was answered or the ledger stays
-pub may_be_answered_by : (kind : ℕ) (payload : List ℕ) (reply : Option Reply) (old new : LedgerView) → Replies kind payload reply old new → MayBeAnswered kind payload old new
-may_be_answered_by kind payload None old new replies = inl replies
-may_be_answered_by kind payload (Some t) old new replies = inr (reply_lines t, (t, (replies, refl)))
+-- a beginning of it was
+pub reply_is_begun : (n : ℕ) (reply : Reply) (held holds : Option (List ℕ)) (text part : List ℕ) → ((t : Told) × ((told reply ≡ Some t) × (text ≡ line_of t))) → StartsWith (numbered n text) part → Appends held holds part
+    → WritesReplyPart n (told reply) held holds
+reply_is_begun n reply held holds text part h front w =
+    let P : Option Told → Type 0 = λ o. WritesReplyPart n o held holds in
+    let Q : List ℕ → Type 0 = λ l. StartsWith l part in
+    subst P (sym h.1.0) (part, subst Q (lines_text n reply h.0 text h.1.0 h.1.1) front, w)
 
--- a payload of another kind has no shape
-shapeless : (kind : ℕ) (payload : List ℕ) → (kind ≢ 1) → (kind ≢ 2) → IsShapeless kind payload
-shapeless kind payload one two (Publish sender offers) h = one h.0
-shapeless kind payload one two (Run r) h = two h.0
-shapeless kind payload one two BadRun h = h
-shapeless kind payload one two Bad h = h
+-- ---- it answers its record
 
--- a record of another kind is refused
-pub other_replied : (kind : ℕ) (payload : List ℕ) (v : LedgerView) → (kind ≢ 1) → (kind ≢ 2) → IsReplied kind payload (Refused 1) v v
-other_replied kind payload v one two = record { answers = (Bad, ((two, shapeless kind payload one two), (refl, refl))); leaves = refl; rightly = λ is. absurd (one is) }
+answered : (n kind : ℕ) (payload : List ℕ) (reply : Option Told) (old new : LedgerView) (held holds : Option (List ℕ)) → Replies kind payload reply old new → WritesReply n reply held holds → IsAnswered n kind payload old new held holds
+answered n kind payload None old new held holds replies written = absurd written
+answered n kind payload (Some t) old new held holds replies written = (reply_lines t, ((t, (replies, refl)), written))
 
-pub answered_other : (n kind : ℕ) (payload text : List ℕ) (state : LedgerView) → (kind ≢ 1) → (kind ≢ 2) → text ≡ numbered n (line_of (Refused 1)) → IsAnswered n kind payload state state text
-answered_other n kind payload text state one two line =
-    (reply_lines (Refused 1), (lines_text n (Refused 1) text line, (Refused 1, (other_replied kind payload state one two, refl))))
+may_be_answered : (n kind : ℕ) (payload : List ℕ) (reply : Option Told) (old new : LedgerView) (held holds : Option (List ℕ)) → Replies kind payload reply old new → WritesReplyPart n reply held holds → MayBeAnswered n kind payload old new held holds
+may_be_answered n kind payload None old new held holds replies written = inl (replies, written)
+may_be_answered n kind payload (Some t) old new held holds replies written = inr (reply_lines t, ((t, (replies, refl)), written))
 
--- a line of what was told answers the record, if there is one
-pub line_answers : {T E : Type 0} (bytes : T → List ℕ) (n kind same : ℕ) (payload : List ℕ) (reply : Option Reply) (old new : LedgerView) (r : Result T E) → kind ≡ same → Replies same payload reply old new
-    → IfOk r (λ text. (t : Reply) × ((reply ≡ Some t) × (bytes text ≡ numbered n (line_of t)))) → IfOk r (λ text. IsAnswered n kind payload old new (bytes text))
-line_answers bytes n kind same payload reply old new (Ok text) is replies line =
+pub written_answers : {T E : Type 0} (n kind same : ℕ) (payload : List ℕ) (reply : Option Told) (old new : LedgerView) (held holds : Option (List ℕ)) (r : Result T E) → kind ≡ same → Replies same payload reply old new
+    → OnOk r (WritesReply n reply held holds) → OnOk r (IsAnswered n kind payload old new held holds)
+written_answers n kind same payload reply old new held holds (Ok v) is replies written =
     let P : ℕ → Type 0 = λ k. Replies k payload reply old new in
-    answered_by n kind payload (bytes text) reply line.0 old new (subst P (sym is) replies) line.1.0 line.1.1
-line_answers bytes n kind same payload reply old new (Err e) is replies line = line
+    answered n kind payload reply old new held holds (subst P (sym is) replies) written
+written_answers n kind same payload reply old new held holds (Err e) is replies written = tt
 
--- where there is none, the record was answered or the ledger stays
-pub error_answers : {T E : Type 0} (memory : E) (kind same : ℕ) (payload : List ℕ) (reply : Option Reply) (old new : LedgerView) (r : Result T E) → kind ≡ same → Replies same payload reply old new
-    → IfErr r (λ e. e ≡ memory) → IfErr r (λ e. (e ≡ memory) × MayBeAnswered kind payload old new)
-error_answers memory kind same payload reply old new (Ok text) is replies h = h
-error_answers memory kind same payload reply old new (Err e) is replies h =
+pub begun_answers : {T E : Type 0} (read : E) (n kind same : ℕ) (payload : List ℕ) (reply : Option Told) (old new : LedgerView) (held holds : Option (List ℕ)) (r : Result T E) → kind ≡ same → Replies same payload reply old new
+    → IfErr r (λ e. (e ≢ read) × WritesReplyPart n reply held holds) → IfErr r (λ e. (e ≢ read) × MayBeAnswered n kind payload old new held holds)
+begun_answers read n kind same payload reply old new held holds (Ok v) is replies written = tt
+begun_answers read n kind same payload reply old new held holds (Err e) is replies written =
     let P : ℕ → Type 0 = λ k. Replies k payload reply old new in
-    (h, may_be_answered_by kind payload reply old new (subst P (sym is) replies))
+    (written.0, may_be_answered n kind payload reply old new held holds (subst P (sym is) replies) written.1)
 
--- a line that refuses answers a record of another kind
-pub refusal_answers : {T E : Type 0} (bytes : T → List ℕ) (n kind : ℕ) (payload : List ℕ) (state : LedgerView) (r : Result T E) → (kind ≢ 1) → (kind ≢ 2)
-    → IfOk r (λ text. (t : Reply) × ((Some (Refused 1) ≡ Some t) × (bytes text ≡ numbered n (line_of t)))) → IfOk r (λ text. IsAnswered n kind payload state state (bytes text))
-refusal_answers bytes n kind payload state (Ok text) one two line =
-    let is : line.0 ≡ Refused 1 = cc (line.1.0) in
-    answered_other n kind payload (bytes text) state one two (line.1.1 ∙ ap (λ t. numbered n (line_of t)) is)
-refusal_answers bytes n kind payload state (Err e) one two line = line
+-- a payload of a kind of no record has no shape
+shapeless : (kind : ℕ) (payload : List ℕ) → (kind ≢ 1) → (kind ≢ 2) → (kind ≢ 3) → (kind ≢ 4) → IsShapeless kind payload
+shapeless kind payload one two three four (Publish sender offers) h = one h.0
+shapeless kind payload one two three four (Run r) h = two h.0
+shapeless kind payload one two three four (Show format) h = three h.0
+shapeless kind payload one two three four (Audit format) h = four h.0
+shapeless kind payload one two three four BadRun h = h
+shapeless kind payload one two three four Bad h = h
 
--- the line of a refusal in phase 1
-pub refused_line : (n : ℕ) (text : List ℕ) → (t : Reply) × ((Some (Refused 1) ≡ Some t) × (text ≡ numbered n (line_of t))) → text ≡ flat_map (numbered n) (reply_lines (Refused 1))
-refused_line n text line =
-    let is : line.0 ≡ Refused 1 = cc (line.1.0) in
-    lines_text n (Refused 1) text (line.1.1 ∙ ap (λ t. numbered n (line_of t)) is)
+-- it is refused
+pub other_replied : (kind : ℕ) (payload : List ℕ) (v : LedgerView) → (kind ≢ 1) → (kind ≢ 2) → (kind ≢ 3) → (kind ≢ 4) → IsBalanced (state_of v) → Replies kind payload (Some (ToldRefused 1)) v v
+other_replied kind payload v one two three four balanced =
+    record { answers = (Bad, (two, shapeless kind payload one two three four), (refl, refl), tt, balanced); leaves = refl; rightly = λ is. absurd (one is) }

@@ -9,6 +9,7 @@ use Rattle.moveledger.specs.Records.{Record, Whole, Cut, IsText, NoWhole, Begins
 use Rattle.moveledger.specs.Report.{Step, Reports}
 use Rattle.moveledger.specs.Outcome.{Tells, left_of, Answers, Stops, StopsReading}
 use Rattle.moveledger.specs.Progress.{Progress}
+use Rattle.moveledger.specs.Answered.{MayBeAnswered}
 use Rattle.moveledger.proofs.Taken.{Tells-taken}
 
 -- one more record behind others
@@ -116,6 +117,31 @@ Stops-next given gives held holds holds2 old new new2 n r tail rest part lines p
       last = inr (r, rest, lines, begins, step, subst P number front);
       written = Appends-trans held holds holds2 p.text part p.written written;
     }
+
+-- a writer took nothing more, and the ledger stayed
+Progress-idle : (given gives held holds holds2 : Option (List ℕ)) (old new : LedgerView) (n : ℕ) → Progress given gives held holds old new n → Appends holds holds2 [] → Stops given held holds2 old new
+Progress-idle given gives held holds holds2 old new n p none = record {
+  input = p.whole ++ left_of gives;
+  records = p.records;
+  tail = left_of gives;
+  text = p.text;
+  part = [];
+  mid = new;
+  told = Tells-taken given gives p.whole p.taken;
+  read = p.read (left_of gives);
+  report = p.report;
+  last = inl (refl, refl);
+  written = Appends-trans held holds holds2 p.text [] p.written none;
+}
+
+-- one record more came, and may have been answered
+pub Stops-answered : (given gives held holds holds2 : Option (List ℕ)) (old new new2 : LedgerView) (n kind : ℕ) (payload tail rest : List ℕ) → Progress given gives held holds old new n → Tells gives tail → Begins tail (Whole kind payload) rest
+    → MayBeAnswered (n + 1) kind payload new new2 holds holds2 → Stops given held holds2 old new2
+Stops-answered given gives held holds holds2 old new new2 n kind payload tail rest p told begins (inl h) =
+    let P : LedgerView → Type 0 = λ s. Stops given held holds2 old s in
+    subst P (sym h.0) (Progress-idle given gives held holds holds2 old new n p h.1)
+Stops-answered given gives held holds holds2 old new new2 n kind payload tail rest p told begins (inr h) =
+    Stops-next given gives held holds holds2 old new new2 n (Whole kind payload) tail rest h.1.1.0 h.0 p told begins h.1.0 h.1.1.1 h.1.1.2
 
 -- a read failed in a record
 pub Progress-stops_reading : (given gives gives2 held holds : Option (List ℕ)) (old new : LedgerView) (n : ℕ) (took : List ℕ)

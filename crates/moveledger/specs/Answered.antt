@@ -1,18 +1,39 @@
 -- What answers a whole record.
-use Rattle.std.specs.Prelude.{◌≡◌, ◌⊎◌, ℕ, List, [], ◌∷◌, flat_map}
+use Rattle.std.specs.Prelude.{◌≡◌, ◌⊎◌, ℕ, List, [], ◌∷◌, Option, Some, None, flat_map}
+use Rattle.std.specs.Io.{StartsWith}
+use Rattle.std.specs.Io.KnownBytes.{Appends}
 use Rattle.mv_ledger.specs.View.{LedgerView}
 use Rattle.mv_machine.specs.Lines.{Reply, reply_lines, numbered}
 use Rattle.moveledger.specs.Records.{Whole}
 use Rattle.moveledger.specs.Report.{Step}
 
--- the text has the lines by which the record of this number is answered, and the ledger goes on to new
-abbrev pub IsAnswered : ℕ → ℕ → List ℕ → LedgerView → LedgerView → List ℕ → Type 0
-IsAnswered n kind payload old new text =
-    (lines : List (List ℕ)) × ((text ≡ flat_map (numbered n) lines) × Step old (Whole kind payload) lines new)
+-- a writer took these lines, each with this number
+abbrev pub Writes : ℕ → List (List ℕ) → Option (List ℕ) → Option (List ℕ) → Type 0
+Writes n lines held holds = Appends held holds (flat_map (numbered n) lines)
 
--- the record was answered, or the ledger stays as it was
-abbrev pub MayBeAnswered : ℕ → List ℕ → LedgerView → LedgerView → Type 0
-MayBeAnswered kind payload old new = (new ≡ old) ⊎ ((lines : List (List ℕ)) × Step old (Whole kind payload) lines new)
+-- a writer took a beginning of them
+abbrev pub WritesPart : ℕ → List (List ℕ) → Option (List ℕ) → Option (List ℕ) → Type 0
+WritesPart n lines held holds = (part : List ℕ) × StartsWith (flat_map (numbered n) lines) part × Appends held holds part
+
+-- a writer took the lines of what is told, and something is
+abbrev pub WritesReply : ℕ → Option Reply → Option (List ℕ) → Option (List ℕ) → Type 0
+WritesReply n None held holds = ⊥
+WritesReply n (Some reply) held holds = Writes n (reply_lines reply) held holds
+
+-- a writer took a beginning of the lines of what is told; nothing, where nothing is
+abbrev pub WritesReplyPart : ℕ → Option Reply → Option (List ℕ) → Option (List ℕ) → Type 0
+WritesReplyPart n None held holds = Appends held holds []
+WritesReplyPart n (Some reply) held holds = WritesPart n (reply_lines reply) held holds
+
+-- the record of this number was answered: its lines were written, and the ledger went on to new
+abbrev pub IsAnswered : ℕ → ℕ → List ℕ → LedgerView → LedgerView → Option (List ℕ) → Option (List ℕ) → Type 0
+IsAnswered n kind payload old new held holds =
+    (lines : List (List ℕ)) × (Step old (Whole kind payload) lines new × Writes n lines held holds)
+
+-- the ledger went on to new, and a beginning of the record's lines was written; or nothing happened
+abbrev pub MayBeAnswered : ℕ → ℕ → List ℕ → LedgerView → LedgerView → Option (List ℕ) → Option (List ℕ) → Type 0
+MayBeAnswered n kind payload old new held holds =
+    ((new ≡ old) × Appends held holds []) ⊎ ((lines : List (List ℕ)) × (Step old (Whole kind payload) lines new × WritesPart n lines held holds))
 
 -- the first of some lines
 abbrev pub first_line : List (List ℕ) → List ℕ

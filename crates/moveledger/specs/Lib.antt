@@ -7,3 +7,7 @@ pub mod Progress
 pub mod Answered
 pub mod Line
 pub mod Status
+pub mod Hexadecimal
+pub mod Checking
+pub mod Proving
+pub mod Printing

@@ -1,9 +1,10 @@
 -- The command line, and the task that its matches have.
-use Rattle.std.specs.Prelude.{List, [], true, Option, Some, None, codes, unwrap_or, ⊤}
+use Rattle.std.specs.Prelude.{List, [], true, Option, Some, None, codes, unwrap_or, if◌then◌else◌, ⊤}
+use Rattle.std.specs.Str.{bytes_eq}
 use Rattle.clap.specs.Values.{kind_of}
 use Rattle.clap.specs.Words.{App, IsAmong, Kinds, Rule, Row, Text, new_app, new_rule, with_rule, with_subcommand, first_of}
 use Rattle.moveledger.specs.declared.command.Task.{Task}
-use Rattle.moveledger.specs.declared.command.Task.TheVariants.{Apply}
+use Rattle.moveledger.specs.declared.command.Task.TheVariants.{Apply, Prove, Check}
 use Rattle.moveledger.specs.declared.command.LineError.{LineError}
 use Rattle.moveledger.specs.declared.command.LineError.TheVariants.{Words, Memory}
 
@@ -15,30 +16,49 @@ name_of name = record (new_rule name) { required = true }
 abbrev pub apply : App
 apply = with_rule (new_app (codes "apply")) (name_of (codes "FILE"))
 
+-- prove MODULE
+abbrev pub prove : App
+prove = with_rule (new_app (codes "prove")) (name_of (codes "MODULE"))
+
+-- check MODULE CERT
+abbrev pub check : App
+check = with_rule (with_rule (new_app (codes "check")) (name_of (codes "MODULE"))) (name_of (codes "CERT"))
+
 -- one of the commands has to be given
 abbrev pub required_command : App → App
 required_command a = record a { top = record a.top { subcommand_required = true } }
 
--- moveledger apply FILE
+-- moveledger, with one of its three commands
 abbrev pub moveledger : App
-moveledger = with_subcommand (required_command (new_app (codes "moveledger"))) apply.top
+moveledger = with_subcommand (with_subcommand (with_subcommand (required_command (new_app (codes "moveledger"))) apply.top) prove.top) check.top
 
 -- a task without where its names lie
 pub data Seen : Type 0 where
   Applies : Text → Seen
+  Proves : Text → Seen
+  Checks : Text → Text → Seen
 
 -- the names of a task
 abbrev pub seen : Task → Seen
 seen (Apply file) = Applies file.now
+seen (Prove file) = Proves file.now
+seen (Check file certificate) = Checks file.now certificate.now
 
 -- what was given under a name
 abbrev pub given_as : Text → List Row → Text
 given_as id rows = unwrap_or (first_of id rows) []
 
+-- the task of a command by its name, with what was given to it
+abbrev pub named_task : Text → List Row → Seen
+named_task name rows =
+    if bytes_eq name (codes "prove") then Proves (given_as (codes "MODULE") rows)
+    else if bytes_eq name (codes "check") then Checks (given_as (codes "MODULE") rows) (given_as (codes "CERT") rows)
+    else Applies (given_as (codes "FILE") rows)
+
 -- the task that the matches of a subcommand have
 abbrev pub task_in : Option (Text × List Row) → Seen
 task_in None = Applies []
-task_in (Some found) = Applies (given_as (codes "FILE") found.1)
+task_in (Some found) = named_task found.0 found.1
 
 -- where the words are at fault, the error has one of these kinds
 abbrev pub IsOfKind : Kinds → LineError → Type 0

@@ -2,10 +2,10 @@
 use Rattle.std.specs.Prelude.{◌≡◌, ◌≢◌, ℕ, List, [], ◌++◌}
 use Rattle.moveledger.specs.Records.{IsText, NoWhole}
 use Rattle.moveledger.specs.declared.reading.Next.{Next}
-use Rattle.moveledger.specs.declared.reading.Next.TheVariants.{End, Broken, Record}
+use Rattle.moveledger.specs.declared.reading.Next.TheVariants.{End, Cut, Record}
 
 -- These bytes were taken and those are left.
 abbrev pub IsNext : List ℕ → List ℕ → Next → Type 0
 IsNext took left End = (took ≡ []) × (left ≡ [])
-IsNext took left Broken = (took ≢ []) × NoWhole (took ++ left)
+IsNext took left Cut = (took ≢ []) × NoWhole (took ++ left)
 IsNext took left (Record kind payload) = IsText took kind payload.items

@@ -1,14 +1,15 @@
 // What is written for a record.
-ghost use Rattle.std.specs.Prelude.{◌≡◌, ℕ, List, [], ◌∷◌, ◌++◌, None, Some, IfOk, IfErr, OnOk, MatchOption, codes, decimal, string_bytes};
+ghost use Rattle.std.specs.Prelude.{◌≡◌, ◌≢◌, ℕ, List, [], ◌∷◌, ◌++◌, None, Some, IfOk, IfErr, OnOk, MatchOption, codes, decimal, string_bytes};
 ghost use Rattle.std.specs.Io.{StartsWith};
 ghost use Rattle.std.specs.Io.KnownBytes.{Appends};
 ghost use Rattle.mv_machine.specs.Lines.{Reply as Told, numbered, kind_text, stop_text};
-ghost use Rattle.mv_ledger.specs.Answering.{told, told_ending};
-ghost use Rattle.moveledger.specs.Answered.{IsAnswered, MayBeAnswered, line_of};
+ghost use Rattle.mv_ledger.specs.Answering.{told, told_ending, told_lines};
+ghost use Rattle.moveledger.specs.Answered.{IsAnswered, MayBeAnswered, Writes, WritesPart, WritesReply, WritesReplyPart, line_of};
 
 use crate::engine::EngineError;
-use mv_ledger::{Ledger, Reply};
+use mv_ledger::{Ledger, Lines, Reply};
 use mv_machine::{Ending, Kind, Stop};
+use mv_move_types::Refusal;
 use std::alloc::{AllocError, Global};
 use std::io::Write;
 
@@ -104,31 +105,85 @@ fn words(alloc: Global, reply: Reply) -> Result<Option<String>, AllocError>
         Reply::Refused(phase) => Some(counted_text(alloc, "refused ", u64::from(phase))?),
         Reply::Rejected(reason) => Some(counted_text(alloc, "rejected ", u64::from(reason))?),
         Reply::Ran(outcome) => Some(ended_text(alloc, outcome.ending, outcome.steps)?),
-        Reply::Broken => Some(String::from_str(alloc, "broken")?),
         Reply::Memory => None,
     })
 }
 
 /// A line of the report: the record's number, a blank, the text and a line end.
-fn numbered_line(alloc: Global, number: u64, text: &str) -> Result<String, AllocError>
-    ensures { IfOk result (λ line. string_bytes line ≡ numbered number text.now) }
+fn numbered_line(alloc: Global, number: u64, text: &[u8]) -> Result<Vec<u8>, AllocError>
+    ensures { IfOk result (λ line. line.items ≡ numbered number text.now) }
 {
-    let mut line = String::new(alloc);
-    write!(line, "{number} {text}\n")?;
+    let mut line = Vec::new(alloc);
+    line.extend_from_slice(format!(in alloc; "{number} ")?.as_bytes())?;
+    line.extend_from_slice(text)?;
+    line.push(b'\n')?;
     Ok(line)
 }
 
-/// The line of a reply, behind the record's number.
-pub fn line_text(alloc: Global, number: u64, reply: Reply) -> Result<String, EngineError>
-    ensures ok { IfOk result (λ text. (t : Told) × ((told reply ≡ Some t) × (string_bytes text ≡ numbered number (line_of t)))) }
-    ensures err { IfErr result (λ e. e ≡ EngineError.Memory) }
+/// Writes a line of the report: the record's number, a blank, the text and a line end.
+fn write_line<W: Write>(
+    alloc: Global,
+    writer: &mut W,
+    number: u64,
+    text: &[u8],
+) -> Result<(), EngineError>
+    ensures ok { OnOk result (Appends (W.contents writer.old) (W.contents writer.new) (numbered number text.now)) }
+    ensures err { IfErr result (λ e. (e ≢ EngineError.Read) × (part : List ℕ) × StartsWith (numbered number text.now) part
+        × Appends (W.contents writer.old) (W.contents writer.new) part) }
 {
-    match words(alloc, reply) {
-        Ok(Some(text)) => match numbered_line(alloc, number, text.as_str()) {
-            Ok(line) => Ok(line),
-            Err(_) => Err(EngineError::Memory),
-        },
-        _ => Err(EngineError::Memory),
+    let line = numbered_line(alloc, number, text)?;
+    write_text(writer, &line)
+}
+
+/// Writes lines of the report, all with the number of one record. Each is made when the one before it is written.
+fn write_lines<W: Write>(
+    alloc: Global,
+    writer: &mut W,
+    number: u64,
+    mut lines: Lines<'_>,
+) -> Result<(), EngineError>
+    ensures ok { OnOk result (Writes number lines.entry (W.contents writer.old) (W.contents writer.new)) }
+    ensures err { IfErr result (λ e. (e ≢ EngineError.Read)
+        × WritesPart number lines.entry (W.contents writer.old) (W.contents writer.new)) }
+{
+    'each: while let Some(text) = lines.next()? {
+        write_line(alloc, writer, number, &text)?;
+    }
+    Ok(())
+}
+
+/// Writes the line of a reply, behind the record's number.
+pub fn write_reply<W: Write>(
+    alloc: Global,
+    writer: &mut W,
+    number: u64,
+    reply: Reply,
+) -> Result<(), EngineError>
+    ensures ok { OnOk result (WritesReply number (told reply) (W.contents writer.old) (W.contents writer.new)) }
+    ensures err { IfErr result (λ e. (e ≢ EngineError.Read)
+        × WritesReplyPart number (told reply) (W.contents writer.old) (W.contents writer.new)) }
+{
+    match words(alloc, reply)? {
+        Some(text) => write_line(alloc, writer, number, text.as_bytes()),
+        None => Err(EngineError::Memory),
+    }
+}
+
+/// Writes the lines of a show or an audit, each behind the record's number, or the line of its refusal.
+fn write_report<W: Write>(
+    alloc: Global,
+    writer: &mut W,
+    number: u64,
+    report: Result<Lines<'_>, Refusal>,
+) -> Result<(), EngineError>
+    ensures ok { OnOk result (WritesReply number (told_lines report.entry) (W.contents writer.old) (W.contents writer.new)) }
+    ensures err { IfErr result (λ e. (e ≢ EngineError.Read)
+        × WritesReplyPart number (told_lines report.entry) (W.contents writer.old) (W.contents writer.new)) }
+{
+    match report {
+        Ok(lines) => write_lines(alloc, writer, number, lines),
+        Err(Refusal::Phase(phase)) => write_reply(alloc, writer, number, Reply::Refused(phase)),
+        Err(Refusal::Memory) => Err(EngineError::Memory),
     }
 }
 
@@ -138,22 +193,39 @@ const PUBLISH: u8 = 1;
 /// The kind of a run record.
 const RUN: u8 = 2;
 
-/// Answers a whole record. Where memory runs out, the ledger is as before or as after the record.
-pub fn answer(
+/// The kind of a show record.
+const SHOW: u8 = 3;
+
+/// The kind of an audit record.
+const AUDIT: u8 = 4;
+
+/// Answers a whole record, and writes its lines. Where memory runs out, the ledger is as before or as after the record.
+pub fn answer<W: Write>(
     alloc: Global,
+    writer: &mut W,
     ledger: &mut Ledger,
     number: u64,
     kind: u8,
     payload: &[u8],
-) -> Result<String, EngineError>
-    ensures ok { IfOk result (λ text. IsAnswered number kind payload.now ledger.old ledger.new (string_bytes text)) }
-    ensures err { IfErr result (λ e. (e ≡ EngineError.Memory) × MayBeAnswered kind payload.now ledger.old ledger.new) }
+) -> Result<(), EngineError>
+    ensures ok { OnOk result (IsAnswered number kind payload.now ledger.old ledger.new
+        (W.contents writer.old) (W.contents writer.new)) }
+    ensures err { IfErr result (λ e. (e ≢ EngineError.Read) × MayBeAnswered number kind payload.now ledger.old ledger.new
+        (W.contents writer.old) (W.contents writer.new)) }
 {
     if kind == PUBLISH {
-        return line_text(alloc, number, ledger.publish(payload));
+        return write_reply(alloc, writer, number, ledger.publish(payload));
     }
     if kind == RUN {
-        return line_text(alloc, number, ledger.execute(payload));
+        return write_reply(alloc, writer, number, ledger.execute(payload));
     }
-    line_text(alloc, number, Reply::Refused(1))
+    if kind == SHOW {
+        return write_report(alloc, writer, number, ledger.show(payload));
+    }
+    if kind == AUDIT {
+        return write_report(alloc, writer, number, ledger.audit(payload));
+    }
+    // For the prover: so the ledger is balanced.
+    ledger.is_sound();
+    write_reply(alloc, writer, number, Reply::Refused(1))
 }

@@ -2,7 +2,7 @@
 ghost use Rattle.std.specs.Prelude.{◌≡◌, [], ◌∷◌, IfOk, IfErr, OnOk, false, map};
 ghost use Rattle.clap.specs.Words.{app_of, fault_of, found_of, rows_of, rule_of, subcommand_of, subcommand_rows_of, takes};
 ghost use Rattle.clap.specs.declared.builder.Command.TheViews.{out-Command};
-ghost use Rattle.moveledger.specs.Line.{apply, given_as, moveledger, name_of, task_in, seen, IsOfKind, IsWords};
+ghost use Rattle.moveledger.specs.Line.{apply, check, given_as, moveledger, name_of, named_task, prove, task_in, seen, IsOfKind, IsWords};
 
 use clap::error::ErrorKind;
 use clap::{Arg, ArgMatches, Command};
@@ -14,6 +14,10 @@ use thiserror::Error;
 pub enum Task<'a> {
     /// Answer the records of this file.
     Apply(&'a str),
+    /// Print a certificate for the module of this file.
+    Prove(&'a str),
+    /// Check the module of the first file with the certificate whose text the second one has.
+    Check(&'a str, &'a str),
 }
 
 /// Why there is no task.
@@ -43,13 +47,33 @@ fn apply_command<'a>(alloc: Global) -> Result<Command<'a>, AllocError>
     Command::new(alloc, "apply").arg(name_arg(alloc, "FILE"))
 }
 
+/// `prove MODULE`.
+fn prove_command<'a>(alloc: Global) -> Result<Command<'a>, AllocError>
+    ensures app { IfOk result (λ c. app_of c ≡ prove) }
+    ensures local { IfOk result (λ c. (out-Command c).has_globals ≡ false) }
+{
+    Command::new(alloc, "prove").arg(name_arg(alloc, "MODULE"))
+}
+
+/// `check MODULE CERT`.
+fn check_command<'a>(alloc: Global) -> Result<Command<'a>, AllocError>
+    ensures app { IfOk result (λ c. app_of c ≡ check) }
+    ensures local { IfOk result (λ c. (out-Command c).has_globals ≡ false) }
+{
+    Command::new(alloc, "check")
+        .arg(name_arg(alloc, "MODULE"))?
+        .arg(name_arg(alloc, "CERT"))
+}
+
 /// The program's command line.
 fn definition<'a>(alloc: Global) -> Result<Command<'a>, AllocError>
     ensures { IfOk result (λ c. app_of c ≡ moveledger) }
 {
     Command::new(alloc, "moveledger")
         .subcommand_required(true)
-        .subcommand(apply_command(alloc)?)
+        .subcommand(apply_command(alloc)?)?
+        .subcommand(prove_command(alloc)?)?
+        .subcommand(check_command(alloc)?)
 }
 
 /// What was given under a name.
@@ -59,13 +83,26 @@ fn given<'a>(matches: &ArgMatches<'a>, id: &str) -> &'a str
     matches.get_str(id).unwrap_or("")
 }
 
+/// The task of a command by its name, with what was given to it.
+fn named_task<'a>(name: &str, found: &ArgMatches<'a>) -> Task<'a>
+    ensures { seen result ≡ named_task name.now (rows_of (found_of found.now)) }
+{
+    if name == "prove" {
+        return Task::Prove(given(found, "MODULE"));
+    }
+    if name == "check" {
+        return Task::Check(given(found, "MODULE"), given(found, "CERT"));
+    }
+    Task::Apply(given(found, "FILE"))
+}
+
 /// The task that matches have.
 fn task_of<'a>(matches: &ArgMatches<'a>) -> Task<'a>
     ensures { seen result ≡ task_in (subcommand_rows_of matches.now) }
 {
     match matches.subcommand() {
         None => Task::Apply(""),
-        Some((_, found)) => Task::Apply(given(found, "FILE")),
+        Some((name, found)) => named_task(name, found),
     }
 }
 

@@ -3,9 +3,10 @@ ghost use Rattle.std.specs.Prelude.{◌≡◌, ℕ, List, [], IfOk, IfErr, Err};
 ghost use Rattle.moveledger.specs.Records.{Record, AreRecords};
 ghost use Rattle.moveledger.specs.Outcome.{Answers, Stops, StopsReading};
 
-use crate::answering::{answer, line_text, write_text};
+use crate::answering::{answer, write_reply};
 use crate::reading::{Next, next_record};
 use mv_ledger::{Ledger, Reply};
+use std::alloc::AllocError;
 use std::io::{Read, Write};
 use thiserror::Error;
 
@@ -21,6 +22,17 @@ pub enum EngineError {
     /// An allocation failed.
     #[error("fault: memory")]
     Memory,
+}
+
+impl From<AllocError> for EngineError {
+    ghost use Rattle.std.specs.Prelude.{◌≡◌};
+    ghost use Rattle.moveledger.specs.declared.engine.EngineError.TheVariants.{Memory};
+
+    ghost from_gives = { λ _ e. e ≡ Memory };
+
+    fn from(_: AllocError) -> Self {
+        EngineError::Memory
+    }
 }
 
 /// Answers the records of an input, each before the next is read, and says how many they were. Its lines are handed to the
@@ -50,14 +62,12 @@ pub fn engine<R: Read, W: Write>(
     for n in 0..u64::MAX {
         match next_record(alloc, reader)? {
             Next::End => return Ok(n),
-            Next::Broken => {
-                let line = line_text(alloc, n + 1, Reply::Refused(1))?;
-                write_text(writer, line.as_bytes())?;
+            Next::Cut => {
+                write_reply(alloc, writer, n + 1, Reply::Refused(1))?;
                 return Ok(n + 1);
             }
             Next::Record(kind, payload) => {
-                let text = answer(alloc, ledger, n + 1, kind, &payload)?;
-                write_text(writer, text.as_bytes())?;
+                answer(alloc, writer, ledger, n + 1, kind, &payload)?;
             }
         }
     }

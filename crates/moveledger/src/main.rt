@@ -1,10 +1,15 @@
-//! moveledger: publishes Move modules, runs their entry functions, and reports what happened, record by record.
+//! moveledger: publishes Move modules, runs their entry functions, and reports what happened, record by record. It also makes
+//! certificates for modules, and checks modules with them.
 #![tactic(auto)]
 
 mod answering;
+mod checking;
 mod command;
 mod engine;
+mod modules;
+mod printing;
 mod program;
+mod proving;
 mod reading;
 mod status;
 #[cfg(test)]

@@ -120,7 +120,7 @@ pub enum Next {
     /// Nothing.
     End,
     /// Something that is no whole record.
-    Broken,
+    Cut,
     /// A record: its kind and its payload.
     Record(u8, Vec<u8>),
 }
@@ -137,10 +137,10 @@ pub fn next_record<R: Read>(alloc: Global, reader: &mut R) -> Result<Next, Engin
         return Ok(Next::End);
     };
     let Some(len) = read_length(reader)? else {
-        return Ok(Next::Broken);
+        return Ok(Next::Cut);
     };
     match read_payload(alloc, reader, len as usize)? {
-        None => Ok(Next::Broken),
+        None => Ok(Next::Cut),
         Some(payload) => Ok(Next::Record(kind, payload)),
     }
 }

@@ -1,8 +1,10 @@
 // How the program ends: its fault's line, and its exit status.
 ghost use Rattle.std.specs.Prelude.{◌≡◌, option_map};
-ghost use Rattle.moveledger.specs.Status.{end_after, fault_line, status_of};
+ghost use Rattle.moveledger.specs.Status.{end_after, end_after_check, end_after_proof, fault_line, status_of};
 
 use crate::engine::EngineError;
+use mv_analyser::ProveError;
+use mv_move_types::Refusal;
 
 /// How the program ends.
 #[derive(Clone, Copy, Debug, PartialEq, Eq)]
@@ -17,6 +19,10 @@ pub enum End {
     Memory,
     /// The command line isn't understood, or asks for help.
     Words,
+    /// A module is refused in this phase.
+    Refused(u8),
+    /// No certificate is made for a module, since the search reaches its limits.
+    TooComplex,
 }
 
 /// The end after the engine's. Where its report couldn't be written out to the last byte, that is a failed write, whatever
@@ -35,19 +41,42 @@ pub fn end_of(answered: Result<u64, EngineError>, is_flushed: bool) -> End
     }
 }
 
+/// The end after a certificate was to be made.
+pub fn end_of_proof(proved: &Result<String, ProveError>) -> End
+    ensures { result ≡ end_after_proof proved.now }
+{
+    match proved {
+        Ok(_) => End::Done,
+        Err(ProveError::Refused(phase)) => End::Refused(*phase),
+        Err(ProveError::TooComplex) => End::TooComplex,
+        Err(ProveError::Memory) => End::Memory,
+    }
+}
+
+/// The end after a module was checked.
+pub fn end_of_check(checked: Result<(), Refusal>) -> End
+    ensures { result ≡ end_after_check checked }
+{
+    match checked {
+        Ok(()) => End::Done,
+        Err(Refusal::Phase(phase)) => End::Refused(phase),
+        Err(Refusal::Memory) => End::Memory,
+    }
+}
+
 /// The line of a fault. None where there is none: a command line that isn't understood has clap's text.
 pub fn fault_text(end: &End) -> Option<&'static str>
     ensures { option_map (λ s. s.now) result ≡ fault_line end.now }
 {
     match end {
-        End::Done | End::Words => None,
+        End::Done | End::Words | End::Refused(_) | End::TooComplex => None,
         End::Read => Some("fault: read"),
         End::Write => Some("fault: write"),
         End::Memory => Some("fault: memory"),
     }
 }
 
-/// The exit status: 0 done, 1 a fault, 2 a refused command line.
+/// The exit status: 0 done, 1 a fault, 2 a refused command line, 3 a module that is refused or too complex.
 pub fn status(end: &End) -> u8
     ensures { result ≡ status_of end.now }
 {
@@ -55,5 +84,6 @@ pub fn status(end: &End) -> u8
         End::Done => 0,
         End::Read | End::Write | End::Memory => 1,
         End::Words => 2,
+        End::Refused(_) | End::TooComplex => 3,
     }
 }

@@ -1,17 +1,24 @@
 // Inputs through the engine, and the reports that come out.
 
+mod altered;
+mod assembler;
+mod authoring;
 mod fakes;
 mod limits;
 mod line;
 mod rows;
+mod stream;
 
 use crate::engine::{EngineError, engine};
+use assembler::{EMPTY, assembled};
 use fakes::{Pieces, Room};
-use mv_ledger::{Ledger, Reply};
-use rows::{NUMBERED, NUMBERED_REST, REFUSED, RUNS};
+use mv_ledger::Ledger;
+use rows::{coins, control, counts, references};
 use std::alloc::Global;
 use std::io::ErrorKind;
+use std::process::Abort;
 use std::test::Fail;
+use stream::{Record, Row, decoded, input};
 
 const MANY: usize = usize::MAX;
 
@@ -34,27 +41,6 @@ const FULL: [Option<ErrorKind>; 5] = [
     Some(ErrorKind::Other),
 ];
 
-// The bytes that stand in hex, in parts; nothing where memory runs out.
-fn decoded(alloc: Global, parts: &[&str]) -> Option<Vec<u8>> {
-    let mut bytes = Vec::new(alloc);
-    for part in parts {
-        let Ok(decoded) = hex::decode(alloc, *part) else {
-            return None;
-        };
-        if bytes.extend_from_slice(decoded.as_slice()).is_err() {
-            return None;
-        }
-    }
-    Some(bytes)
-}
-
-fn bytes_of(alloc: Global, parts: &[&str]) -> Result<Vec<u8>, Fail> {
-    match decoded(alloc, parts) {
-        Some(bytes) => Ok(bytes),
-        None => Err(Fail::from("no bytes")),
-    }
-}
-
 fn whole(bytes: &[u8]) -> Pieces<'_> {
     Pieces {
         bytes,
@@ -74,9 +60,9 @@ fn room(alloc: Global) -> Room {
     }
 }
 
-// A writer that asks for no memory up to 64 bytes; none where memory runs out.
+// A writer that asks for no memory up to 1,024 bytes; none where memory runs out.
 fn roomy(alloc: Global) -> Option<Room> {
-    match Vec::with_capacity(alloc, 64) {
+    match Vec::with_capacity(alloc, 1024) {
         Ok(taken) => Some(Room {
             taken,
             ..room(alloc)
@@ -108,11 +94,10 @@ fn report(
     Ok((count, writer.taken))
 }
 
-#[test]
-fn records_are_answered(rt: HostRuntime) -> Result<(), Fail> {
-    for row in RUNS.iter().chain(REFUSED.iter()) {
-        let wanted = row.report;
-        let bytes = bytes_of(rt.alloc(), row.input)?;
+// Tries that the inputs of rows are answered as wanted, however many bytes a reader gives and a writer takes in a call.
+fn answered_as_wanted(rt: &impl Abort, alloc: Global, rows: &[Row]) -> Result<(), Fail> {
+    for row in rows {
+        let bytes = input(alloc, row.records)?;
         for each in [MANY, 7, 1] {
             let reader = Pieces {
                 each,
@@ -120,21 +105,50 @@ fn records_are_answered(rt: HostRuntime) -> Result<(), Fail> {
             };
             let mut writer = Room {
                 each,
-                ..room(rt.alloc())
+                ..room(alloc)
             };
-            let mut ledger = Ledger::new(rt.alloc());
+            let mut ledger = Ledger::new(alloc);
             let count = answered(reader, &mut writer, &mut ledger)?;
-            assert_eq!(rt; count, row.count, "for {wanted}");
-            assert_eq!(rt; writer.taken.as_slice(), wanted.as_bytes());
+            assert_eq!(rt;
+                writer.taken.as_slice(),
+                row.report.as_bytes(),
+                "{}",
+                row.shows
+            );
+            assert_eq!(rt; count, row.records.len() as u64, "{}", row.shows);
         }
     }
+    Ok(())
+}
+
+// The bytes of the example's stream, and of a module with nothing in it.
+const MINTED: [&str; 6] = [
+    "017a000000000000000000000000000000010163",
+    "a11ceb0b0500000008010002020204030605050b04070f0e081d100a2d050c320f000000010c000003010000",
+    "00020c03014d04436f696e0176046d696e740000000000000000000000000000000100020102030001040000050e000b",
+    "0112002d0002000401010100",
+    "02320000000000000000000000000000000100000000000000000000000000000001",
+    "014d046d696e746401030700000000000000",
+];
+
+const NAMED: &str =
+    "a11ceb0b05000000030100020702020804100000014d0000000000000000000000000000000100";
+
+#[test]
+fn values_are_assembled(rt: HostRuntime) -> Result<(), Fail> {
+    let minted = decoded(rt.alloc(), &MINTED)?;
+    let records = input(rt.alloc(), coins::MINTED.records)?;
+    assert_eq!(rt; records.as_slice(), minted.as_slice());
+    let named = decoded(rt.alloc(), &[NAMED])?;
+    let module = assembled(rt.alloc(), &EMPTY)?;
+    assert_eq!(rt; module.as_slice(), named.as_slice());
     Ok(())
 }
 
 // A record that is said to have 33,554,432 bytes and has five: no read asks for more than a piece of it.
 #[test]
 fn long_payloads_are_read_in_pieces(rt: HostRuntime) -> Result<(), Fail> {
-    let bytes = bytes_of(rt.alloc(), &["0180808010", "0102030405"])?;
+    let bytes = decoded(rt.alloc(), &["0180808010", "0102030405"])?;
     let mut reader = whole(bytes.as_slice());
     let mut writer = room(rt.alloc());
     let mut ledger = Ledger::new(rt.alloc());
@@ -147,8 +161,8 @@ fn long_payloads_are_read_in_pieces(rt: HostRuntime) -> Result<(), Fail> {
 
 #[test]
 fn failed_reads_end_it(rt: HostRuntime) -> Result<(), Fail> {
-    let row = &RUNS[1];
-    let bytes = bytes_of(rt.alloc(), row.input)?;
+    let row = coins::MINTED_TWICE;
+    let bytes = input(rt.alloc(), row.records)?;
     for (until, written) in [(0, 0), (123, 0), (124, 14), (125, 14), (176, 27)] {
         for error in KINDS {
             let reader = Pieces {
@@ -171,8 +185,8 @@ fn failed_reads_end_it(rt: HostRuntime) -> Result<(), Fail> {
 
 #[test]
 fn failed_writes_end_it(rt: HostRuntime) -> Result<(), Fail> {
-    let row = &RUNS[1];
-    let bytes = bytes_of(rt.alloc(), row.input)?;
+    let row = coins::MINTED_TWICE;
+    let bytes = input(rt.alloc(), row.records)?;
     for left in [0, 3, 16] {
         for error in FULL {
             let mut writer = Room {
@@ -195,7 +209,7 @@ fn failed_writes_end_it(rt: HostRuntime) -> Result<(), Fail> {
 // After a fault a ledger answers the records behind those that it was changed by. They count from 1 again.
 #[test]
 fn ledgers_go_on_after_faults(rt: HostRuntime) -> Result<(), Fail> {
-    let bytes = bytes_of(rt.alloc(), RUNS[1].input)?;
+    let bytes = input(rt.alloc(), coins::MINTED_TWICE.records)?;
     // A read that fails within the second record: the module is published, and no coin minted.
     let mut ledger = Ledger::new(rt.alloc());
     let reader = Pieces {
@@ -224,62 +238,81 @@ fn ledgers_go_on_after_faults(rt: HostRuntime) -> Result<(), Fail> {
     Ok(())
 }
 
-// What a ledger answers to the first run once so many of its records have changed it.
-fn answers_again(changes: usize) -> &'static str {
-    match changes {
-        0 => "1 published 1\n2 returned 5\n",
-        1 => "1 refused 13\n2 returned 5\n",
-        _ => "1 refused 13\n2 aborted exists 0 4\n",
+// What ledgers do with an input once they have answered the first records of it: the report on these, and that on the input.
+fn after(alloc: Global, first: &[Record<'_>], bytes: &[u8]) -> Option<(Vec<u8>, Vec<u8>)> {
+    let Ok(first) = input(alloc, first) else {
+        return None;
+    };
+    let mut ledger = Ledger::new(alloc);
+    let mut writer = room(alloc);
+    let mut writer_again = room(alloc);
+    if answered(whole(&first), &mut writer, &mut ledger).is_err() {
+        return None;
+    }
+    match answered(whole(bytes), &mut writer_again, &mut ledger) {
+        Ok(_) => Some((writer.taken, writer_again.taken)),
+        Err(_) => None,
     }
 }
+
+// Whether some first records of a row have left a ledger that reports so on the row, and have the written bytes as a beginning
+// of their report, with all lines of those before the last. It is true where memory runs out again.
+fn is_left_by_some(alloc: Global, row: &Row, bytes: &[u8], written: &[u8], again: &[u8]) -> bool {
+    let mut before = Vec::new(alloc);
+    for count in 0..=row.records.len() {
+        let Some(first) = row.records.get(..count) else {
+            return false;
+        };
+        let Some((report, report_again)) = after(alloc, first, bytes) else {
+            return true;
+        };
+        let is_written = written.starts_with(&before) && report.starts_with(written);
+        if is_written && report_again.as_slice() == again {
+            return true;
+        }
+        before = report;
+    }
+    false
+}
+
+// The rows whose requests for memory are refused.
+const STARVED: [Row; 6] = [
+    coins::MINTED,
+    coins::SHOWN,
+    coins::BURNT,
+    references::WRITTEN,
+    control::DEEP,
+    counts::VAULTS,
+];
 
 // With any one request for memory refused, which scripts/refuse-each-growth tries for each: what was written is a beginning
 // of the report, and the ledger is as the records whose lines were written left it, or one more.
 #[test]
 fn ledgers_stand_where_memory_runs_out(rt: HostRuntime) -> Result<(), Fail> {
-    let (Some(bytes), Some(mut writer), Some(mut writer_again)) = (
-        decoded(rt.alloc(), RUNS[11].input),
-        roomy(rt.alloc()),
-        roomy(rt.alloc()),
-    ) else {
-        return Ok(());
-    };
-    let mut ledger = Ledger::new(rt.alloc());
-    let result = answered(whole(&bytes), &mut writer, &mut ledger);
-    let written = writer.taken.as_slice();
-    let lines = written.iter().filter(|byte| **byte == b'\n').count();
-    match result {
-        Ok(count) => assert_eq!(rt; (count, written), (2, RUNS[11].report.as_bytes())),
-        Err(error) => {
-            assert_eq!(rt; error, EngineError::Memory);
-            assert!(rt; RUNS[11].report.as_bytes().starts_with(written));
-        }
-    }
-    if answered(whole(&bytes), &mut writer_again, &mut ledger).is_ok() {
-        let again = writer_again.taken.as_slice();
-        let is_left = |changes: usize| again == answers_again(changes).as_bytes();
-        assert!(rt; is_left(lines) || is_left(lines + 1));
-    }
-    Ok(())
-}
-
-#[test]
-fn full_ledgers_take_no_module(rt: HostRuntime) -> Result<(), Fail> {
-    let start = hex::decode(rt.alloc(), NUMBERED)?;
-    let rest = hex::decode(rt.alloc(), NUMBERED_REST)?;
-    let mut ledger = Ledger::new(rt.alloc());
-    for n in 0..=4096 {
-        let digits = format!(in rt.alloc(); "{n:04}")?;
-        let mut payload = start.clone()?;
-        payload.extend_from_slice(digits.as_bytes())?;
-        payload.extend_from_slice(rest.as_slice())?;
-        let reply = ledger.publish(payload.as_slice());
-        let wanted = if n < 4096 {
-            Reply::Published(1)
-        } else {
-            Reply::Refused(14)
+    for row in &STARVED {
+        let (Ok(bytes), Some(mut writer), Some(mut writer_again)) = (
+            input(rt.alloc(), row.records),
+            roomy(rt.alloc()),
+            roomy(rt.alloc()),
+        ) else {
+            return Ok(());
         };
-        assert_eq!(rt; reply, wanted, "at {n}");
+        let mut ledger = Ledger::new(rt.alloc());
+        let result = answered(whole(&bytes), &mut writer, &mut ledger);
+        let written = writer.taken.as_slice();
+        let Err(error) = result else {
+            assert_eq!(rt; written, row.report.as_bytes(), "{}", row.shows);
+            continue;
+        };
+        assert_eq!(rt; error, EngineError::Memory);
+        if answered(whole(&bytes), &mut writer_again, &mut ledger).is_ok() {
+            let again = writer_again.taken.as_slice();
+            assert!(rt;
+                is_left_by_some(rt.alloc(), row, &bytes, written, again),
+                "{}",
+                row.shows
+            );
+        }
     }
     Ok(())
 }

@@ -14,6 +14,7 @@ ghost use Rattle.mv_bounds.specs.Bounds.{InBounds};
 ghost use Rattle.mv_bounds.specs.Definitions.{WellDefined};
 ghost use Rattle.mv_bounds.specs.Answers.{IsRefusedByBounds};
 
+pub use cycles::is_acyclic;
 use duplicates::well_defined;
 use indices::in_bounds;
 use mv_binary_format::{FunctionDefinition, Module};

@@ -58,6 +58,13 @@ impl<'a> Verified<'a> {
     {
         self.typed.module()
     }
+
+    /// The module with what it passed before its certificate.
+    pub fn typed(&self) -> &Typed<'a>
+        ensures { result.now ≡ self.now }
+    {
+        &self.typed
+    }
 }
 
 /// Reads a certificate of the module. Bytes are refused in phase 9 exactly where they are no text of one.

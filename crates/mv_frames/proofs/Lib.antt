@@ -1,1 +1,1 @@
-pub mod Tops
+pub mod Lists

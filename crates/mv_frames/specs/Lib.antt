@@ -1,3 +1,4 @@
-pub mod Frames
 pub mod FlatState
+pub mod Frames
 pub mod WordLists
+pub mod Moves

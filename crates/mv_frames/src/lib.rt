@@ -1,8 +1,12 @@
-//! Frames: functions at work, with the values of their locals and their operands.
+//! Frames: the words of a run's functions at work, one list for them all, and the functions that wait.
 #![tactic(auto)]
 
 mod frame;
-mod operand;
+mod halt;
+#[cfg(test)]
+mod tests;
+mod words;
 
-pub use frame::Frame;
-pub use operand::{Operand, Reference};
+pub use frame::{Event, Frame, Top};
+pub use halt::Halt;
+pub use words::Words;

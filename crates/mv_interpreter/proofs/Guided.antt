@@ -15,4 +15,3 @@ pub mod Whole
 pub mod LinkFacts
 pub mod Tells
 pub mod Published
-pub mod Instance

@@ -17,8 +17,7 @@ use Rattle.mv_move_types.specs.Published.{PublishedModule}
 use Rattle.mv_bounds.specs.Bounds.{InBounds, below, struct_in, field_in, struct_handle_in, module_handle_in}
 use Rattle.mv_bounds.specs.Definitions.{WellDefined, all_differ, struct_home}
 use Rattle.mv_linker.specs.Link.{IsStore, IsPublishable, tables_in, have_one_name}
-use Rattle.mv_interpreter.specs.Today.{function_runs, struct_runs, module_runs}
-use Rattle.mv_interpreter.specs.Works.{IsOwn, IsHome}
+use Rattle.mv_interpreter.specs.Owned.{IsOwn}
 use Rattle.mv_interpreter.proofs.Names.{some_is, eqb-same, bytes-same, same_module-same, same_module-is, same_struct-same, same_struct-is, both}
 use Rattle.mv_interpreter.proofs.Lists.{each, there_at, on_some, then_found, mapped_at, All-at}
 use Rattle.mv_interpreter.proofs.Owns.{find_first, differ_at, one_place, defined_own, defined_alone}
@@ -145,16 +144,3 @@ own_of_store published place m store at =
     let passed : IsPublishable p.0 = All-at IsPublishable published place p.0 store.passed p.1 in
     subst (λ (x : Module). slice_get (tables_in published) place ≡ Some x → (i : ℕ) (d : StructDefinition) → slice_get x.structs i ≡ Some d → IsOwn (tables_in published) x i d) p.2
     (own_of (tables_in published) place p.0.tables passed.sound.bounds passed.sound.defined store.once) at
-
--- a module of a store at its place, if the interpreter runs it
-pub home_of_store : (published : List PublishedModule) (place : ℕ) (m : Module) → IsStore published → slice_get (tables_in published) place ≡ Some m → IsTrue (module_runs m) → IsHome (tables_in published) place m
-home_of_store published place m store at runs =
-    record {
-      at = at;
-      own = own_of_store published place m store at;
-      fields = λ i d d_at. each struct_runs m.structs i d (second_so (list_all function_runs m.functions) (list_all struct_runs m.structs) runs) d_at;
-    }
-
--- each instruction of a function runs, if its module does
-pub code_runs : (m : Module) (f : ℕ) (d : FunctionDefinition) → IsTrue (module_runs m) → slice_get m.functions f ≡ Some d → IsTrue (function_runs d)
-code_runs m f d runs d_at = each function_runs m.functions f d (first_so (list_all function_runs m.functions) (list_all struct_runs m.structs) runs) d_at

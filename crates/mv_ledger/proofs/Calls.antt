@@ -1,6 +1,9 @@
 -- What stands at the places that a run record's names lead to.
-use Rattle.std.proofs.Common.{◌≡◌, ℕ, zero, suc, ◌+◌, ◌<◌, Bool, true, false, cond, List, [], ◌∷◌, length, Option, Some, None, option_map, get_or, refl, sym, ap, ◌∙◌, subst, arith}
-use Rattle.std.specs.Prelude.{slice_get, IfSome, All, IsTrue}
+use Rattle.std.proofs.Common.{◌≡◌, ℕ, zero, suc, ◌<◌, Bool, true, false, cond, List, [], ◌∷◌, length, Option, Some, None, option_map, get_or, refl, sym, ap, ◌∙◌, arith}
+use Rattle.std.specs.Prelude.{slice_get, IfSome}
+use Rattle.std.specs.Borrow.{Bor}
+use Rattle.std.specs.Slice.{IsItemAt}
+use Rattle.std.proofs.lemmas.Option.{slice_get_past}
 use Rattle.std.specs.Option.{option_map_or}
 use Rattle.std.specs.Str.{bytes_eq}
 use Rattle.mv_move_types.specs.Options.{find_index}
@@ -9,8 +12,6 @@ use Rattle.mv_move_types.specs.Module.{Module, name_of_function}
 use Rattle.mv_move_types.specs.Named.{is_module, module_place, function_place}
 use Rattle.mv_move_types.specs.Published.{PublishedModule}
 use Rattle.mv_linker.specs.Link.{tables_in}
-use Rattle.mv_interpreter.specs.Today.{module_runs}
-use Rattle.mv_ledger.specs.View.{RunsToday}
 
 -- what is found in a list stands below its length
 find_index-below : {A : Type 0} (p : A → Bool) (xs : List A) (k : ℕ) → find_index p xs ≡ Some k → k < length xs
@@ -51,8 +52,10 @@ there xs ys k x same lt is = found ys k x lt (is ∙ ap (λ l. get_or l k x) sam
     found (y ∷ xs) zero x lt e = ap Some (sym e)
     found (y ∷ xs) (suc k) x lt e = found xs k x (omega (arith, lt)) e
 
--- a module that stands among those that run today is one
-pub runs-at : (published : List PublishedModule) (k : ℕ) (m : Module) → All RunsToday published → slice_get (tables_in published) k ≡ Some m → IsTrue (module_runs m)
-runs-at [] k m all e = cc
-runs-at (p ∷ published) zero m all e = let same : p.tables ≡ m = cc in subst (λ (x : Module). IsTrue (module_runs x)) same (all 0 p (omega arith))
-runs-at (p ∷ published) (suc k) m all e = runs-at published k m (λ j d lt. all (suc j) d (omega (arith, lt))) e
+-- the element that a slice's `get` lends
+pub got_some : {A : Type 0} (xs ys : List A) (k : ℕ) (x : Bor A) → IsItemAt xs k (Some x) → xs ≡ ys → slice_get ys k ≡ Some x.now
+got_some xs ys k x h same = there xs ys k x.now same (omega (arith, h.3.0, ap length same)) h.1
+
+-- none where it lends none
+pub got_none : {A : Type 0} (xs ys : List A) (k : ℕ) → IsItemAt xs k None → xs ≡ ys → slice_get ys k ≡ None
+got_none xs ys k h same = slice_get_past ys k (omega (arith, h.3, ap length same))

@@ -1,69 +1,91 @@
--- What a ledger holds stays fine where a module is added.
-use Rattle.std.proofs.Common.{◌≡◌, ℕ, ◌+◌, ◌<◌, ◌≤◌, zero, suc, List, [], ◌∷◌, ◌++◌, length, Result, Ok, Err, sym, ap, ◌∙◌, subst, arith}
-use Rattle.std.specs.Prelude.{All, OnOk, OnErr}
-use Rattle.std.proofs.lemmas.List.Elements.{All-append}
-use Rattle.mv_move_types.specs.Module.{Module}
+-- What a ledger holds stays as it has to where a bundle is published, and where a run was had.
+use Rattle.std.proofs.Common.{◌≡◌, ℕ, ◌+◌, ◌<◌, ◌≤◌, List, [], length, refl, Result, Ok, Err, sym, ◌∙◌, subst, arith}
+use Rattle.std.specs.Prelude.{All, OnOk, OnErr, IfOk}
+use Rattle.std.proofs.lemmas.List.Elements.{All-nil}
+use Rattle.mv_move_types.specs.declared.refusal.Refusal.{Refusal}
 use Rattle.mv_move_types.specs.Published.{PublishedModule}
 use Rattle.mv_machine.specs.Flat.{FlatEntry}
-use Rattle.mv_linker.specs.Link.{tables_in}
+use Rattle.mv_linker.specs.Link.{IsStore, tables_in}
 use Rattle.mv_interpreter.specs.Runs.{IsFineWords}
 use Rattle.mv_ledger.specs.declared.tallies.Tally.{Tally}
-use Rattle.mv_ledger.specs.View.{all_of, IsLedger, IsNamed, IsSmall, RunsToday}
-use Rattle.mv_ledger.specs.Changes.{AddsOne}
-use Rattle.mv_ledger.proofs.Longer.{words-more}
-use Rattle.mv_ledger.proofs.Stores.{tables-push}
+use Rattle.mv_ledger.specs.View.{state_of, view_of, all_of, IsLedger, IsNamed, IsSmall, AreScarce}
+use Rattle.mv_ledger.specs.Judging.{IsAcceptedBy}
+use Rattle.mv_ledger.specs.Tallying.{AddsTallies}
+use Rattle.mv_ledger.specs.Accepted.SoundLedger.{IsSoundLedger}
+use Rattle.mv_ledger.proofs.Staying.{stored-stays}
+use Rattle.mv_ledger.proofs.Accepted.Sound.{empty_sound}
+use Rattle.mv_ledger.proofs.Replying.{sound_with}
 
--- stored values stay fine
-fine-more : (old new : List PublishedModule) (stored : List FlatEntry) → AddsOne old new → All (IsFineWords (tables_in old)) stored → All (IsFineWords (tables_in new)) stored
-fine-more old new stored adds fine =
-    let tables : tables_in old ++ adds.0.tables ∷ [] ≡ tables_in new = sym (ap tables_in adds.1.2 ∙ tables-push old adds.0) in
-    subst (λ (l : List Module). All (IsFineWords l) stored) tables
-    (λ k d lt. words-more (tables_in old) (adds.0.tables ∷ []) _ (fine k d lt))
+-- nothing published, stored or run
+no_ledger : IsLedger [] [] [] 0
+no_ledger = record {
+  few = omega arith;
+  fine = All-nil (IsFineWords []);
+  placed = refl;
+  scarce = tt;
+  named = All-nil (IsNamed []);
+  small = All-nil (IsSmall 0);
+  counted = omega arith;
+  sound = empty_sound;
+}
 
--- what holds of the one element holds of each
-one : {A : Type 0} (P : A → Type 0) (x : A) → P x → All P (x ∷ [])
-one P x p zero d lt = p
-one P x p (suc k) d lt = absurd (omega (arith, lt))
+pub ledger-new : (published : List PublishedModule) (stored : List FlatEntry) (tallies : List (List Tally)) → published ≡ [] → stored ≡ [] → tallies ≡ [] → IsLedger published stored tallies 0
+ledger-new published stored tallies none nothing no_tally =
+    subst (λ (ps : List PublishedModule). IsLedger ps stored tallies 0) (sym none)
+    (subst (λ (es : List FlatEntry). IsLedger [] es tallies 0) (sym nothing) (subst (λ (tss : List (List Tally)). IsLedger [] [] tss 0) (sym no_tally) no_ledger))
 
 -- a ledger whose modules and tallies changed as a publish record's answer says
 pub ledger-published : {T E : Type 0} (r : Result T E) (old new : List PublishedModule) (stored : List FlatEntry) (before after : List (List Tally)) (runs : ℕ)
-    → OnOk r (AddsOne old new) → OnOk r (length new ≤ 4096) → OnErr r (new ≡ old) → OnErr r (after ≡ before)
-    → length after ≡ length new → OnOk r (All (IsNamed (tables_in new)) (all_of after)) → All (IsSmall runs) (all_of after)
-    → IsLedger old stored before runs → IsLedger new stored after runs
-ledger-published (Ok x) old new stored before after runs adds room kept same placed named small is = record {
+    → OnOk r (length new ≤ 4096) → OnOk r (All (IsFineWords (tables_in old)) stored → All (IsFineWords (tables_in new)) stored) → OnErr r (new ≡ old) → OnErr r (after ≡ before)
+    → length after ≡ length new → AreScarce (tables_in new) after → OnOk r (All (IsNamed (tables_in new)) (all_of after)) → All (IsSmall runs) (all_of after)
+    → OnOk r (IsSoundLedger (state_of (view_of new stored (all_of after) runs))) → IsLedger old stored before runs → IsLedger new stored after runs
+ledger-published (Ok x) old new stored before after runs room stays kept same placed scarce named small sound is = record {
   few = room;
-  today = subst (All RunsToday) (sym adds.1.2) (All-append RunsToday old (adds.0 ∷ []) is.today (one RunsToday adds.0 adds.1.1));
-  fine = fine-more old new stored adds is.fine;
+  fine = stays is.fine;
   placed = placed;
+  scarce = scarce;
   named = named;
   small = small;
   counted = is.counted;
+  sound = sound;
 }
-ledger-published (Err e) old new stored before after runs adds room kept same placed named small is =
+ledger-published (Err e) old new stored before after runs room stays kept same placed scarce named small sound is =
     subst (λ (l : List PublishedModule). IsLedger l stored after runs) (sym kept) (subst (λ (tss : List (List Tally)). IsLedger old stored tss runs) (sym same) is)
 
 -- a ledger whose storage and tallies a run changed
 pub ledger-run : (published : List PublishedModule) (old new : List FlatEntry) (before after : List (List Tally)) (runs : ℕ) → All (IsFineWords (tables_in published)) new → length after ≡ length before
-    → All (IsNamed (tables_in published)) (all_of after) → (All (IsSmall runs) (all_of before) → All (IsSmall (runs + 1)) (all_of after)) → runs < 4294967296 → IsLedger published old before runs → IsLedger published new after (runs + 1)
-ledger-run published old new before after runs fine placed named small few is = record {
+    → AreScarce (tables_in published) after → All (IsNamed (tables_in published)) (all_of after) → (All (IsSmall runs) (all_of before) → All (IsSmall (runs + 1)) (all_of after)) → runs < 4294967296
+    → IsSoundLedger (state_of (view_of published new (all_of after) (runs + 1))) → IsLedger published old before runs → IsLedger published new after (runs + 1)
+ledger-run published old new before after runs fine placed scarce named small few sound is = record {
   few = is.few;
-  today = is.today;
   fine = fine;
   placed = placed ∙ is.placed;
+  scarce = scarce;
   named = named;
   small = small is.small;
   counted = omega (arith, few);
+  sound = sound;
 }
 
 -- memory ran out in a run
-pub ledger-kept : (published : List PublishedModule) (old new : List FlatEntry) (before after : List (List Tally)) (runs : ℕ) → new ≡ old → length after ≡ length before → all_of after ≡ all_of before → IsLedger published old before runs
+pub ledger-kept : (published : List PublishedModule) (old new : List FlatEntry) (before after : List (List Tally)) (runs : ℕ) → new ≡ old → length after ≡ length before → AreScarce (tables_in published) after → all_of after ≡ all_of before → IsLedger published old before runs
     → IsLedger published new after runs
-ledger-kept published old new before after runs p placed same is = record {
+ledger-kept published old new before after runs p placed scarce same is = record {
   few = is.few;
-  today = is.today;
   fine = subst (λ (es : List FlatEntry). All (IsFineWords (tables_in published)) es) (sym p) is.fine;
   placed = placed ∙ is.placed;
+  scarce = scarce;
   named = subst (λ (ts : List Tally). All (IsNamed (tables_in published)) ts) (sym same) is.named;
   small = subst (λ (ts : List Tally). All (IsSmall runs) ts) (sym same) is.small;
   counted = is.counted;
+  sound =
+      subst (λ (es : List FlatEntry). IsSoundLedger (state_of (view_of published es (all_of after) runs))) (sym p)
+      (subst (λ (ts : List Tally). IsSoundLedger (state_of (view_of published old ts runs))) (sym same) is.sound);
 }
+
+-- a bundle that was accepted leaves what a sound ledger holds sound
+pub sound-published : (r : Result ℕ Refusal) (old new : List PublishedModule) (payload : List ℕ) (stored : List FlatEntry) (before after : List Tally) (runs : ℕ) → OnOk r (IsStore new) → IfOk r (λ n. IsAcceptedBy n old payload new)
+    → OnOk r (AddsTallies old new before after) → All (IsFineWords (tables_in old)) stored → IsSoundLedger (state_of (view_of old stored before runs)) → OnOk r (IsSoundLedger (state_of (view_of new stored after runs)))
+sound-published (Ok count) old new payload stored before after runs whole accepted tallies fine sound =
+    sound_with old new payload stored before after runs count accepted (stored-stays count old new payload stored sound.store whole accepted fine) tallies whole sound
+sound-published (Err e) old new payload stored before after runs whole accepted tallies fine sound = tt

@@ -1,7 +1,8 @@
 -- A payload is read to its end exactly where it has the shape of its kind.
-use Rattle.std.proofs.Common.{◌≡◌, ℕ, ◌≤◌, ◌^◌, ◌<◌, List, [], ◌∷◌, ◌++◌, length, map, flat_map, append-nil, append_assoc, arith, refl, ap, sym, ◌∙◌, subst, Some, None, IsTrue, Bool, false, ◌&&◌, nat_le, nat_lt, ◌==◌, leb-true, le-leb, lt-ltb, ltb-true, eqb-true}
+use Rattle.std.proofs.Common.{◌≡◌, ℕ, ◌≤◌, ◌^◌, ◌<◌, List, [], ◌++◌, length, map, flat_map, append-nil, append_assoc, arith, refl, ap, sym, ◌∙◌, subst, Option, Some, None, IsTrue, Bool, ◌&&◌, nat_le, nat_lt, leb-true, le-leb, lt-ltb, ltb-true}
+use Rattle.std.specs.Bool.{then_some}
 use Rattle.std.specs.List.{list_all}
-use Rattle.std.proofs.lemmas.Bool.{and_parts, and_from, false≢true}
+use Rattle.std.proofs.lemmas.Bool.{and_parts, and_from}
 use Rattle.std.proofs.lemmas.List.{length-map}
 use Rattle.std.proofs.lemmas.List.Folds.{list_all-map, flat_map-map}
 use Rattle.std.proofs.lemmas.Option.{none-some, same_Some}
@@ -11,16 +12,16 @@ use Rattle.mv_move_types.specs.Options.{◌>>=◌}
 use Rattle.mv_module_text.specs.Entries.{address_text, counted, identifier_text}
 use Rattle.mv_module_text.specs.Fits.{is_byte, address_fits, identifier_fits}
 use Rattle.mv_module_text.specs.Laws.{AreBytes}
-use Rattle.mv_module_text.specs.Parsing.{mark_from, bytes_from, counted_from, identifier_from, address_from}
-use Rattle.mv_module_text.proofs.Texts.{Front, Parts, Whole, on_bind, Front-join, Front-as, number-front, number-whole, mark-front, bytes-front, bytes-whole, bytes_after, counted-parts, counted-whole}
+use Rattle.mv_module_text.specs.Parsing.{bytes_from, counted_from, identifier_from, address_from}
+use Rattle.mv_module_text.proofs.Texts.{Front, Parts, Whole, on_bind, then_some-parts, Front-join, Front-as, number-front, number-whole, bytes-front, bytes-whole, bytes_after, counted-parts, counted-whole}
 use Rattle.mv_module_text.proofs.Handles.{identifier-parts, identifier-whole}
 use Rattle.mv_module_text.proofs.Addresses.{address-parts, address-whole}
 use Rattle.mv_machine.specs.Value.{Value}
-use Rattle.mv_machine.specs.Ledger.{Offer, RunRequest, Request, Publish, Run, BadRun, Bad}
+use Rattle.mv_machine.specs.Ledger.{Offer, RunRequest, Request, Publish, Run, Show, Audit, BadRun, Bad}
 use Rattle.mv_interpreter.specs.declared.Arg.{Arg}
 use Rattle.mv_interpreter.specs.Runs.{arg_value}
 use Rattle.mv_ledger.specs.RecordText.{sized, offer_text, offer_fits, publish_text, publish_fits, run_text, run_fits, argument_text, argument_fits, IsShaped, IsShapeless}
-use Rattle.mv_ledger.specs.Payloads.{sized_from, offer_from, bundle_from, argument_from, run_from}
+use Rattle.mv_ledger.specs.Payloads.{sized_from, offer_from, offers_from, bundle_from, argument_from, run_from}
 use Rattle.mv_ledger.proofs.ShapesOfArguments.{arg_text, arg_fits, argument-parts, argument-whole, args_of}
 
 -- so few bytes
@@ -71,68 +72,70 @@ offer-whole rest v ok =
     ∙ ap (λ r. r >>= λ certificate. Some (record { text = v.text; certificate = certificate.0 }, certificate.1))
     (sized-whole 1048576 (omega arith) rest v.certificate well)
 
--- the count of one
-one_text : uleb 1 ≡ 1 ∷ []
-unfolding uleb
-one_text = refl
+-- so few modules, each within its limits
+abbrev offers_fit : List Offer → Bool
+offers_fit os = nat_le (length os) 16 && list_all offer_fits os
 
--- a bundle of one module
-one_offer : (o : Offer) → 1 ∷ offer_text o ≡ counted offer_text (o ∷ [])
-one_offer o = ap (λ z. 1 ∷ z) (sym (append-nil (offer_text o))) ∙ ap (λ z. z ++ (offer_text o ++ [])) (sym one_text)
-
--- a sender and a bundle of one module
-abbrev bundle_text : ℕ × Offer → List ℕ
-bundle_text b = publish_text b.0 (b.1 ∷ [])
+-- a sender and a bundle
+abbrev bundle_text : ℕ × List Offer → List ℕ
+bundle_text b = publish_text b.0 b.1
 
 -- its parts are within their limits
-abbrev bundle_fits : ℕ × Offer → Bool
-bundle_fits b = publish_fits b.0 (b.1 ∷ [])
+abbrev bundle_fits : ℕ × List Offer → Bool
+bundle_fits b = publish_fits b.0 b.1
 
--- a sender and a bundle of one module at the front
+-- a sender and a bundle at the front
 bundle-parts : Parts bundle_from bundle_text bundle_fits
 bundle-parts bytes rest v ok e =
     on_bind (address_from bytes) _ (v, rest) e (λ s s_is e1.
-    on_bind (mark_from 1 s.1) _ (v, rest) e1 (λ m m_is e2.
-    on_bind (offer_from m) _ (v, rest) e2 (λ o o_is e3.
+    on_bind (offers_from s.1) _ (v, rest) e1 (λ o o_is e2.
+    on_bind (counted_from 16 offer_from s.1) _ o o_is (λ c c_is e3.
     let p = address-parts bytes s.1 s.0 ok s_is in
-    let q = mark-front 1 s.1 m p.0.left m_is in
-    let r = offer-parts m o.1 o.0 q.left o_is in
-    let one : Front (1 ∷ offer_text o.0) s.1 o.1 = Front-join (1 ∷ []) (offer_text o.0) s.1 m o.1 q r.0 in
-    let bundle : Front (counted offer_text (o.0 ∷ [])) s.1 o.1 = subst (λ z. Front z s.1 o.1) (one_offer o.0) one in
-    Front-as bundle_text bundle_fits bytes o.1 rest (s.0, o.0) v e3
-    (Front-join (address_text s.0) (counted offer_text (o.0 ∷ [])) bytes s.1 o.1 p.0 bundle)
-    (and_from (address_fits s.0 && (length (o.0 ∷ []) == 1)) (list_all offer_fits (o.0 ∷ []))
-    (and_from (address_fits s.0) (length (o.0 ∷ []) == 1) p.1 refl) (and_from (offer_fits o.0) (list_all offer_fits []) r.1 refl)))))
+    let t = then_some-parts (nat_le 1 (length c.0)) c o e3 in
+    let q = counted-parts 16 offer_from offer_text offer_fits (omega arith) offer-parts s.1 c.1 c.0 p.0.left c_is in
+    let r = and_parts (nat_le (length c.0) 16) (list_all offer_fits c.0) q.1 in
+    Front-as bundle_text bundle_fits bytes c.1 rest (s.0, c.0) v (ap (λ z. Some ((s.0, z.0), z.1)) t.1 ∙ e2)
+    (Front-join (address_text s.0) (counted offer_text c.0) bytes s.1 c.1 p.0 q.0)
+    (and_from (address_fits s.0 && nat_le 1 (length c.0) && nat_le (length c.0) 16) (list_all offer_fits c.0)
+    (and_from (address_fits s.0 && nat_le 1 (length c.0)) (nat_le (length c.0) 16)
+    (and_from (address_fits s.0) (nat_le 1 (length c.0)) p.1 t.0) r.0) r.1))))
 
 -- they are read
+abbrev with_sender : Option (ℕ × List ℕ) → Option ((ℕ × List Offer) × List ℕ)
+with_sender o = o >>= λ sender. offers_from sender.1 >>= λ offers. Some ((sender.0, offers.0), offers.1)
+
+abbrev with_offers : ℕ → Option (List Offer × List ℕ) → Option ((ℕ × List Offer) × List ℕ)
+with_offers sender o = o >>= λ offers. Some ((sender, offers.0), offers.1)
+
+abbrev some_offers : Option (List Offer × List ℕ) → Option (List Offer × List ℕ)
+some_offers o = o >>= λ offers. then_some (nat_le 1 (length offers.0)) offers
+
 bundle-whole : Whole bundle_from bundle_text bundle_fits
 bundle-whole rest v ok =
-    let p = and_parts (address_fits v.0 && (length (v.1 ∷ []) == 1)) (list_all offer_fits (v.1 ∷ [])) ok in
-    let q = and_parts (address_fits v.0) (length (v.1 ∷ []) == 1) p.0 in
-    let r = and_parts (offer_fits v.1) (list_all offer_fits []) p.1 in
-    ap (λ z. bundle_from ((address_text v.0 ++ z) ++ rest)) (sym (one_offer v.1))
-    ∙ ap bundle_from (append_assoc (address_text v.0) (1 ∷ offer_text v.1) rest)
-    ∙ ap (λ r. r >>= λ sender. mark_from 1 sender.1 >>= λ m. offer_from m >>= λ offer. Some ((sender.0, offer.0), offer.1))
-    (address-whole (1 ∷ (offer_text v.1 ++ rest)) v.0 q.0)
-    ∙ ap (λ r. r >>= λ offer. Some ((v.0, offer.0), offer.1)) (offer-whole rest v.1 r.0)
+    let p = and_parts (address_fits v.0 && nat_le 1 (length v.1) && nat_le (length v.1) 16) (list_all offer_fits v.1) ok in
+    let q = and_parts (address_fits v.0 && nat_le 1 (length v.1)) (nat_le (length v.1) 16) p.0 in
+    let r = and_parts (address_fits v.0) (nat_le 1 (length v.1)) q.0 in
+    let offers : List Offer × List ℕ = (v.1, rest) in
+    ap bundle_from (append_assoc (address_text v.0) (counted offer_text v.1) rest)
+    ∙ ap with_sender (address-whole (counted offer_text v.1 ++ rest) v.0 r.0)
+    ∙ ap (λ (o : Option (List Offer × List ℕ)). with_offers v.0 (some_offers o))
+    (counted-whole 16 offer_from offer_text offer_fits (omega arith) offer-whole rest v.1 (and_from (nat_le (length v.1) 16) (list_all offer_fits v.1) q.1 p.1))
+    ∙ ap (λ (b : Bool). with_offers v.0 (then_some b offers)) r.1
 
 -- a payload that is read to its end as a bundle has a publish record's shape
-pub bundle-shaped : (payload : List ℕ) (sender : ℕ) (o : Offer) → AreBytes payload → bundle_from payload ≡ Some ((sender, o), [])
-    → IsShaped 1 payload (Publish sender (o ∷ []))
-bundle-shaped payload sender o ok e =
-    let p = bundle-parts payload [] (sender, o) ok e in
-    (refl, p.0.text ∙ append-nil (publish_text sender (o ∷ [])), p.1)
+pub bundle-shaped : (payload : List ℕ) (sender : ℕ) (os : List Offer) → AreBytes payload → bundle_from payload ≡ Some ((sender, os), [])
+    → IsShaped 1 payload (Publish sender os)
+bundle-shaped payload sender os ok e =
+    let p = bundle-parts payload [] (sender, os) ok e in
+    (refl, p.0.text ∙ append-nil (publish_text sender os), p.1)
 
 -- one of the shape is read to its end
-bundle-read : (payload : List ℕ) (r : Request) → IsShaped 1 payload r → (b : ℕ × Offer) × (bundle_from payload ≡ Some (b, []))
-bundle-read payload (Publish sender []) h = absurd (false≢true (and_parts (address_fits sender) false (and_parts (address_fits sender && false) (list_all offer_fits []) h.2).0).1)
-bundle-read payload (Publish sender (o ∷ [])) h =
-    ((sender, o), ap bundle_from (h.1 ∙ sym (append-nil (publish_text sender (o ∷ [])))) ∙ bundle-whole [] (sender, o) h.2)
-bundle-read payload (Publish sender (o ∷ p ∷ os)) h =
-    let one = and_parts (address_fits sender && (length (o ∷ p ∷ os) == 1)) (list_all offer_fits (o ∷ p ∷ os)) h.2 in
-    let count : length (o ∷ p ∷ os) ≡ 1 = eqb-true (length (o ∷ p ∷ os)) 1 (and_parts (address_fits sender) (length (o ∷ p ∷ os) == 1) one.0).1 in
-    absurd (omega arith)
+bundle-read : (payload : List ℕ) (r : Request) → IsShaped 1 payload r → (b : ℕ × List Offer) × (bundle_from payload ≡ Some (b, []))
+bundle-read payload (Publish sender os) h =
+    ((sender, os), ap bundle_from (h.1 ∙ sym (append-nil (publish_text sender os))) ∙ bundle-whole [] (sender, os) h.2)
 bundle-read payload (Run r) h = absurd (omega (arith, h.0))
+bundle-read payload (Show format) h = absurd (omega (arith, h.0))
+bundle-read payload (Audit format) h = absurd (omega (arith, h.0))
 bundle-read payload BadRun h = absurd h
 bundle-read payload Bad h = absurd h
 
@@ -141,7 +144,7 @@ pub bundle-none : (payload : List ℕ) → bundle_from payload ≡ None → IsSh
 bundle-none payload e = λ r h. let b = bundle-read payload r h in absurd (none-some (b.0, []) (sym e ∙ b.1))
 
 -- nor has what is read with bytes left
-pub bundle-more : (payload rest : List ℕ) (b : ℕ × Offer) → bundle_from payload ≡ Some (b, rest) → (rest ≡ [] → ⊥) → IsShapeless 1 payload
+pub bundle-more : (payload rest : List ℕ) (b : ℕ × List Offer) → bundle_from payload ≡ Some (b, rest) → (rest ≡ [] → ⊥) → IsShapeless 1 payload
 bundle-more payload rest b e more = λ r h.
     let s = bundle-read payload r h in
     more (ap (λ z. z.1) (same_Some (b, rest) (s.0, []) (sym e ∙ s.1)))
@@ -254,6 +257,8 @@ run-shaped payload r ok e =
 run-read : (payload : List ℕ) (r : Request) → IsShaped 2 payload r → (q : RunRequest) × (run_from payload ≡ Some (q, []))
 run-read payload (Publish sender offers) h = absurd (omega (arith, h.0))
 run-read payload (Run r) h = (r, ap run_from (h.1 ∙ sym (append-nil (run_text r))) ∙ run-whole [] r h.2)
+run-read payload (Show format) h = absurd (omega (arith, h.0))
+run-read payload (Audit format) h = absurd (omega (arith, h.0))
 run-read payload BadRun h = absurd h
 run-read payload Bad h = absurd h
 

@@ -1,19 +1,17 @@
 -- What is read of an argument is what was written: its token and its value.
-use Rattle.std.proofs.Common.{◌≡◌, ℕ, ◌+◌, ◌*◌, ◌/◌, ◌%◌, ◌^◌, ◌<◌, List, [], ◌∷◌, ◌++◌, length, map, get_or, append-nil, arith, refl, ap, suc, zero, sym, ◌∙◌, subst, Some, None, IsTrue, Bool, cond, eqb, nat_lt, inl, inr, lt-ltb, ltb-true}
+use Rattle.std.proofs.Common.{◌≡◌, ℕ, ◌^◌, List, [], ◌∷◌, ◌++◌, map, refl, ap, ◌∙◌, subst, Some, IsTrue, Bool, nat_lt, lt-ltb, ltb-true}
 use Rattle.std.specs.Bool.{then_some}
 use Rattle.std.specs.List.{list_all}
-use Rattle.std.proofs.lemmas.Bool.{and_parts, and_from, false≢true}
-use Rattle.std.proofs.lemmas.Option.{none-some, same_Some, some_pair_parts}
+use Rattle.std.proofs.lemmas.Bool.{and_parts, false≢true}
+use Rattle.std.proofs.lemmas.Option.{none-some}
 use Rattle.mv_move_types.specs.Tokens.{width_bits}
 use Rattle.mv_move_types.specs.declared.token.Width.TheVariants.{U8, U16, U32, U64, U128}
 use Rattle.mv_move_types.specs.declared.token.LeafKind.{LeafKind}
 use Rattle.mv_move_types.specs.declared.token.LeafKind.TheVariants.{Boolean, Number, Address, Signer}
 use Rattle.mv_move_types.specs.Options.{◌>>=◌}
 use Rattle.mv_module_text.specs.Entries.{leaf_token}
-use Rattle.mv_module_text.specs.Fits.{is_byte}
-use Rattle.mv_module_text.specs.Laws.{AreBytes}
-use Rattle.mv_module_text.specs.Parsing.{byte_from, number_of_from, kind_of}
-use Rattle.mv_module_text.proofs.Texts.{Front, Parts, Whole, on_bind, then_some-parts, Front-join, Front-as, byte-front, bytes-front, bytes-whole, bytes_after}
+use Rattle.mv_module_text.specs.Parsing.{byte_from, kind_of}
+use Rattle.mv_module_text.proofs.Texts.{Front, Parts, Whole, on_bind, then_some-parts, Front-join, Front-as, byte-front}
 use Rattle.mv_module_text.proofs.Tokens.{leaf-parts as token-parts}
 use Rattle.mv_module_text.proofs.Numbers.{number_of-front, number_of-whole}
 use Rattle.mv_module_text.proofs.Addresses.{address-parts, address-whole}

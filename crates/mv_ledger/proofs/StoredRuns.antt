@@ -1,5 +1,5 @@
 -- What a run leaves is what the machine's run asks for.
-use Rattle.std.proofs.Common.{◌≡◌, ℕ, ◌+◌, ◌*◌, ◌^◌, ◌≤◌, List, map, refl, sym, ap, ap₂, ◌∙◌, arith}
+use Rattle.std.proofs.Common.{◌≡◌, Option, Some, ℕ, ◌+◌, ◌*◌, ◌^◌, ◌≤◌, List, map, sym, ap, ap₂, ◌∙◌, arith}
 use Rattle.std.specs.Prelude.{All}
 use Rattle.std.proofs.lemmas.List.Elements.{All-weaker}
 use Rattle.mv_move_types.specs.Module.{Module}
@@ -8,21 +8,18 @@ use Rattle.mv_machine.specs.declared.Outcome.{Outcome}
 use Rattle.mv_machine.specs.declared.Ending.TheVariants.{Returned as HasReturned, Aborted as HasAborted, Exhausted as HasExhausted}
 use Rattle.mv_machine.specs.State.{Storage}
 use Rattle.mv_machine.specs.Flat.{FlatEntry, storage_of}
-use Rattle.mv_machine.specs.Lines.{Tallied, Broken as ToldBroken}
+use Rattle.mv_machine.specs.Lines.{Tallied, Reply as Told}
 use Rattle.mv_machine.specs.Run.{RunOutcome, run, Returned, Aborted, Exhausted, Faulted}
-use Rattle.mv_machine.specs.Ledger.{LedgerState, Settles}
+use Rattle.mv_machine.specs.Ledger.{LedgerState, settled}
 use Rattle.mv_storage.specs.Map.{Layers}
 use Rattle.mv_linker.specs.Link.{IsStore, tables_in}
 use Rattle.mv_interpreter.specs.declared.StructTally.{StructTally}
 use Rattle.mv_interpreter.specs.declared.Arg.{Arg}
-use Rattle.mv_interpreter.specs.declared.RunError.{RunError}
-use Rattle.mv_interpreter.specs.declared.RunError.TheVariants as error
-use Rattle.mv_interpreter.specs.Runs.{Agrees, IsFaulted, call_of}
+use Rattle.mv_interpreter.specs.Runs.{Agrees, call_of}
 use Rattle.mv_ledger.specs.declared.executing.Call.{Call}
 use Rattle.mv_ledger.specs.declared.tallies.Tally.{Tally}
-use Rattle.mv_ledger.specs.declared.Reply.TheVariants.{Ran, Broken}
-use Rattle.mv_ledger.specs.Answering.{told, told_ending, reply_of}
-use Rattle.mv_ledger.specs.Changes.{RunsTo}
+use Rattle.mv_ledger.specs.declared.Reply.TheVariants.{Ran}
+use Rattle.mv_ledger.specs.Answering.{told, told_ending}
 use Rattle.mv_ledger.specs.Running.{IsSettled, run_of}
 use Rattle.mv_ledger.specs.Tallying.{tally_after}
 use Rattle.mv_ledger.specs.View.{all_of, IsNamed, IsSmall, state_of, view_of, tallied}
@@ -55,19 +52,25 @@ module _ (published : List PublishedModule) (call : Call) (stored new : List Fla
   pub run-same : (seen : List FlatEntry) (args : List Arg) → seen ≡ stored → args ≡ call.arguments.items → run modules (storage_of modules seen) (call_of call.function args) call.budget ≡ run_of published stored call
   run-same seen args seen_is args_are = ap₂ (λ (entries : List FlatEntry) (as' : List Arg). run modules (storage_of modules entries) (call_of call.function as') call.budget) seen_is args_are
 
+  -- what is told, and the ledger after it
+  abbrev telling : Told → LedgerState → Option (Told × LedgerState)
+  telling t s = Some (t, s)
+
+  told_as : (t u : Told) (s x : LedgerState) → t ≡ u → s ≡ x → telling u x ≡ telling t s
+  told_as t u s x p q = ap₂ telling (sym p) (sym q)
+
   -- a run that returned leaves its storage, and the tallies with its own
   pub settled-returned : (outcome : Outcome) (tally : List StructTally) (layers : Layers) → IsStore published → All (IsNamed modules) before → Agrees modules (run_of published stored call) outcome tally layers → outcome.ending ≡ HasReturned
       → new ≡ layers.current → after ≡ map (tally_after tally) before → IsSettled published call (told (Ran outcome)) stored new before after
   settled-returned outcome tally layers store named agrees ended new_is after_is = λ runs. by_outcome runs (run_of published stored call) agrees
     where
-      by_outcome : (runs : ℕ) (o : RunOutcome) → Agrees modules o outcome tally layers → Settles (state_of (view_of published stored before runs)) o (told_ending outcome.ending outcome.steps) (state_of (view_of published new after (runs + 1)))
-      by_outcome runs (Returned steps storage events) h = (
-        ap (λ (x : Outcome). told_ending x.ending x.steps) h.0,
-        ap₂ (after_runs runs) (ap (storage_of modules) new_is ∙ sym h.1) (ap (map (tallied modules)) after_is ∙ tallies-after published tally events before store named h.2),
-      )
+      by_outcome : (runs : ℕ) (o : RunOutcome) → Agrees modules o outcome tally layers → settled (state_of (view_of published stored before runs)) o ≡ Some (told_ending outcome.ending outcome.steps, state_of (view_of published new after (runs + 1)))
+      by_outcome runs (Returned steps storage events) h =
+          told_as _ _ _ _ (ap (λ (x : Outcome). told_ending x.ending x.steps) h.0)
+          (ap₂ (after_runs runs) (ap (storage_of modules) new_is ∙ sym h.1) (ap (map (tallied modules)) after_is ∙ tallies-after published tally events before store named h.2))
       by_outcome runs (Aborted kind n steps) h = let clash : HasAborted kind n ≡ HasReturned = sym (ap (λ (x : Outcome). x.ending) h) ∙ ended in absurd cc
       by_outcome runs (Exhausted stop steps) h = let clash : HasExhausted stop ≡ HasReturned = sym (ap (λ (x : Outcome). x.ending) h) ∙ ended in absurd cc
-      by_outcome runs (Faulted fault steps) h = (refl, refl)
+      by_outcome runs (Faulted fault steps) h = absurd h
 
   -- any other leaves both as they were
   pub settled-kept : (outcome : Outcome) (tally : List StructTally) (layers : Layers) → Agrees modules (run_of published stored call) outcome tally layers → (outcome.ending ≡ HasReturned → ⊥)
@@ -77,28 +80,8 @@ module _ (published : List PublishedModule) (call : Call) (stored new : List Fla
       same : (runs : ℕ) → after_runs runs (storage_of modules new) (map (tallied modules) after) ≡ after_runs runs (storage_of modules stored) (map (tallied modules) before)
       same runs = ap₂ (after_runs runs) (ap (storage_of modules) new_is) (ap (map (tallied modules)) after_is)
 
-      by_outcome : (runs : ℕ) (o : RunOutcome) → Agrees modules o outcome tally layers → Settles (state_of (view_of published stored before runs)) o (told_ending outcome.ending outcome.steps) (state_of (view_of published new after (runs + 1)))
+      by_outcome : (runs : ℕ) (o : RunOutcome) → Agrees modules o outcome tally layers → settled (state_of (view_of published stored before runs)) o ≡ Some (told_ending outcome.ending outcome.steps, state_of (view_of published new after (runs + 1)))
       by_outcome runs (Returned steps storage events) h = absurd (goes_on (ap (λ (x : Outcome). x.ending) h.0))
-      by_outcome runs (Aborted kind n steps) h = (ap (λ (x : Outcome). told_ending x.ending x.steps) h, same runs)
-      by_outcome runs (Exhausted stop steps) h = (ap (λ (x : Outcome). told_ending x.ending x.steps) h, same runs)
-      by_outcome runs (Faulted fault steps) h = (refl, refl)
-
-  -- a run that is broken is one of the machine's that meets a fault
-  pub settled-broken : IsFaulted (run_of published stored call) → IsSettled published call (told Broken) stored new before after
-  settled-broken faulted = λ runs. by_outcome runs (run_of published stored call) faulted
-    where
-      by_outcome : (runs : ℕ) (o : RunOutcome) → IsFaulted o → Settles (state_of (view_of published stored before runs)) o ToldBroken (state_of (view_of published new after (runs + 1)))
-      by_outcome runs (Returned steps storage events) h = absurd h
-      by_outcome runs (Aborted kind n steps) h = absurd h
-      by_outcome runs (Exhausted stop steps) h = absurd h
-      by_outcome runs (Faulted fault steps) h = (refl, refl)
-
-  -- a run that was broken off is one that meets a fault, or nothing is said of it
-  pub settled-error : (e : RunError) → (e ≡ error.Broken → IsFaulted (run_of published stored call)) → IsSettled published call (told (reply_of e)) stored new before after
-  settled-error error.Broken faulted = settled-broken (faulted refl)
-  settled-error error.Memory faulted = tt
-
-  -- it keeps what was there
-  pub kept-error : (e : RunError) → new ≡ stored → after ≡ before → RunsTo (told (reply_of e)) stored new before after
-  kept-error error.Broken new_is after_is = (new_is, after_is)
-  kept-error error.Memory new_is after_is = (new_is, after_is)
+      by_outcome runs (Aborted kind n steps) h = told_as _ _ _ _ (ap (λ (x : Outcome). told_ending x.ending x.steps) h) (same runs)
+      by_outcome runs (Exhausted stop steps) h = told_as _ _ _ _ (ap (λ (x : Outcome). told_ending x.ending x.steps) h) (same runs)
+      by_outcome runs (Faulted fault steps) h = absurd h

@@ -5,7 +5,7 @@ use Rattle.std.specs.List.{sum_by}
 use Rattle.std.proofs.lemmas.List.{append_assoc, drop_more, get_or_at, length-map, length-take-le, map_more, set_at}
 use Rattle.std.proofs.lemmas.List.Sums.{sum_by_more_le_part}
 use Rattle.mv_interpreter.specs.declared.StructTally.{StructTally}
-use Rattle.mv_interpreter.specs.Works.{is_tally_at}
+use Rattle.mv_interpreter.specs.Runs.{is_tally_at}
 use Rattle.mv_ledger.specs.declared.tallies.Tally.{Tally}
 use Rattle.mv_ledger.specs.Tallying.{packs_at, unpacks_at, tally_after, HasRoomLeft}
 use Rattle.mv_ledger.proofs.TalliesAfter.{counted-le}

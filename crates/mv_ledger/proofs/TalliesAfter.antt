@@ -1,5 +1,5 @@
 -- Tallies where modules are added, and after a run.
-use Rattle.std.proofs.Common.{◌≡◌, ℕ, ◌+◌, ◌*◌, ◌^◌, ◌<◌, ◌≤◌, Bool, true, false, cond, List, [], ◌∷◌, ◌++◌, map, Option, Some, None, refl, sym, ap, ap₂, ◌∙◌, subst, arith}
+use Rattle.std.proofs.Common.{◌≡◌, ℕ, ◌+◌, ◌*◌, ◌^◌, ◌<◌, ◌≤◌, Bool, true, false, cond, List, [], ◌∷◌, map, Option, Some, None, refl, sym, ap, ap₂, ◌∙◌, subst, arith}
 use Rattle.std.specs.Prelude.{◌==◌, All, IsSome, slice_get, unwrap_or}
 use Rattle.std.specs.List.{sum_by}
 use Rattle.std.specs.Option.{option_map_or}
@@ -22,55 +22,30 @@ use Rattle.mv_machine.specs.Ledger.{tally_with}
 use Rattle.mv_linker.specs.Link.{IsStore, IsPublishable, tables_in, have_one_name}
 use Rattle.mv_interpreter.specs.declared.StructTally.{StructTally}
 use Rattle.mv_interpreter.specs.Runs.{Tallies, packs_in, unpacks_in, is_tally_of}
-use Rattle.mv_interpreter.specs.Works.{IsOwn, is_tally_at}
+use Rattle.mv_interpreter.specs.Owned.{IsOwn}
+use Rattle.mv_interpreter.specs.Runs.{is_tally_at}
 use Rattle.mv_interpreter.proofs.Names.{some_is, eqb-same, both, same_module-same, same_struct-same, same_struct-is}
-use Rattle.mv_interpreter.proofs.Lists.{on_some, then_found, there_at, each, mapped_at, All-at}
+use Rattle.mv_interpreter.proofs.Lists.{on_some, there_at, each, mapped_at, All-at}
 use Rattle.mv_interpreter.proofs.Owns.{one_place}
 use Rattle.mv_interpreter.proofs.Homes.{own_of_store}
 use Rattle.mv_ledger.specs.declared.tallies.Tally.{Tally}
-use Rattle.mv_ledger.specs.View.{IsNamed, IsSmall, tallied, no_struct}
+use Rattle.mv_ledger.specs.View.{IsNamed, IsSmall, AreScarce, tallied, no_struct}
 use Rattle.mv_ledger.specs.Tallying.{packs_at, unpacks_at, tally_after, HasRoomLeft}
-use Rattle.mv_ledger.proofs.Longer.{slice_get-more}
 
 -- what is there
-there_is : {A : Type 0} (o : Option A) → IsSome o → (x : A) × (o ≡ Some x)
+pub there_is : {A : Type 0} (o : Option A) → IsSome o → (x : A) × (o ≡ Some x)
 there_is (Some x) h = (x, refl)
 there_is None h = absurd cc
 
 -- functions that agree on a list's elements
-map-where : {A B : Type 0} (P : A → Type 0) (f g : A → B) → ((x : A) → P x → f x ≡ g x) → (xs : List A) → All P xs → map f xs ≡ map g xs
+pub map-where : {A B : Type 0} (P : A → Type 0) (f g : A → B) → ((x : A) → P x → f x ≡ g x) → (xs : List A) → All P xs → map f xs ≡ map g xs
 map-where P f g agree [] all = refl
 map-where P f g agree (x ∷ xs) all = ap₂ (λ y ys. y ∷ ys) (agree x (All-head P x xs all)) (map-where P f g agree xs (All-tail P x xs all))
 
 -- one function after another
-map-then : {A B C : Type 0} (f : A → B) (g : B → C) (xs : List A) → map g (map f xs) ≡ map (λ x. g (f x)) xs
+pub map-then : {A B C : Type 0} (f : A → B) (g : B → C) (xs : List A) → map g (map f xs) ≡ map (λ x. g (f x)) xs
 map-then f g [] = refl
 map-then f g (x ∷ xs) = ap (λ ys. g (f x) ∷ ys) (map-then f g xs)
-
--- a name at a place and an index stays where modules are added
-pub name-more : (old more : List Module) (place index : ℕ) (name : StructName) → name_at old place index ≡ Some name → name_at (old ++ more) place index ≡ Some name
-name-more old more place index name e =
-    on_some (slice_get old place) _ name e (λ m m_is e1. then_found (slice_get (old ++ more) place) _ m name (slice_get-more old more place m m_is) e1)
-
--- a tally with a name
-abbrev named_so : Tally → Option StructName → Tallied
-named_so t name = record { struct = unwrap_or name no_struct; packs = t.packs; unpacks = t.unpacks }
-
--- tallies keep their structs where modules are added
-pub tallies-more : (old more : List Module) (ts : List Tally) → All (IsNamed old) ts → map (tallied (old ++ more)) ts ≡ map (tallied old) ts
-tallies-more old more ts named = map-where (IsNamed old) (tallied (old ++ more)) (tallied old) one ts named
-  where
-    one : (t : Tally) → IsNamed old t → tallied (old ++ more) t ≡ tallied old t
-    one t h = let name = there_is (name_at old t.place t.index) h in ap (named_so t) (name-more old more t.place t.index name.0 name.1 ∙ sym name.1)
-
--- and have names then
-pub named-more : (old more : List Module) (ts : List Tally) → All (IsNamed old) ts → All (IsNamed (old ++ more)) ts
-named-more old more ts named = All-weaker (IsNamed old) (IsNamed (old ++ more)) one ts named
-  where
-    one : (t : Tally) → IsNamed old t → IsNamed (old ++ more) t
-    one t h =
-        let name = there_is (name_at old t.place t.index) h in
-        subst (λ (o : Option StructName). IsSome o) (sym (name-more old more t.place t.index name.0 name.1)) refl
 
 -- a module handle names a module
 pub module_there : (m : Module) → InBounds m → (h : ℕ) → below h m.module_handles ≡ true → (name : ModuleName) × (module_name m h ≡ Some name)
@@ -98,7 +73,7 @@ module _ (published : List PublishedModule) (store : IsStore published) where
       one_place have_one_name (tables_in published) p q m m store.once p_is q_is same same
 
   -- a struct stands at one place and one index
-  index_of : (p q i j : ℕ) (name : StructName) → name_at (tables_in published) p i ≡ Some name → name_at (tables_in published) q j ≡ Some name → (p ≡ q) × (i ≡ j)
+  pub index_of : (p q i j : ℕ) (name : StructName) → name_at (tables_in published) p i ≡ Some name → name_at (tables_in published) q j ≡ Some name → (p ≡ q) × (i ≡ j)
   index_of p q i j name e g =
       on_some (slice_get (tables_in published) p) _ name e (λ m m_is e1.
       on_some (slice_get m.structs i) _ name e1 (λ d d_is e2.
@@ -118,7 +93,7 @@ module _ (published : List PublishedModule) (store : IsStore published) where
           (place_of p q m m_is (n_is ∙ ap Some (sym modules)), indices)
 
   -- the tally of a struct, by its name and by its place
-  tally_is : (place index : ℕ) (name : StructName) → name_at (tables_in published) place index ≡ Some name → (u : StructTally) → is_tally_at place index u ≡ is_tally_of (tables_in published) name u
+  pub tally_is : (place index : ℕ) (name : StructName) → name_at (tables_in published) place index ≡ Some name → (u : StructTally) → is_tally_at place index u ≡ is_tally_of (tables_in published) name u
   tally_is place index name at u =
       same_from_decides {P = (u.place ≡ place) × (u.index ≡ index)} (is_tally_at place index u) (is_tally_of (tables_in published) name u) (here, here_so) (found (name_at (tables_in published) u.place u.index) refl, found_so)
     where
@@ -207,3 +182,10 @@ room-left runs ts few small = All-weaker (IsSmall runs) HasRoomLeft one ts small
 
     one : (t : Tally) → IsSmall runs t → HasRoomLeft t
     one t h = (fits t.packs h.0, fits t.unpacks h.1)
+
+-- and their indices
+pub scarce-after : (run : List StructTally) (modules : List Module) (tss : List (List Tally)) → AreScarce modules tss → AreScarce modules (map (map (tally_after run)) tss)
+scarce-after run [] [] h = tt
+scarce-after run [] (ts ∷ tss) h = h
+scarce-after run (m ∷ ms) [] h = h
+scarce-after run (m ∷ ms) (ts ∷ tss) h = (map-then (tally_after run) (λ (t : Tally). t.index) ts ∙ h.0, scarce-after run ms tss h.1)

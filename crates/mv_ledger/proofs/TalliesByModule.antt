@@ -10,7 +10,7 @@ use Rattle.std.proofs.lemmas.List.{append-nil, append_assoc, get_or-map, length-
 use Rattle.std.proofs.lemmas.List.Elements.{All-nil, All-cons, All-head, All-tail, All-map, All-weaker}
 use Rattle.std.proofs.lemmas.List.Sums.{sum_by-cons, sum_by_more}
 use Rattle.mv_interpreter.specs.declared.StructTally.{StructTally}
-use Rattle.mv_interpreter.specs.Works.{is_tally_at}
+use Rattle.mv_interpreter.specs.Runs.{is_tally_at}
 use Rattle.mv_ledger.specs.declared.tallies.Tally.{Tally}
 use Rattle.mv_ledger.specs.Tallying.{tally_after, HasRoomFor, HasRoomLeft}
 use Rattle.mv_ledger.specs.View.{all_of, ArePlaced}

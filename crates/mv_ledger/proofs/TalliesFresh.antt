@@ -1,27 +1,23 @@
 -- The tallies of a module that is published.
-use Rattle.std.proofs.Common.{◌≡◌, ℕ, suc, ◌+◌, ◌*◌, ◌^◌, ◌<◌, ◌≤◌, Bool, true, false, cond, List, [], ◌∷◌, ◌++◌, map, length, take, get_or, Option, Some, None, refl, sym, ap, ap₂, ◌∙◌, subst, arith, zero-add}
+use Rattle.std.proofs.Common.{◌≡◌, ℕ, suc, ◌+◌, ◌<◌, ◌≤◌, Bool, true, false, cond, List, [], ◌∷◌, ◌++◌, map, length, take, get_or, Option, Some, None, refl, sym, ap, ap₂, ◌∙◌, subst, arith, zero-add}
 use Rattle.std.specs.Prelude.{◌&&◌, ◌||◌, not, All, IsSome, slice_get, unwrap_or, filter_map}
 use Rattle.std.specs.List.{filter, enumerate_from, cons_option, list_all}
 use Rattle.std.specs.Option.{option_map_or}
 use Rattle.std.specs.Cmp.{first_so, second_so}
-use Rattle.std.proofs.lemmas.List.{append-nil, append_cancel_left, map-append, take_all}
-use Rattle.std.proofs.lemmas.List.Elements.{All-nil, All-cons, All-append, All-map, filter_more}
+use Rattle.std.proofs.lemmas.List.{append-nil, map-append, take_all}
+use Rattle.std.proofs.lemmas.List.Elements.{All-nil, All-cons, filter_more}
 use Rattle.std.proofs.lemmas.List.FromFn.{length-enumerate_from, get_or-enumerate_from}
 use Rattle.mv_move_types.specs.declared.token.Abilities.{Abilities}
 use Rattle.mv_move_types.specs.Names.{StructName}
 use Rattle.mv_move_types.specs.Module.{Module, StructDefinition, name_at, name_of_struct, module_name, struct_abilities}
-use Rattle.mv_move_types.specs.Published.{PublishedModule}
 use Rattle.mv_bounds.specs.Bounds.{InBounds, below, struct_in, field_in, struct_handle_in}
 use Rattle.mv_machine.specs.Lines.{Tallied}
-use Rattle.mv_machine.specs.Ledger.{scarce_name, scarce_structs, untouched_tally}
-use Rattle.mv_linker.specs.Link.{tables_in}
+use Rattle.mv_machine.specs.Ledger.{scarce_name, untouched_tally}
 use Rattle.mv_interpreter.proofs.Lists.{then_found, there_at, each}
 use Rattle.mv_ledger.specs.declared.tallies.Tally.{Tally}
-use Rattle.mv_ledger.specs.View.{all_of, IsNamed, IsSmall, tallied, no_struct}
-use Rattle.mv_ledger.specs.Tallying.{AddsTallies, is_scarce_struct, scarce_indices, fresh_tally}
-use Rattle.mv_ledger.proofs.Stores.{tables-push}
-use Rattle.mv_ledger.proofs.TalliesByModule.{all-push}
-use Rattle.mv_ledger.proofs.TalliesAfter.{module_there, tallies-more, named-more}
+use Rattle.mv_ledger.specs.View.{IsNamed, tallied, no_struct}
+use Rattle.mv_ledger.specs.Tallying.{is_scarce_struct, scarce_indices, fresh_tally}
+use Rattle.mv_ledger.proofs.TalliesAfter.{module_there}
 
 module _ (m : Module) where
   -- the indices of the first so many structs that are scarce
@@ -64,7 +60,7 @@ module _ (m : Module) where
       (take_all i (enumerate_from 0 m.structs) (subst (λ (n : ℕ). n ≤ i) (sym (length-enumerate_from 0 m.structs)) h))
 
   -- a struct of the module has a name
-  struct_there : InBounds m → (k : ℕ) (d : StructDefinition) → slice_get m.structs k ≡ Some d → (name : StructName) × (name_of_struct m d ≡ Some name)
+  pub struct_there : InBounds m → (k : ℕ) (d : StructDefinition) → slice_get m.structs k ≡ Some d → (name : StructName) × (name_of_struct m d ≡ Some name)
   struct_there bounds k d e =
       let fine = each (struct_in m) m.structs k d bounds.structs e in
       let handle = there_at m.struct_handles d.handle (first_so (below d.handle m.struct_handles) (list_all (field_in m) d.fields) fine) in
@@ -76,7 +72,7 @@ module _ (m : Module) where
 
   module _ (modules : List Module) (place : ℕ) where
     -- definitions have the names that are found at their indices from this one on
-    abbrev AreThere : ℕ → List StructDefinition → Type 0
+    abbrev pub AreThere : ℕ → List StructDefinition → Type 0
     AreThere n ds = (k : ℕ) (d : StructDefinition) → slice_get ds k ≡ Some d → (name : StructName) × (name_of_struct m d ≡ Some name) × (name_at modules place (n + k) ≡ Some name)
 
     next : (n : ℕ) (d : StructDefinition) (ds : List StructDefinition) → AreThere n (d ∷ ds) → AreThere (n + 1) ds
@@ -92,11 +88,11 @@ module _ (m : Module) where
         (here.0, here.1, subst (λ (j : ℕ). name_at modules place j ≡ Some here.0) same here.2)
 
     -- the empty tallies of the scarce ones
-    abbrev fresh_from : ℕ → List StructDefinition → List Tally
+    abbrev pub fresh_from : ℕ → List StructDefinition → List Tally
     fresh_from n ds = map (fresh_tally place) (map (λ p. p.0) (filter (λ p. is_scarce_struct m p.1) (enumerate_from n ds)))
 
     -- are those of their names
-    fresh-tallied : (n : ℕ) (ds : List StructDefinition) → AreThere n ds → map (tallied modules) (fresh_from n ds) ≡ map untouched_tally (filter_map (scarce_name m) ds)
+    pub fresh-tallied : (n : ℕ) (ds : List StructDefinition) → AreThere n ds → map (tallied modules) (fresh_from n ds) ≡ map untouched_tally (filter_map (scarce_name m) ds)
     fresh-tallied n [] there = refl
     fresh-tallied n (d ∷ ds) there = by_abilities (fresh-tallied (n + 1) ds (next n d ds there)) (struct_abilities m d)
       where
@@ -115,7 +111,7 @@ module _ (m : Module) where
         by_abilities rest (Some a) = by_test rest a.copy a.drop
 
     -- and have names
-    fresh-named : (n : ℕ) (ds : List StructDefinition) → AreThere n ds → All (IsNamed modules) (fresh_from n ds)
+    pub fresh-named : (n : ℕ) (ds : List StructDefinition) → AreThere n ds → All (IsNamed modules) (fresh_from n ds)
     fresh-named n [] there = All-nil (IsNamed modules)
     fresh-named n (d ∷ ds) there = by_test (fresh-named (n + 1) ds (next n d ds there)) (is_scarce_struct m d)
       where
@@ -123,60 +119,3 @@ module _ (m : Module) where
         by_test rest false = rest
         by_test rest true =
             All-cons (IsNamed modules) (fresh_tally place n) (fresh_from (n + 1) ds) (subst (λ (o : Option StructName). IsSome o) (sym (first n d ds there).2) refl) rest
-
--- the tallies of the code
-pub fresh-items : (before after : List (List Tally)) (fresh : List Tally) (place count : ℕ) (m own : Module) (indices structs : List ℕ) → after ≡ before ++ fresh ∷ [] → fresh ≡ map (fresh_tally place) indices → indices ≡ structs → structs ≡ scarce_indices own → own ≡ m
-    → place ≡ count → all_of after ≡ all_of before ++ map (fresh_tally count) (scarce_indices m)
-fresh-items before after fresh place count m own indices structs joined made listed found same at =
-    ap all_of joined ∙ all-push before fresh ∙ ap (λ (ts : List Tally). all_of before ++ ts) (made ∙ ap₂ (λ (n : ℕ) (is : List ℕ). map (fresh_tally n) is) at (listed ∙ found ∙ ap scarce_indices same))
-
--- and each is of its module
-pub fresh-placed : (fresh : List Tally) (place count : ℕ) (indices : List ℕ) → fresh ≡ map (fresh_tally place) indices → place ≡ count → All (λ t. t.place ≡ count) fresh
-fresh-placed fresh place count indices made at =
-    subst (λ (ts : List Tally). All (λ (t : Tally). t.place ≡ count) ts) (sym made) (All-map (λ (t : Tally). t.place ≡ count) (fresh_tally place) indices (λ k d lt. at))
-
--- the module behind others
-behind : (old : List PublishedModule) (m : Module) → slice_get (tables_in old ++ m ∷ []) (length old) ≡ Some m
-behind [] m = refl
-behind (q ∷ old) m = behind old m
-
-module _ (old new : List PublishedModule) (p : PublishedModule) (before after : List Tally) (bounds : InBounds p.tables) (added : new ≡ old ++ p ∷ [])
-    (tallies : after ≡ before ++ map (fresh_tally (length old)) (scarce_indices p.tables)) (named : All (IsNamed (tables_in old)) before) where
-  tables : tables_in new ≡ tables_in old ++ p.tables ∷ []
-  tables = ap tables_in added ∙ tables-push old p
-
-  there : AreThere p.tables (tables_in old ++ p.tables ∷ []) (length old) 0 p.tables.structs
-  there k d e =
-      let name = struct_there p.tables bounds k d e in (
-        name.0,
-        name.1,
-        subst (λ (j : ℕ). name_at (tables_in old ++ p.tables ∷ []) (length old) j ≡ Some name.0) (sym (zero-add k))
-            (then_found (slice_get (tables_in old ++ p.tables ∷ []) (length old)) _ p.tables name.0 (behind old p.tables) (then_found (slice_get p.tables.structs k) _ d name.0 e name.1)),
-      )
-
-  -- behind the tallies stand those of the module's structs
-  pub tallies-added : AddsTallies old new before after
-  tallies-added bundle is =
-      let one : bundle ≡ p ∷ [] = append_cancel_left old bundle (p ∷ []) (sym is ∙ added) in
-      ap₂ (λ (ms : List Module) (ts : List Tally). map (tallied ms) ts) tables tallies
-      ∙ map-append (tallied (tables_in old ++ p.tables ∷ [])) before (map (fresh_tally (length old)) (scarce_indices p.tables))
-      ∙ ap₂ (λ (xs ys : List Tallied). xs ++ ys) (tallies-more (tables_in old) (p.tables ∷ []) before named)
-      (fresh-tallied p.tables (tables_in old ++ p.tables ∷ []) (length old) 0 p.tables.structs there ∙ ap (map untouched_tally) (sym (append-nil (filter_map (scarce_name p.tables) p.tables.structs))))
-      ∙ ap (λ (ps : List PublishedModule). map (tallied (tables_in old)) before ++ map untouched_tally (scarce_structs (tables_in ps))) (sym one)
-
-  -- each has a name
-  pub named-added : All (IsNamed (tables_in new)) after
-  named-added =
-      subst (λ (ms : List Module). All (IsNamed ms) after) (sym tables)
-      (subst (λ (ts : List Tally). All (IsNamed (tables_in old ++ p.tables ∷ [])) ts) (sym tallies)
-      (All-append (IsNamed (tables_in old ++ p.tables ∷ [])) before (map (fresh_tally (length old)) (scarce_indices p.tables)) (named-more (tables_in old) (p.tables ∷ []) before named)
-      (fresh-named p.tables (tables_in old ++ p.tables ∷ []) (length old) 0 p.tables.structs there)))
-
--- and none is large
-pub small-added : (runs place : ℕ) (indices : List ℕ) (before after : List Tally) → after ≡ before ++ map (fresh_tally place) indices → All (IsSmall runs) before → All (IsSmall runs) after
-small-added runs place indices before after is small =
-    subst (λ (ts : List Tally). All (IsSmall runs) ts) (sym is)
-    (All-append (IsSmall runs) before (map (fresh_tally place) indices) small (All-map (IsSmall runs) (fresh_tally place) indices (λ k d lt. (least (runs * 2 ^ 64), least (runs * 2 ^ 64)))))
-  where
-    least : (n : ℕ) → 0 ≤ n
-    least n = omega arith

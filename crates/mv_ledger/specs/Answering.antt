@@ -1,23 +1,19 @@
 -- What the ledger's replies say, and when a call of the ledger answers a record.
-use Rattle.std.specs.Prelude.{◌≡◌, ℕ, List, Option, Some, None}
-use Rattle.mv_move_types.specs.Module.{Module}
-use Rattle.mv_binary_format.specs.Parsing.{module_of}
+use Rattle.std.specs.Prelude.{◌≡◌, ℕ, List, Option, Some, None, Result, Ok, Err}
+use Rattle.mv_move_types.specs.declared.refusal.Refusal.{Refusal}
+use Rattle.mv_move_types.specs.declared.refusal.Refusal.TheVariants.{Phase, Memory as NoMemory}
 use Rattle.mv_machine.specs.declared.Ending.{Ending}
 use Rattle.mv_machine.specs.declared.Ending.TheVariants.{Returned as HasReturned, Aborted as HasAborted, Exhausted as HasExhausted}
-use Rattle.mv_machine.specs.Lines.{Reply as Told, Published as ToldPublished, Refused as ToldRefused, Rejected as ToldRejected, Returned as ToldReturned, Aborted as ToldAborted, Exhausted as ToldExhausted, Broken as ToldBroken}
+use Rattle.mv_machine.specs.Lines.{Reply as Told, Published as ToldPublished, Refused as ToldRefused, Rejected as ToldRejected, Returned as ToldReturned, Aborted as ToldAborted, Exhausted as ToldExhausted, Told as ToldLines}
 use Rattle.mv_machine.specs.Ledger.{LedgerState, Request, Answers}
-use Rattle.mv_interpreter.specs.declared.RunError.{RunError}
-use Rattle.mv_interpreter.specs.declared.RunError.TheVariants as error
 use Rattle.mv_ledger.specs.View.{LedgerView, state_of}
 use Rattle.mv_ledger.specs.RecordText.{Asks}
 use Rattle.mv_ledger.specs.Changes.{Leaves}
 use Rattle.mv_ledger.specs.Exact.{IsRightly}
+use Rattle.mv_ledger.specs.Publishing.{Spells}
+use Rattle.mv_ledger.specs.Counting.Headline.{IsBalanced, RunsWell}
 use Rattle.mv_ledger.specs.declared.Reply.{Reply}
-use Rattle.mv_ledger.specs.declared.Reply.TheVariants.{Published, Refused, Rejected, Ran, Broken, Memory}
-
--- the bytes spell the module
-abbrev pub Spells : List ℕ → Module → Type 0
-Spells bytes m = module_of bytes ≡ Some m
+use Rattle.mv_ledger.specs.declared.Reply.TheVariants.{Published, Refused, Rejected, Ran, Memory}
 
 -- what a run's ending says after so many steps
 abbrev pub told_ending : Ending → ℕ → Told
@@ -31,17 +27,19 @@ told (Published count) = Some (ToldPublished count)
 told (Refused phase) = Some (ToldRefused phase)
 told (Rejected reason) = Some (ToldRejected reason)
 told (Ran outcome) = Some (told_ending outcome.ending outcome.steps)
-told Broken = Some ToldBroken
 told Memory = None
 
--- the reply to a run that was broken off
-abbrev pub reply_of : RunError → Reply
-reply_of error.Broken = Broken
-reply_of error.Memory = Memory
+-- what a show or an audit says: its lines, or that it is refused; want of memory says nothing
+abbrev pub told_lines : Result (List (List ℕ)) Refusal → Option Told
+told_lines (Ok lines) = Some (ToldLines lines)
+told_lines (Err (Phase phase)) = Some (ToldRefused phase)
+told_lines (Err NoMemory) = None
 
--- a record of this kind with this payload may be answered by what was told, and the ledger goes on to new
+-- A record of this kind with this payload may be answered by what was told, and the ledger goes on to new; the run that it asks
+-- for, if it is admitted, ends as it should; and what is stored then is what was made and not taken apart.
 abbrev pub AnswersRecord : ℕ → List ℕ → Told → LedgerState → LedgerState → Type 0
-AnswersRecord kind payload reply old new = (request : Request) × (Asks kind payload request × Answers Spells old request reply new)
+AnswersRecord kind payload reply old new =
+    (request : Request) × Asks kind payload request × Answers Spells old request reply new × RunsWell old request × IsBalanced new
 
 -- The reply answers a record as the machine's ledger may, leaves what it has to leave, and to a publish record it is the
 -- right one.

@@ -1,13 +1,17 @@
 -- What a payload that was read asks.
-use Rattle.std.specs.Prelude.{map}
+use Rattle.std.specs.Prelude.{List, map}
 use Rattle.mv_machine.specs.Ledger.{Offer, RunRequest}
 use Rattle.mv_interpreter.specs.Runs.{arg_value}
-use Rattle.mv_ledger.specs.declared.payload.Bundle.{Bundle}
+use Rattle.mv_ledger.specs.declared.payload.Offered.{Offered}
 use Rattle.mv_ledger.specs.declared.payload.RunRecord.{RunRecord}
 
 -- the module that is offered, with its certificate
-abbrev pub offer_of : Bundle → Offer
-offer_of b = record { text = b.text.now; certificate = b.certificate.now }
+abbrev pub offer_of : Offered → Offer
+offer_of o = record { text = o.text.now; certificate = o.certificate.now }
+
+-- the modules of a bundle
+abbrev pub offers_of : List Offered → List Offer
+offers_of = map offer_of
 
 -- the run that is asked for
 abbrev pub request_of : RunRecord → RunRequest

@@ -1,15 +1,9 @@
 -- What a reply leaves as it was.
-use Rattle.std.specs.Prelude.{◌≡◌, ◌+◌, List, [], ◌∷◌, ◌++◌, Option, Some, None, ⊤}
-use Rattle.mv_move_types.specs.Published.{PublishedModule}
+use Rattle.std.specs.Prelude.{◌≡◌, ◌+◌, List, Option, Some, None, ⊤}
 use Rattle.mv_machine.specs.Flat.{FlatEntry}
-use Rattle.mv_machine.specs.Lines.{Reply as Told, Published as ToldPublished, Refused as ToldRefused, Rejected as ToldRejected, Returned as ToldReturned, Aborted as ToldAborted, Exhausted as ToldExhausted, Broken as ToldBroken}
-use Rattle.mv_linker.specs.Link.{IsPublishable}
+use Rattle.mv_machine.specs.Lines.{Reply as Told, Published as ToldPublished, Refused as ToldRefused, Rejected as ToldRejected, Returned as ToldReturned, Aborted as ToldAborted, Exhausted as ToldExhausted, Told as ToldLines}
 use Rattle.mv_ledger.specs.declared.tallies.Tally.{Tally}
-use Rattle.mv_ledger.specs.View.{RunsToday, LedgerView}
-
--- one module that may be published and runs today stands after those that were there
-abbrev pub AddsOne : List PublishedModule → List PublishedModule → Type 0
-AddsOne old new = (p : PublishedModule) × (IsPublishable p × RunsToday p × (new ≡ old ++ p ∷ []))
+use Rattle.mv_ledger.specs.View.{LedgerView}
 
 -- nothing changes but the number of runs
 abbrev pub with_run_had : LedgerView → LedgerView
@@ -24,7 +18,7 @@ Leaves (ToldRejected reason) old new = new ≡ old
 Leaves (ToldReturned steps) old new = ⊤
 Leaves (ToldAborted kind n steps) old new = new ≡ with_run_had old
 Leaves (ToldExhausted stop steps) old new = new ≡ with_run_had old
-Leaves ToldBroken old new = new ≡ with_run_had old
+Leaves (ToldLines lines) old new = new ≡ old
 
 -- storage and tallies stay
 abbrev pub IsKept : List FlatEntry → List FlatEntry → List Tally → List Tally → Type 0
@@ -36,7 +30,7 @@ RunsTo None old new before after = IsKept old new before after
 RunsTo (Some (ToldReturned steps)) old new before after = ⊤
 RunsTo (Some (ToldAborted k n steps)) old new before after = IsKept old new before after
 RunsTo (Some (ToldExhausted stop steps)) old new before after = IsKept old new before after
-RunsTo (Some ToldBroken) old new before after = IsKept old new before after
 RunsTo (Some (ToldPublished n)) old new before after = ⊥
 RunsTo (Some (ToldRefused phase)) old new before after = ⊥
 RunsTo (Some (ToldRejected reason)) old new before after = ⊥
+RunsTo (Some (ToldLines lines)) old new before after = ⊥

@@ -1,7 +1,7 @@
 -- What a reply to a publish record says of the bundle that its payload has.
 use Rattle.std.specs.Prelude.{◌≡◌, ℕ, List, length}
 use Rattle.mv_move_types.specs.Published.{PublishedModule}
-use Rattle.mv_machine.specs.Lines.{Reply, Published, Refused, Rejected, Returned, Aborted, Exhausted, Broken}
+use Rattle.mv_machine.specs.Lines.{Reply, Published, Refused, Rejected, Returned, Aborted, Exhausted, Told}
 use Rattle.mv_machine.specs.Ledger.{Offer, LedgerState, Publish, with_bundle}
 use Rattle.mv_ledger.specs.RecordText.{IsShaped, IsShapeless}
 use Rattle.mv_ledger.specs.Publishing.{IsPublished, IsRefusedAt}
@@ -27,4 +27,4 @@ IsRightly old payload (Rejected reason) new = ⊥
 IsRightly old payload (Returned steps) new = ⊥
 IsRightly old payload (Aborted kind n steps) new = ⊥
 IsRightly old payload (Exhausted stop steps) new = ⊥
-IsRightly old payload Broken new = ⊥
+IsRightly old payload (Told lines) new = ⊥

@@ -1,15 +1,15 @@
 -- What is said of a publish record's bundle by a ledger's modules alone.
-use Rattle.std.specs.Prelude.{◌≡◌, ℕ, List, ◌++◌, ⊤}
+use Rattle.std.specs.Prelude.{◌≡◌, ℕ, List, ⊤, length}
 use Rattle.mv_move_types.specs.declared.refusal.Refusal.{Refusal}
 use Rattle.mv_move_types.specs.declared.refusal.Refusal.TheVariants.{Phase, Memory}
-use Rattle.mv_move_types.specs.Published.{PublishedModule}
+use Rattle.mv_move_types.specs.Published.{PublishedModule, with_modules}
 use Rattle.mv_machine.specs.Ledger.{LedgerState}
 use Rattle.mv_ledger.specs.Exact.{IsAccepted, IsRefused}
 
--- whatever else a ledger with these modules holds, the payload's bundle is accepted, and its modules stand behind them
-abbrev pub IsAcceptedBy : List PublishedModule → List ℕ → List PublishedModule → Type 0
-IsAcceptedBy old payload new =
-    (s : LedgerState) → s.published ≡ old → (bundle : List PublishedModule) × (IsAccepted s payload bundle × (new ≡ old ++ bundle))
+-- whatever else a ledger with these modules holds, the payload's bundle of so many is accepted, and its modules join them
+abbrev pub IsAcceptedBy : ℕ → List PublishedModule → List ℕ → List PublishedModule → Type 0
+IsAcceptedBy count old payload new =
+    (s : LedgerState) → s.published ≡ old → (bundle : List PublishedModule) × (IsAccepted s payload bundle × (count ≡ length bundle) × (new ≡ with_modules old bundle))
 
 -- the phase that is answered refuses the payload, or memory ran out
 abbrev pub IsRefusal : LedgerState → List ℕ → Refusal → Type 0

@@ -9,3 +9,9 @@ pub mod Exact
 pub mod Payloads
 pub mod Changes
 pub mod Judging
+pub mod Counting
+pub mod Accepted
+pub mod Showing
+pub mod Auditing
+pub mod Left
+pub mod Formats

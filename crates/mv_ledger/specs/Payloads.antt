@@ -1,11 +1,11 @@
 -- The bundle or the run that stands at the front of bytes, and the bytes after it.
-use Rattle.std.specs.Prelude.{ℕ, ◌==◌, nat_lt, cond, List, Option, Some, None, map}
+use Rattle.std.specs.Prelude.{ℕ, nat_lt, List, Some, None, map, nat_le, length}
 use Rattle.std.specs.Bool.{then_some}
 use Rattle.mv_uleb.specs.Parsing.{number_from}
 use Rattle.mv_move_types.specs.declared.token.LeafKind.{LeafKind}
 use Rattle.mv_move_types.specs.declared.token.LeafKind.TheVariants.{Boolean, Number, Address, Signer}
 use Rattle.mv_move_types.specs.Options.{◌>>=◌}
-use Rattle.mv_module_text.specs.Parsing.{Read, byte_from, mark_from, bytes_from, number_of_from, kind_of, counted_from, identifier_from, address_from}
+use Rattle.mv_module_text.specs.Parsing.{Read, byte_from, bytes_from, number_of_from, kind_of, counted_from, identifier_from, address_from}
 use Rattle.mv_interpreter.specs.declared.Arg.{Arg}
 use Rattle.mv_interpreter.specs.Runs.{arg_value}
 use Rattle.mv_machine.specs.Ledger.{Offer, RunRequest}
@@ -21,13 +21,16 @@ offer_from bytes = do
   certificate ← sized_from 1048576 text.1
   Some (record { text = text.0; certificate = certificate.0 }, certificate.1)
 
--- a sender, and a bundle of one module
-abbrev pub bundle_from : List ℕ → Read (ℕ × Offer)
+-- the modules of a bundle, at least one
+abbrev pub offers_from : List ℕ → Read (List Offer)
+offers_from bytes = counted_from 16 offer_from bytes >>= λ offers. then_some (nat_le 1 (length offers.0)) offers
+
+-- a sender, and a bundle
+abbrev pub bundle_from : List ℕ → Read (ℕ × List Offer)
 bundle_from bytes = do
   sender ← address_from bytes
-  rest ← mark_from 1 sender.1
-  offer ← offer_from rest
-  Some ((sender.0, offer.0), offer.1)
+  offers ← offers_from sender.1
+  Some ((sender.0, offers.0), offers.1)
 
 -- a leaf of the kind
 abbrev pub leaf_from : LeafKind → List ℕ → Read ℕ

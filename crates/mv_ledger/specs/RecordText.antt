@@ -1,5 +1,5 @@
 -- The text of records.
-use Rattle.std.specs.Prelude.{◌==◌, ℕ, List, [], ◌∷◌, Bool, false, ◌++◌, length, ◌&&◌, nat_le, ◌^◌, nat_lt, ◌≡◌, IsTrue, ◌≢◌}
+use Rattle.std.specs.Prelude.{ℕ, List, [], ◌∷◌, Bool, false, ◌++◌, length, ◌&&◌, nat_le, ◌^◌, nat_lt, ◌≡◌, IsTrue, ◌≢◌}
 use Rattle.std.specs.List.{list_all}
 use Rattle.mv_move_types.specs.declared.token.LeafKind.{LeafKind}
 use Rattle.mv_move_types.specs.declared.token.LeafKind.TheVariants.{Boolean, Number, Address, Signer}
@@ -7,7 +7,7 @@ use Rattle.mv_module_text.specs.Entries.{address_text, leaf_token, number_text, 
 use Rattle.mv_machine.specs.Value.{Value, Leaf, Struct, Ref}
 use Rattle.mv_machine.specs.Typed.{leaf_fits}
 use Rattle.mv_uleb.specs.Uleb.{uleb}
-use Rattle.mv_machine.specs.Ledger.{Offer, RunRequest, Request, Publish, Run, BadRun, Bad}
+use Rattle.mv_machine.specs.Ledger.{Offer, RunRequest, Request, Publish, Run, BadRun, Bad, Show, Audit, Format, AsText, AsJson}
 use Rattle.mv_module_text.specs.Fits.{is_byte, address_fits, identifier_fits}
 
 -- a leaf without its token; no leaf is a signer here
@@ -47,10 +47,10 @@ offer_fits o =
 abbrev pub publish_text : ℕ → List Offer → List ℕ
 publish_text sender offers = address_text sender ++ counted offer_text offers
 
--- a bundle has exactly one module today
+-- a bundle has 1 to 16 modules
 abbrev pub publish_fits : ℕ → List Offer → Bool
 publish_fits sender offers =
-    address_fits sender && (length offers == 1) && list_all offer_fits offers
+    address_fits sender && nat_le 1 (length offers) && nat_le (length offers) 16 && list_all offer_fits offers
 
 -- a sender, the function's names, a budget and the arguments
 abbrev pub run_text : RunRequest → List ℕ
@@ -64,11 +64,18 @@ run_fits r =
     address_fits r.sender && address_fits r.home.address && identifier_fits r.home.name && identifier_fits r.function
     && nat_lt r.budget (2 ^ 64) && nat_le (length r.arguments) 16 && list_all argument_fits r.arguments
 
+-- how a report is wanted: nothing for text, one byte for JSON
+abbrev pub format_text : Format → List ℕ
+format_text AsText = []
+format_text AsJson = 1 ∷ []
+
 -- the payload of a record of this kind asks this, in the shape of its kind
 abbrev pub IsShaped : ℕ → List ℕ → Request → Type 0
 IsShaped kind payload (Publish sender offers) =
     (kind ≡ 1) × (payload ≡ publish_text sender offers) × IsTrue (publish_fits sender offers)
 IsShaped kind payload (Run r) = (kind ≡ 2) × (payload ≡ run_text r) × IsTrue (run_fits r)
+IsShaped kind payload (Show format) = (kind ≡ 3) × (payload ≡ format_text format)
+IsShaped kind payload (Audit format) = (kind ≡ 4) × (payload ≡ format_text format)
 IsShaped kind payload BadRun = ⊥
 IsShaped kind payload Bad = ⊥
 

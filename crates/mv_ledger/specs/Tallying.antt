@@ -1,34 +1,65 @@
 -- The tallies after a bundle, and after a run.
-use Rattle.std.specs.Prelude.{◌≡◌, ℕ, ◌+◌, ◌^◌, ◌<◌, Bool, false, not, ◌&&◌, cond, List, ◌++◌, map}
-use Rattle.std.specs.List.{sum_by, filter, enumerate_from}
-use Rattle.std.specs.Option.{option_map_or}
-use Rattle.mv_move_types.specs.declared.token.Abilities.{Abilities}
-use Rattle.mv_move_types.specs.Module.{Module, StructDefinition, struct_abilities}
+use Rattle.std.specs.Prelude.{◌≡◌, ℕ, zero, suc, ◌+◌, ◌^◌, ◌<◌, ◌≤◌, nat_lt, All, Bool, cond, List, [], ◌∷◌, ◌++◌, map, drop, length, option_and_then, unwrap_or, slice_get, fold}
+use Rattle.std.specs.List.{sum_by, list_any}
+use Rattle.mv_move_types.specs.Module.{Module, own_name}
+use Rattle.mv_move_types.specs.Named.{have_one_name, module_place}
 use Rattle.mv_move_types.specs.Published.{PublishedModule}
-use Rattle.mv_machine.specs.Ledger.{scarce_structs, untouched_tally}
+use Rattle.mv_machine.specs.Ledger.{scarce_structs, tally_of}
 use Rattle.mv_linker.specs.Link.{tables_in}
-use Rattle.mv_interpreter.specs.Works.{is_tally_at}
+use Rattle.mv_interpreter.specs.Runs.{is_tally_at}
 use Rattle.mv_interpreter.specs.declared.StructTally.{StructTally}
 use Rattle.mv_ledger.specs.declared.tallies.Tally.{Tally}
+use Rattle.mv_ledger.specs.declared.tallies.Placed.{Placed}
+pub use Rattle.mv_ledger.specs.View.{is_scarce_struct, scarce_indices}
 use Rattle.mv_ledger.specs.View.{tallied}
 
--- behind the tallies that were there stand empty ones for the new modules' structs with neither copy nor drop
+-- each struct with neither copy nor drop has the tally that it had, or an empty one
 abbrev pub AddsTallies : List PublishedModule → List PublishedModule → List Tally → List Tally → Type 0
 AddsTallies old new before after =
-    (bundle : List PublishedModule) → new ≡ old ++ bundle
-    → map (tallied (tables_in new)) after ≡ map (tallied (tables_in old)) before ++ map untouched_tally (scarce_structs (tables_in bundle))
-
--- whether a struct of a module has neither copy nor drop
-abbrev pub is_scarce_struct : Module → StructDefinition → Bool
-is_scarce_struct m d = option_map_or (λ (a : Abilities). not a.copy && not a.drop) (struct_abilities m d) false
-
--- the indices, ascending, of a module's structs with neither copy nor drop
-abbrev pub scarce_indices : Module → List ℕ
-scarce_indices m = map (λ p. p.0) (filter (λ p. is_scarce_struct m p.1) (enumerate_from 0 m.structs))
+    map (tallied (tables_in new)) after ≡ map (tally_of (map (tallied (tables_in old)) before)) (scarce_structs (tables_in new))
 
 -- the tally of the struct at a place and an index whose values were neither made nor taken apart
 abbrev pub fresh_tally : ℕ → ℕ → Tally
 fresh_tally place index = record { place = place; index = index; packs = 0; unpacks = 0 }
+
+-- The tallies of a module's structs with neither copy nor drop, behind those that it had: a module that takes another's place
+-- has that one's structs first.
+abbrev pub tallies_at : ℕ → Module → List Tally → List Tally
+tallies_at place m had = had ++ map (fresh_tally place) (drop (length had) (scarce_indices m))
+
+-- the tallies of each module, with those of the module that stands at a place from now on, be it the next one
+abbrev pub with_tallies_at : ℕ → List Tally → List (List Tally) → List (List Tally)
+with_tallies_at place tallies [] = tallies ∷ []
+with_tallies_at zero tallies (ts ∷ tss) = tallies ∷ tss
+with_tallies_at (suc place) tallies (ts ∷ tss) = ts ∷ with_tallies_at place tallies tss
+
+-- the same for the modules of a bundle
+abbrev pub with_placed : List (List Tally) → List Placed → List (List Tally)
+with_placed tss placed = fold (λ tss p. with_tallies_at p.place p.tallies.items tss) tss placed
+
+-- each list is that of a module that is there or of the next one, and its tallies are of that place
+abbrev pub AreWithin : ℕ → List Placed → Type 0
+AreWithin count [] = Unit {0}
+AreWithin count (p ∷ ps) =
+    (p.place ≤ count) × All (λ t. t.place ≡ p.place) p.tallies.items × AreWithin (cond (nat_lt p.place count) count (count + 1)) ps
+
+-- where a module is to stand: in the place of the published one of its name, or in this next place
+abbrev pub place_for : List Module → ℕ → Module → ℕ
+place_for old next m = unwrap_or (option_and_then (module_place old) (own_name m)) next
+
+-- whether a published module has its name
+abbrev pub is_published : List Module → Module → Bool
+is_published old m = list_any (have_one_name m) old
+
+-- the modules of a bundle are placed in order, each with its tallies
+abbrev pub ArePlacedFor : List Module → List (List Tally) → ℕ → List Module → List Placed → Type 0
+ArePlacedFor old tss next [] [] = Unit {0}
+ArePlacedFor old tss next [] (p ∷ ps) = ⊥
+ArePlacedFor old tss next (m ∷ ms) [] = ⊥
+ArePlacedFor old tss next (m ∷ ms) (p ∷ ps) =
+    (p.place ≡ place_for old next m)
+    × (p.tallies.items ≡ tallies_at p.place m (unwrap_or (slice_get tss p.place) []))
+    × ArePlacedFor old tss (cond (is_published old m) next (next + 1)) ms ps
 
 -- how often a run made values of the struct at a place and an index
 abbrev pub packs_at : ℕ → ℕ → List StructTally → ℕ

@@ -10,11 +10,11 @@ ghost use Rattle.mv_linker.specs.Link.{IsStore, tables_in};
 ghost use Rattle.mv_interpreter.specs.declared.Arg.{Arg as Argument};
 ghost use Rattle.mv_interpreter.specs.Runs.{IsCall, IsFineWords, number_fits, arg_value};
 ghost use Rattle.mv_ledger.specs.Changes.{RunsTo};
-ghost use Rattle.mv_ledger.specs.Answering.{told, reply_of};
+ghost use Rattle.mv_ledger.specs.Answering.{told};
 ghost use Rattle.mv_ledger.specs.Asking.{request_of};
 ghost use Rattle.mv_ledger.specs.Running.{IsAdmitted, IsSettled};
 ghost use Rattle.mv_ledger.specs.Tallying.{HasRoomLeft};
-ghost use Rattle.mv_ledger.specs.View.{all_of, IsNamed, IsSmall, RunsToday};
+ghost use Rattle.mv_ledger.specs.View.{all_of, IsNamed, IsSmall, AreScarce};
 
 use crate::Reply;
 use crate::payload::RunRecord;
@@ -150,7 +150,6 @@ fn are_passed(tokens: &[Token], arguments: &[Arg]) -> bool
 /// `Memory`, where a growth was refused.
 pub fn admitted(store: &Store, runs: u64, asked: RunRecord<'_>) -> Result<Call, Barred>
     requires few { length store.now ≤ 4096 }
-    requires today { All RunsToday store.now }
     requires range { IsTrue (list_all (λ (a : Argument). number_fits a.kind a.number) asked.arguments.items) }
     ensures call { IfOk result (λ c. IsCall (tables_in store.now) c.function c.arguments.items) }
     ensures runs { OnOk result (runs < 4294967296) }
@@ -188,16 +187,6 @@ pub fn admitted(store: &Store, runs: u64, asked: RunRecord<'_>) -> Result<Call, 
     })
 }
 
-/// The reply to a run that was broken off.
-fn reply_to(error: RunError) -> Reply
-    ensures { result ≡ reply_of error }
-{
-    match error {
-        RunError::Broken => Reply::Broken,
-        RunError::Memory => Reply::Memory,
-    }
-}
-
 /// Runs a call. A run that returns keeps what it made of the storage, and its tally is added; any other leaves both.
 pub fn execute(
     alloc: Global,
@@ -207,10 +196,13 @@ pub fn execute(
     call: &Call,
 ) -> Reply
     requires store { IsStore store.now }
+    requires few { length store.now ≤ 4096 }
     requires call { IsCall (tables_in store.now) call.now.function call.now.arguments.items }
     requires stored { All (IsFineWords (tables_in store.now)) storage.old }
     requires named { All (IsNamed (tables_in store.now)) (all_of tallies.old) }
     requires room { All HasRoomLeft (all_of tallies.old) }
+    requires scarce { AreScarce (tables_in store.now) tallies.old }
+    ensures scarce { AreScarce (tables_in store.now) tallies.new }
     ensures stored { All (IsFineWords (tables_in store.now)) storage.new }
     ensures placed { length tallies.new ≡ length tallies.old }
     ensures named { All (IsNamed (tables_in store.now)) (all_of tallies.new) }
@@ -235,9 +227,9 @@ pub fn execute(
             }
             Reply::Ran(outcome)
         }
-        Err(e) => {
+        Err(RunError::Memory) => {
             *storage = overlay.discard();
-            reply_to(e)
+            Reply::Memory
         }
     }
 }

@@ -1,16 +1,30 @@
 //! The ledger: it publishes bundles, executes runs, and keeps what they store.
 #![tactic(auto)]
 
+mod audit;
 mod executing;
+mod format;
+mod json;
+mod laws;
+mod lines;
 mod payload;
 mod publishing;
 mod tallies;
+mod texts;
+mod values;
 
 ghost use Rattle.std.specs.Prelude.{◌≡◌, is_some};
-ghost use Rattle.mv_ledger.specs.View.{empty_view};
-ghost use Rattle.mv_ledger.specs.Answering.{told, Replies};
+ghost use Rattle.mv_ledger.specs.View.{empty_view, state_of};
+ghost use Rattle.mv_ledger.specs.Answering.{told, told_lines, Replies};
+ghost use Rattle.mv_ledger.specs.Accepted.SoundLedger.{IsSoundLedger};
 
 use executing::{Barred, admitted};
+use format::{Format, read_format};
+use json::{json_of_storage, json_of_tallies};
+pub use laws::{
+    each_record_is_well, every_count_is_tallied, every_run_conserves, every_run_is_own_work,
+};
+pub use lines::Lines;
 use mv_linker::Store;
 use mv_machine::Outcome;
 use mv_move_types::Refusal;
@@ -31,8 +45,6 @@ pub enum Reply {
     Rejected(u8),
     /// A run was had, and ended so.
     Ran(Outcome),
-    /// A run was had, and met what no run of accepted modules should meet; nothing else changed.
-    Broken,
     /// A growth was refused, and nothing changed.
     Memory,
 }
@@ -48,7 +60,7 @@ impl Reply {
 
 /// The published modules, the stored values, the tallies of the structs with neither copy nor drop, and the number of runs
 /// had. Its model is what it holds, with values as their
-/// words; `state_of` is the state of the machine's ledger that it stands for.
+/// words; `state_of` is the state of the machine's ledger that it stands for, which is sound.
 #[derive(Drop)]
 pub struct Ledger {
     alloc: Global,
@@ -87,12 +99,19 @@ impl Ledger {
         self.alloc
     }
 
+    /// For the prover: the machine's ledger that it stands for is sound.
+    pub fn is_sound(&self)
+        ensures { IsSoundLedger (state_of self.now) }
+    {
+        let _runs = self.runs;
+    }
+
     /// Answers a publish record with this payload.
     pub fn publish(&mut self, payload: &[u8]) -> Reply
         ensures { Replies 1 payload.now (told result) self.old self.new }
     {
         match publishing::publish(self.alloc, &mut self.store, &mut self.tallies, payload) {
-            Ok(()) => Reply::Published(1),
+            Ok(count) => Reply::Published(count),
             Err(Refusal::Phase(phase)) => Reply::Refused(phase),
             Err(Refusal::Memory) => Reply::Memory,
         }
@@ -123,6 +142,41 @@ impl Ledger {
             }
             Err(Barred::Rejected(reason)) => Reply::Rejected(reason),
             Err(Barred::Memory) => Reply::Memory,
+        }
+    }
+
+    /// Answers a show record with this payload: all that is stored, by ascending key.
+    pub fn show(&self, payload: &[u8]) -> Result<Lines<'_>, Refusal>
+        ensures { Replies 3 payload.now (told_lines result) self.now self.now }
+    {
+        let alloc = self.alloc;
+        let Some(format) = read_format(payload) else {
+            return Err(Refusal::Phase(1));
+        };
+        match format {
+            Format::Text => Ok(Lines::of_storage(alloc, &self.store, &self.storage)),
+            Format::Json => {
+                let text = json_of_storage(alloc, &self.store, &self.storage)?;
+                Ok(Lines::of_text(alloc, text))
+            }
+        }
+    }
+
+    /// Answers an audit record with this payload: the counts of each struct with neither copy nor drop. What is stored of it
+    /// is known from its tally, without a walk.
+    pub fn audit(&self, payload: &[u8]) -> Result<Lines<'_>, Refusal>
+        ensures { Replies 4 payload.now (told_lines result) self.now self.now }
+    {
+        let alloc = self.alloc;
+        let Some(format) = read_format(payload) else {
+            return Err(Refusal::Phase(1));
+        };
+        match format {
+            Format::Text => Ok(Lines::of_tallies(alloc, &self.store, &self.tallies)),
+            Format::Json => {
+                let text = json_of_tallies(alloc, &self.store, &self.tallies)?;
+                Ok(Lines::of_text(alloc, text))
+            }
         }
     }
 }

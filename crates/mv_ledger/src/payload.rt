@@ -5,9 +5,9 @@ ghost use Rattle.mv_interpreter.specs.declared.Arg.{Arg as Argument};
 ghost use Rattle.mv_interpreter.specs.Runs.{number_fits};
 ghost use Rattle.mv_machine.specs.Ledger.{Publish, Run};
 ghost use Rattle.mv_module_text.specs.Parsing.{counted_from};
-ghost use Rattle.mv_ledger.specs.Asking.{offer_of, request_of};
+ghost use Rattle.mv_ledger.specs.Asking.{offer_of, offers_of, request_of};
 ghost use Rattle.mv_ledger.specs.RecordText.{IsShaped, IsShapeless};
-ghost use Rattle.mv_ledger.specs.Payloads.{sized_from, bundle_from, leaf_from, argument_from, run_from};
+ghost use Rattle.mv_ledger.specs.Payloads.{sized_from, offer_from, bundle_from, leaf_from, argument_from, run_from};
 
 use mv_interpreter::Arg;
 use mv_module_text::Reader;
@@ -17,12 +17,21 @@ use std::alloc::Global;
 // What the reader refuses malformed bytes with. So do the functions here.
 const MALFORMED: Refusal = Refusal::Phase(2);
 
-/// A module that is to be published, with its certificate and its sender.
+// How many modules a bundle has at most.
+const MOST_OFFERS: u64 = 16;
+
+/// A module that is offered, with its certificate.
+#[derive(Clone, Copy)]
+pub struct Offered<'a> {
+    pub text: &'a [u8],
+    pub certificate: &'a [u8],
+}
+
+/// A bundle of modules that is to be published, and its sender.
 #[derive(Drop)]
 pub struct Bundle<'a> {
     pub sender: u128,
-    pub text: &'a [u8],
-    pub certificate: &'a [u8],
+    pub offers: Vec<Offered<'a>>,
 }
 
 /// A run that is asked for.
@@ -46,35 +55,58 @@ fn sized<'a>(reader: &mut Reader<'a>, most: u64) -> Result<&'a [u8], Refusal>
     reader.bytes(count as usize)
 }
 
-/// Reads a sender and one module with its certificate.
-fn next_bundle<'a>(reader: &mut Reader<'a>) -> Result<Bundle<'a>, Refusal>
-    ensures ok { IfOk result (λ b. bundle_from reader.old ≡ Some ((b.sender, offer_of b), reader.new)) }
-    ensures refused { result ≡ Err (Refusal.Phase 2) → bundle_from reader.old ≡ None }
+/// Reads a module and its certificate.
+fn offer<'a>(reader: &mut Reader<'a>) -> Result<Offered<'a>, Refusal>
+    ensures ok { IfOk result (λ o. offer_from reader.old ≡ Some (offer_of o, reader.new)) }
+    ensures refused { result ≡ Err (Refusal.Phase 2) → offer_from reader.old ≡ None }
     ensures errors { IfErr result (λ e. e ≡ Refusal.Phase 2) }
 {
-    let sender = reader.address()?;
-    reader.mark(1)?;
     let text = sized(reader, 65_536)?;
     let certificate = sized(reader, 1_048_576)?;
-    Ok(Bundle {
-        sender,
-        text,
-        certificate,
-    })
+    Ok(Offered { text, certificate })
 }
 
-/// Reads the payload of a publish record: a sender and one module with its certificate, and nothing after them.
+/// Reads the modules of a bundle, from 1 to 16, after their number.
+fn offers<'a>(alloc: Global, reader: &mut Reader<'a>) -> Result<Vec<Offered<'a>>, Refusal>
+    ensures ok { IfOk result (λ v. counted_from 16 offer_from reader.old ≡ Some (offers_of v.items, reader.new)) }
+    ensures refused { result ≡ Err (Refusal.Phase 2) → counted_from 16 offer_from reader.old ≡ None }
+    ensures errors { IfErr result (λ e. (e ≡ Refusal.Phase 2) ⊎ (e ≡ Refusal.Memory)) }
+{
+    let count = reader.number(MOST_OFFERS)?;
+    let mut all = Vec::new(alloc);
+    'each: for _ in 0..count {
+        let next = offer(reader)?;
+        all.push(next).map_err(|_| Refusal::Memory)?;
+    }
+    Ok(all)
+}
+
+/// Reads a sender and a bundle.
+fn next_bundle<'a>(alloc: Global, reader: &mut Reader<'a>) -> Result<Bundle<'a>, Refusal>
+    ensures ok { IfOk result (λ b. bundle_from reader.old ≡ Some ((b.sender, offers_of b.offers.items), reader.new)) }
+    ensures refused { result ≡ Err (Refusal.Phase 2) → bundle_from reader.old ≡ None }
+    ensures errors { IfErr result (λ e. (e ≡ Refusal.Phase 2) ⊎ (e ≡ Refusal.Memory)) }
+{
+    let sender = reader.address()?;
+    let offers = offers(alloc, reader)?;
+    if offers.is_empty() {
+        return Err(MALFORMED);
+    }
+    Ok(Bundle { sender, offers })
+}
+
+/// Reads the payload of a publish record: a sender and 1 to 16 modules with their certificates, and nothing after them.
 ///
 /// # Errors
 ///
-/// The phase of malformed bytes, where the payload is no such record's.
-pub fn read_bundle<'a>(payload: &'a [u8]) -> Result<Bundle<'a>, Refusal>
-    ensures ok { IfOk result (λ b. IsShaped 1 payload.entry.now (Publish b.sender (offer_of b ∷ []))) }
-    ensures refused { OnErr result (IsShapeless 1 payload.entry.now) }
-    ensures errors { IfErr result (λ e. e ≡ Refusal.Phase 2) }
+/// The phase of malformed bytes, where the payload is no such record's; `Memory`, where a growth was refused.
+pub fn read_bundle<'a>(alloc: Global, payload: &'a [u8]) -> Result<Bundle<'a>, Refusal>
+    ensures ok { IfOk result (λ b. IsShaped 1 payload.entry.now (Publish b.sender (offers_of b.offers.items))) }
+    ensures refused { result ≡ Err (Refusal.Phase 2) → IsShapeless 1 payload.entry.now }
+    ensures errors { IfErr result (λ e. (e ≡ Refusal.Phase 2) ⊎ (e ≡ Refusal.Memory)) }
 {
     let mut reader = Reader::new(payload);
-    let offered = next_bundle(&mut reader)?;
+    let offered = next_bundle(alloc, &mut reader)?;
     if reader.is_empty() {
         Ok(offered)
     } else {

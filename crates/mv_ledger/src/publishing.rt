@@ -1,81 +1,112 @@
 // Publishing a bundle: its phases in order, and what it changes.
-ghost use Rattle.std.specs.Prelude.{◌≡◌, ℕ, ◌≤◌, [], ◌∷◌, ◌++◌, All, length, IfOk, IfErr, OnOk, OnErr};
+ghost use Rattle.std.specs.Prelude.{◌≡◌, ℕ, ◌+◌, ◌^◌, ◌<◌, ◌≤◌, nat_lt, nat_le, count_by, option_and_then, All, length, map, IfOk, IfErr, OnOk, OnErr};
+ghost use Rattle.mv_move_types.specs.Module.{own_name};
+ghost use Rattle.mv_move_types.specs.Named.{module_place};
+ghost use Rattle.mv_ledger.specs.declared.tallies.Placed.{Placed as Standing};
+ghost use Rattle.mv_move_types.specs.Published.{with_modules};
 ghost use Rattle.mv_certificate.specs.Certificate.{Certificate};
 ghost use Rattle.mv_linker.specs.Link.{IsStore, tables_in};
-ghost use Rattle.mv_ledger.specs.Publishing.{Passes, IsRefusedOffer};
+ghost use Rattle.mv_linker.specs.News.{AreTexts, published_of};
+ghost use Rattle.mv_ledger.specs.Asking.{offer_of, offers_of};
+ghost use Rattle.mv_ledger.specs.Publishing.{Passes, AllPass, IsRefusedOffer, IsRefusedAmong};
 ghost use Rattle.mv_ledger.specs.Judging.{IsAcceptedBy, IsRefusedBy};
-ghost use Rattle.mv_ledger.specs.Changes.{AddsOne};
-ghost use Rattle.mv_ledger.specs.Tallying.{AddsTallies};
-ghost use Rattle.mv_ledger.specs.View.{all_of, IsNamed, IsSmall};
+ghost use Rattle.mv_ledger.specs.Tallying.{AddsTallies, ArePlacedFor};
+ghost use Rattle.mv_ledger.specs.View.{all_of, ArePlaced, IsNamed, IsSmall, AreScarce};
 
-use crate::payload::{Bundle, read_bundle};
-use crate::tallies::{Tallies, Tally, scarce_structs, untouched};
-use mv_interpreter::runs_today;
-use mv_linker::{Linked, New, Store, add, link};
+use crate::payload::{Offered, read_bundle};
+use crate::tallies::{Placed, Tallies, scarce_structs};
+use mv_binary_format::Module;
+use mv_linker::{New, Store, link, name_of};
 use mv_move_types::Refusal;
 use std::alloc::{AllocError, Global};
 
 // How many modules a ledger has at most.
 const MOST_MODULES: usize = 4096;
 
-/// The offered module with what it passed: phases 2 to 12 in order. A module that the interpreter doesn't run today is
-/// refused in phase 2.
-fn verified<'a>(alloc: Global, bundle: &Bundle<'a>) -> Result<New<'a>, Refusal>
-    ensures text { IfOk result (λ n. n.text.now ≡ bundle.now.text.now) }
-    ensures certificate { IfOk result (λ n. n.certificate.now ≡ bundle.now.certificate.now) }
-    ensures passes { IfOk result (λ n. (c : Certificate) × Passes (record { text = bundle.now.text.now; certificate = bundle.now.certificate.now }) n.module c) }
-    ensures refused { IfErr result (IsRefusedOffer (record { text = bundle.now.text.now; certificate = bundle.now.certificate.now })) }
+/// An offered module with what it passed: phases 2 to 12 in order.
+fn verified<'a>(alloc: Global, offer: &Offered<'a>) -> Result<New<'a>, Refusal>
+    ensures text { IfOk result (λ n. n.text.now ≡ offer.now.text.now) }
+    ensures certificate { IfOk result (λ n. n.certificate.now ≡ offer.now.certificate.now) }
+    ensures passes { IfOk result (λ n. (c : Certificate) × Passes (offer_of offer.now) n.module c) }
+    ensures refused { IfErr result (IsRefusedOffer (offer_of offer.now)) }
 {
-    let module = mv_binary_format::decode(alloc, bundle.text)?;
-    if !runs_today(&module) {
-        return Err(Refusal::Phase(2));
-    }
+    let module = mv_binary_format::decode(alloc, offer.text)?;
     let bounded = mv_bounds::check(alloc, module)?;
     let _defined = bounded.module();
     let typed = mv_type_states::check(alloc, bounded)?;
     let _sound = typed.module();
-    let stated = mv_certificate::decode(alloc, &typed, bundle.certificate)?;
+    let stated = mv_certificate::decode(alloc, &typed, offer.certificate)?;
     let module = mv_certificate::check(alloc, typed, &stated)?;
     let _acquires = module.module();
     Ok(New {
         module,
-        text: bundle.text,
-        certificate: bundle.certificate,
+        text: offer.text,
+        certificate: offer.certificate,
     })
 }
 
-/// The module alone.
-fn alone<'a>(alloc: Global, new: New<'a>) -> Result<Vec<New<'a>>, AllocError>
-    ensures { IfOk result (λ v. v.items ≡ new.entry ∷ []) }
+/// The offered modules with what they passed, tried one after the other.
+fn all_verified<'a>(alloc: Global, offers: &[Offered<'a>]) -> Result<Vec<New<'a>>, Refusal>
+    ensures passed { IfOk result (λ v. AllPass (offers_of offers.now) (published_of v.items)) }
+    ensures texts { IfOk result (λ v. AreTexts v.items) }
+    ensures refused { IfErr result (IsRefusedAmong (offers_of offers.now)) }
 {
-    Ok(vec![in alloc; new]?)
-}
-
-/// Adds a bundle of one module and its tallies, or nothing.
-fn join(
-    store: &mut Store,
-    linked: Linked,
-    tallies: &mut Tallies,
-    fresh: Vec<Tally>,
-) -> Result<(), AllocError>
-    requires store { IsStore (store.old ++ linked) }
-    requires placed { All (λ t. t.place ≡ length tallies.old) fresh.items }
-    ensures ok { OnOk result (store.new ≡ store.old ++ linked) }
-    ensures tallied { OnOk result (tallies.new ≡ tallies.old ++ fresh.items ∷ []) }
-    ensures err { OnErr result (store.new ≡ store.old) }
-    ensures kept { OnErr result (tallies.new ≡ tallies.old) }
-{
-    let count = tallies.len();
-    tallies.push(fresh)?;
-    if let Err(e) = add(store, linked) {
-        tallies.truncate(count);
-        return Err(e);
+    let mut all = Vec::new(alloc);
+    'each: for offer in offers {
+        all.push(verified(alloc, offer)?).map_err(AllocError::from)?;
     }
-    Ok(())
+    Ok(all)
 }
 
-/// Publishes the bundle that a payload has: its module joins the store, and its structs with neither copy nor drop have
-/// empty tallies.
+/// Where each of these modules is to stand, with its tallies: in the place of the published one of its name, whose tallies it
+/// keeps, or in the next place.
+fn placed(
+    alloc: Global,
+    store: &Store,
+    tallies: &Tallies,
+    news: &[New<'_>],
+) -> Result<Vec<Placed>, AllocError>
+    requires few { length store.now + length news.now < 65536 }
+    requires all { length tallies.now ≡ length store.now }
+    ensures placed { IfOk result (λ v. ArePlacedFor (tables_in store.now) tallies.now (length store.now) (tables_in (published_of news.now)) v.items) }
+    ensures theirs { ArePlaced 0 tallies.now }
+{
+    let mut all = Vec::new(alloc);
+    let mut next = tallies.len();
+    'each: for new in news {
+        let module = new.module.module();
+        let found = place_of(store, module);
+        let place = found.unwrap_or(next);
+        let structs = scarce_structs(alloc, module)?;
+        all.push(Placed {
+            place,
+            tallies: tallies.extended(alloc, place, &structs)?,
+        })?;
+        if found.is_none() {
+            next += 1;
+        }
+    }
+    Ok(all)
+}
+
+/// The place of the published module that has a module's name.
+fn place_of(store: &Store, m: &Module<'_>) -> Option<usize>
+    ensures { result ≡ option_and_then (module_place (tables_in store.now)) (own_name m.now) }
+{
+    let (address, name) = name_of(m)?;
+    store.find(address, name)
+}
+
+/// Whether a bundle makes more modules than a ledger may have of so many that are there.
+fn is_too_much(placed: &[Placed], count: usize) -> bool
+    requires { count + length placed.now < 2 ^ 63 }
+    ensures { result ≡ nat_lt 4096 (count + count_by (λ (p : Standing). nat_le count p.place) placed.now) }
+{
+    count + placed.iter().filter(|p| p.place >= count).count() > MOST_MODULES
+}
+
+/// Publishes the bundle that a payload has, and says how many modules it has: they join the store, and each of their structs
+/// with neither copy nor drop has the tally that it had, or an empty one.
 ///
 /// # Errors
 ///
@@ -86,33 +117,37 @@ pub fn publish(
     store: &mut Store,
     tallies: &mut Tallies,
     payload: &[u8],
-) -> Result<(), Refusal>
+) -> Result<u64, Refusal>
+    requires few { length store.old ≤ 4096 }
     requires placed { length tallies.old ≡ length store.old }
     requires named { All (IsNamed (tables_in store.old)) (all_of tallies.old) }
-    ensures ok { OnOk result (AddsOne store.old store.new) }
+    requires scarce { AreScarce (tables_in store.old) tallies.old }
     ensures store { OnOk result (IsStore store.old) }
+    ensures whole { OnOk result (IsStore store.new) }
     ensures room { OnOk result (length store.new ≤ 4096) }
     ensures err { OnErr result (store.new ≡ store.old) }
     ensures kept { OnErr result (tallies.new ≡ tallies.old) }
-    ensures accepted { OnOk result (IsAcceptedBy store.old payload.now store.new) }
+    ensures accepted { IfOk result (λ n. IsAcceptedBy n store.old payload.now store.new) }
     ensures refused { IfErr result (IsRefusedBy store.old payload.now) }
     ensures placed { length tallies.new ≡ length store.new }
     ensures named { OnOk result (All (IsNamed (tables_in store.new)) (all_of tallies.new)) }
+    ensures scarce { AreScarce (tables_in store.new) tallies.new }
     ensures small { (runs : ℕ) → All (IsSmall runs) (all_of tallies.old) → All (IsSmall runs) (all_of tallies.new) }
     ensures tallied { OnOk result (AddsTallies store.old store.new (all_of tallies.old) (all_of tallies.new)) }
 {
-    let Ok(bundle) = read_bundle(payload) else {
-        return Err(Refusal::Phase(1));
+    let bundle = match read_bundle(alloc, payload) {
+        Ok(bundle) => bundle,
+        Err(Refusal::Memory) => return Err(Refusal::Memory),
+        Err(Refusal::Phase(_)) => return Err(Refusal::Phase(1)),
     };
-    let new = verified(alloc, &bundle)?;
-    let structs = scarce_structs(alloc, new.module.module())?;
-    let news = alone(alloc, new)?;
+    let news = all_verified(alloc, &bundle.offers)?;
+    let published = store.len();
+    let placed = placed(alloc, store, tallies, &news)?;
+    let count = news.len();
     let linked = link(store, Some(bundle.sender), news)?;
-    let count = store.len();
-    if count >= MOST_MODULES {
+    if is_too_much(&placed, published) {
         return Err(Refusal::Phase(14));
     }
-    let fresh = untouched(alloc, count as u16, &structs)?;
-    join(store, linked, tallies, fresh)?;
-    Ok(())
+    tallies.join(store, linked, placed)?;
+    Ok(count as u64)
 }

@@ -1,11 +1,15 @@
 // Tallies of the structs with neither copy nor drop.
-ghost use Rattle.std.specs.Prelude.{◌≡◌, ◌+◌, ◌-◌, ◌^◌, ◌≤◌, [], ◌∷◌, ◌++◌, All, length, map, take, is_ok, if◌then◌else◌, IfOk};
+ghost use Rattle.std.specs.Prelude.{◌≡◌, ◌+◌, ◌-◌, ◌^◌, ◌<◌, ◌≤◌, [], ◌∷◌, ◌++◌, All, length, map, drop, slice_get, unwrap_or, IfOk, OnOk, OnErr};
+ghost use Rattle.std.specs.Vec.{vec_len, vec_capacity};
+ghost use Rattle.mv_move_types.specs.Published.{with_modules};
+ghost use Rattle.mv_linker.specs.Stored.{IsLinkedTo};
 ghost use Rattle.std.specs.List.{sum_by};
-ghost use Rattle.mv_ledger.specs.Tallying.{is_scarce_struct, scarce_indices, fresh_tally, tally_after, HasRoomFor, HasRoomLeft};
-ghost use Rattle.mv_ledger.specs.View.{all_of};
+ghost use Rattle.mv_ledger.specs.Tallying.{is_scarce_struct, scarce_indices, fresh_tally, tally_after, with_tallies_at, with_placed, AreWithin, HasRoomFor, HasRoomLeft};
+ghost use Rattle.mv_ledger.specs.View.{all_of, ArePlaced};
 
 use mv_binary_format::{Module, StructDefinition};
 use mv_interpreter::StructTally;
+use mv_linker::{Linked, Store, add};
 use std::alloc::{AllocError, Global};
 use std::marker::Model;
 
@@ -42,20 +46,23 @@ pub fn scarce_structs(alloc: Global, m: &Module<'_>) -> Result<Vec<u16>, AllocEr
     Ok(indices)
 }
 
-/// Tallies of structs whose values were neither made nor taken apart.
-pub fn untouched(alloc: Global, place: u16, indices: &[u16]) -> Result<Vec<Tally>, AllocError>
-    ensures { IfOk result (λ v. v.items ≡ map (fresh_tally place) indices.now) }
+/// A tally of a struct whose values were neither made nor taken apart.
+fn untouched(place: u16, index: u16) -> Tally
+    ensures { result ≡ fresh_tally place index }
 {
-    let mut tallies = Vec::new(alloc);
-    for index in indices {
-        tallies.push(Tally {
-            place,
-            index: *index,
-            packs: 0,
-            unpacks: 0,
-        })?;
+    Tally {
+        place,
+        index,
+        packs: 0,
+        unpacks: 0,
     }
-    Ok(tallies)
+}
+
+/// The tallies of a module that is to stand at a place.
+#[derive(Drop)]
+pub struct Placed {
+    pub place: usize,
+    pub tallies: Vec<Tally>,
 }
 
 /// Adds what a run did with values of one struct, if the tally is of that struct.
@@ -76,6 +83,19 @@ fn add_entry(tallies: &mut [Tally], entry: &StructTally)
 {
     for tally in tallies.iter_mut() {
         add_to(tally, entry);
+    }
+}
+
+/// Puts the tallies of the module at a place, or of the next one.
+fn put(modules: &mut Vec<Vec<Tally>>, one: Placed)
+    requires { vec_len modules.old < vec_capacity modules.old }
+    ensures lists { map (λ v. v.items) modules.new.items ≡ with_tallies_at one.place one.tallies.items (map (λ v. v.items) modules.old.items) }
+    ensures len { vec_len modules.new ≤ vec_len modules.old + 1 }
+    ensures capacity { vec_capacity modules.new ≡ vec_capacity modules.old }
+{
+    match modules.get_mut(one.place) {
+        Some(tallies) => *tallies = one.tallies,
+        None => modules.push_reserved(one.tallies),
     }
 }
 
@@ -111,25 +131,61 @@ impl Tallies {
 
     /// How many modules there are.
     pub fn len(&self) -> usize
-        ensures { result ≡ length self.now }
+        ensures count { result ≡ length self.now }
+        ensures placed { ArePlaced 0 self.now }
     {
         self.modules.len()
     }
 
-    /// Adds the tallies of the next module, or nothing.
-    pub fn push(&mut self, fresh: Vec<Tally>) -> Result<(), AllocError>
-        requires { All (λ t. t.place ≡ length self.old) fresh.items }
-        ensures { self.new ≡ (if is_ok result then self.old ++ fresh.items ∷ [] else self.old) }
+    /// The tallies of the module at a place; none, if no module is there.
+    pub fn at(&self, place: usize) -> &[Tally]
+        ensures { result.now ≡ unwrap_or (slice_get self.now place) [] }
     {
-        self.modules.push(fresh)?;
-        Ok(())
+        match self.modules.get(place) {
+            Some(tallies) => tallies,
+            None => &[],
+        }
     }
 
-    /// Keeps the tallies of the first so many modules.
-    pub fn truncate(&mut self, count: usize)
-        ensures { self.new ≡ take count self.old }
+    /// The tallies of the module at a place, and behind them empty ones for those of these structs, by their indices, that it
+    /// doesn't have yet.
+    pub fn extended(
+        &self,
+        alloc: Global,
+        place: usize,
+        structs: &[u16],
+    ) -> Result<Vec<Tally>, AllocError>
+        requires { place < 65536 }
+        ensures { IfOk result (λ v. v.items ≡ unwrap_or (slice_get self.now place) [] ++ map (fresh_tally place) (drop (length (unwrap_or (slice_get self.now place) [])) structs.now)) }
     {
-        self.modules.truncate(count);
+        let mut tallies = Vec::new(alloc);
+        tallies.extend_from_slice(self.at(place))?;
+        for index in structs.iter().skip(tallies.len()) {
+            tallies.push(untouched(place as u16, *index))?;
+        }
+        Ok(tallies)
+    }
+
+    /// Adds a bundle to a store, and each of its modules' tallies at its place; or nothing.
+    pub fn join(
+        &mut self,
+        store: &mut Store,
+        linked: Linked,
+        placed: Vec<Placed>,
+    ) -> Result<(), AllocError>
+        requires linked { IsLinkedTo store.old linked }
+        requires placed { AreWithin (length self.old) placed.items }
+        ensures ok { OnOk result (store.new ≡ with_modules store.old linked.published) }
+        ensures tallied { OnOk result (self.new ≡ with_placed self.old placed.items) }
+        ensures err { OnErr result (store.new ≡ store.old) }
+        ensures kept { OnErr result (self.new ≡ self.old) }
+    {
+        self.modules.reserve(placed.len())?;
+        add(store, linked)?;
+        for one in placed {
+            put(&mut self.modules, one);
+        }
+        Ok(())
     }
 
     /// Adds what a run did to each tally.

@@ -1,85 +1,93 @@
--- A bundle may join exactly where its tests pass.
-use Rattle.std.proofs.Common.{◌≡◌, ℕ, Bool, true, false, List, Option, Some, None, sym, ap, ◌∙◌, subst}
-use Rattle.std.specs.Prelude.{not, IsTrue, MatchOption, is_some, ◌↔◌}
-use Rattle.std.specs.List.{list_all, list_any}
-use Rattle.std.specs.Option.{option_map_or}
-use Rattle.mv_move_types.specs.Names.{ModuleName}
-use Rattle.mv_move_types.specs.Module.{Module, own_name}
-use Rattle.mv_move_types.specs.Named.{is_module, module_place}
-use Rattle.mv_move_types.specs.Published.{PublishedModule}
+-- A scope whose bundle joins its store: where its modules stand, and that what they name is there.
+use Rattle.std.proofs.Common.{◌≡◌, ℕ, ◌<◌, Bool, true, false, length, List, Option, Some, None, slice_get, refl, sym, ap, ◌∙◌, arith, inl, inr}
+use Rattle.std.specs.Prelude.{◌==◌, ◌&&◌, is_some, not, position, IsSome}
+use Rattle.std.specs.List.{list_all}
+use Rattle.std.proofs.lemmas.Bool.{and_from, both_ways, eq-eqb}
+use Rattle.std.proofs.lemmas.List.{length-map}
+use Rattle.std.proofs.lemmas.Option.{slice_get_within}
+use Rattle.mv_move_types.specs.Options.{find_index}
+use Rattle.mv_move_types.specs.Module.{Module}
+use Rattle.mv_move_types.specs.Named.{have_one_name}
+use Rattle.mv_bounds.specs.Bounds.{InBounds}
 use Rattle.mv_bounds.specs.Definitions.{all_differ}
 use Rattle.mv_linker.specs.declared.New.{New}
-use Rattle.mv_linker.specs.Kept.{Kept, published_in}
-use Rattle.mv_linker.specs.Link.{MayJoin, AreSentBy, tables_in, is_sent_by, have_one_name, is_new, stands_alone}
-use Rattle.mv_linker.specs.News.{published_of, published_one}
-use Rattle.mv_linker.proofs.ListTests.{list_all-maps, all_differ-maps, find_index-none}
+use Rattle.mv_linker.specs.declared.scope.Scope.{Scope}
+use Rattle.mv_linker.specs.Link.{tables_in}
+use Rattle.mv_linker.specs.Links.{Links, modules_are_there, structs_are_there, function_is_there, names_hold}
+use Rattle.mv_linker.specs.Relinked.{Joins}
+use Rattle.mv_linker.specs.Scope.{offered}
+use Rattle.mv_linker.specs.Targets.{modules_in}
+use Rattle.mv_linker.proofs.Assembling.{joining-offered}
+use Rattle.mv_linker.proofs.Bundled.{bundle-at, old-at, place-at}
+use Rattle.mv_linker.proofs.DependencyLemmas.{length-places}
+use Rattle.mv_linker.proofs.Found.{each, some_passes, there_at}
+use Rattle.mv_linker.proofs.Keyed.{position-find_index}
+use Rattle.mv_linker.proofs.ListTests.{find_index-none}
+use Rattle.mv_linker.proofs.Members.{among-at, among-result, differ-result}
+use Rattle.mv_linker.proofs.StillThere.{Joining}
 
--- no module of the store has the name
-pub is_new-found : (old : List Module) (m : Module) (name : ModuleName) (none : Bool) → own_name m ≡ Some name → is_some (module_place old name) ≡ not none → none ≡ is_new old m
-is_new-found old m name none own found =
-    let test : Option ModuleName → Bool = λ o. not (list_any (λ n. option_map_or (λ k. is_module k n) o false) old) in
-    let same : is_new old m ≡ test (Some name) = ap test own in
-    negated none (is_some (module_place old name)) found ∙ find_index-none (is_module name) old ∙ sym same
+-- no value
+pub none-of : {A : Type 0} (o : Option A) → is_some o ≡ false → o ≡ None
+none-of None e = refl
+none-of (Some x) e = absurd (both_ways true e refl)
+
+-- a place that is there is found
+pub position-there : (q k : ℕ) (places : List ℕ) → slice_get places k ≡ Some q → IsSome (position (λ p. p == q) places)
+position-there q k places at =
+    ap is_some (position-find_index (λ p. p == q) places)
+    ∙ not_false (is_some (find_index (λ p. p == q) places)) (find_index-none (λ p. p == q) places ∙ ap not (some_passes (λ p. p == q) places k q at (eq-eqb q q refl)))
   where
-    negated : (a b : Bool) → b ≡ not a → a ≡ not b
-    negated true b e = sym (ap not e)
-    negated false b e = sym (ap not e)
+    not_false : (b : Bool) → not b ≡ false → b ≡ true
+    not_false true e = refl
+    not_false false e = sym e
 
--- the modules' tables, out of the entries
-abbrev tables_of_kept : List Kept → List Module
-tables_of_kept kept = tables_in (published_in kept)
+-- a bundle takes as many places as it has modules
+pub placed-length : (s : Scope) → length s.places.items ≡ length s.new.now
+placed-length s = ap length s.placed ∙ length-places (tables_in s.store.now) (offered s.new.now) ∙ length-map s.new.now (λ (n : New). n.module)
 
--- the sender's test
-sent-is : (sender : Option ℕ) (kept : List Kept) (b : Bool) → MatchOption sender (b ≡ true) (λ address. b ≡ list_all (λ (k : Kept). is_sent_by address k.published.tables) kept)
-    → (b ≡ true → AreSentBy sender (tables_of_kept kept)) × (AreSentBy sender (tables_of_kept kept) → b ≡ true)
-sent-is None kept b is = ((λ e. tt), (λ h. is))
-sent-is (Some address) kept b is =
-    let maps = list_all-maps (λ (p : PublishedModule). p.tables) (λ (k : Kept). k.published) (is_sent_by address) kept in
-    ((λ e. maps ∙ sym is ∙ e), (λ h. is ∙ sym maps ∙ h))
+-- all that a module of linked ones names is there
+pub names-hold : (modules : List Module) (place : ℕ) (m : Module) → Links modules → slice_get modules place ≡ Some m → names_hold modules m ≡ true
+names-hold modules place m links at =
+    and_from (modules_are_there modules m (length m.module_handles) && structs_are_there modules m 0 m.struct_handles) (list_all (function_is_there modules m) m.function_handles)
+    (and_from (modules_are_there modules m (length m.module_handles)) (structs_are_there modules m 0 m.struct_handles)
+    (each (λ m. modules_are_there modules m (length m.module_handles)) modules place m links.modules at)
+    (each (λ m. structs_are_there modules m 0 m.struct_handles) modules place m links.structs at))
+    (each (λ m. list_all (function_is_there modules m) m.function_handles) modules place m links.functions at)
 
--- the tests of a bundle
-pub record Tests (sender : Option ℕ) (old : List Module) (kept : List Kept) (news : List New) (sent distinct fresh alone : Bool) : Type 0 where
-  pub sent_is : MatchOption sender (sent ≡ true) (λ address. sent ≡ list_all (λ (k : Kept). is_sent_by address k.published.tables) kept)
-  pub distinct_is : distinct ≡ all_differ (λ (j k : Kept). have_one_name j.published.tables k.published.tables) kept
-  pub fresh_is : fresh ≡ list_all (λ (k : Kept). is_new old k.published.tables) kept
-  pub alone_is : alone ≡ list_all (λ (n : New). stands_alone n.module) news
-  pub same : published_in kept ≡ published_of news
+module _ (s : Scope) (joins : Joins s) where
+  pub joining : Joining (tables_in s.store.now) (offered s.new.now)
+  joining = joining-offered s.store.now s.new.now joins.store joins.passed joins.once joins.compatible
 
-module _ (sender : Option ℕ) (old : List Module) (kept : List Kept) (news : List New) where
-  -- what is said of the entries is said of the new modules
-  moved : (P : List Module → Type 0) → published_in kept ≡ published_of news → P (tables_of_kept kept) → P (tables_in (published_of news))
-  moved P same h = subst (λ l. P (tables_in l)) same h
+  pub one-name : all_differ have_one_name (modules_in s) ≡ true
+  one-name = differ-result (tables_in s.store.now) (offered s.new.now) joins.store.once
 
-  back : (P : List Module → Type 0) → published_in kept ≡ published_of news → P (tables_in (published_of news)) → P (tables_of_kept kept)
-  back P same h = subst (λ l. P (tables_in l)) (sym same) h
+  -- a module of the bundle stands at its place
+  pub bundled-at : (k p : ℕ) (n : Module) → slice_get (offered s.new.now) k ≡ Some n → slice_get s.places.items k ≡ Some p → slice_get (modules_in s) p ≡ Some n
+  bundled-at k p n at placed = bundle-at (tables_in s.store.now) (offered s.new.now) k p n joins.once at (sym (ap (λ l. slice_get l k) s.placed) ∙ placed)
 
-  -- where all pass
-  pub tests-join : (sent distinct fresh alone : Bool) → Tests sender old kept news sent distinct fresh alone → sent ≡ true → distinct ≡ true → fresh ≡ true → alone ≡ true
-      → MayJoin sender old (tables_in (published_of news))
-  tests-join sent distinct fresh alone t p q r s =
-      let distinct_maps = all_differ-maps (λ (p : PublishedModule). p.tables) (λ (k : Kept). k.published) have_one_name kept in
-      let fresh_maps = list_all-maps (λ (p : PublishedModule). p.tables) (λ (k : Kept). k.published) (is_new old) kept in
-      let alone_maps = list_all-maps (λ (p : PublishedModule). p.tables) published_one stands_alone news in
-      record {
-        sent = moved (λ l. AreSentBy sender l) t.same ((sent-is sender kept sent t.sent_is).0 p);
-        once = moved (λ l. all_differ have_one_name l ≡ true) t.same (distinct_maps ∙ sym t.distinct_is ∙ q);
-        fresh = moved (λ l. list_all (is_new old) l ≡ true) t.same (fresh_maps ∙ sym t.fresh_is ∙ r);
-        alone = alone_maps ∙ sym t.alone_is ∙ s;
-      }
+  -- and the old one, where none of the bundle does
+  pub kept-at : (q : ℕ) → position (λ p. p == q) s.places.items ≡ None → slice_get (modules_in s) q ≡ slice_get (tables_in s.store.now) q
+  kept-at q none = old-at (tables_in s.store.now) (offered s.new.now) q (sym (ap (position (λ p. p == q)) s.placed) ∙ none)
 
-  -- and the other way round
-  pub join-tests : (sent distinct fresh alone : Bool) → Tests sender old kept news sent distinct fresh alone → MayJoin sender old (tables_in (published_of news))
-      → (sent ≡ true) × (distinct ≡ true) × (fresh ≡ true) × (alone ≡ true)
-  join-tests sent distinct fresh alone t join =
-      let distinct_maps = all_differ-maps (λ (p : PublishedModule). p.tables) (λ (k : Kept). k.published) have_one_name kept in
-      let fresh_maps = list_all-maps (λ (p : PublishedModule). p.tables) (λ (k : Kept). k.published) (is_new old) kept in
-      let alone_maps = list_all-maps (λ (p : PublishedModule). p.tables) published_one stands_alone news in (
-        (sent-is sender kept sent t.sent_is).1 (back (λ l. AreSentBy sender l) t.same join.sent),
-        t.distinct_is ∙ sym distinct_maps ∙ back (λ l. all_differ have_one_name l ≡ true) t.same join.once,
-        t.fresh_is ∙ sym fresh_maps ∙ back (λ l. list_all (is_new old) l ≡ true) t.same join.fresh,
-        t.alone_is ∙ sym alone_maps ∙ join.alone,
-      )
+  -- each module of the bundle has its place
+  pub placed-at : (k : ℕ) (n : Module) → slice_get (offered s.new.now) k ≡ Some n → (p : ℕ) × (slice_get s.places.items k ≡ Some p)
+  placed-at k n at =
+      let low : k < length (offered s.new.now) = slice_get_within (offered s.new.now) k n at in
+      let long = ap length s.placed ∙ length-places (tables_in s.store.now) (offered s.new.now) in
+      there_at s.places.items k (omega (arith, low, long))
 
--- a test that failed says that the bundle may not join
-pub none_joins : (J : Type 0) (b : Bool) → b ≡ false → (J → b ≡ true) → IsTrue false ↔ J
-none_joins J b is passes = ((λ e. let bad : false ≡ true = e in cc), (λ j. sym is ∙ passes j))
+  -- what stands at the place of one of the bundle
+  pub same-bundled : (k q : ℕ) → position (λ p. p == q) s.places.items ≡ Some k → slice_get (offered s.new.now) k ≡ slice_get (modules_in s) q
+  same-bundled k q found =
+      let at = place-at q k s.places.items found in
+      let low : k < length s.places.items = slice_get_within s.places.items k q at in
+      let long = ap length s.placed ∙ length-places (tables_in s.store.now) (offered s.new.now) in
+      let n = there_at (offered s.new.now) k (omega (arith, low, long)) in
+      n.1 ∙ sym (bundled-at k q n.0 n.1 at)
+
+  -- the indices of each module are in bounds
+  pub bounds-at : (q : ℕ) (m : Module) → slice_get (modules_in s) q ≡ Some m → InBounds m
+  bounds-at q m at = elim (among-result (tables_in s.store.now) (offered s.new.now) m joins.store.once (among-at (modules_in s) q m at)) [
+    | inl new ↦ joining.new_bounds m new
+    | inr old ↦ joining.bounds m old.0
+  ]

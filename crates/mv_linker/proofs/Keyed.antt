@@ -1,14 +1,13 @@
 -- A map from names to texts finds and takes what the list of its modules says.
-use Rattle.std.proofs.Common.{◌≡◌, ℕ, suc, ◌+◌, Bool, true, false, cond, List, [], ◌∷◌, ◌++◌, map, length, Option, Some, None, option_map, refl, sym, ap, ◌∙◌, subst, arith}
-use Rattle.std.specs.Prelude.{◌&&◌, ◌||◌, not, ◌==◌, nat_lt, position, slice_get, unwrap_or, IfSome}
-use Rattle.std.specs.List.{list_any, prefix_len}
+use Rattle.std.proofs.Common.{◌≡◌, ℕ, suc, ◌+◌, Bool, true, false, cond, List, [], ◌∷◌, map, length, Option, Some, None, option_map, refl, sym, ap, ◌∙◌, subst, arith}
+use Rattle.std.specs.Prelude.{◌&&◌, not, ◌==◌, nat_lt, position, slice_get, unwrap_or, IfSome}
+use Rattle.std.specs.List.{prefix_len}
 use Rattle.std.specs.Map.{keys_of, values_of}
 use Rattle.std.specs.Option.{option_map_or}
-use Rattle.std.specs.Cmp.{first_so, second_so, nat_eq_equiv}
+use Rattle.std.specs.Cmp.{nat_eq_equiv}
 use Rattle.std.specs.Cmp.Lexicographic.{nat_list_eq_equiv}
 use Rattle.std.specs.Str.{bytes_eq}
 use Rattle.std.proofs.lemmas.Bool.Decides.{nat_tests}
-use Rattle.std.proofs.lemmas.List.Folds.{list_any-append}
 use Rattle.std.proofs.lemmas.Option.{slice_get-map}
 use Rattle.mv_move_types.specs.Options.{find_index}
 use Rattle.mv_move_types.specs.Names.{ModuleName, same_module}
@@ -16,12 +15,10 @@ use Rattle.mv_move_types.specs.Module.{Module, own_name}
 use Rattle.mv_move_types.specs.Named.{is_module, module_place}
 use Rattle.mv_move_types.specs.Published.{PublishedModule}
 use Rattle.mv_binary_format.specs.Parsing.{module_of, no_tables}
-use Rattle.mv_bounds.specs.Definitions.{all_differ}
-use Rattle.indexmap.specs.IndexMap.{insert_entry}
 use Rattle.mv_linker.specs.declared.entry.Name.{Name}
 use Rattle.mv_linker.specs.declared.entry.Texts.{Texts}
 use Rattle.mv_linker.specs.Kept.{name_in, published_as, published_under, AreKeyed}
-use Rattle.mv_linker.specs.Link.{tables_in, have_one_name}
+use Rattle.mv_linker.specs.Link.{tables_in}
 
 -- the first place where a test passes, by the map's word and by the modules'
 pub position-find_index : {A : Type 0} (p : A → Bool) (xs : List A) → position p xs ≡ find_index p xs
@@ -44,7 +41,7 @@ position-find_index p (x ∷ xs) = step (p x) (prefix_len (λ y. not (p y)) xs) 
     step false n len rest e = ap (λ b. cond b (Some (1 + n)) None) (shifted n len) ∙ later (nat_lt n len) n ∙ ap (option_map suc) e
 
 -- two names are one whichever comes first
-same_module-turns : (a b : ModuleName) → same_module a b ≡ same_module b a
+pub same_module-turns : (a b : ModuleName) → same_module a b ≡ same_module b a
 same_module-turns a b = ap (λ t. t && bytes_eq a.name b.name) (nat_eq_equiv.symm a.address b.address) ∙ ap (λ t. (b.address == a.address) && t) (nat_list_eq_equiv.symm a.name b.name)
 
 -- what is said of each entry is said of the first, and of the others
@@ -68,31 +65,6 @@ found-keyed test name is (e ∷ es) keyed =
 pub place-keyed : (test : Name → Bool) (name : ModuleName) → ((k : Name) → test k ≡ same_module name (name_in k)) → (es : List (Name × Texts)) → AreKeyed es
     → position test (keys_of es) ≡ module_place (tables_in (published_under es)) name
 place-keyed test name is es keyed = position-find_index test (keys_of es) ∙ found-keyed test name is es keyed
-
--- no module before another has its name, where no two have one
-differs : (t y : Module) (ts rest : List Module) → not (list_any (have_one_name t) (ts ++ y ∷ rest)) ≡ true → have_one_name t y ≡ false
-differs t y ts rest h = step (list_any (have_one_name t) ts) (have_one_name t y) (list_any (have_one_name t) rest) (ap not (sym (list_any-append (have_one_name t) ts (y ∷ rest))) ∙ h)
-  where
-    step : (a b c : Bool) → not (a || (b || c)) ≡ true → b ≡ false
-    step true b c h = cc
-    step false true c h = cc
-    step false false c h = refl
-
--- a name that no module has goes last
-pub insert_entry-fresh : (eq : Name → Name → Bool) → ((a b : Name) → eq a b ≡ same_module (name_in a) (name_in b)) → (es : List (Name × Texts)) (name : Name) (texts : Texts) (rest : List Module)
-    → AreKeyed es → own_name (published_as texts).tables ≡ Some (name_in name) → all_differ have_one_name (tables_in (published_under es) ++ (published_as texts).tables ∷ rest) ≡ true
-    → insert_entry eq es name texts ≡ es ++ (name, texts) ∷ []
-insert_entry-fresh eq is [] name texts rest keyed own once = refl
-insert_entry-fresh eq is (e ∷ es) name texts rest keyed own once =
-    let t = (published_as e.1).tables in
-    let y = (published_as texts).tables in
-    let others = tables_in (published_under es) ++ y ∷ rest in
-    let apart : have_one_name t y ≡ false = differs t y (tables_in (published_under es)) rest (first_so (not (list_any (have_one_name t) others)) (all_differ have_one_name others) once) in
-    let named : have_one_name t y ≡ same_module (name_in name) (name_in e.0) =
-    ap (λ o. option_map_or (λ n. is_module n y) o false) (first_keyed e es keyed) ∙ ap (λ o. option_map_or (λ n. same_module n (name_in e.0)) o false) own in
-    let other : eq name e.0 ≡ false = is name e.0 ∙ sym named ∙ apart in
-    ap (λ b. cond b ((e.0, texts) ∷ es) (e ∷ insert_entry eq es name texts)) other
-    ∙ ap (λ l. e ∷ l) (insert_entry-fresh eq is es name texts rest (rest_keyed e es keyed) own (second_so (not (list_any (have_one_name t) others)) (all_differ have_one_name others) once))
 
 -- the tables of the module at an index are those that its text spells
 pub module-at : (es : List (Name × Texts)) (i : ℕ) (texts : Texts) (m : Module) → slice_get (values_of es) i ≡ Some texts → module_of texts.module.items ≡ Some m

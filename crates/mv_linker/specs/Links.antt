@@ -1,5 +1,5 @@
 -- What the modules of a store have to be to each other: rules c to g of linking.
-use Rattle.std.specs.Prelude.{ℕ, zero, suc, ◌+◌, Bool, true, false, not, ◌&&◌, ◌||◌, nat_le, IsTrue, List, [], ◌∷◌, length, Option, Some, None, Contains, slice_get}
+use Rattle.std.specs.Prelude.{ℕ, zero, suc, ◌+◌, Bool, true, false, not, ◌&&◌, ◌||◌, nat_le, IsTrue, List, [], ◌∷◌, length, Option, Contains, slice_get}
 use Rattle.std.specs.List.{list_all, list_any}
 use Rattle.std.specs.Option.{option_map_or}
 use Rattle.mv_move_types.specs.declared.tables.StructHandle.{StructHandle}
@@ -11,11 +11,14 @@ use Rattle.mv_move_types.specs.Module.{Module, StructDefinition, FunctionDefinit
 use Rattle.mv_move_types.specs.Named.{is_module, have_one_name, module_named, declared, function_place, is_public}
 use Rattle.mv_linker.specs.TypesByName.{same_signature}
 
--- c: each module that a handle names is in the store
+-- c: the module that a handle names is in the store
+abbrev pub module_is_there : List Module → Module → ℕ → Bool
+module_is_there store m h = option_map_or (λ name. list_any (is_module name) store) (module_name m h) false
+
+-- each module that a handle names is
 abbrev pub modules_are_there : List Module → Module → ℕ → Bool
 modules_are_there store m zero = true
-modules_are_there store m (suc h) =
-    option_map_or (λ name. list_any (is_module name) store) (module_name m h) false && modules_are_there store m h
+modules_are_there store m (suc h) = module_is_there store m h && modules_are_there store m h
 
 -- d: a struct handle names a struct that is there, with the same abilities
 abbrev pub struct_is_there : List Module → Module → ℕ → StructHandle → Bool
@@ -44,13 +47,14 @@ function_is_there store m handle =
     option_map_or (λ n. option_map_or (λ name. option_map_or (function_fits m handle n) (function_named n name) false) (slice_get m.identifiers handle.name) false)
     (module_name m handle.module >>= module_named store) false
 
+-- some of a module's first handles names a module
+abbrev pub names_module : Module → Module → ℕ → Bool
+names_module m n zero = false
+names_module m n (suc h) = option_map_or (λ name. is_module name n) (module_name m h) false || names_module m n h
+
 -- f: a module has a handle of another one
 abbrev pub depends_on : Module → Module → Bool
-depends_on m n = not (have_one_name m n) && names_handle m n (length m.module_handles)
-  where
-    names_handle : Module → Module → ℕ → Bool
-    names_handle m n zero = false
-    names_handle m n (suc h) = option_map_or (λ name. is_module name n) (module_name m h) false || names_handle m n h
+depends_on m n = not (have_one_name m n) && names_module m n (length m.module_handles)
 
 -- a chain of such handles leads from one module of the store to another
 pub data Reaches (store : List Module) : Module → Module → Type 0 where
@@ -69,3 +73,14 @@ pub record Links (store : List Module) : Type 0 where
   pub functions : IsTrue (list_all (λ m. list_all (function_is_there store m) m.function_handles) store)
   pub ordered : (m : Module) → Reaches store m m → ⊥
   pub small : IsTrue (list_all (λ m. list_all (struct_is_small store m) m.structs) store)
+
+-- c, d and e of a module
+abbrev pub names_hold : List Module → Module → Bool
+names_hold store m =
+    modules_are_there store m (length m.module_handles) && structs_are_there store m 0 m.struct_handles && list_all (function_is_there store m) m.function_handles
+
+-- c, d, e and g of a bundle among the modules, and f of them all
+pub record IsLinkedBundle (modules bundle : List Module) : Type 0 where
+  pub named : IsTrue (list_all (names_hold modules) bundle)
+  pub ordered : (m : Module) → Reaches modules m m → ⊥
+  pub small : IsTrue (list_all (λ m. list_all (struct_is_small modules m) m.structs) bundle)

@@ -100,7 +100,10 @@ fn entry_of(alloc: Global, new: &New<'_>) -> Result<Entry, AllocError>
     ensures value { IfOk result (λ e. e.published ≡ published_one new.now) }
     ensures passed { OnOk result (IsPublishable (published_one new.now)) }
 {
-    let Some((address, name)) = name_of(new.module.module()) else {
+    let module = new.module.module();
+    // For the prover: a module has a text.
+    module.has_text();
+    let Some((address, name)) = name_of(module) else {
         unreachable!();
     };
     Ok(Entry {

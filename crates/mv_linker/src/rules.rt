@@ -1,35 +1,53 @@
 // The rules of phase 13.
-ghost use Rattle.std.specs.Prelude.{◌≡◌, ◌↔◌, IsTrue, true, None, Some, MatchOption};
+ghost use Rattle.std.specs.Prelude.{◌≡◌, ◌↔◌, ◌+◌, ◌≤◌, All, length, IsTrue, IfOk, IfErr, OnOk};
 ghost use Rattle.std.specs.List.{list_all, list_any};
+ghost use Rattle.mv_move_types.specs.Published.{with_modules};
+ghost use Rattle.mv_move_types.specs.Refusals.{IsRefusedIn};
 ghost use Rattle.mv_bounds.specs.Definitions.{all_differ};
-ghost use Rattle.mv_linker.specs.Link.{MayJoin, tables_in, have_one_name, is_sent_by, is_new as is_fresh, stands_alone as is_alone};
+ghost use Rattle.mv_linker.specs.Link.{MayJoin, AreSentBy, IsPublishable, tables_in, have_one_name, is_sent_by};
 ghost use Rattle.mv_linker.specs.Kept.{Kept, published_in};
-ghost use Rattle.mv_linker.specs.declared.New.{New as Offered};
 ghost use Rattle.mv_linker.specs.News.{published_of};
+ghost use Rattle.mv_linker.specs.Stored.{Relinks};
 
+use crate::code::CodeAt;
 use crate::entry::Entry;
+use crate::scope::Scope;
+use crate::upgrades::all_follow;
 use crate::{New, Store};
+use mv_move_types::Refusal;
+use std::alloc::Global;
 
-/// Whether a bundle may join the store.
-pub fn may_join(s: &Store, sender: Option<u128>, added: &[Entry], new: &[New<'_>]) -> bool
-    requires { published_in added.now ≡ published_of new.now }
-    ensures { IsTrue result ↔ MayJoin sender (tables_in s.now) (tables_in (published_of new.now)) }
+/// Tries all the rules for a bundle, and links it.
+pub fn may_join(
+    alloc: Global,
+    s: &Store,
+    sender: Option<u128>,
+    added: &[Entry],
+    new: &[New<'_>],
+) -> Result<Vec<CodeAt>, Refusal>
+    requires same { published_in added.now ≡ published_of new.now }
+    requires few { length s.now + length new.now ≤ 65536 }
+    requires passed { All IsPublishable (published_of new.now) }
+    ensures ok { OnOk result (MayJoin sender (tables_in s.now) (tables_in (published_of new.now)) (tables_in (with_modules s.now (published_of new.now)))) }
+    ensures linked { IfOk result (λ v. Relinks (tables_in s.now) (tables_in (with_modules s.now (published_of new.now))) v.items) }
+    ensures refused { IfErr result (IsRefusedIn 13 (MayJoin sender (tables_in s.now) (tables_in (published_of new.now)) (tables_in (with_modules s.now (published_of new.now))))) }
 {
     if !are_sent_by(sender, added) {
-        return false;
+        return Err(Refusal::Phase(13));
     }
-    if !are_distinct(added) {
-        return false;
+    if !names_differ(added) {
+        return Err(Refusal::Phase(13));
     }
-    if !all_new(s, added) {
-        return false;
+    if !all_follow(s, new)? {
+        return Err(Refusal::Phase(13));
     }
-    all_alone(new)
+    let scope = Scope::of(alloc, s, new)?;
+    scope.links(alloc)
 }
 
 /// Whether the modules are the sender's, where one is given.
 fn are_sent_by(sender: Option<u128>, added: &[Entry]) -> bool
-    ensures { MatchOption sender (result ≡ true) (λ address. result ≡ list_all (λ (k : Kept). is_sent_by address k.published.tables) added.now) }
+    ensures { IsTrue result ↔ AreSentBy sender (tables_in (published_in added.now)) }
 {
     match sender {
         None => true,
@@ -39,9 +57,23 @@ fn are_sent_by(sender: Option<u128>, added: &[Entry]) -> bool
 
 /// Whether all the modules are the sender's.
 fn all_sent(sender: u128, added: &[Entry]) -> bool
+    ensures { result ≡ list_all (is_sent_by sender) (tables_in (published_in added.now)) }
+{
+    each_sent(sender, added)
+}
+
+/// Whether each module is the sender's.
+fn each_sent(sender: u128, added: &[Entry]) -> bool
     ensures { result ≡ list_all (λ (k : Kept). is_sent_by sender k.published.tables) added.now }
 {
     added.iter().all(|e| is_sent(sender, e))
+}
+
+/// Whether no two modules have one name.
+fn names_differ(added: &[Entry]) -> bool
+    ensures { result ≡ all_differ have_one_name (tables_in (published_in added.now)) }
+{
+    are_distinct(added)
 }
 
 /// Whether a module's address is the sender's.
@@ -74,32 +106,4 @@ fn are_distinct(added: &[Entry]) -> bool
         [] => true,
         [first, rest @ ..] => !any_has_name(first, rest) && are_distinct(rest),
     }
-}
-
-/// Whether no module of the store has the name of one of these.
-fn all_new(s: &Store, added: &[Entry]) -> bool
-    ensures { result ≡ list_all (λ (k : Kept). is_fresh (tables_in s.now) k.published.tables) added.now }
-{
-    added.iter().all(|e| is_new(s, e))
-}
-
-/// Whether no module of the store has the module's name.
-fn is_new(s: &Store, e: &Entry) -> bool
-    ensures { result ≡ is_fresh (tables_in s.now) e.now.published.tables }
-{
-    s.find(e.address(), e.name()).is_none()
-}
-
-/// Whether each module names no module but itself.
-fn all_alone(new: &[New<'_>]) -> bool
-    ensures { result ≡ list_all (λ (n : Offered). is_alone n.module) new.now }
-{
-    new.iter().all(|n| stands_alone(n))
-}
-
-/// Whether a module names no module but itself.
-fn stands_alone(n: &New<'_>) -> bool
-    ensures { result ≡ is_alone n.now.module }
-{
-    n.module.module().module_handles().len() == 1
 }

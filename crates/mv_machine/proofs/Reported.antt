@@ -1,14 +1,11 @@
 -- Worked answers and lines of the coin module, by computation.
-use Rattle.std.specs.Prelude.{◌≡◌, refl, ℕ, true, codes, List, [], ◌∷◌, Err, flat_map}
+use Rattle.std.specs.Prelude.{◌≡◌, refl, ℕ, codes, List, [], ◌∷◌, Option, Some, None, Err}
 use Rattle.mv_move_types.specs.declared.token.Width.TheVariants.{U8, U64}
 use Rattle.mv_move_types.specs.declared.token.LeafKind.TheVariants.{Number}
-use Rattle.mv_machine.specs.declared.Kind.TheVariants.{Exists as AlreadyThere}
-use Rattle.mv_machine.specs.declared.Stop.TheVariants.{Steps}
 use Rattle.mv_machine.specs.Value.{Value, Leaf}
-use Rattle.mv_machine.specs.State.{Event}
-use Rattle.mv_machine.specs.Lines.{Reply, Returned, Aborted, Exhausted, numbered, reply_text}
-use Rattle.mv_machine.specs.Ledger.{LedgerState, empty_ledger, RunRequest, AsText, AsJson, with_bundle, with_run, with_returned, Attempts, admitted, shown, audited}
-use Rattle.mv_machine.proofs.Coin.{coin_module, coin, one_coin}
+use Rattle.mv_machine.specs.Lines.{Reply, Told, reply_text}
+use Rattle.mv_machine.specs.Ledger.{LedgerState, empty_ledger, RunRequest, AsText, AsJson, with_bundle, attempted, admitted, shown, audited}
+use Rattle.mv_machine.proofs.Coin.{coin_module}
 use Rattle.mv_machine.proofs.Computed.{computed}
 
 abbrev pub with_coin : LedgerState
@@ -17,57 +14,51 @@ with_coin = with_bundle empty_ledger (record { text = []; certificate = []; tabl
 abbrev pub mint_by : List Value → ℕ → RunRequest
 mint_by arguments budget = record { sender = 1; home = record { address = 1; name = codes "M" }; function = codes "mint"; budget = budget; arguments = arguments }
 
--- the ledger may answer this to a run, and go on to the other
-abbrev pub AnswersRun : LedgerState → RunRequest → Reply → LedgerState → Type 0
-AnswersRun old r reply new = Attempts old r.budget (admitted old r) reply new
+-- the answer to a run, if it meets no fault
+abbrev pub answer : LedgerState → RunRequest → Option (Reply × LedgerState)
+answer s r = attempted s r.budget (admitted s r)
+
+-- the text of an answer
+abbrev said : ℕ → Option (Reply × LedgerState) → List ℕ
+said n None = codes "fault"
+said n (Some (reply, s)) = reply_text n reply
+
+-- the ledger after an answer
+abbrev pub after : Option (Reply × LedgerState) → LedgerState
+after None = empty_ledger
+after (Some (reply, s)) = s
 
 abbrev pub seven : List Value
 seven = Leaf (Number U64) 7 ∷ []
 
--- the one event of mint
-abbrev packed : List Event
-packed = record { is_pack = true; struct = coin; by = coin.home } ∷ []
-
 abbrev pub minted : LedgerState
-minted = with_returned with_coin one_coin packed
+minted = after (answer with_coin (mint_by seven 100))
 
-first_mint : AnswersRun with_coin (mint_by seven 100) (Returned 5) minted
+first_mint : said 2 (answer with_coin (mint_by seven 100)) ≡ codes "2 returned 5\n"
 unfolding computed
-first_mint = (refl, refl)
+first_mint = refl
 
-second_mint : AnswersRun minted (mint_by seven 100) (Aborted AlreadyThere 0 4) (with_run minted)
+second_mint : said 5 (answer minted (mint_by seven 100)) ≡ codes "5 aborted exists 0 4\n"
 unfolding computed
-second_mint = (refl, refl)
+second_mint = refl
 
-out_of_steps : AnswersRun with_coin (mint_by seven 4) (Exhausted Steps 4) (with_run with_coin)
+out_of_steps : said 3 (answer with_coin (mint_by seven 4)) ≡ codes "3 exhausted steps 4\n"
 unfolding computed
-out_of_steps = (refl, refl)
+out_of_steps = refl
 
-first_line : reply_text 2 (Returned 5) ≡ codes "2 returned 5\n"
-unfolding computed
-first_line = refl
-
-second_line : reply_text 5 (Aborted AlreadyThere 0 4) ≡ codes "5 aborted exists 0 4\n"
-unfolding computed
-second_line = refl
-
-third_line : reply_text 3 (Exhausted Steps 4) ≡ codes "3 exhausted steps 4\n"
-unfolding computed
-third_line = refl
-
-audit_text : flat_map (numbered 3) (audited minted AsText) ≡ codes "3 count 00000000000000000000000000000001::M::Coin stored 1 packed 1 unpacked 0\n3 end 1\n"
+audit_text : reply_text 3 (Told (audited minted AsText)) ≡ codes "3 count 00000000000000000000000000000001::M::Coin stored 1 packed 1 unpacked 0\n3 end 1\n"
 unfolding computed
 audit_text = refl
 
-show_text : flat_map (numbered 4) (shown minted AsText) ≡ codes "4 at 00000000000000000000000000000001 00000000000000000000000000000001::M::Coin {7}\n4 end 1\n"
+show_text : reply_text 4 (Told (shown minted AsText)) ≡ codes "4 at 00000000000000000000000000000001 00000000000000000000000000000001::M::Coin {7}\n4 end 1\n"
 unfolding computed
 show_text = refl
 
-audit_json : flat_map (numbered 5) (audited minted AsJson) ≡ codes "5 json {\"audit\":[{\"packed\":\"1\",\"stored\":\"1\",\"struct\":\"00000000000000000000000000000001::M::Coin\",\"unpacked\":\"0\"}]}\n"
+audit_json : reply_text 5 (Told (audited minted AsJson)) ≡ codes "5 json {\"audit\":[{\"packed\":\"1\",\"stored\":\"1\",\"struct\":\"00000000000000000000000000000001::M::Coin\",\"unpacked\":\"0\"}]}\n"
 unfolding computed
 audit_json = refl
 
-show_json : flat_map (numbered 6) (shown minted AsJson) ≡ codes "6 json {\"show\":[{\"address\":\"00000000000000000000000000000001\",\"struct\":\"00000000000000000000000000000001::M::Coin\",\"value\":\"{7}\"}]}\n"
+show_json : reply_text 6 (Told (shown minted AsJson)) ≡ codes "6 json {\"show\":[{\"address\":\"00000000000000000000000000000001\",\"struct\":\"00000000000000000000000000000001::M::Coin\",\"value\":\"{7}\"}]}\n"
 unfolding computed
 show_json = refl
 

@@ -1,8 +1,8 @@
 -- The ledger's state, its requests, and what each request changes and answers.
-use Rattle.std.specs.Prelude.{ℕ, List, [], map, ◌||◌, cond, Option, None, flat_map, filter_map, find, unwrap_or, Bool, false, ◌∷◌, ◌≡◌, true, ◌&&◌, ◌^◌, nat_lt, nat_le, Result, Ok, ok_or, slice_get, ◌+◌, Err, length, ◌++◌}
+use Rattle.std.specs.Prelude.{ℕ, List, [], map, ◌||◌, cond, Option, Some, None, flat_map, filter_map, find, unwrap_or, Bool, false, ◌∷◌, ◌≡◌, true, ◌&&◌, ◌^◌, nat_lt, nat_le, Result, Ok, ok_or, slice_get, ◌+◌, Err, length}
 use Rattle.std.specs.Option.{option_map_or}
 use Rattle.mv_machine.specs.State.{Storage, Event}
-use Rattle.mv_machine.specs.Lines.{Tallied, Reply, Returned as RanToEnd, Aborted as RanToAbort, Exhausted as RanOut, Rejected, Published, Refused, show_lines, audit_lines, show_json, audit_json}
+use Rattle.mv_machine.specs.Lines.{Tallied, Reply, Returned as RanToEnd, Aborted as RanToAbort, Exhausted as RanOut, Rejected, Published, Refused, Told, show_lines, audit_lines, show_json, audit_json}
 pub use Rattle.mv_move_types.specs.Published.{PublishedModule, has_name_of, with_module, with_modules}
 use Rattle.mv_move_types.specs.Module.{Module, StructDefinition, name_of_struct, struct_abilities, parameter_tokens}
 use Rattle.mv_move_types.specs.Names.{ModuleName, StructName, same_struct}
@@ -53,6 +53,8 @@ pub data Format : Type 0 where
 pub data Request : Type 0 where
   Publish : (sender : ℕ) (offers : List Offer) → Request
   Run : (run : RunRequest) → Request
+  Show : (format : Format) → Request
+  Audit : (format : Format) → Request
   BadRun : Request
   Bad : Request
 
@@ -72,13 +74,11 @@ untouched_tally s = record { struct = s; packs = 0; unpacks = 0 }
 abbrev pub tally_of : List Tallied → StructName → Tallied
 tally_of tallies s = unwrap_or (find (λ t. same_struct t.struct s) tallies) (untouched_tally s)
 
--- the ledger after a bundle: its modules stand after those that were there, and their structs have empty tallies
+-- the ledger after a bundle: a module takes the place of the one of its name or the last place, and a struct that is new has an empty tally
 abbrev pub with_bundle : LedgerState → List PublishedModule → LedgerState
 with_bundle s bundle =
-    record s {
-      published = s.published ++ bundle;
-      tallies = s.tallies ++ map untouched_tally (scarce_structs (map (λ p. p.tables) bundle));
-    }
+    let published = with_modules s.published bundle in
+    record s { published = published; tallies = map (tally_of s.tallies) (scarce_structs (map (λ p. p.tables) published)) }
 
 -- these are the offered modules, read from their texts
 abbrev pub AreRead : (List ℕ → Module → Type 0) → List Offer → List PublishedModule → Type 0
@@ -131,18 +131,17 @@ with_run s = record s { runs = s.runs + 1 }
 abbrev pub with_returned : LedgerState → Storage → List Event → LedgerState
 with_returned s storage events = record (with_run s) { storage = storage; tallies = map (tally_with events) s.tallies }
 
--- The reply to a run with this outcome, and the ledger after it. Of a run that meets a fault no more is said than
--- that it counts as one and publishes nothing.
-abbrev pub Settles : LedgerState → RunOutcome → Reply → LedgerState → Type 0
-Settles old (Returned steps storage events) reply new = (reply ≡ RanToEnd steps) × (new ≡ with_returned old storage events)
-Settles old (Aborted kind number steps) reply new = (reply ≡ RanToAbort kind number steps) × (new ≡ with_run old)
-Settles old (Exhausted stop steps) reply new = (reply ≡ RanOut stop steps) × (new ≡ with_run old)
-Settles old (Faulted fault steps) reply new = (new.published ≡ old.published) × (new.runs ≡ old.runs + 1)
+-- the reply to a run with this outcome, and the ledger after it; a fault has none
+abbrev pub settled : LedgerState → RunOutcome → Option (Reply × LedgerState)
+settled s (Returned steps storage events) = Some (RanToEnd steps, with_returned s storage events)
+settled s (Aborted kind number steps) = Some (RanToAbort kind number steps, with_run s)
+settled s (Exhausted stop steps) = Some (RanOut stop steps, with_run s)
+settled s (Faulted fault steps) = None
 
 -- the reply to a run, which is rejected where there is a reason against it
-abbrev pub Attempts : LedgerState → ℕ → Result FunctionCall ℕ → Reply → LedgerState → Type 0
-Attempts old budget (Ok call) reply new = Settles old (run (modules_of old) old.storage call budget) reply new
-Attempts old budget (Err reason) reply new = (reply ≡ Rejected reason) × (new ≡ old)
+abbrev pub attempted : LedgerState → ℕ → Result FunctionCall ℕ → Option (Reply × LedgerState)
+attempted s budget (Ok call) = settled s (run (modules_of s) s.storage call budget)
+attempted s budget (Err reason) = Some (Rejected reason, s)
 
 -- the lines of a show
 abbrev pub shown : LedgerState → Format → List (List ℕ)
@@ -164,6 +163,8 @@ AnswersPublish IsText old offers _ new = ⊥
 -- the ledger may give this reply to the request and go on to new; only a bundle leaves it a choice
 abbrev pub Answers : (List ℕ → Module → Type 0) → LedgerState → Request → Reply → LedgerState → Type 0
 Answers IsText old (Publish sender offers) reply new = AnswersPublish IsText old offers reply new
-Answers IsText old (Run r) reply new = Attempts old r.budget (admitted old r) reply new
+Answers IsText old (Run r) reply new = attempted old r.budget (admitted old r) ≡ Some (reply, new)
+Answers IsText old (Show format) reply new = (reply ≡ Told (shown old format)) × (new ≡ old)
+Answers IsText old (Audit format) reply new = (reply ≡ Told (audited old format)) × (new ≡ old)
 Answers IsText old BadRun reply new = (reply ≡ Rejected 1) × (new ≡ old)
 Answers IsText old Bad reply new = (reply ≡ Refused 1) × (new ≡ old)

@@ -133,7 +133,7 @@ pub data Reply : Type 0 where
   Returned : (steps : ℕ) → Reply
   Aborted : (kind : Kind) (number steps : ℕ) → Reply
   Exhausted : (stop : Stop) (steps : ℕ) → Reply
-  Broken : Reply
+  Told : (lines : List (List ℕ)) → Reply
 
 -- why a run aborted
 abbrev pub kind_text : Kind → List ℕ
@@ -156,7 +156,7 @@ reply_lines (Returned steps) = (codes "returned " ++ decimal steps) ∷ []
 reply_lines (Aborted kind n steps) =
     (codes "aborted " ++ kind_text kind ++ codes " " ++ decimal n ++ codes " " ++ decimal steps) ∷ []
 reply_lines (Exhausted stop steps) = (codes "exhausted " ++ stop_text stop ++ codes " " ++ decimal steps) ∷ []
-reply_lines Broken = codes "broken" ∷ []
+reply_lines (Told lines) = lines
 
 -- a line of the report: the record's number, a blank, the text and a line end
 abbrev pub numbered : ℕ → List ℕ → List ℕ

@@ -2,4 +2,3 @@ pub mod Keys
 pub mod Maps
 pub mod Shown
 pub mod Steps
-pub mod Trees

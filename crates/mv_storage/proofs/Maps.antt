@@ -3,7 +3,8 @@ use Rattle.std.proofs.Common.{◌≡◌, ℕ, refl, sym, ap, ◌∙◌, Bool, tr
 use Rattle.mv_move_types.specs.declared.tables.Key.{Key}
 use Rattle.mv_machine.specs.State.{key_before, same_key}
 use Rattle.mv_machine.specs.Flat.{FlatEntry}
-use Rattle.mv_storage.specs.Map.{words_at, with_words, without_words, IsBelow, Ascends}
+use Rattle.mv_storage.specs.FlatStorage.{words_under, with_words, without_words}
+use Rattle.mv_storage.specs.Map.{IsBelow, Ascends}
 use Rattle.mv_storage.proofs.Keys.{same_key-refl, same_key-to, same_key-symm, before-apart, before-trans, keys_compare}
 
 -- a test is true or false
@@ -12,14 +13,14 @@ bool_cases true = inl refl
 bool_cases false = inr refl
 
 -- equal keys have the same words
-pub words_at-same : (es : List FlatEntry) (k q : Key) → same_key k q ≡ true → words_at es q ≡ words_at es k
-words_at-same es k q e = ap (words_at es) (sym (same_key-to k q e))
+pub words_under-same : (es : List FlatEntry) (k q : Key) → same_key k q ≡ true → words_under es q ≡ words_under es k
+words_under-same es k q e = ap (words_under es) (sym (same_key-to k q e))
 
 -- ---- what a change leaves at each key
 
-pub words_at-with_words : (es : List FlatEntry) (k : Key) (w : List ℕ) (q : Key) → words_at (with_words es k w) q ≡ cond (same_key k q) (Some w) (words_at es q)
-words_at-with_words [] k w q = refl
-words_at-with_words (e ∷ es) k w q =
+pub words_under-with_words : (es : List FlatEntry) (k : Key) (w : List ℕ) (q : Key) → words_under (with_words es k w) q ≡ cond (same_key k q) (Some w) (words_under es q)
+words_under-with_words [] k w q = refl
+words_under-with_words (e ∷ es) k w q =
     ⊎_elim
     (λ (here : same_key e.key k ≡ true). rw here (
     let one : e.key ≡ k = same_key-to e.key k here in
@@ -27,7 +28,7 @@ words_at-with_words (e ∷ es) k w q =
     (λ (apart : same_key e.key k ≡ false). rw apart (
     ⊎_elim (λ (t : key_before k e.key ≡ true). rw t refl)
     (λ (f : key_before k e.key ≡ false). rw f (
-    rw (words_at-with_words es k w q) (
+    rw (words_under-with_words es k w q) (
     ⊎_elim
     (λ (t : same_key k q ≡ true). let off : same_key e.key q ≡ false = ap (same_key e.key) (sym (same_key-to k q t)) ∙ apart in rw (t, off) refl)
     (λ (f : same_key k q ≡ false). rw f refl) (bool_cases (same_key k q)))))
@@ -35,27 +36,27 @@ words_at-with_words (e ∷ es) k w q =
     (bool_cases (same_key e.key k))
 
 -- a key before the first has no words
-pub words_at-below : (es : List FlatEntry) (k : Key) → IsBelow k es → Ascends es → words_at es k ≡ None
-words_at-below [] k b s = refl
-words_at-below (e ∷ es) k b s =
-    rw (same_key-symm e.key k, before-apart k e.key b) (words_at-below es k (below es s.0) s.1)
+pub words_under-below : (es : List FlatEntry) (k : Key) → IsBelow k es → Ascends es → words_under es k ≡ None
+words_under-below [] k b s = refl
+words_under-below (e ∷ es) k b s =
+    rw (same_key-symm e.key k, before-apart k e.key b) (words_under-below es k (below es s.0) s.1)
   where
     below : (es : List FlatEntry) → IsBelow e.key es → IsBelow k es
     below [] h = tt
     below (f ∷ fs) h = before-trans k e.key f.key b h
 
-pub words_at-without_words : (es : List FlatEntry) (k q : Key) → Ascends es → words_at (without_words es k) q ≡ cond (same_key k q) None (words_at es q)
-words_at-without_words [] k q s =
+pub words_under-without_words : (es : List FlatEntry) (k q : Key) → Ascends es → words_under (without_words es k) q ≡ cond (same_key k q) None (words_under es q)
+words_under-without_words [] k q s =
     ⊎_elim (λ (t : same_key k q ≡ true). rw t refl) (λ (f : same_key k q ≡ false). rw f refl) (bool_cases (same_key k q))
-words_at-without_words (e ∷ es) k q s =
+words_under-without_words (e ∷ es) k q s =
     ⊎_elim
     (λ (here : same_key e.key k ≡ true). rw here (
     let one : e.key ≡ k = same_key-to e.key k here in
     ⊎_elim
-    (λ (t : same_key k q ≡ true). rw t (words_at-same es k q t ∙ words_at-below es k (subst (λ (x : Key). IsBelow x es) one s.0) s.1))
+    (λ (t : same_key k q ≡ true). rw t (words_under-same es k q t ∙ words_under-below es k (subst (λ (x : Key). IsBelow x es) one s.0) s.1))
     (λ (f : same_key k q ≡ false). rw (one, f) refl) (bool_cases (same_key k q))))
     (λ (apart : same_key e.key k ≡ false). rw apart (
-    rw (words_at-without_words es k q s.1) (
+    rw (words_under-without_words es k q s.1) (
     ⊎_elim
     (λ (t : same_key k q ≡ true). let off : same_key e.key q ≡ false = ap (same_key e.key) (sym (same_key-to k q t)) ∙ apart in rw (t, off) refl)
     (λ (f : same_key k q ≡ false). rw f refl) (bool_cases (same_key k q)))))
@@ -110,39 +111,39 @@ Ascends-without_words (e ∷ es) k s =
 
 -- ---- entries with the same words at each key are the same
 
-words_at-head : (e : FlatEntry) (es : List FlatEntry) → words_at (e ∷ es) e.key ≡ Some e.words
-words_at-head e es = rw (same_key-refl e.key) refl
+words_under-head : (e : FlatEntry) (es : List FlatEntry) → words_under (e ∷ es) e.key ≡ Some e.words
+words_under-head e es = rw (same_key-refl e.key) refl
 
 tail-words : (x : FlatEntry) (xs : List FlatEntry) (y : FlatEntry) (ys : List FlatEntry) (q : Key) → x.key ≡ y.key → Ascends (x ∷ xs) → Ascends (y ∷ ys)
-    → words_at (x ∷ xs) q ≡ words_at (y ∷ ys) q → words_at xs q ≡ words_at ys q
+    → words_under (x ∷ xs) q ≡ words_under (y ∷ ys) q → words_under xs q ≡ words_under ys q
 tail-words x xs y ys q one s t h =
     ⊎_elim
     (λ (at : same_key x.key q ≡ true).
-    words_at-same xs x.key q at ∙ words_at-below xs x.key s.0 s.1 ∙ sym (words_at-same ys y.key q (ap (λ k. same_key k q) (sym one) ∙ at) ∙ words_at-below ys y.key t.0 t.1))
+    words_under-same xs x.key q at ∙ words_under-below xs x.key s.0 s.1 ∙ sym (words_under-same ys y.key q (ap (λ k. same_key k q) (sym one) ∙ at) ∙ words_under-below ys y.key t.0 t.1))
     (λ (off : same_key x.key q ≡ false).
     let other : same_key y.key q ≡ false = ap (λ k. same_key k q) (sym one) ∙ off in
-    let left : words_at (x ∷ xs) q ≡ words_at xs q = rw off refl in
-    let right : words_at (y ∷ ys) q ≡ words_at ys q = rw other refl in
+    let left : words_under (x ∷ xs) q ≡ words_under xs q = rw off refl in
+    let right : words_under (y ∷ ys) q ≡ words_under ys q = rw other refl in
     sym left ∙ h ∙ right)
     (bool_cases (same_key x.key q))
 
-pub entries_from_words : (xs ys : List FlatEntry) → Ascends xs → Ascends ys → ((q : Key) → words_at xs q ≡ words_at ys q) → xs ≡ ys
+pub entries_from_words : (xs ys : List FlatEntry) → Ascends xs → Ascends ys → ((q : Key) → words_under xs q ≡ words_under ys q) → xs ≡ ys
 entries_from_words [] [] s t h = refl
-entries_from_words [] (y ∷ ys) s t h = let e : words_at [] y.key ≡ Some y.words = h y.key ∙ words_at-head y ys in cc
-entries_from_words (x ∷ xs) [] s t h = let e : None ≡ Some x.words = sym (h x.key) ∙ words_at-head x xs in cc
+entries_from_words [] (y ∷ ys) s t h = let e : words_under [] y.key ≡ Some y.words = h y.key ∙ words_under-head y ys in cc
+entries_from_words (x ∷ xs) [] s t h = let e : None ≡ Some x.words = sym (h x.key) ∙ words_under-head x xs in cc
 entries_from_words (x ∷ xs) (y ∷ ys) s t h =
     ⊎_elim
     (λ (same : same_key x.key y.key ≡ true).
     let one : x.key ≡ y.key = same_key-to x.key y.key same in
-    let words : Some x.words ≡ Some y.words = sym (words_at-head x xs) ∙ ap (words_at (x ∷ xs)) one ∙ h y.key ∙ words_at-head y ys in
+    let words : Some x.words ≡ Some y.words = sym (words_under-head x xs) ∙ ap (words_under (x ∷ xs)) one ∙ h y.key ∙ words_under-head y ys in
     let first : x ≡ y = entry-same x y one words in
     let rest : xs ≡ ys = entries_from_words xs ys s.1 t.1 (λ q. tail-words x xs y ys q one s t (h q)) in
     cc)
     (⊎_elim
     (λ (before : key_before x.key y.key ≡ true).
-    let e : Some x.words ≡ None = sym (words_at-head x xs) ∙ h x.key ∙ words_at-below (y ∷ ys) x.key before t in cc)
+    let e : Some x.words ≡ None = sym (words_under-head x xs) ∙ h x.key ∙ words_under-below (y ∷ ys) x.key before t in cc)
     (λ (before : key_before y.key x.key ≡ true).
-    let e : Some y.words ≡ None = sym (words_at-head y ys) ∙ sym (h y.key) ∙ words_at-below (x ∷ xs) y.key before s in cc))
+    let e : Some y.words ≡ None = sym (words_under-head y ys) ∙ sym (h y.key) ∙ words_under-below (x ∷ xs) y.key before s in cc))
     (keys_compare x.key y.key)
   where
     entry-same : (x y : FlatEntry) → x.key ≡ y.key → Some x.words ≡ Some y.words → x ≡ y

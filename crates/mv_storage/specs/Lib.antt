@@ -1,4 +1,5 @@
 pub mod Words
+pub mod WordLists
+pub mod FlatStorage
 pub mod Map
 pub mod Slots
-pub mod FlatStorage

@@ -1,37 +1,27 @@
--- Storage as entries by ascending key, each a value's words.
-use Rattle.std.specs.Prelude.{ℕ, List, [], ◌∷◌, true, ◌≡◌, cond, Option, Some, None}
+-- The storage in order, and what a run sees of it.
+use Rattle.std.specs.Prelude.{ℕ, List, [], ◌∷◌, true, ◌≡◌}
+use Rattle.std.specs.Option.{option_and_then, option_map_or}
 use Rattle.mv_move_types.specs.declared.tables.Key.{Key}
-use Rattle.mv_machine.specs.State.{key_before, same_key}
-use Rattle.mv_machine.specs.Flat.{FlatEntry}
-
--- the words under a key
-abbrev pub words_at : List FlatEntry → Key → Option (List ℕ)
-words_at [] key = None
-words_at (e ∷ es) key = cond (same_key e.key key) (Some e.words) (words_at es key)
-
--- the entries with these words under the key, in place of what was there
-abbrev pub with_words : List FlatEntry → Key → List ℕ → List FlatEntry
-with_words [] key words = record { key = key; words = words } ∷ []
-with_words (e ∷ es) key words =
-    cond (same_key e.key key) (record { key = key; words = words } ∷ es)
-    (cond (key_before key e.key) (record { key = key; words = words } ∷ e ∷ es) (e ∷ with_words es key words))
-
--- the entries with nothing under the key
-abbrev pub without_words : List FlatEntry → Key → List FlatEntry
-without_words [] key = []
-without_words (e ∷ es) key = cond (same_key e.key key) es (e ∷ without_words es key)
+use Rattle.mv_machine.specs.State.{key_before}
+use Rattle.mv_storage.specs.FlatStorage.{FlatStorage, words_under, with_words}
+use Rattle.mv_storage.specs.WordLists.{spliced}
 
 -- the key comes before the first entry's
-abbrev pub IsBelow : Key → List FlatEntry → Type 0
+abbrev pub IsBelow : Key → FlatStorage → Type 0
 IsBelow key [] = Unit {0}
 IsBelow key (e ∷ es) = key_before key e.key ≡ true
 
 -- the keys ascend, and none stands twice
-abbrev pub Ascends : List FlatEntry → Type 0
+abbrev pub Ascends : FlatStorage → Type 0
 Ascends [] = Unit {0}
 Ascends (e ∷ es) = IsBelow e.key es × Ascends es
 
+-- the storage with these words in place of as many under a key, if they are there
+abbrev pub overwritten : FlatStorage → Key → ℕ → List ℕ → FlatStorage
+overwritten storage key from words =
+    option_map_or (with_words storage key) (option_and_then (spliced from words) (words_under storage key)) storage
+
 -- what a run sees: the storage as it was before the run, and as it is by now
 pub record Layers : Type 0 where
-  pub committed : List FlatEntry
-  pub current : List FlatEntry
+  pub committed : FlatStorage
+  pub current : FlatStorage

@@ -1,6 +1,7 @@
 //! Storage of values under keys, and an overlay in which a run changes it before the changes are kept or given up.
 #![tactic(auto)]
 
+mod entries;
 mod overlay;
 mod slot;
 mod slots;
@@ -8,5 +9,6 @@ mod slots;
 mod tests;
 mod value;
 
+pub use entries::Entries;
 pub use overlay::{Overlay, Storage};
 pub use value::Value;

@@ -1,11 +1,14 @@
 // Storage, and what a run sees of it.
-ghost use Rattle.std.specs.Prelude.{◌≡◌, [], None, is_some, IfOk, OnOk, OnErr, option_copied};
-ghost use Rattle.mv_storage.specs.Map.{words_at, with_words, without_words, Ascends};
+ghost use Rattle.std.specs.Prelude.{◌≡◌, ◌<◌, ◌^◌, length, [], None, is_some, not, cond, IfOk, OnOk, OnErr, MatchOption, option_copied, option_and_then};
+ghost use Rattle.mv_move_types.specs.declared.tables.Key.{Key};
+ghost use Rattle.mv_storage.specs.WordLists.{piece, spliced};
+ghost use Rattle.mv_storage.specs.FlatStorage.{words_under, with_words, without_words};
+ghost use Rattle.mv_storage.specs.Map.{overwritten, Ascends};
 ghost use Rattle.mv_storage.specs.Slots.{seen};
 
-use crate::Value;
 use crate::slot::{Layer, Slot};
-use crate::slots::{put_into, settle, take_from};
+use crate::slots::{edit_in, put_into, settle, take_from};
+use crate::{Entries, Value};
 use mv_move_types::Key;
 use std::alloc::{AllocError, Global};
 use std::collections::BTreeMap;
@@ -20,10 +23,9 @@ pub struct Storage {
 }
 
 impl Model for Storage {
-    ghost use Rattle.std.specs.Prelude.{List};
-    ghost use Rattle.mv_machine.specs.Flat.{FlatEntry};
+    ghost use Rattle.mv_storage.specs.FlatStorage.{FlatStorage};
 
-    ghost Value = { List FlatEntry };
+    ghost Value = { FlatStorage };
 
     ghost use Rattle.mv_storage.specs.Slots.{shown, IsSettled};
     ghost use Rattle.mv_storage.specs.declared.slot.Layer.TheVariants.{Committed};
@@ -45,13 +47,23 @@ impl Storage {
         }
     }
 
-    /// The value under a key.
-    pub fn get(&self, key: &Key) -> Option<&Value>
-        ensures { option_copied result ≡ words_at self.now key.now }
+    /// The words under a key.
+    pub fn get(&self, key: &Key) -> Option<&[u128]>
+        ensures { option_copied result ≡ words_under self.now key.now }
     {
         match self.slots.get(key) {
             Some(slot) => slot.committed(),
             None => None,
+        }
+    }
+
+    /// The committed values by ascending key.
+    pub fn iter(&self) -> Entries<'_>
+        ensures value { result ≡ self.entry.now }
+        ensures few { length self.entry.now < 2 ^ 63 }
+    {
+        Entries {
+            slots: self.slots.iter(),
         }
     }
 
@@ -69,7 +81,8 @@ impl Storage {
     }
 }
 
-/// Storage that a run changes: a contract sees what is committed, and what the run has made of it by now.
+/// Storage that a run changes: a contract sees what is committed, and what the run has made of it by now. What a call costs
+/// grows with the storage only as a search in it does.
 #[derive(Drop)]
 pub struct Overlay {
     slots: BTreeMap<Key, Slot>,
@@ -97,17 +110,72 @@ impl Overlay {
 
     /// Whether the run sees a value under a key.
     pub fn exists(&self, key: &Key) -> bool
-        ensures { result ≡ is_some (words_at self.now.current key.now) }
+        ensures { result ≡ is_some (words_under self.now.current key.now) }
+    {
+        self.find(key).is_some()
+    }
+
+    // The words that the run sees under a key.
+    fn find(&self, key: &Key) -> Option<&[u128]>
+        ensures { option_copied result ≡ words_under self.now.current key.now }
     {
         match self.slots.get(key) {
-            Some(slot) => slot.is_there(),
-            None => false,
+            Some(slot) => slot.current(),
+            None => None,
         }
+    }
+
+    /// The key of an address, a module's place and a definition's index, if it can be the key of a stored value.
+    pub fn key_at(&self, address: u128, place: u128, index: u16) -> Option<Key>
+        ensures { MatchOption result
+            (words_under self.now.current (record { address = address; place = place; index = index }) ≡ None)
+            (λ k. k ≡ record { address = address; place = place; index = index }) }
+    {
+        let _ = &self.slots;
+        if place > u16::MAX as u128 {
+            return None;
+        }
+        Some(Key {
+            address,
+            place: place as u16,
+            index,
+        })
+    }
+
+    /// So many words from a place on, of those that the run sees under a key; None where nothing is stored there, or not so
+    /// many words.
+    pub fn view(&self, key: &Key, from: usize, width: usize) -> Option<&[u128]>
+        ensures { option_copied result ≡ option_and_then (piece from width) (words_under self.now.current key.now) }
+    {
+        let words = self.find(key)?;
+        if from > words.len() || width > words.len() - from {
+            return None;
+        }
+        Some(&words[from..from + width])
+    }
+
+    /// Puts words in place of as many from a place on, of those that the run sees under a key, and says whether so many were
+    /// there; nothing changes where they were not. The first edit of a committed value copies it. It fails only where memory
+    /// runs out, and nothing changes then.
+    pub fn edit(&mut self, key: &Key, from: usize, new: &[u128]) -> Result<bool, AllocError>
+        ensures done { IfOk result (λ done. done ≡ is_some (option_and_then (spliced from new.now) (words_under self.old.current key.now))) }
+        ensures current { OnOk result (self.new.current ≡ overwritten self.old.current key.now from new.now) }
+        ensures committed { self.new.committed ≡ self.old.committed }
+        ensures err { OnErr result (self.new ≡ self.old) }
+    {
+        edit_in(
+            &mut self.slots,
+            &mut self.touched,
+            key,
+            from,
+            new,
+            self.alloc,
+        )
     }
 
     /// Takes the value under a key out of what the run sees. It fails only where memory runs out, and nothing changes then.
     pub fn take(&mut self, key: &Key) -> Result<Option<Value>, AllocError>
-        ensures value { IfOk result (λ v. v ≡ words_at self.old.current key.now) }
+        ensures value { IfOk result (λ v. v ≡ words_under self.old.current key.now) }
         ensures current { OnOk result (self.new.current ≡ without_words self.old.current key.now) }
         ensures committed { self.new.committed ≡ self.old.committed }
         ensures err { OnErr result (self.new ≡ self.old) }
@@ -115,14 +183,15 @@ impl Overlay {
         take_from(&mut self.slots, &mut self.touched, key, self.alloc)
     }
 
-    /// Puts a value under a key where the run sees none. It fails only where memory runs out, and nothing changes then.
-    pub fn put(&mut self, key: Key, value: Value) -> Result<(), AllocError>
-        requires { words_at self.old.current key ≡ None }
-        ensures current { OnOk result (self.new.current ≡ with_words self.old.current key value) }
+    /// Puts a value under a key where the run sees none, and says whether it did; nothing changes where it did not. It fails
+    /// only where memory runs out, and nothing changes then.
+    pub fn put(&mut self, key: Key, value: Value) -> Result<bool, AllocError>
+        ensures done { IfOk result (λ done. done ≡ not (is_some (words_under self.old.current key))) }
+        ensures current { IfOk result (λ done. self.new.current ≡ cond done (with_words self.old.current key value) self.old.current) }
         ensures committed { self.new.committed ≡ self.old.committed }
         ensures err { OnErr result (self.new ≡ self.old) }
     {
-        put_into(&mut self.slots, &mut self.touched, key, value)
+        put_into(&mut self.slots, &mut self.touched, key, value, self.alloc)
     }
 
     // The storage that holds one layer.

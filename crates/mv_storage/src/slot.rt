@@ -1,20 +1,15 @@
-// What stands under a key: the value that is committed, and what the run at work has made of it.
-ghost use Rattle.std.specs.Prelude.{◌≡◌, None, Some, is_some, not, IfOk, OnOk, OnErr, option_copied};
-ghost use Rattle.mv_storage.specs.Slots.{of_layer, is_change};
+// What stands under a key: a value that the run at work has left alone, or the committed one and what the run has made of it.
+ghost use Rattle.std.specs.Prelude.{◌≡◌, cond, None, Some, true, false, not, is_some, option_copied, option_and_then, IfOk, OnOk, OnErr};
+ghost use Rattle.mv_storage.specs.Slots.{version, of_layer, is_change, edited};
+ghost use Rattle.mv_storage.specs.WordLists.{spliced};
+ghost use Rattle.mv_storage.specs.declared.slot.Layer.{Layer};
 ghost use Rattle.mv_storage.specs.declared.slot.Layer.TheVariants.{Committed, Current};
-ghost use Rattle.mv_storage.specs.declared.slot.Change.TheVariants.{Kept, Removed, Written};
 
 use crate::Value;
+use crate::value::Words;
 use std::alloc::{AllocError, Global};
-use std::mem;
-
-// What a run has made of the committed value.
-#[derive(Drop)]
-pub(crate) enum Change {
-    Kept,
-    Removed,
-    Written(Value),
-}
+use std::mem::{replace, size_of};
+use std::slice;
 
 // The value before a run's changes, or with them.
 #[derive(Clone, Copy)]
@@ -23,83 +18,208 @@ pub(crate) enum Layer {
     Current,
 }
 
+// A value before a run's changes and with them, each if it is there.
 #[derive(Drop)]
-pub(crate) struct Slot {
+pub(crate) struct Versions {
     pub(crate) committed: Option<Value>,
-    pub(crate) change: Change,
+    pub(crate) current: Option<Value>,
 }
 
-impl Slot {
-    // A slot for a value that the run has put where nothing was.
-    pub(crate) fn written(value: Value) -> Self
-        ensures { result ≡ record { committed = None; change = Written value } }
+impl Versions {
+    // Takes one version out.
+    fn take(&mut self, layer: Layer) -> Option<Value>
+        ensures value { result ≡ version layer self.old }
+        ensures gone { version layer self.new ≡ None }
     {
-        Slot {
-            committed: None,
-            change: Change::Written(value),
+        match layer {
+            Layer::Committed => self.committed.take(),
+            Layer::Current => self.current.take(),
         }
+    }
+}
+
+// A value that the run has left alone, with one leaf in place, or both versions of one that it has changed.
+#[derive(Drop)]
+pub(crate) enum Slot {
+    One(u128),
+    Many(Vec<u128>),
+    Changed(Box<Versions>),
+}
+
+const _: () = prove!(size_of::<Slot>() == 32);
+
+impl Slot {
+    // A value that no run has changed.
+    fn kept(value: Value) -> Self
+        ensures value { (layer : Layer) → of_layer layer result ≡ Some value }
+        ensures kept { is_change result ≡ false }
+    {
+        match value.into_words() {
+            Words::One(word) => Slot::One(word),
+            Words::Many(words) => Slot::Many(words),
+        }
+    }
+
+    // A value that the run has put where nothing was. It fails only where memory runs out.
+    pub(crate) fn written(value: Value, alloc: Global) -> Result<Self, AllocError>
+        ensures current { IfOk result (λ s. of_layer Current s ≡ Some value) }
+        ensures committed { IfOk result (λ s. of_layer Committed s ≡ None) }
+    {
+        let versions = Versions {
+            committed: None,
+            current: Some(value),
+        };
+        Ok(Slot::Changed(Box::new(alloc, versions)?))
     }
 
     // Whether the run has left it alone.
     pub(crate) fn is_kept(&self) -> bool
-        ensures { result ≡ not (is_change self.now.change) }
+        ensures { result ≡ not (is_change self.now) }
     {
-        matches!(self.change, Change::Kept)
+        !matches!(self, Slot::Changed(_))
     }
 
-    // Whether the run sees a value.
-    pub(crate) fn is_there(&self) -> bool
-        ensures { result ≡ is_some (of_layer Current self.now) }
+    // The words that the run sees.
+    pub(crate) fn current(&self) -> Option<&[u128]>
+        ensures { option_copied result ≡ of_layer Current self.now }
     {
-        match &self.change {
-            Change::Kept => self.committed.is_some(),
-            Change::Removed => false,
-            Change::Written(_) => true,
+        match self {
+            Slot::One(word) => Some(slice::from_ref(word)),
+            Slot::Many(words) => Some(words.as_slice()),
+            Slot::Changed(versions) => match &versions.current {
+                Some(value) => Some(value.as_slice()),
+                None => None,
+            },
         }
     }
 
-    // The committed value.
-    pub(crate) fn committed(&self) -> Option<&Value>
-        ensures { option_copied result ≡ self.now.committed }
+    // The words that are committed.
+    pub(crate) fn committed(&self) -> Option<&[u128]>
+        ensures { option_copied result ≡ of_layer Committed self.now }
     {
-        self.committed.as_ref()
+        match self {
+            Slot::One(word) => Some(slice::from_ref(word)),
+            Slot::Many(words) => Some(words.as_slice()),
+            Slot::Changed(versions) => match &versions.committed {
+                Some(value) => Some(value.as_slice()),
+                None => None,
+            },
+        }
     }
 
-    // Puts a value in place of what the run sees.
-    pub(crate) fn put(&mut self, value: Value)
-        ensures { self.new ≡ record self.old { change = Written value } }
+    // Puts another value in place of the one that the run sees. It fails only where memory runs out, and nothing changes then.
+    fn change(&mut self, current: Option<Value>, alloc: Global) -> Result<(), AllocError>
+        ensures current { OnOk result (of_layer Current self.new ≡ current) }
+        ensures committed { of_layer Committed self.new ≡ of_layer Committed self.old }
+        ensures change { OnOk result (is_change self.new ≡ true) }
+        ensures err { OnErr result (self.new ≡ self.old) }
     {
-        self.change = Change::Written(value);
+        let fresh = Box::new(
+            alloc,
+            Versions {
+                committed: None,
+                current,
+            },
+        )?;
+        let committed = match replace(self, Slot::Changed(fresh)) {
+            Slot::One(word) => Some(Value::leaf(word)),
+            Slot::Many(words) => Some(Value::words(words)),
+            Slot::Changed(versions) => Box::into_inner(versions).committed,
+        };
+        if let Slot::Changed(versions) = self {
+            versions.committed = committed;
+        }
+        Ok(())
+    }
+
+    // Puts a value where the run sees none, and says whether it did.
+    pub(crate) fn put(&mut self, value: Value) -> bool
+        ensures done { result ≡ not (is_some (of_layer Current self.old)) }
+        ensures current { of_layer Current self.new ≡ cond result (Some value) (of_layer Current self.old) }
+        ensures committed { of_layer Committed self.new ≡ of_layer Committed self.old }
+        ensures change { is_change self.new ≡ is_change self.old }
+    {
+        match self {
+            Slot::Changed(versions) if versions.current.is_none() => {
+                versions.current = Some(value);
+                true
+            }
+            _ => false,
+        }
     }
 
     // Takes out what the run sees. The committed value stays, so the run has a copy of it.
     pub(crate) fn take(&mut self, alloc: Global) -> Result<Option<Value>, AllocError>
         ensures value { IfOk result (λ v. v ≡ of_layer Current self.old) }
-        ensures committed { self.new.committed ≡ self.old.committed }
-        ensures gone { OnOk result (self.new ≡ record self.old { change = Removed }) }
+        ensures committed { of_layer Committed self.new ≡ of_layer Committed self.old }
+        ensures gone { OnOk result (of_layer Current self.new ≡ None) }
         ensures err { OnErr result (self.new ≡ self.old) }
     {
-        if let (Change::Kept, Some(value)) = (&self.change, &self.committed) {
-            let copy = value.copy(alloc)?;
-            self.change = Change::Removed;
-            return Ok(Some(copy));
-        }
-        match mem::replace(&mut self.change, Change::Removed) {
-            Change::Written(value) => Ok(Some(value)),
-            Change::Kept | Change::Removed => Ok(None),
-        }
+        let copy = match self {
+            Slot::One(word) => Value::leaf(*word),
+            Slot::Many(words) => Value::words(words.as_slice().to_vec(alloc)?),
+            Slot::Changed(versions) => return Ok(versions.current.take()),
+        };
+        self.change(None, alloc)?;
+        Ok(Some(copy))
     }
 
-    // Makes one layer the committed one, and says whether it has a value.
-    pub(crate) fn settle(&mut self, layer: Layer) -> bool
-        ensures slot { self.new ≡ record { committed = of_layer layer self.old; change = Kept } }
-        ensures there { result ≡ is_some (of_layer layer self.old) }
+    // Gives the run its own copy of a committed value. It fails only where memory runs out, and nothing changes then.
+    fn own(&mut self, alloc: Global) -> Result<(), AllocError>
+        ensures layers { (layer : Layer) → of_layer layer self.new ≡ of_layer layer self.old }
+        ensures changed { OnOk result (is_change self.new ≡ true) }
+        ensures err { OnErr result (self.new ≡ self.old) }
     {
-        match (mem::replace(&mut self.change, Change::Kept), layer) {
-            (Change::Written(value), Layer::Current) => self.committed = Some(value),
-            (Change::Removed, Layer::Current) => self.committed = None,
-            _ => {}
+        let copy = match self {
+            Slot::One(word) => Value::leaf(*word),
+            Slot::Many(words) => Value::words(words.as_slice().to_vec(alloc)?),
+            Slot::Changed(_) => return Ok(()),
+        };
+        self.change(Some(copy), alloc)
+    }
+
+    // Puts words in place of as many that the run sees, if they are there, and says whether it did.
+    pub(crate) fn edit(
+        &mut self,
+        from: usize,
+        new: &[u128],
+        alloc: Global,
+    ) -> Result<bool, AllocError>
+        ensures done { IfOk result (λ done. done ≡ is_some (option_and_then (spliced from new.now) (of_layer Current self.old))) }
+        ensures current { OnOk result (of_layer Current self.new ≡ edited from new.now (of_layer Current self.old)) }
+        ensures committed { of_layer Committed self.new ≡ of_layer Committed self.old }
+        ensures err { OnErr result (of_layer Current self.new ≡ of_layer Current self.old) }
+    {
+        let Some(words) = self.current() else {
+            return Ok(false);
+        };
+        if from > words.len() || new.len() > words.len() - from {
+            return Ok(false);
         }
-        self.committed.is_some()
+        self.own(alloc)?;
+        if let Slot::Changed(versions) = self {
+            if let Some(value) = &mut versions.current {
+                value.write(from, new);
+            }
+        }
+        Ok(true)
+    }
+
+    // Makes one layer of it the committed one, and says whether there is one.
+    pub(crate) fn settle(&mut self, layer: Layer) -> bool
+        ensures there { result ≡ is_some (of_layer layer self.old) }
+        ensures same { of_layer layer self.new ≡ of_layer layer self.old }
+        ensures kept { result ≡ true → is_change self.new ≡ false }
+    {
+        let Slot::Changed(versions) = self else {
+            return true;
+        };
+        match versions.take(layer) {
+            Some(value) => {
+                *self = Slot::kept(value);
+                true
+            }
+            None => false,
+        }
     }
 }

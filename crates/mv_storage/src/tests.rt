@@ -1,5 +1,6 @@
-ghost use Rattle.std.specs.Prelude.{◌≡◌, [], ◌∷◌, Some, None, OnOk, OnErr, IfOk, ◌⊎◌};
-ghost use Rattle.mv_storage.specs.Map.{words_at, with_words};
+ghost use Rattle.std.specs.Prelude.{◌≡◌, [], ◌∷◌, Some, None, cond, not, is_some, OnOk, OnErr, IfOk};
+ghost use Rattle.mv_storage.specs.FlatStorage.{words_under, with_words};
+ghost use Rattle.mv_storage.specs.Map.{overwritten};
 
 use crate::{Overlay, Storage, Value};
 use mv_move_types::Key;
@@ -19,38 +20,26 @@ const SECOND: Key = Key {
     index: 1,
 };
 
-// A run that stores a value where none is.
-fn store(overlay: &mut Overlay, key: Key, value: Value) -> Result<bool, AllocError>
-    ensures committed { overlay.new.committed ≡ overlay.old.committed }
-{
-    if overlay.exists(&key) {
-        return Ok(false);
-    }
-    overlay.put(key, value)?;
-    Ok(true)
-}
-
 // What a ledger does: it lends its storage to a run, and keeps what the run has made, or has it back as it was.
-fn run(storage: &mut Storage, alloc: Global, key: Key, value: Value) -> Result<(), AllocError>
-    requires { words_at storage.old key ≡ None }
-    ensures ok { OnOk result (storage.new ≡ with_words storage.old key value) }
+fn run(storage: &mut Storage, alloc: Global, key: Key, value: Value) -> Result<bool, AllocError>
+    ensures ok { IfOk result (λ done. storage.new ≡ cond done (with_words storage.old key value) storage.old) }
     ensures err { OnErr result (storage.new ≡ storage.old) }
 {
     let mut overlay = mem::replace(storage, Storage::new(alloc)).overlay();
     let result = overlay.put(key, value);
     *storage = match result {
-        Ok(()) => overlay.commit(),
+        Ok(_) => overlay.commit(),
         Err(_) => overlay.discard(),
     };
     result
 }
 
-// A run that is given up leaves the storage as it was.
-fn try_out(storage: Storage, key: Key, value: Value) -> Storage
+// A run that edits a value and is given up leaves the storage as it was.
+fn try_out(storage: Storage, key: &Key, new: &[u128]) -> Storage
     ensures { result ≡ storage }
 {
     let mut overlay = storage.overlay();
-    let _ = store(&mut overlay, key, value);
+    let _ = overlay.edit(key, 0, new);
     overlay.discard()
 }
 
@@ -71,14 +60,54 @@ fn words_of_a_value(rt: HostRuntime) -> Result<(), Fail> {
 fn kept_and_given_up(rt: HostRuntime) -> Result<(), Fail> {
     let alloc = rt.alloc();
     let mut storage = Storage::new(alloc);
-    run(&mut storage, alloc, FIRST, Value::leaf(5))?;
-    let storage = try_out(storage, SECOND, Value::leaf(6));
+    assert!(rt; run(&mut storage, alloc, FIRST, Value::leaf(5))?);
+    assert!(rt; !run(&mut storage, alloc, FIRST, Value::leaf(6))?);
+    let storage = try_out(storage, &FIRST, [8].as_slice());
     assert!(rt; storage.get(&SECOND).is_none());
     let mut overlay = storage.overlay();
     let taken = overlay.take(&FIRST)?;
     assert!(rt; taken.is_some_and(|value| value.as_slice() == [5].as_slice()));
     assert!(rt; !overlay.exists(&FIRST));
+    assert!(rt; overlay.put(FIRST, Value::leaf(4))?);
     let storage = overlay.discard();
-    assert!(rt; storage.get(&FIRST).is_some());
+    assert!(rt;
+        storage
+            .get(&FIRST)
+            .is_some_and(|words| words == [5].as_slice())
+    );
+    Ok(())
+}
+
+#[test]
+fn edited_in_place(rt: HostRuntime) -> Result<(), Fail> {
+    let alloc = rt.alloc();
+    let mut storage = Storage::new(alloc);
+    assert!(rt;
+        run(
+            &mut storage,
+            alloc,
+            FIRST,
+            Value::words([1, 2, 3].to_vec(alloc)?)
+        )?
+    );
+    let mut overlay = storage.overlay();
+    assert!(rt; overlay.edit(&FIRST, 1, [7, 8].as_slice())?);
+    assert!(rt; overlay.edit(&FIRST, 0, [6].as_slice())?);
+    assert!(rt; !overlay.edit(&FIRST, 2, [0, 0].as_slice())?);
+    assert!(rt; !overlay.edit(&SECOND, 0, [0].as_slice())?);
+    assert!(rt;
+        overlay
+            .view(&FIRST, 0, 3)
+            .is_some_and(|words| words == [6, 7, 8].as_slice())
+    );
+    assert!(rt; overlay.view(&FIRST, 2, 2).is_none());
+    assert!(rt; overlay.key_at(7, 0, 0).is_some_and(|key| key == FIRST));
+    assert!(rt; overlay.key_at(7, 65536, 0).is_none());
+    let storage = overlay.commit();
+    assert!(rt;
+        storage
+            .get(&FIRST)
+            .is_some_and(|words| words == [6, 7, 8].as_slice())
+    );
     Ok(())
 }

@@ -2,14 +2,16 @@
 
 use crate::command::{LineError, Task, command, not_text};
 use crate::engine::EngineError;
-use crate::status::{End, end_of, fault_text, status};
+use crate::status::{End, end_of, end_of_check, end_of_proof, fault_text, status};
+use mv_analyser::ProveError;
+use mv_move_types::Refusal;
 use std::test::Fail;
 
 // Words that aren't understood or ask for help, and what is said of them, in the form of clap's texts.
-const TEXTS: [(&[&str], &str); 6] = [
+const TEXTS: [(&[&str], &str); 10] = [
     (
         &["moveledger"],
-        "error: 'moveledger' requires a subcommand but one was not provided\n  [subcommands: apply, help]\n\nUsage: moveledger <COMMAND>\n\nFor more information, try '--help'.\n",
+        "error: 'moveledger' requires a subcommand but one was not provided\n  [subcommands: apply, prove, check, help]\n\nUsage: moveledger <COMMAND>\n\nFor more information, try '--help'.\n",
     ),
     (
         &["moveledger", "mint", "first-coin.stream"],
@@ -25,11 +27,27 @@ const TEXTS: [(&[&str], &str); 6] = [
     ),
     (
         &["moveledger", "--help"],
-        "Usage: moveledger <COMMAND>\n\nCommands:\n  apply  \n  help   Print this message or the help of the given subcommand(s)\n\nOptions:\n  -h, --help  Print help\n",
+        "Usage: moveledger <COMMAND>\n\nCommands:\n  apply  \n  prove  \n  check  \n  help   Print this message or the help of the given subcommand(s)\n\nOptions:\n  -h, --help  Print help\n",
     ),
     (
         &["moveledger", "apply", "--help"],
         "Usage: moveledger apply <FILE>\n\nArguments:\n  <FILE>  \n\nOptions:\n  -h, --help  Print help\n",
+    ),
+    (
+        &["moveledger", "prove"],
+        "error: the following required arguments were not provided:\n  <MODULE>\n\nUsage: moveledger prove <MODULE>\n\nFor more information, try '--help'.\n",
+    ),
+    (
+        &["moveledger", "prove", "--help"],
+        "Usage: moveledger prove <MODULE>\n\nArguments:\n  <MODULE>  \n\nOptions:\n  -h, --help  Print help\n",
+    ),
+    (
+        &["moveledger", "check", "coin.module"],
+        "error: the following required arguments were not provided:\n  <CERT>\n\nUsage: moveledger check <MODULE> <CERT>\n\nFor more information, try '--help'.\n",
+    ),
+    (
+        &["moveledger", "check", "--help"],
+        "Usage: moveledger check <MODULE> <CERT>\n\nArguments:\n  <MODULE>  \n  <CERT>    \n\nOptions:\n  -h, --help  Print help\n",
     ),
 ];
 
@@ -38,6 +56,17 @@ fn files_are_applied(rt: HostRuntime) -> Result<(), Fail> {
     let words = ["moveledger", "apply", "first-coin.stream"];
     let task = command(rt.alloc(), &words)?;
     assert_eq!(rt; task, Task::Apply("first-coin.stream"));
+    Ok(())
+}
+
+#[test]
+fn modules_are_proved_and_checked(rt: HostRuntime) -> Result<(), Fail> {
+    let words = ["moveledger", "prove", "coin.module"];
+    let task = command(rt.alloc(), &words)?;
+    assert_eq!(rt; task, Task::Prove("coin.module"));
+    let words = ["moveledger", "check", "coin.module", "coin.certificate"];
+    let task = command(rt.alloc(), &words)?;
+    assert_eq!(rt; task, Task::Check("coin.module", "coin.certificate"));
     Ok(())
 }
 
@@ -74,9 +103,29 @@ fn ends_have_their_line_and_status(rt: HostRuntime) {
         (End::Write, Some("fault: write"), 1),
         (End::Memory, Some("fault: memory"), 1),
         (End::Words, None, 2),
+        (End::Refused(10), None, 3),
+        (End::TooComplex, None, 3),
     ] {
         assert_eq!(rt; fault_text(&end), line);
         assert_eq!(rt; status(&end), wanted);
+    }
+}
+
+#[test]
+fn ends_follow_what_a_command_made(rt: HostRuntime) {
+    for (checked, wanted) in [
+        (Ok(()), End::Done),
+        (Err(Refusal::Phase(9)), End::Refused(9)),
+        (Err(Refusal::Memory), End::Memory),
+    ] {
+        assert_eq!(rt; end_of_check(checked), wanted);
+    }
+    for (error, wanted) in [
+        (ProveError::Refused(10), End::Refused(10)),
+        (ProveError::TooComplex, End::TooComplex),
+        (ProveError::Memory, End::Memory),
+    ] {
+        assert_eq!(rt; end_of_proof(&Err(error)), wanted);
     }
 }
 

@@ -1,6 +1,6 @@
 -- Availabilities: what is known of each local is as it is, and what that gives.
 use Rattle.std.proofs.Common.{◌≡◌, ℕ, zero, suc, List, [], ◌∷◌, ◌++◌, map, length, true, refl, sym, ap, subst, Option, Some, None, Ok}
-use Rattle.std.specs.Prelude.{slice_get, slice_set, replicate}
+use Rattle.std.specs.Prelude.{slice_get, slice_set, replicate, ⊤}
 use Rattle.std.specs.List.{list_all}
 use Rattle.std.proofs.lemmas.Bool.{and_parts, and_from, true≢false}
 use Rattle.mv_move_types.specs.declared.borrow.Availability.{Availability}

@@ -336,7 +336,7 @@ module _ (depends : ℕ → ℕ → Type 0) (home : Module) (function : Function
     open-label true path = refl
     open-label false path = refl
 
-    -- the caller's edges after the Ret include what the abstract rules leave
+    -- the caller's edges after the Ret include what the theory leaves
     pub return-in : (u : Activation) (result : ℕ → Bool)
         → ((i : ℕ) (r : TheRef) → Live (seen_frame u) (AtTemp i) r → (t : Token) × (slice_get link.results i ≡ Some t) × (token_kind t ≡ Some r.mutable))
         → ((i : ℕ) (r : TheRef) → Live (seen_frame u) (AtTemp i) r → result i ≡ r.mutable)

@@ -63,7 +63,7 @@ one-of test (x ∷ es) h =
       | inr t ↦ let u = one-of test es t in (u.0, inr u.1, u.2)
     ]
 
--- the certificate's order of edges is the abstract one
+-- the certificate's order of edges is the theory's
 pub edges-below : (w : ℕ) (as' bs : List Edge) → edges_leq as' bs ≡ true → EdgesBelow (edges_of w as') (edges_of w bs)
 edges-below w as' bs h p x c (e, m, from, on, to) =
     let u = one-of (edge_leq e) bs (all-of (λ a. list_any (edge_leq a) bs) as' e h m) in

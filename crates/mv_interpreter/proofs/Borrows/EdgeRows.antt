@@ -1,4 +1,4 @@
--- Each rule on lists of edges includes what the abstract row leaves.
+-- Each rule on lists of edges includes what the borrow theory's row leaves.
 use Rattle.std.proofs.Common.{◌≡◌, ℕ, List, [], ◌∷◌, ◌++◌, Bool, true, false, not, ◌&&◌, inl, inr, refl, sym, ◌∙◌, ap}
 use Rattle.std.specs.Prelude.{filter}
 use Rattle.mv_move_types.specs.declared.borrow.Node.{Node}

@@ -69,7 +69,7 @@ falls-then a b c h g k r e = h k r (g k r e)
 pub falls-same : (a : List (Option Reference)) → Falls a a
 falls-same a k r e = e
 
--- what the abstract rules see of a frame with these locals and operands
+-- what the borrow theory sees of a frame with these locals and operands
 abbrev pub act : List ℕ → Frame → List (Option Value) → List (Option Reference) → Activation
 act acquires f locals os = record {
   number = f.number;

@@ -1,4 +1,4 @@
--- Lists of locals and operands, as the machine has them and as the abstract rules have them.
+-- Lists of locals and operands, as the machine has them and as the borrow theory has them.
 use Rattle.std.proofs.Common.{◌≡◌, ℕ, zero, suc, ◌<◌, ◌≤◌, ◌+◌, List, [], ◌∷◌, ◌++◌, map, length, reverse, cond, inl, inr, refl, sym, ◌∙◌, ap, arith, Option, Some, None, eqb}
 use Rattle.std.specs.Prelude.{slice_get, slice_set}
 use Rattle.std.proofs.lemmas.Bool.{cases_lt}
@@ -56,7 +56,7 @@ set-map [] l v = refl
 set-map (x ∷ xs) zero v = refl
 set-map (x ∷ xs) (suc l) v = ap (λ (t : List (Option TheValue)). local_of x ∷ t) (set-map xs l v)
 
--- a local's reference as the abstract rules have it
+-- a local's reference as the theory has it
 pub local-seen : (xs : List (Option Value)) (l : ℕ) (v : Value) (r : Reference) → slice_get xs l ≡ Some (Some v) → reference_of v ≡ Some r
     → local_ref (map local_of xs) l ≡ Some (ref_of r)
 local-seen [] l v r h k = absurd cc
@@ -102,7 +102,7 @@ pub place-reverse : {A : Type 0} (s : List A) (k : ℕ) → slice_get (reverse s
 place-reverse [] k = refl
 place-reverse (x ∷ s) k = ap (λ l. slice_get l k) (reverse_onto s x []) ∙ last-get (reverse s) s x k (length-reverse s) (place-reverse s k)
 
--- an operand's reference as the abstract rules have it
+-- an operand's reference as the theory has it
 pub stack-seen : (os : List (Option Reference)) (k : ℕ) (r : Reference) → place_get os k ≡ Some (Some r) → stack_ref (map held_as os) k ≡ Some (ref_of r)
 stack-seen [] k r h = absurd cc
 stack-seen (o ∷ os) k r h =

@@ -62,7 +62,7 @@ kind-at (t ∷ ts) (x ∷ os) h k o e =
 same-mutable : (q : TheRef) (r : Reference) → q ≡ ref_of r → r.is_mutable ≡ q.mutable
 same-mutable q r h = sym (ap (λ (x : TheRef). x.mutable) h)
 
--- what the abstract rules ask of the types
+-- what the theory asks of the types
 pub kinds : (p : Point) (acquires : List ℕ) (v : Seen) → Fits p v → (n : TheNode) (q : TheRef) → Live (seen_frame (activation acquires v)) n q → kind_at p n ≡ q.mutable
 kinds p acquires v fits (AtSlot l) q h =
     let t = local-back v.frame.locals l q h in

@@ -28,6 +28,7 @@ use Rattle.mv_borrow_graph.specs.BorrowRules.{edges_after, copy_edges, move_edge
 use Rattle.mv_type_states.specs.TypeRules.{Types}
 use Rattle.mv_interpreter.specs.Borrows.View.{alone, defined, activation, acquires_of, edges_of, kind_at, label_from, layer_of, Member, held_as}
 use Rattle.mv_interpreter.specs.Borrows.Links.{Reaches}
+use Rattle.mv_interpreter.specs.Borrows.Covers.{Seen}
 use Rattle.mv_machine.specs.Numbers.{sum_of, difference_of, product_of, remainder_of, quotient_of, shifted_left, shifted_right}
 use Rattle.mv_machine.specs.StepParts.{Here, Turn, Goes, Returns, gives, pushes, goes_to, with_top, with_stack, operand, operands, can_copy, can_drop, may_drop, is_reference_tag, as_reference, as_address, as_boolean, as_fields, as_signer, as_number, follow, truth}
 use Rattle.mv_machine.specs.StepStructs.{OwnStruct, pack, unpack, own_struct, tallied}

@@ -10,7 +10,7 @@ use Rattle.mv_machine.specs.Flat.{flat}
 use Rattle.mv_machine.specs.Typing.{Failure}
 use Rattle.mv_move_types.specs.Tags.{Tag, LeafTag, StructTag, ReferenceTag}
 use Rattle.mv_linker.specs.TypesByName.{token_named, tokens_named}
-use Rattle.mv_machine.specs.Run.{FunctionCall, outcome_from, run}
+use Rattle.mv_machine.specs.Run.{FunctionCall, first_state, outcome_from, run}
 use Rattle.mv_interpreter.specs.Typing.HasType.{Roots, HasType, HaveTypes, fields_by_name}
 use Rattle.mv_interpreter.specs.Typing.StateTyped.{HaveTokens, StorageTyped}
 use Rattle.mv_interpreter.specs.Typing.Facts.{SoundStore}
@@ -19,7 +19,7 @@ use Rattle.mv_interpreter.specs.Typing.Accepted.{StoreAccepted}
 use Rattle.mv_interpreter.proofs.Typing.Within.{some_is}
 use Rattle.mv_interpreter.proofs.Typing.Operands.{on_some}
 use Rattle.mv_interpreter.proofs.Typing.Structs.{names_length}
-use Rattle.mv_interpreter.proofs.Typing.First.{first_is, Nowhere, CallTyped, begun, first_typed}
+use Rattle.mv_interpreter.proofs.Typing.First.{Nowhere, CallTyped, begun, first_typed}
 use Rattle.mv_interpreter.proofs.Typing.Addresses.{accepted_is_sound}
 use Rattle.mv_linker.specs.Operations.{Program}
 use Rattle.mv_linker.specs.Widths.{width_of_tags, width_of_tokens}
@@ -112,7 +112,10 @@ first_represented modules storage call c store sized stored =
         let inner = named_first m ts us rest rest_is in
         (tag ∷ inner.0, rw (tag_is, inner.1) refl)))
 
-others_are : (modules : List Module) (call : FunctionCall) (c : CallTyped modules call) → width_of_others modules call.function ≡ Some (width_of_tokens modules c.home c.others)
+first_is : (modules : List Module) (storage : Storage) (call : FunctionCall) (c : CallTyped modules call) → first_state modules storage call ≡ Ok (begun storage call (length c.others))
+first_is modules storage call c = rw (c.is_home, c.is_function, c.are_others) refl
+
+pub others_are : (modules : List Module) (call : FunctionCall) (c : CallTyped modules call) → width_of_others modules call.function ≡ Some (width_of_tokens modules c.home c.others)
 others_are modules call c = rw (c.is_home, c.is_function, c.are_others) refl
 
 -- a run of linked code from a typed call over a typed storage ends as the machine's run does, wherever that meets no fault

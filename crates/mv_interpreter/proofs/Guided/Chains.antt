@@ -1,4 +1,4 @@
--- The invariant as the abstract rules have it, and back.
+-- The invariant as the theory of borrows has it, and back.
 use Rattle.std.proofs.Common.{◌≡◌, ℕ, List, [], ◌∷◌, map, length, sym, ◌∙◌, ap, Option}
 use Rattle.mv_move_types.specs.Module.{Module}
 use Rattle.mv_machine.specs.Value.{Reference}
@@ -41,7 +41,7 @@ module _ (depends : ℕ → ℕ → Type 0) (through : (a b c : ℕ) → depends
   first-alone x [] (Bottom c h e) = e
   first-alone x (y ∷ ys) d = first-alone y ys (chain_return depends home_of through no_cycle (layer_at x) (layer_at y) (layers ys) d)
 
-  -- what the abstract rules keep, with where the frames stand, is the invariant
+  -- what the theory keeps, with where the frames stand, is the invariant
   pub guided-from : (modules : List Module) (certificates : List Certificate) (s : State) (x : Stood) (xs : List Stood) → Sound depends s x xs → AllPlaced modules certificates (x ∷ xs) → StoodFit xs → AllAgree x.home x.function xs → Guided depends modules certificates s
   guided-from modules certificates s x xs sound placed fit agree = record {
     top = x;
@@ -57,7 +57,7 @@ module _ (depends : ℕ → ℕ → Type 0) (through : (a b c : ℕ) → depends
     next = sound.next;
   }
 
--- and it gives what the abstract rules keep, where the types are right
+-- and it gives what the theory keeps, where the types are right
 pub sound-from : (depends : ℕ → ℕ → Type 0) (modules : List Module) (certificates : List Certificate) (s : State) (g : Guided depends modules certificates s) → Sound depends s g.top g.waiting
 sound-from depends modules certificates s g = record {
   stood = g.stood;

@@ -157,7 +157,7 @@ module _ (x : Stood) (known : Known) (are_locals : AsKnown known.locals x.frame.
   stands-for (Own l) r e = absurd cc
   stands-for (Glob t) r e = absurd cc
 
-  -- an abstract edge is one that is known
+  -- an edge of the theory is one that is known
   known-edge : (a b : Node) (y : TheLabel) → edges_of place known.edges (node_of place a) y (node_of place b) → (label : Label) × Contains known.edges (record { from = a; label = label; to = b }) × (y ≡ label_of label)
   known-edge a b y (e, m, from, on, to) = (
     e.label,

@@ -1,22 +1,20 @@
 -- Over published modules no run meets a fault, and each state that it comes to is as the certificates say.
-use Rattle.std.proofs.Common.{◌≡◌, ℕ, zero, suc, List, [], ◌∷◌, length, refl, sym, ◌∙◌, ap, subst, Option, Some, None}
+use Rattle.std.proofs.Common.{◌≡◌, ℕ, zero, suc, ◌<◌, List, [], ◌∷◌, length, refl, sym, ◌∙◌, ap, subst, Option, Some, None, Ok}
 use Rattle.std.specs.Prelude.{slice_get, option_map, IsTrue, All}
 use Rattle.std.proofs.lemmas.Bool.{and_parts}
 use Rattle.std.proofs.lemmas.Option.{slice_get-map, slice_get_within, get_or_from_slice_get}
 use Rattle.mv_move_types.specs.Module.{Module}
 use Rattle.mv_move_types.specs.Published.{PublishedModule}
-use Rattle.mv_module_text.specs.Laws.{AreBytes}
-use Rattle.mv_binary_format.specs.Laws.{IsReadByText}
 use Rattle.mv_acquires.specs.Acquires.{AcquiresHold}
 use Rattle.mv_certificate.specs.Certificate.{Certificate, all_locals_hold, all_edges_hold}
 use Rattle.mv_certificate.specs.CertificateText.{IsCertificateText}
 use Rattle.mv_certificate.proofs.OneCertificate.{one-certificate}
-use Rattle.mv_linker.specs.Link.{IsPublishable, tables_in}
+use Rattle.mv_linker.specs.Link.{IsPublishable, IsStore, tables_in}
 use Rattle.mv_machine.specs.State.{State}
 use Rattle.mv_interpreter.specs.Typing.Accepted.{ModuleAccepted, StoreAccepted}
 use Rattle.mv_interpreter.specs.Guided.Store.{StoreCertified}
 use Rattle.mv_interpreter.specs.Guided.Outcome.{ComesTo}
-use Rattle.mv_interpreter.specs.Guided.Published.{HasTables, IsAcceptedStore, AreCertificates, RunsAreFaultless, StatesHold}
+use Rattle.mv_interpreter.specs.Guided.Published.{AreCertificates, RunsAreFaultless, StatesHold}
 use Rattle.mv_interpreter.proofs.Borrows.Operands.{some-is, ok-is}
 use Rattle.mv_interpreter.proofs.Typing.First.{begun, first_is}
 use Rattle.mv_interpreter.proofs.Guided.Whole.{run_faultless, run_holds}
@@ -33,10 +31,6 @@ of-tables store place m e = by_case (slice_get store place) (sym (slice_get-map 
     by_case None g = absurd cc
     by_case (Some p) g = (p, refl, some-is p.tables m g)
 
--- texts of bytes that were read are texts of the tables
-pub read-texts : IsReadByText → (store : List PublishedModule) → All (λ (p : PublishedModule). AreBytes p.text) store → All IsPublishable store → All HasTables store
-read-texts law store are passed = λ k d h. ((law _ _ (are k d h)).0 (passed k d h).text).fits
-
 -- the certificates that the modules of a store were published with
 pub certificates_from : (store : List PublishedModule) → ((k : ℕ) (p : PublishedModule) → slice_get store k ≡ Some p → IsPublishable p) → (cs : List Certificate) × AreCertificates store cs
 certificates_from [] each = ([], record { long = refl; each = λ place p at. absurd cc })
@@ -50,10 +44,10 @@ certificates_from (p ∷ ps) each =
     at_place c text cs are zero q at = (c, refl, subst (λ (z : PublishedModule). IsCertificateText z.tables z.certificate c) (some-is p q at) text)
     at_place c text cs are (suc k) q at = are.each k q at
 
-module _ (store : List PublishedModule) (is : IsAcceptedStore store) where
+module _ (store : List PublishedModule) (is : IsStore store) where
   -- the tables of such a store are accepted
-  pub published_accepted : StoreAccepted (tables_in store)
-  published_accepted = record {
+  accepted : StoreAccepted (tables_in store)
+  accepted = record {
     each = λ place m at. each place m (of-tables store place m at);
     once = is.once;
     links = is.links;
@@ -69,13 +63,13 @@ module _ (store : List PublishedModule) (is : IsAcceptedStore store) where
             abilities = passed.sound.abilities;
             flow = passed.sound.flow;
             types = passed.sound.types;
-            text = of-all HasTables store place p is.texts at;
+            text = (of-all IsPublishable store place p is.passed at).spelled;
           })
 
   -- and certified by the certificates that its modules were published with
   pub published_certified : (certificates : List Certificate) → AreCertificates store certificates → StoreCertified (tables_in store) certificates
   published_certified certificates are = record {
-    accepted = published_accepted;
+    accepted = accepted;
     certified = λ place m at. certified place m (of-tables store place m at);
     acquires = λ place m at. let p = of-tables store place m at in subst AcquiresHold p.2 (of-all IsPublishable store place p.0 is.passed p.1).acquires;
   }
@@ -84,7 +78,7 @@ module _ (store : List PublishedModule) (is : IsAcceptedStore store) where
       certified place m (p, at, same) =
           let own = (of-all IsPublishable store place p is.passed at).certificate in
           let stated = are.each place p at in
-          let one : own.0 ≡ stated.0 = one-certificate p.tables p.certificate own.0 stated.0 (of-all HasTables store place p is.texts at) own.1.0 stated.2 in
+          let one : own.0 ≡ stated.0 = one-certificate p.tables p.certificate own.0 stated.0 ((of-all IsPublishable store place p is.passed at).spelled) own.1.0 stated.2 in
           let parts = and_parts (all_locals_hold p.tables own.0) (all_edges_hold p.tables own.0) own.1.1 in
           subst (λ (z : Module). (c : Certificate) × (slice_get certificates place ≡ Some c) × IsTrue (all_locals_hold z c) × IsTrue (all_edges_hold z c)) same
           (stated.0, stated.1, subst (λ (c : Certificate). IsTrue (all_locals_hold p.tables c)) one parts.0, subst (λ (c : Certificate). IsTrue (all_edges_hold p.tables c)) one parts.1)

@@ -31,7 +31,7 @@ use Rattle.mv_machine.specs.Run.{turns, follows, goes_with}
 use Rattle.mv_interpreter.specs.Typing.HasType.{fields_by_name}
 use Rattle.mv_type_states.specs.TypesAt.{TypesAt}
 use Rattle.mv_interpreter.specs.Typing.StateTyped.{HasToken, HaveTokens, LocalHasToken, StateTyped, TurnTyped}
-use Rattle.mv_interpreter.specs.Typing.Facts.{Row, SoundStore}
+use Rattle.mv_interpreter.specs.Typing.Facts.{Row, Advance, SoundStore}
 use Rattle.mv_interpreter.specs.Typing.Unreached.{Avoid, Unreached, Unborrowed, Unlent, Leaving, Guarded, StepGuarded}
 use Rattle.mv_interpreter.specs.Typing.Outcome.{Guides}
 use Rattle.mv_interpreter.specs.Typing.Watched.{IsHeld, Watched, StepWatched, Clean, Watches, Faultless}
@@ -47,7 +47,6 @@ use Rattle.mv_interpreter.proofs.Typing.Rule.{step_typed, counted}
 use Rattle.mv_interpreter.proofs.Typing.Abilities.{token_abilities-are, plain_abilities}
 use Rattle.mv_interpreter.proofs.Typing.Untouched.{none_frozen, live_avoid, below_avoid, avoid_append, taken_avoid, none_held, local_unreached}
 use Rattle.mv_interpreter.proofs.Typing.Clean.{after, given, tried, met, found, of_operand, of_operands, of_address, giving, of_keyed, of_token, of_signature, of_binary, of_comparison, of_shift, of_cast, of_logic, of_negation, of_freeze, of_constant, of_pack, of_unpack, of_borrow_field, of_exists, of_borrow_global, of_move_to, of_call, of_branch, of_abort, clean_sum, clean_difference, clean_product, clean_remainder, clean_quotient, clean_left, clean_right}
-use Rattle.mv_interpreter.proofs.Typing.Stays.{here_of, advance_of, row_of}
 
 -- what a part that gave something says
 found-is : {A : Type 0} (o : Option A) (d : Failure) (x : A) → ok_or o d ≡ Ok x → o ≡ Some x
@@ -326,9 +325,19 @@ HandlesThere modules = (place : ℕ) (m : Module) → slice_get modules place �
 pub step_clean : (modules : List Module) (s : State) → SoundStore modules → HandlesThere modules → StateTyped modules s → StepGuarded modules s → StepWatched modules s → Clean (step modules s)
 unfolding step
 step_clean modules s store links typed guarded watched =
-    let h : Here = here_of modules s typed in
-    let a = advance_of modules s store typed in
-    let row : Row h a.instruction typed.types a.after = row_of modules s store typed in
+    let h : Here = record { modules = modules; home = typed.home; function = typed.function; state = s } in
+    let a : Advance typed.home typed.function s.top.at typed.types = store.advance s.top.function.place s.top.function.index s.top.at typed.home typed.function typed.types typed.is_home typed.is_function typed.are_types in
+    let row : Row h a.instruction typed.types a.after = record {
+      facts = store.facts typed.home typed.function s typed.is_home typed.is_function;
+      is_home = typed.is_home;
+      is_function = typed.is_function;
+      is_next = a.is_there;
+      before = typed.are_types;
+      stands = typed.stands;
+      rule = a.rule;
+      fits = a.fits;
+      leads = a.leads;
+    } in
     given (entry modules s.top.function.place) _ typed.home (ap (λ (x : Option Module). ok_or x (Faults LinkageFault)) typed.is_home)
     (given (entry typed.home.functions s.top.function.index) _ typed.function (ap (λ (x : Option FunctionDefinition). ok_or x (Faults LinkageFault)) typed.is_function)
     (given (ok_or (slice_get typed.function.code s.top.at) (Faults TypeFault)) _ a.instruction (ap (λ (x : Option Instruction). ok_or x (Faults TypeFault)) a.is_there)

@@ -1,7 +1,8 @@
 -- Blocks: where they begin and end, and how types are carried through them.
 use Rattle.std.proofs.Common.{◌≡◌, ℕ, zero, suc, ◌+◌, ◌-◌, ◌<◌, ◌≤◌, Bool, true, false, cond, List, [], ◌∷◌, ◌++◌, length, take, drop, refl, sym, ap, subst, Some, None, eqb, arith, ◌⊎◌, inl, inr}
 use Rattle.std.specs.Prelude.{slice_get, slice_range, nat_le, ◌||◌}
-use Rattle.std.specs.List.{list_any}
+use Rattle.std.specs.List.{list_all, list_any}
+use Rattle.std.specs.Cmp.{first_so, second_so}
 use Rattle.std.proofs.lemmas.Bool.{eqb-true}
 use Rattle.mv_move_types.specs.declared.instruction.Instruction.{Instruction}
 use Rattle.mv_move_types.specs.Module.{Module, FunctionDefinition}
@@ -12,9 +13,13 @@ use Rattle.mv_type_states.specs.TypesHold.{types_through}
 use Rattle.mv_interpreter.proofs.Typing.Within.{some_is}
 use Rattle.mv_interpreter.proofs.Typing.Tests.{eqb-apart}
 use Rattle.mv_interpreter.proofs.Typing.Operands.{on_some}
-pub use Rattle.mv_linker.proofs.Named.{each}
 
 -- ---- lists
+
+pub each : {A : Type 0} (p : A → Bool) (xs : List A) (k : ℕ) (x : A) → list_all p xs ≡ true → slice_get xs k ≡ Some x → p x ≡ true
+each p [] k x h e = absurd cc
+each p (y ∷ ys) zero x h e = subst (λ z. p z ≡ true) (some_is y x e) (first_so (p y) (list_all p ys) h)
+each p (y ∷ ys) (suc k) x h e = each p ys k x (second_so (p y) (list_all p ys) h) e
 
 pub some_passes : {A : Type 0} (p : A → Bool) (xs : List A) (k : ℕ) (x : A) → slice_get xs k ≡ Some x → p x ≡ true → list_any p xs ≡ true
 some_passes p [] k x e h = absurd cc

@@ -8,11 +8,10 @@ use Rattle.mv_machine.specs.Value.{Reference, Value, Leaf, Struct, Ref}
 use Rattle.mv_machine.specs.State.{Frame, local_value, local_in, with_local}
 use Rattle.mv_move_types.specs.Tags.{Tag, LeafTag, StructTag, ReferenceTag}
 use Rattle.mv_interpreter.specs.Typing.HasType.{Table, Roots, IsOf, HasType, fields_by_name}
-use Rattle.mv_interpreter.specs.Typing.StateTyped.{HasToken, LocalHasToken, LocalsHaveTokens, Numbered, AreWaiting}
+use Rattle.mv_interpreter.specs.Typing.StateTyped.{HasToken, LocalHasToken, LocalsHaveTokens, Numbered, IsWaiting, AreWaiting}
 use Rattle.mv_interpreter.proofs.Typing.Within.{some_is, one_type}
 use Rattle.mv_interpreter.proofs.Typing.Tests.{apart-eqb}
 use Rattle.mv_interpreter.proofs.Typing.Roots.{set_same, set_other, is_plain}
-use Rattle.mv_interpreter.proofs.Typing.Keep.{waits_with}
 
 -- frames with smaller numbers don't change
 pub written_below : (n l : ℕ) (v : Value) (k : ℕ) (fs : List Frame) → Numbered k fs → k ≤ n → map (with_local n l v) fs ≡ fs
@@ -126,9 +125,38 @@ module _ (modules : List Module) (n l : ℕ) (old new : Value) (base : Tag) (old
           record { locals = slice_set f.locals l (Some new); is_frame = written_frame n l new f p; typed = locals_written home f.locals ts l (held_entry f l old here) h }
       by_case false p = record { locals = f.locals; is_frame = written_other n l new f p; typed = h }
 
+  waiting_with : (lent : List (Option Reference)) (given : List Tag) (f : Frame) (w : IsWaiting modules look lent given f) (locals : List (Option Value)) → LocalsHaveTokens modules look w.home locals w.tokens → IsWaiting modules look lent given (record f { locals = locals })
+  waiting_with lent given f w locals typed = record {
+    home = w.home;
+    function = w.function;
+    tokens = w.tokens;
+    handle = w.handle;
+    parameters = w.parameters;
+    results = w.results;
+    under = w.under;
+    parameter_tags = w.parameter_tags;
+    own_results = w.own_results;
+    is_home = w.is_home;
+    is_function = w.is_function;
+    are_tokens = w.are_tokens;
+    are_own_results = w.are_own_results;
+    is_call = w.is_call;
+    called = w.called;
+    is_called = w.is_called;
+    called_parameters = w.called_parameters;
+    called_results = w.called_results;
+    before = w.before;
+    behind = w.behind;
+    are_parameters = w.are_parameters;
+    are_results = w.are_results;
+    locals = typed;
+    stack = w.stack;
+    arguments = w.arguments;
+  }
+
   -- waiting frames after the write, which finds its local there or above
   pub below_written : (bound : ℕ) (lent : List (Option Reference)) (given : List Tag) (fs : List Frame) → Numbered bound fs → local_in fs n l ≡ Some old → AreWaiting modules look lent given fs → AreWaiting modules look lent given (map (with_local n l new) fs)
-  unfolding waits_with
+  unfolding waiting_with
   below_written bound lent given [] h there w = tt
   below_written bound lent given (f ∷ fs) h there w = by_case (λ there. below_written f.number f.entered_with w.0.own_results fs h.1 there w.1) (eqb f.number n) refl
     where
@@ -139,7 +167,7 @@ module _ (modules : List Module) (n l : ℕ) (old new : Value) (base : Tag) (old
           let rest : map (with_local n l new) fs ≡ fs = written_below n l new f.number fs h.1 (omega (arith, frame)) in
           let locals = locals_written w.0.home f.locals w.0.tokens l (held_entry f l old here) w.0.locals in
           subst (λ (x : Frame). AreWaiting modules look lent given (x ∷ map (with_local n l new) fs)) (sym (written_frame n l new f p))
-          (waits_with modules look look lent given f w.0 (slice_set f.locals l (Some new)) locals w.0.stack w.0.arguments, subst (λ (xs : List Frame). AreWaiting modules look f.entered_with w.0.own_results xs) (sym rest) w.1)
+          (waiting_with lent given f w.0 (slice_set f.locals l (Some new)) locals, subst (λ (xs : List Frame). AreWaiting modules look f.entered_with w.0.own_results xs) (sym rest) w.1)
       by_case ih false p =
           let below : local_in fs n l ≡ Some old = subst (λ (x : Bool). cond x (local_value f l) (local_in fs n l) ≡ Some old) p there in
           subst (λ (x : Frame). AreWaiting modules look lent given (x ∷ map (with_local n l new) fs)) (sym (written_other n l new f p)) (w.0, ih below)

@@ -38,7 +38,7 @@ use Rattle.mv_interpreter.proofs.Typing.Operands.{on_some, on_test, takes_gives-
 use Rattle.mv_interpreter.proofs.Typing.Keep.{Kept, Nothing, avoid_nothing, none_to_nothing, keep_stack, keep_locals, keep_below}
 use Rattle.mv_interpreter.proofs.Typing.Roots.{place_of, typed_has_tag}
 use Rattle.mv_interpreter.proofs.Typing.OwnDefinitions.{then_found}
-use Rattle.mv_interpreter.proofs.Typing.Stays.{gives_typed, moved_typed}
+use Rattle.mv_interpreter.proofs.Typing.Stays.{gives_typed}
 use Rattle.mv_interpreter.proofs.Typing.Families.{of_truth}
 use Rattle.mv_interpreter.proofs.Typing.Storage.{stored_other, unstored_other, stored_typed, typed_with, typed_without}
 use Rattle.mv_interpreter.proofs.Typing.References.{immutable}
@@ -131,11 +131,25 @@ module _ (h : Here) (i : Instruction) (types after : Types) (row : Row h i types
   -- the state with another storage and these operands
   restored : (gone : Root → Type 0) (storage : Storage) (stack : List Value) → Kept h.modules (root_value h.state) (root_value (with_storage h.state storage)) gone → Unreached gone h.state →
       StorageTyped h.modules storage → HaveTokens h.modules (root_value (with_storage h.state storage)) h.home stack after → Part (TurnTyped h.modules) (goes_on (with_stack (with_storage h.state storage) stack))
-  restored gone storage stack kept free stored typed = moved_typed h i types after row h.state.top.locals stack h.state.below storage h.state.tally (h.state.top.at + 1) next row.stands.numbered.1
-      (keep_locals h.modules (root_value h.state) (root_value (with_storage h.state storage)) gone kept h.home h.state.top.locals row.stands.tokens free.0.0 row.stands.locals)
-      typed
-      (keep_below h.modules (root_value h.state) (root_value (with_storage h.state storage)) gone kept h.state.top.entered_with row.stands.results h.state.below free.1 row.stands.below)
-      stored
+  restored gone storage stack kept free stored typed = record {
+    home = h.home;
+    function = h.function;
+    types = after;
+    is_home = row.is_home;
+    is_function = row.is_function;
+    are_types = next;
+    stands = record {
+      tokens = row.stands.tokens;
+      results = row.stands.results;
+      numbered = row.stands.numbered;
+      are_tokens = row.stands.are_tokens;
+      are_results = row.stands.are_results;
+      locals = keep_locals h.modules (root_value h.state) (root_value (with_storage h.state storage)) gone kept h.home h.state.top.locals row.stands.tokens free.0.0 row.stands.locals;
+      stack = typed;
+      below = keep_below h.modules (root_value h.state) (root_value (with_storage h.state storage)) gone kept h.state.top.entered_with row.stands.results h.state.below free.1 row.stands.below;
+      storage = stored;
+    };
+  }
 
   kept_without : (key : Key) → Kept h.modules (root_value h.state) (root_value (with_storage h.state (without_stored h.state.storage key))) (λ root. root ≡ Stored key)
   kept_without key (Local m l) t far r = record { value = r.value; is_there = r.is_there; is_of = r.is_of }

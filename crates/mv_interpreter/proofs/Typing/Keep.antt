@@ -42,37 +42,6 @@ module _ (modules : List Module) (look look' : Roots) (gone : Root → Type 0) w
   abbrev pub Kept : Type 0
   Kept = (root : Root) (t : Tag) → (gone root → ⊥) → Rooted (fields_by_name modules) look root t → Rooted (fields_by_name modules) look' root t
 
--- a waiting frame with other locals, where other roots may be there: it waits as before, if what it holds and lent is typed there
-unfoldable pub waits_with : (modules : List Module) (look look' : Roots) (lent : List (Option Reference)) (given : List Tag) (f : Frame) (w : IsWaiting modules look lent given f) (locals : List (Option Value)) → LocalsHaveTokens modules look' w.home locals w.tokens →
-    HaveTokens modules look' w.home f.stack w.under → LentHaveTypes (fields_by_name modules) look' lent w.parameter_tags → IsWaiting modules look' lent given (record f { locals = locals })
-waits_with modules look look' lent given f w locals are_locals are_operands are_lent = record {
-  home = w.home;
-  function = w.function;
-  tokens = w.tokens;
-  handle = w.handle;
-  parameters = w.parameters;
-  results = w.results;
-  under = w.under;
-  parameter_tags = w.parameter_tags;
-  own_results = w.own_results;
-  is_home = w.is_home;
-  is_function = w.is_function;
-  are_tokens = w.are_tokens;
-  are_own_results = w.are_own_results;
-  is_call = w.is_call;
-  called = w.called;
-  is_called = w.is_called;
-  called_parameters = w.called_parameters;
-  called_results = w.called_results;
-  before = w.before;
-  behind = w.behind;
-  are_parameters = w.are_parameters;
-  are_results = w.are_results;
-  locals = are_locals;
-  stack = are_operands;
-  arguments = are_lent;
-}
-
 module _ (modules : List Module) (look look' : Roots) (gone : Root → Type 0) (kept : Kept modules look look' gone) where
   pub keep_reference : (r : Reference) (t : Tag) → (gone r.place.root → ⊥) → PointsTo (fields_by_name modules) look r t → PointsTo (fields_by_name modules) look' r t
   keep_reference r t a h = record { base = h.base; root = kept r.place.root h.base a h.root; leads = h.leads }
@@ -118,10 +87,35 @@ module _ (modules : List Module) (look look' : Roots) (gone : Root → Type 0) (
   keep_lent (Some r ∷ rs) (t ∷ ts) a h = (keep_value (Ref r) t a.0 h.0, keep_lent rs ts a.1 h.1)
 
   pub keep_waiting : (lent : List (Option Reference)) (given : List Tag) (f : Frame) → Avoid gone (filter_map (λ r. r) lent) → FrameAvoids gone f → IsWaiting modules look lent given f → IsWaiting modules look' lent given f
-  keep_waiting lent given f a b w =
-      waits_with modules look look' lent given f w f.locals (keep_locals w.home f.locals w.tokens b.0 w.locals) (keep_stack w.home f.stack w.under b.1 w.stack) (keep_lent lent w.parameter_tags a w.arguments)
+  keep_waiting lent given f a b w = record {
+    home = w.home;
+    function = w.function;
+    tokens = w.tokens;
+    handle = w.handle;
+    parameters = w.parameters;
+    results = w.results;
+    under = w.under;
+    parameter_tags = w.parameter_tags;
+    own_results = w.own_results;
+    is_home = w.is_home;
+    is_function = w.is_function;
+    are_tokens = w.are_tokens;
+    are_own_results = w.are_own_results;
+    is_call = w.is_call;
+    called = w.called;
+    is_called = w.is_called;
+    called_parameters = w.called_parameters;
+    called_results = w.called_results;
+    before = w.before;
+    behind = w.behind;
+    are_parameters = w.are_parameters;
+    are_results = w.are_results;
+    locals = keep_locals w.home f.locals w.tokens b.0 w.locals;
+    stack = keep_stack w.home f.stack w.under b.1 w.stack;
+    arguments = keep_lent lent w.parameter_tags a w.arguments;
+  }
 
   pub keep_below : (lent : List (Option Reference)) (given : List Tag) (fs : List Frame) → BelowAvoid gone lent fs → AreWaiting modules look lent given fs → AreWaiting modules look' lent given fs
-  unfolding keep_waiting waits_with
+  unfolding keep_waiting
   keep_below lent given [] a h = h
   keep_below lent given (f ∷ fs) a h = (keep_waiting lent given f a.0 a.1 h.0, keep_below f.entered_with h.0.own_results fs a.2 h.1)

@@ -1,5 +1,5 @@
 -- Rows of locals.
-use Rattle.std.proofs.Common.{slice_set, ◌≡◌, ℕ, ◌+◌, Bool, true, false, List, [], ◌∷◌, refl, sym, ap, subst, ◌∙◌, Option, Some, None, Ok, eqb, ◌⊎◌, inl, inr}
+use Rattle.std.proofs.Common.{◌≡◌, ℕ, ◌+◌, Bool, true, false, List, [], ◌∷◌, refl, sym, ap, subst, ◌∙◌, Option, Some, None, Ok, eqb, ◌⊎◌, inl, inr}
 use Rattle.std.specs.Prelude.{slice_get, not, ok_or}
 use Rattle.std.proofs.lemmas.Bool.{eqb-true}
 use Rattle.mv_move_types.specs.declared.token.ValueType.{ValueType}
@@ -32,7 +32,7 @@ use Rattle.mv_interpreter.proofs.Typing.Parts.{Part, known, some, met, tried, te
 use Rattle.mv_interpreter.proofs.Typing.Operands.{on_some, on_test, taken-is, one}
 use Rattle.mv_interpreter.proofs.Typing.Keep.{Kept, Nothing, none_to_nothing, keep_stack, keep_locals, keep_below}
 use Rattle.mv_interpreter.proofs.Typing.Roots.{named_plain, plain_is, typed_has_tag, local_at, local_set, other_roots, own_root}
-use Rattle.mv_interpreter.proofs.Typing.Stays.{stays_at, moved_typed}
+use Rattle.mv_interpreter.proofs.Typing.Stays.{stays_at}
 
 -- two roots are one or not
 pub root_is : (root : Root) (n l : ℕ) → (root ≡ Local n l) ⊎ (root ≡ Local n l → ⊥)
@@ -117,11 +117,26 @@ module _ (h : Here) (i : Instruction) (types after : Types) (row : Row h i types
   pub changed : (l : ℕ) (t : Token) (new : Option Value) (stack : List Value) → (b : StaysBut h.modules h.state (root_value (with_own_local h.state l new))) → Declared l t →
       LocalHasToken h.modules (root_value (with_own_local h.state l new)) h.home new t → HaveTokens h.modules (root_value (with_own_local h.state l new)) h.home stack after →
       Part (TurnTyped h.modules) (goes_on (with_stack (with_own_local h.state l new) stack))
-  changed l t new stack b d typed stacked = moved_typed h i types after row (slice_set h.state.top.locals l new) stack h.state.below h.state.storage h.state.tally (h.state.top.at + 1) next row.stands.numbered.1
-      (local_set h.modules (root_value (with_own_local h.state l new)) h.home h.state.top.locals row.stands.tokens l t new (keep_locals h.modules (root_value h.state) (root_value (with_own_local h.state l new)) b.gone b.kept h.home h.state.top.locals row.stands.tokens b.avoids.0.0 row.stands.locals) d.is_type typed)
-      stacked
-      (keep_below h.modules (root_value h.state) (root_value (with_own_local h.state l new)) b.gone b.kept h.state.top.entered_with row.stands.results h.state.below b.avoids.1 row.stands.below)
-      row.stands.storage
+  changed l t new stack b d typed stacked = record {
+    home = h.home;
+    function = h.function;
+    types = after;
+    is_home = row.is_home;
+    is_function = row.is_function;
+    are_types = next;
+    stands = record {
+      tokens = row.stands.tokens;
+      results = row.stands.results;
+      numbered = row.stands.numbered;
+      are_tokens = row.stands.are_tokens;
+      are_results = row.stands.are_results;
+      locals = local_set h.modules (root_value (with_own_local h.state l new)) h.home h.state.top.locals row.stands.tokens l t new
+          (keep_locals h.modules (root_value h.state) (root_value (with_own_local h.state l new)) b.gone b.kept h.home h.state.top.locals row.stands.tokens b.avoids.0.0 row.stands.locals) d.is_type typed;
+      stack = stacked;
+      below = keep_below h.modules (root_value h.state) (root_value (with_own_local h.state l new)) b.gone b.kept h.state.top.entered_with row.stands.results h.state.below b.avoids.1 row.stands.below;
+      storage = row.stands.storage;
+    };
+  }
 
   -- what the local holds stays typed where the local is changed
   kept_local : (l : ℕ) (t : Token) (v : Value) (look' : Roots) → (b : StaysBut h.modules h.state look') → Declared l t → slice_get h.state.top.locals l ≡ Some (Some v) → HasToken h.modules look' h.home v t

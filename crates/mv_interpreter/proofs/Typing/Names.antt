@@ -1,10 +1,11 @@
 -- Types that an accepted module names are there in the store.
-use Rattle.std.proofs.Common.{◌≡◌, ℕ, zero, suc, ◌+◌, Bool, true, false, List, [], ◌∷◌, refl, sym, ap, subst, ◌∙◌, Option, Some, None, Result, Ok, arith}
+use Rattle.std.proofs.Common.{◌≡◌, ℕ, zero, suc, ◌+◌, ◌<◌, Bool, true, false, List, [], ◌∷◌, length, refl, sym, ap, subst, ◌∙◌, Option, Some, None, Result, Ok, arith}
 use Rattle.std.specs.Prelude.{slice_get, ok_or, ◌&&◌}
 use Rattle.std.specs.Bool.{beq}
 use Rattle.std.specs.List.{list_all}
 use Rattle.std.specs.Option.{option_map_or}
 use Rattle.std.specs.Cmp.{first_so, second_so}
+use Rattle.std.proofs.lemmas.Bool.{ltb-true}
 use Rattle.mv_move_types.specs.declared.tables.StructHandle.{StructHandle}
 use Rattle.mv_move_types.specs.declared.token.ValueType.{ValueType}
 use Rattle.mv_move_types.specs.declared.token.ValueType.TheVariants.{OfLeaf, OfStruct}
@@ -21,13 +22,21 @@ use Rattle.mv_move_types.specs.Named.{declared}
 use Rattle.mv_move_types.specs.AbilitySets.{same_abilities}
 use Rattle.mv_bounds.specs.Bounds.{InBounds, below, token_in, value_type_in, struct_handle_in, module_handle_in}
 use Rattle.mv_linker.specs.Links.{struct_is_there, structs_are_there}
-pub use Rattle.mv_linker.proofs.Named.{there_at}
 use Rattle.mv_linker.specs.TypesByName.{value_type_named, token_named, tokens_named}
 use Rattle.mv_interpreter.specs.Typing.Facts.{Named}
 use Rattle.mv_interpreter.proofs.Typing.Within.{some_is}
 use Rattle.mv_interpreter.proofs.Typing.Tests.{beq-is, beq-same, both}
 use Rattle.mv_interpreter.proofs.Typing.Operands.{on_some}
 use Rattle.mv_interpreter.proofs.Typing.FlowFacts.{each}
+
+-- an index below the length
+pub there_at : {A : Type 0} (xs : List A) (k : ℕ) → below k xs ≡ true → (x : A) × (slice_get xs k ≡ Some x)
+there_at xs k h = found xs k (ltb-true k (length xs) h)
+  where
+    found : {A : Type 0} (xs : List A) (k : ℕ) → k < length xs → (x : A) × (slice_get xs k ≡ Some x)
+    found [] k h = absurd (omega (arith, h))
+    found (x ∷ xs) zero h = (x, refl)
+    found (x ∷ xs) (suc k) h = found xs k (omega (arith, h))
 
 -- a struct's name by its parts
 abbrev pub named_in : ModuleName → List ℕ → StructName

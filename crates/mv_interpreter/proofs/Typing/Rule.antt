@@ -22,11 +22,11 @@ use Rattle.mv_machine.specs.StepReferences.{read_reference}
 use Rattle.mv_machine.specs.Run.{goes_with, follows, turns}
 use Rattle.mv_type_states.specs.TypesAt.{TypesAt}
 use Rattle.mv_interpreter.specs.Typing.StateTyped.{HaveTokens, StateTyped, TurnTyped}
-use Rattle.mv_interpreter.specs.Typing.Facts.{Row, SoundStore}
+use Rattle.mv_interpreter.specs.Typing.Facts.{Row, Advance, SoundStore}
 use Rattle.mv_interpreter.specs.Typing.Unreached.{Guarded, StepGuarded}
 use Rattle.mv_interpreter.specs.Typing.Outcome.{Guides, OutcomeTyped}
 use Rattle.mv_interpreter.proofs.Typing.Parts.{Part, known, met}
-use Rattle.mv_interpreter.proofs.Typing.Stays.{gives_typed, here_of, advance_of, row_of}
+use Rattle.mv_interpreter.proofs.Typing.Stays.{gives_typed}
 use Rattle.mv_interpreter.proofs.Typing.Families.{binary_typed, comparison_typed, shift_typed, cast_typed, logic_typed, negation_typed, sum_keeps, difference_keeps, product_keeps, remainder_keeps, quotient_keeps, or_keeps, and_keeps, xor_keeps, left_keeps, right_keeps}
 use Rattle.mv_interpreter.proofs.Typing.Locals.{copies, moves, stores, borrows}
 use Rattle.mv_interpreter.proofs.Typing.References.{mutable_field, immutable_field, reads, freezes, immutable_names, mutable_names}
@@ -106,9 +106,19 @@ rule_typed h CastU32 ts after row g = stack_row h CastU32 ts after row row.leads
 pub step_typed : (modules : List Module) (s : State) → SoundStore modules → StateTyped modules s → StepGuarded modules s → Part (TurnTyped modules) (step modules s)
 unfolding step
 step_typed modules s store typed guarded =
-    let h : Here = here_of modules s typed in
-    let a = advance_of modules s store typed in
-    let row : Row h a.instruction typed.types a.after = row_of modules s store typed in
+    let h : Here = record { modules = modules; home = typed.home; function = typed.function; state = s } in
+    let a : Advance typed.home typed.function s.top.at typed.types = store.advance s.top.function.place s.top.function.index s.top.at typed.home typed.function typed.types typed.is_home typed.is_function typed.are_types in
+    let row : Row h a.instruction typed.types a.after = record {
+      facts = store.facts typed.home typed.function s typed.is_home typed.is_function;
+      is_home = typed.is_home;
+      is_function = typed.is_function;
+      is_next = a.is_there;
+      before = typed.are_types;
+      stands = typed.stands;
+      rule = a.rule;
+      fits = a.fits;
+      leads = a.leads;
+    } in
     known (TurnTyped modules) (entry modules s.top.function.place) _ typed.home (ap (λ (x : Option Module). ok_or x (Faults LinkageFault)) typed.is_home)
     (known (TurnTyped modules) (entry typed.home.functions s.top.function.index) _ typed.function (ap (λ (x : Option FunctionDefinition). ok_or x (Faults LinkageFault)) typed.is_function)
     (known (TurnTyped modules) (ok_or (slice_get typed.function.code s.top.at) (Faults TypeFault)) _ a.instruction (ap (λ (x : Option Instruction). ok_or x (Faults TypeFault)) a.is_there)

@@ -28,7 +28,6 @@ use Rattle.mv_interpreter.proofs.Typing.Parts.{Part, known, met}
 use Rattle.mv_interpreter.proofs.Typing.Operands.{on_some, takes_gives-is, one, joined, turned, take_operands}
 use Rattle.mv_interpreter.proofs.Typing.Roots.{is_plain, plain_is, tokens_have_tags, typed_have_tags}
 use Rattle.mv_interpreter.proofs.Typing.References.{struct_fields}
-use Rattle.mv_interpreter.proofs.Typing.Stays.{moved_typed}
 
 -- the tags of a list of types are found
 pub tags_found : (h : Here) → Facts h → (ts : List Token) (tags : List Tag) → tokens_named h.home ts ≡ Some tags → for_each (tag_named h.modules h.home) ts ≡ Ok tags
@@ -96,11 +95,25 @@ module _ (modules : List Module) (look : Roots) where
 module _ (h : Here) (i : Instruction) (types after : Types) (row : Row h i types after) (next : TypesAt h.home h.function (h.state.top.at + 1) after) where
   -- one more in the tally, and these operands
   tallies : (is_pack : Bool) (struct : OwnStruct) (stack : List Value) → HaveTokens h.modules (root_value h.state) h.home stack after → Part (TurnTyped h.modules) (goes_on (tallied is_pack struct (with_stack h.state stack)))
-  tallies is_pack struct stack typed = moved_typed h i types after row h.state.top.locals stack h.state.below h.state.storage (tallied is_pack struct h.state).tally (h.state.top.at + 1) next row.stands.numbered.1
-      row.stands.locals
-      typed
-      row.stands.below
-      row.stands.storage
+  tallies is_pack struct stack typed = record {
+    home = h.home;
+    function = h.function;
+    types = after;
+    is_home = row.is_home;
+    is_function = row.is_function;
+    are_types = next;
+    stands = record {
+      tokens = row.stands.tokens;
+      results = row.stands.results;
+      numbered = row.stands.numbered;
+      are_tokens = row.stands.are_tokens;
+      are_results = row.stands.are_results;
+      locals = row.stands.locals;
+      stack = typed;
+      below = row.stands.below;
+      storage = row.stands.storage;
+    };
+  }
 
   pub packs : (k : ℕ) → of_pack h.home k types ≡ Some after → Part (TurnTyped h.modules) (pack h k)
   unfolding pack

@@ -30,7 +30,6 @@ use Rattle.mv_interpreter.proofs.Typing.Frames.{written_below, written_in, frame
 use Rattle.mv_interpreter.proofs.Typing.Storage.{entry_of, stored_same, stored_other, stored_typed, typed_with}
 use Rattle.mv_interpreter.proofs.Typing.References.{mutable_one, mutable_target-is}
 use Rattle.mv_machine.specs.Live.{references, local_references}
-use Rattle.mv_interpreter.proofs.Typing.Stays.{moved_typed}
 
 -- the numbers stay
 numbers_stay : (n l : ℕ) (v : Value) (bound : ℕ) (fs : List Frame) → Numbered bound fs → Numbered bound (map (with_local n l v) fs)
@@ -84,11 +83,25 @@ module _ (h : Here) (i : Instruction) (types after : Types) (row : Row h i types
 
       built : (locals : List (Option Value)) → LocalsHaveTokens h.modules (root_value (over n l (record lower_top { locals = locals }))) h.home locals row.stands.tokens → HaveTokens h.modules (root_value (over n l (record lower_top { locals = locals }))) h.home rest after →
           AreWaiting h.modules (root_value (over n l (record lower_top { locals = locals }))) h.state.top.entered_with row.stands.results (map (with_local n l new) h.state.below) → Part (TurnTyped h.modules) (goes_on (over n l (record lower_top { locals = locals })))
-      built locals a b c = moved_typed h i types after row locals rest (map (with_local n l new) h.state.below) h.state.storage h.state.tally (h.state.top.at + 1) next (numbers_stay n l new h.state.top.number h.state.below row.stands.numbered.1)
-          a
-          b
-          c
-          row.stands.storage
+      built locals a b c = record {
+        home = h.home;
+        function = h.function;
+        types = after;
+        is_home = row.is_home;
+        is_function = row.is_function;
+        are_types = next;
+        stands = record {
+          tokens = row.stands.tokens;
+          results = row.stands.results;
+          numbered = (row.stands.numbered.0, numbers_stay n l new h.state.top.number h.state.below row.stands.numbered.1);
+          are_tokens = row.stands.are_tokens;
+          are_results = row.stands.are_results;
+          locals = a;
+          stack = b;
+          below = c;
+          storage = row.stands.storage;
+        };
+      }
 
   write_stored : (key : Key) → stored_at h.state.storage key ≡ Some old → Part (TurnTyped h.modules) (goes_on (with_root (with_stack h.state rest) (Stored key) new))
   write_stored key there =
@@ -96,11 +109,25 @@ module _ (h : Here) (i : Instruction) (types after : Types) (row : Row h i types
       let entry = stored_typed h.modules h.state.storage key old row.stands.storage there in
       let same : base ≡ StructTag entry.name = one_type (fields_by_name h.modules) old base (StructTag entry.name) old_typed entry.typed in
       let new_entry : EntryTyped h.modules (entry_of key new) = record { name = entry.name; fits = entry.fits; is_named = entry.is_named; has_key = entry.has_key; typed = subst (λ (t : Tag). IsOf (fields_by_name h.modules) new t) same new_typed } in
-      moved_typed h i types after row h.state.top.locals rest h.state.below (with_stored h.state.storage key new) h.state.tally (h.state.top.at + 1) next row.stands.numbered.1
-      (keep_locals h.modules (root_value h.state) (root_value s') Nothing kept h.home h.state.top.locals row.stands.tokens (avoid_nothing (local_references h.state.top.locals)) row.stands.locals)
-      (keep_stack h.modules (root_value h.state) (root_value s') Nothing kept h.home rest after (avoid_nothing (references rest)) rest_typed)
-      (keep_below h.modules (root_value h.state) (root_value s') Nothing kept h.state.top.entered_with row.stands.results h.state.below (below_avoids_nothing h.state.top.entered_with h.state.below) row.stands.below)
-      (typed_with h.modules h.state.storage key new row.stands.storage new_entry)
+      record {
+        home = h.home;
+        function = h.function;
+        types = after;
+        is_home = row.is_home;
+        is_function = row.is_function;
+        are_types = next;
+        stands = record {
+          tokens = row.stands.tokens;
+          results = row.stands.results;
+          numbered = row.stands.numbered;
+          are_tokens = row.stands.are_tokens;
+          are_results = row.stands.are_results;
+          locals = keep_locals h.modules (root_value h.state) (root_value s') Nothing kept h.home h.state.top.locals row.stands.tokens (avoid_nothing (local_references h.state.top.locals)) row.stands.locals;
+          stack = keep_stack h.modules (root_value h.state) (root_value s') Nothing kept h.home rest after (avoid_nothing (references rest)) rest_typed;
+          below = keep_below h.modules (root_value h.state) (root_value s') Nothing kept h.state.top.entered_with row.stands.results h.state.below (below_avoids_nothing h.state.top.entered_with h.state.below) row.stands.below;
+          storage = typed_with h.modules h.state.storage key new row.stands.storage new_entry;
+        };
+      }
     where
       kept : Kept h.modules (root_value h.state) (root_value (with_root (with_stack h.state rest) (Stored key) new)) Nothing
       kept (Local m k) t far r = record { value = r.value; is_there = r.is_there; is_of = r.is_of }

@@ -1,4 +1,4 @@
--- The machine's frames, places and edges as the abstract rules see them.
+-- The machine's frames, places and edges as the borrow theory sees them.
 use Rattle.std.specs.Prelude.{◌≡◌, ℕ, List, [], ◌∷◌, ◌++◌, map, reverse, Bool, true, false, ◌&&◌, ◌==◌, ◌⊎◌, Option, Some, None}
 use Rattle.std.specs.List.{list_any}
 use Rattle.mv_move_types.specs.declared.borrow.Node.{Node}

@@ -1,4 +1,4 @@
--- What the store of modules and the types give to the rules of borrows at each step: named facts, which other proofs show.
+-- What the store of modules and the types give to the borrow theory at each step: named facts, which other proofs show.
 use Rattle.std.specs.Prelude.{◌≡◌, ℕ, true, ◌&&◌, IsTrue, List, ◌∷◌, Some, None, slice_get, ⊤}
 use Rattle.mv_move_types.specs.declared.token.Token.{Token}
 use Rattle.mv_move_types.specs.declared.instruction.Instruction.{Instruction}

@@ -1,13 +1,9 @@
 -- Runs over published modules: no run meets a fault, and each state that it comes to is as the modules' certificates say.
-use Rattle.std.specs.Prelude.{◌≡◌, ℕ, IsTrue, List, length, All, Some, Ok, slice_get}
-use Rattle.mv_move_types.specs.Named.{have_one_name}
+use Rattle.std.specs.Prelude.{◌≡◌, ℕ, List, length, Some, Ok, slice_get}
 use Rattle.mv_move_types.specs.Published.{PublishedModule}
-use Rattle.mv_binary_format.specs.ModuleText.{HasText}
-use Rattle.mv_bounds.specs.Definitions.{all_differ}
 use Rattle.mv_certificate.specs.Certificate.{Certificate}
 use Rattle.mv_certificate.specs.CertificateText.{IsCertificateText}
-use Rattle.mv_linker.specs.Link.{IsPublishable, tables_in}
-use Rattle.mv_linker.specs.Links.{Links}
+use Rattle.mv_linker.specs.Link.{IsStore, tables_in}
 use Rattle.mv_machine.specs.State.{Storage, State}
 use Rattle.mv_machine.specs.Run.{FunctionCall, first_state, run}
 use Rattle.mv_interpreter.specs.Borrows.Invariant.{Holds}
@@ -15,17 +11,6 @@ use Rattle.mv_interpreter.specs.Typing.CallTyped.{CallTyped}
 use Rattle.mv_interpreter.specs.Typing.StateTyped.{StorageTyped}
 use Rattle.mv_interpreter.specs.Typing.Watched.{Faultless}
 use Rattle.mv_interpreter.specs.Guided.Outcome.{ComesTo}
-
--- a module's tables can be written as a text
-abbrev pub HasTables : PublishedModule → Type 0
-HasTables p = HasText p.tables
-
--- each module of a store passed its phases with a certificate, no two have one name, and together they link
-pub record IsAcceptedStore (store : List PublishedModule) : Type 0 where
-  pub texts : All HasTables store
-  pub passed : All IsPublishable store
-  pub once : IsTrue (all_differ have_one_name (tables_in store))
-  pub links : Links (tables_in store)
 
 -- the certificates that a store's modules were published with, in their order
 pub record AreCertificates (store : List PublishedModule) (certificates : List Certificate) : Type 0 where
@@ -35,12 +20,12 @@ pub record AreCertificates (store : List PublishedModule) (certificates : List C
 -- over a typed storage no run of a typed call meets a fault, in any budget, and the storage that it returns is typed
 abbrev pub RunsAreFaultless : Type 0
 RunsAreFaultless =
-    (store : List PublishedModule) (storage : Storage) (call : FunctionCall) (budget : ℕ) → IsAcceptedStore store → StorageTyped (tables_in store) storage
+    (store : List PublishedModule) (storage : Storage) (call : FunctionCall) (budget : ℕ) → IsStore store → StorageTyped (tables_in store) storage
     → CallTyped (tables_in store) call → Faultless (tables_in store) (run (tables_in store) storage call budget)
 
 -- and each state that it comes to is as the certificates say
 abbrev pub StatesHold : Type 0
 StatesHold =
     (store : List PublishedModule) (certificates : List Certificate) (storage : Storage) (call : FunctionCall) (first s : State)
-    → IsAcceptedStore store → AreCertificates store certificates → StorageTyped (tables_in store) storage → CallTyped (tables_in store) call
+    → IsStore store → AreCertificates store certificates → StorageTyped (tables_in store) storage → CallTyped (tables_in store) call
     → first_state (tables_in store) storage call ≡ Ok first → ComesTo (tables_in store) first s → Holds (tables_in store) certificates s

@@ -1,6 +1,10 @@
+use Rattle.std.proofs.Common.{◌∙◌}
 use Rattle.clap.specs.Words.{found_of, rows_of, subcommand_rows_of}
-use Rattle.moveledger.proofs.Tasks.{task_of_apply}
+use Rattle.clap.specs.declared.parser.ArgMatches.TheViews.{out-ArgMatches}
+use Rattle.moveledger.proofs.Tasks.{name_with_rows, task_of_named}
 use Rattle.moveledger.proofs.command.task_of.Goals as goal
 
 pub returns-in-Some : goal.returns-in-Some
-returns-in-Some c = task_of_apply (subcommand_rows_of c.args.matches.now) (rows_of (found_of c.in-Some.found.now)) _ c.in-Some.ensures.rows c.given.ensures
+returns-in-Some c =
+    task_of_named (subcommand_rows_of c.args.matches.now) c.in-Some.name.now (rows_of (found_of c.in-Some.found.now)) _
+    (c.in-Some.ensures.name ∙ name_with_rows _ _ (out-ArgMatches c.args.matches.now).subcommand) c.in-Some.ensures.rows c.named_task.ensures

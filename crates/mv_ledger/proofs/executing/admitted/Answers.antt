@@ -7,7 +7,7 @@ use Rattle.mv_machine.specs.Ledger.{are_arguments, with_signer as with_sender}
 use Rattle.mv_interpreter.specs.Runs.{arg_value}
 use Rattle.mv_ledger.specs.Asking.{request_of}
 use Rattle.mv_ledger.specs.declared.executing.Barred.TheVariants.{Rejected}
-use Rattle.mv_ledger.proofs.Calls.{place-below, function-below, runs-at}
+use Rattle.mv_ledger.proofs.Calls.{place-below, function-below}
 use Rattle.mv_ledger.proofs.Admissions.{FindsTypes, hit, miss, rejected-as, finds_module, finds_function, no_budget, no_module, no_function, no_entry, no_types, no_arguments, no_runs, admits}
 use Rattle.mv_ledger.proofs.executing.admitted.Goals as goal
 
@@ -62,7 +62,6 @@ returns-clause-call c =
       tokens_are = sym c.parameters.ensures ∙ ap (option_map (λ t. t.now)) typed;
       fit = cc;
       range = c.in_ok-arguments.ensures.range;
-      today = runs-at c.args.store.now c.in_ok-place.place c.in_ok-home.home c.requires.today in_module.home_is;
     }
 
 pub returns-then-asked-gt-MOST_STEPS-clause-admitted : goal.returns-then-asked-gt-MOST_STEPS-clause-admitted

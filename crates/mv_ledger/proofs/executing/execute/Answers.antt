@@ -1,4 +1,4 @@
-use Rattle.std.proofs.Common.{◌≡◌, ◌+◌, ◌^◌, ◌≤◌, Err, List, map, rules, refl, sym, ap, ◌∙◌, subst, arith}
+use Rattle.std.proofs.Common.{◌≡◌, ◌+◌, ◌^◌, ◌≤◌, List, map, rules, sym, ap, ◌∙◌, subst, arith}
 use Rattle.std.specs.Prelude.{All}
 use Rattle.std.specs.List.{sum_by}
 use Rattle.mv_machine.specs.declared.Ending.TheVariants.{Returned}
@@ -6,12 +6,12 @@ use Rattle.mv_machine.specs.Flat.{FlatEntry}
 use Rattle.mv_machine.specs.Run.{RunOutcome}
 use Rattle.mv_linker.specs.Link.{tables_in}
 use Rattle.mv_interpreter.specs.declared.StructTally.{StructTally}
-use Rattle.mv_interpreter.specs.Runs.{IsFineWords, Agrees, IsFaulted}
+use Rattle.mv_interpreter.specs.Runs.{IsFineWords, Agrees}
 use Rattle.mv_ledger.specs.declared.tallies.Tally.{Tally}
 use Rattle.mv_ledger.specs.Tallying.{tally_after}
-use Rattle.mv_ledger.specs.View.{all_of, IsNamed, IsSmall}
-use Rattle.mv_ledger.proofs.StoredRuns.{run-same, tallied-after, settled-returned, settled-kept, settled-error, kept-error, small-kept}
-use Rattle.mv_ledger.proofs.TalliesAfter.{named-after, small-after}
+use Rattle.mv_ledger.specs.View.{all_of, IsNamed, IsSmall, AreScarce}
+use Rattle.mv_ledger.proofs.StoredRuns.{run-same, tallied-after, settled-returned, settled-kept, small-kept}
+use Rattle.mv_ledger.proofs.TalliesAfter.{named-after, small-after, scarce-after}
 use Rattle.mv_ledger.proofs.executing.execute.Goals as goal
 use Rattle.mv_ledger.proofs.executing.execute.Goals.{then-eq, else-eq}
 
@@ -27,9 +27,9 @@ returns-after-eq-clause-stored c =
           subst (λ (z : List FlatEntry). All (IsFineWords (tables_in c.args.store.now)) z) (sym e) c.requires.stored
     ]
 
-pub returns-in-Err-clause-stored : goal.returns-in-Err-clause-stored
-returns-in-Err-clause-stored c =
-    let e : c.discard-in-Err.result ≡ c.args.storage.now = cc in
+pub returns-in-Err-Memory-clause-stored : goal.returns-in-Err-Memory-clause-stored
+returns-in-Err-Memory-clause-stored c =
+    let e : c.discard-in-Err-Memory.result ≡ c.args.storage.now = cc in
     subst (λ (z : List FlatEntry). All (IsFineWords (tables_in c.args.store.now)) z) (sym e) c.requires.stored
 
 pub returns-after-eq-clause-named : goal.returns-after-eq-clause-named
@@ -53,6 +53,15 @@ returns-after-eq-clause-small c = λ runs small.
       | else-eq w ↦ rw w.tallies-is (small-kept runs (all_of c.args.tallies.now) small)
     ]
 
+pub returns-after-eq-clause-scarce : goal.returns-after-eq-clause-scarce
+returns-after-eq-clause-scarce c =
+    elim c.if-eq.branch [
+      | then-eq w ↦
+          subst (λ (tss : List (List Tally)). AreScarce (tables_in c.args.store.now) tss) (sym (w.tallies-is ∙ w.add_run.ensures))
+          (scarce-after w.deref-then-eq.result.now (tables_in c.args.store.now) c.args.tallies.now c.requires.scarce)
+      | else-eq w ↦ rw w.tallies-is c.requires.scarce
+    ]
+
 pub returns-after-eq-clause-settled : goal.returns-after-eq-clause-settled
 returns-after-eq-clause-settled c =
     elim c.if-eq.branch [
@@ -71,14 +80,3 @@ returns-after-eq-clause-settled c =
           let e : c.if-eq.storage ≡ c.args.storage.now = cc in
           settled-kept c.args.store.now c.args.call.now c.args.storage.now c.if-eq.storage (all_of c.args.tallies.now) (all_of c.if-eq.tallies) c.in-Ok.outcome c.in-Ok.tally.items c.run.new.o agrees other e (ap all_of w.tallies-is)
     ]
-
-pub returns-in-Err-clause-settled : goal.returns-in-Err-clause-settled
-returns-in-Err-clause-settled c =
-    rw c.reply_to.ensures (settled-error c.args.store.now c.args.call.now c.args.storage.now c.discard-in-Err.result (all_of c.args.tallies.now) (all_of c.args.tallies.now) c.in-Err.e (λ broken.
-    subst IsFaulted (run-same c.args.store.now c.args.call.now c.args.storage.now c.discard-in-Err.result (all_of c.args.tallies.now) (all_of c.args.tallies.now) c.overlay-overlay.result.current c.deref.result.now (c.overlay-overlay.ensures.current ∙ c.replace.ensures.value) c.deref.ensures.value)
-    (c.in-Err.ensures.broken (ap (λ e. Err e) broken))))
-
-pub returns-in-Err-clause-kept : goal.returns-in-Err-clause-kept
-returns-in-Err-clause-kept c =
-    let same : c.discard-in-Err.result ≡ c.args.storage.now = cc in
-    rw c.reply_to.ensures (kept-error c.args.store.now c.args.call.now c.args.storage.now c.discard-in-Err.result (all_of c.args.tallies.now) (all_of c.args.tallies.now) c.in-Err.e same refl)

@@ -1,64 +1,59 @@
-use Rattle.std.proofs.Common.{◌≡◌, Bool, true, Some, Err, refl, sym, ap, ◌∙◌, subst}
-use Rattle.std.proofs.lemmas.Bool.{false≢true}
+use Rattle.std.proofs.Common.{◌≡◌, Some, Err, sym, ap, ◌∙◌, subst}
 use Rattle.mv_move_types.specs.Module.{Module}
 use Rattle.mv_binary_format.specs.Parsing.{module_of}
-use Rattle.mv_interpreter.specs.Today.{module_runs}
 use Rattle.std.proofs.lemmas.Result.{err_from_is_err_and}
 use Rattle.mv_acquires.specs.Acquires.{AcquiresHold}
 use Rattle.mv_certificate.specs.Certificate.{Certificate}
 use Rattle.mv_machine.specs.Ledger.{Offer}
-use Rattle.mv_ledger.specs.Publishing.{IsRead, Passes, not_today}
+use Rattle.mv_ledger.specs.Asking.{offer_of}
+use Rattle.mv_ledger.specs.Publishing.{Spells, Passes}
 use Rattle.mv_ledger.proofs.Phases.{refused_text, refused_bounds, refused_types, refused_stated, refused_check}
 use Rattle.mv_ledger.proofs.publishing.verified.Goals as goal
 
--- what an offer that was read spells runs today
-read : (o : Offer) (m n : Module) (r : Bool) → module_of o.text ≡ Some m → r ≡ module_runs m → r ≡ true → n ≡ m → IsRead o n
-read o m n r text is passed same = subst (IsRead o) (sym same) (record { text = text; today = sym is ∙ passed })
+-- what an offer spells
+spelled : (o : Offer) (m n : Module) → module_of o.text ≡ Some m → n ≡ m → Spells o.text n
+spelled o m n text same = text ∙ ap Some (sym same)
 
 pub returns-in_err-module-clause-refused : goal.returns-in_err-module-clause-refused
 returns-in_err-module-clause-refused c =
     let p = err_from_is_err_and c.from_residual.result c.from_residual.ensures.1 in
-    rw (p.1, p.2) (refused_text _ c.in_err-module.field-0.0 c.in_err-module.ensures.errors (λ is. c.in_err-module.ensures.refused (ap Err is)))
-
-pub returns-then-not-runs_today-clause-refused : goal.returns-then-not-runs_today-clause-refused
-returns-then-not-runs_today-clause-refused c =
-    not_today c.in_ok-module.module c.in_ok-module.ensures.ok (λ today. false≢true (sym c.if-not-runs_today.true ∙ c.runs_today.ensures ∙ today))
+    rw (p.1, p.2) (refused_text (offer_of c.args.offer.now) c.in_err-module.field-0.0 c.in_err-module.ensures.errors (λ is. c.in_err-module.ensures.refused (ap Err is)))
 
 pub returns-in_err-bounded-clause-refused : goal.returns-in_err-bounded-clause-refused
 returns-in_err-bounded-clause-refused c =
     let p = err_from_is_err_and c.from_residual-in_err-bounded.result c.from_residual-in_err-bounded.ensures.1 in
-    rw (p.1, p.2) (refused_bounds _ c.in_ok-module.module c.in_err-bounded.field-0.0
-    (read _ c.in_ok-module.module c.in_ok-module.module c.runs_today.result c.in_ok-module.ensures.ok c.runs_today.ensures c.if-not-runs_today.false refl) c.in_err-bounded.ensures.refused)
+    rw (p.1, p.2) (refused_bounds (offer_of c.args.offer.now) c.in_ok-module.module c.in_err-bounded.field-0.0
+    c.in_ok-module.ensures.ok c.in_err-bounded.ensures.refused)
 
 pub returns-in_err-typed-clause-refused : goal.returns-in_err-typed-clause-refused
 returns-in_err-typed-clause-refused c =
     let p = err_from_is_err_and c.from_residual-in_err-typed.result c.from_residual-in_err-typed.ensures.1 in
     rw (p.1, p.2)
-    (refused_types _ c.in_ok-bounded.bounded c.in_err-typed.field-0.0 (read _ c.in_ok-module.module c.in_ok-bounded.bounded c.runs_today.result c.in_ok-module.ensures.ok c.runs_today.ensures c.if-not-runs_today.false c.in_ok-bounded.ensures.ok)
+    (refused_types (offer_of c.args.offer.now) c.in_ok-bounded.bounded c.in_err-typed.field-0.0 (spelled (offer_of c.args.offer.now) c.in_ok-module.module c.in_ok-bounded.bounded c.in_ok-module.ensures.ok c.in_ok-bounded.ensures.ok)
     c.module-defined.ensures.bounds c.module-defined.ensures.definitions c.in_err-typed.ensures.refused)
 
 pub returns-in_err-stated-clause-refused : goal.returns-in_err-stated-clause-refused
 returns-in_err-stated-clause-refused c =
     let p = err_from_is_err_and c.from_residual-in_err-stated.result c.from_residual-in_err-stated.ensures.1 in
     rw (p.1, p.2)
-    (refused_stated _ c.in_ok-typed.typed c.in_err-stated.field-0.0 (read _ c.in_ok-module.module c.in_ok-typed.typed c.runs_today.result c.in_ok-module.ensures.ok c.runs_today.ensures c.if-not-runs_today.false (c.in_ok-typed.ensures.ok ∙ c.in_ok-bounded.ensures.ok))
+    (refused_stated (offer_of c.args.offer.now) c.in_ok-typed.typed c.in_err-stated.field-0.0 (spelled (offer_of c.args.offer.now) c.in_ok-module.module c.in_ok-typed.typed c.in_ok-module.ensures.ok (c.in_ok-typed.ensures.ok ∙ c.in_ok-bounded.ensures.ok))
     c.module-sound.ensures.sound c.in_err-stated.ensures.errors (λ is. c.in_err-stated.ensures.none (ap Err is)))
 
 pub returns-in_err-module-2-clause-refused : goal.returns-in_err-module-2-clause-refused
 returns-in_err-module-2-clause-refused c =
     let p = err_from_is_err_and c.from_residual-in_err-module-2.result c.from_residual-in_err-module-2.ensures.1 in
     rw (p.1, p.2)
-    (refused_check _ c.in_ok-typed.typed c.in_ok-stated.stated c.in_err-module-2.field-0.0 (read _ c.in_ok-module.module c.in_ok-typed.typed c.runs_today.result c.in_ok-module.ensures.ok c.runs_today.ensures c.if-not-runs_today.false (c.in_ok-typed.ensures.ok ∙ c.in_ok-bounded.ensures.ok))
+    (refused_check (offer_of c.args.offer.now) c.in_ok-typed.typed c.in_ok-stated.stated c.in_err-module-2.field-0.0 (spelled (offer_of c.args.offer.now) c.in_ok-module.module c.in_ok-typed.typed c.in_ok-module.ensures.ok (c.in_ok-typed.ensures.ok ∙ c.in_ok-bounded.ensures.ok))
     c.module-sound.ensures.sound c.in_ok-stated.ensures.ok c.in_err-module-2.ensures.refused)
 
 pub returns-clause-passes : goal.returns-clause-passes
 returns-clause-passes c =
-    let offer : Offer = record { text = c.args.bundle.now.text.now; certificate = c.args.bundle.now.certificate.now } in
+    let offer : Offer = record { text = c.args.offer.now.text.now; certificate = c.args.offer.now.certificate.now } in
     let same = c.in_ok-module-2.ensures.ok in
     subst (λ m. (stated : Certificate) × Passes offer m stated) (sym same) (
       c.in_ok-stated.stated,
       record {
-        read = read offer c.in_ok-module.module c.in_ok-typed.typed c.runs_today.result c.in_ok-module.ensures.ok c.runs_today.ensures c.if-not-runs_today.false (c.in_ok-typed.ensures.ok ∙ c.in_ok-bounded.ensures.ok);
+        text = spelled offer c.in_ok-module.module c.in_ok-typed.typed c.in_ok-module.ensures.ok (c.in_ok-typed.ensures.ok ∙ c.in_ok-bounded.ensures.ok);
         sound = c.module-sound.ensures.sound;
         certificate = c.in_ok-stated.ensures.ok;
         holds = c.in_ok-module-2.ensures.holds;

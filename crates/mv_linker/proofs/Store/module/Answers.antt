@@ -3,9 +3,16 @@ use Rattle.std.specs.Prelude.{IfSome, slice_get}
 use Rattle.mv_move_types.specs.Published.{PublishedModule}
 use Rattle.mv_binary_format.specs.Parsing.{module_of}
 use Rattle.mv_linker.proofs.Keyed.{module-at}
+use Rattle.mv_linker.proofs.Scopes.{tables-there}
 use Rattle.mv_linker.proofs.Store.module.Goals as goal
 
 pub returns-in-Ok-clause-value : goal.returns-in-Ok-clause-value
 returns-in-Ok-clause-value c =
     let decoded = ap module_of (sym c.deref.ensures.value) ∙ c.in-Ok.ensures.ok in
     subst (λ (s : List PublishedModule). IfSome (slice_get s c.args.place) (λ p. c.in-Ok.m ≡ p.tables)) c.self.view_is (module-at c.self.inside.modules.entries c.args.place c.index.result.now c.in-Ok.m c.index.ensures decoded)
+
+pub returns-in-Ok-clause-tables : goal.returns-in-Ok-clause-tables
+returns-in-Ok-clause-tables c =
+    let decoded = ap module_of (sym c.deref.ensures.value) ∙ c.in-Ok.ensures.ok in
+    tables-there c.args.self.now c.args.place c.in-Ok.m c.requires
+    (subst (λ (s : List PublishedModule). IfSome (slice_get s c.args.place) (λ p. c.in-Ok.m ≡ p.tables)) c.self.view_is (module-at c.self.inside.modules.entries c.args.place c.index.result.now c.in-Ok.m c.index.ensures decoded))

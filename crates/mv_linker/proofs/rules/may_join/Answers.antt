@@ -1,43 +1,104 @@
-use Rattle.std.proofs.Common.{refl}
-use Rattle.std.specs.List.{list_all}
+use Rattle.std.proofs.Common.{◌≡◌, true, false, List, length, IfOk, refl, sym, ap, subst, ◌∙◌, arith}
+use Rattle.std.proofs.lemmas.List.{length-map}
+use Rattle.mv_move_types.specs.Module.{Module}
+use Rattle.mv_move_types.specs.Published.{PublishedModule, with_modules}
 use Rattle.mv_bounds.specs.Definitions.{all_differ}
-use Rattle.mv_linker.specs.Link.{tables_in, have_one_name}
-use Rattle.mv_linker.specs.Link.{is_new as is_fresh}
-use Rattle.mv_linker.specs.Link.{stands_alone as is_alone}
-use Rattle.mv_linker.specs.Kept.{Kept}
-use Rattle.mv_linker.specs.declared.New.{New as Offered}
-use Rattle.mv_linker.proofs.Joins.{tests-join, join-tests, none_joins}
+use Rattle.mv_linker.specs.declared.New.{New}
+use Rattle.mv_linker.specs.Link.{MayJoin, AreSentBy, IsStore, tables_in, have_one_name, are_compatible, all_follow}
+use Rattle.mv_linker.specs.Links.{Links}
+use Rattle.mv_linker.specs.News.{published_of}
+use Rattle.mv_linker.specs.Scope.{offered, with_tables}
+use Rattle.mv_linker.specs.Stored.{Relinks}
+use Rattle.mv_linker.proofs.Compatible.{follow-compatible, compatible-follow}
+use Rattle.mv_linker.proofs.Scopes.{offered-tables, scope-tables, with_tables-short}
+use Rattle.mv_linker.proofs.Outcomes.{on_ok, if_err}
 use Rattle.mv_linker.proofs.rules.may_join.Goals as goal
 
-pub returns-then-not-are_sent_by : goal.returns-then-not-are_sent_by
-returns-then-not-are_sent_by c =
-    none_joins _ c.are_sent_by.result c.if-not-are_sent_by.true (λ join. (join-tests c.args.sender (tables_in c.args.s.now) c.args.added.now c.args.new.now c.are_sent_by.result
-    (all_differ (λ (j k : Kept). have_one_name j.published.tables k.published.tables) c.args.added.now)
-    (list_all (λ (k : Kept). is_fresh (tables_in c.args.s.now) k.published.tables) c.args.added.now)
-    (list_all (λ (n : Offered). is_alone n.module) c.args.new.now)
-    (record { sent_is = c.are_sent_by.ensures; distinct_is = refl; fresh_is = refl; alone_is = refl; same = c.requires }) join).0)
-
-pub returns-then-not-are_distinct : goal.returns-then-not-are_distinct
-returns-then-not-are_distinct c =
-    none_joins _ c.are_distinct.result c.if-not-are_distinct.true (λ join. (join-tests c.args.sender (tables_in c.args.s.now) c.args.added.now c.args.new.now c.are_sent_by.result
-    c.are_distinct.result
-    (list_all (λ (k : Kept). is_fresh (tables_in c.args.s.now) k.published.tables) c.args.added.now)
-    (list_all (λ (n : Offered). is_alone n.module) c.args.new.now)
-    (record { sent_is = c.are_sent_by.ensures; distinct_is = c.are_distinct.ensures; fresh_is = refl; alone_is = refl; same = c.requires }) join).1)
-
-pub returns-then-not-all_new : goal.returns-then-not-all_new
-returns-then-not-all_new c =
-    none_joins _ c.all_new.result c.if-not-all_new.true (λ join. (join-tests c.args.sender (tables_in c.args.s.now) c.args.added.now c.args.new.now c.are_sent_by.result
-    c.are_distinct.result
-    c.all_new.result
-    (list_all (λ (n : Offered). is_alone n.module) c.args.new.now)
-    (record { sent_is = c.are_sent_by.ensures; distinct_is = c.are_distinct.ensures; fresh_is = c.all_new.ensures; alone_is = refl; same = c.requires }) join).2)
-
-pub returns : goal.returns
-returns c = (
-  (λ s. tests-join c.args.sender (tables_in c.args.s.now) c.args.added.now c.args.new.now c.are_sent_by.result c.are_distinct.result c.all_new.result c.all_alone.result
-      (record { sent_is = c.are_sent_by.ensures; distinct_is = c.are_distinct.ensures; fresh_is = c.all_new.ensures; alone_is = c.all_alone.ensures; same = c.requires })
-      c.if-not-are_sent_by.false c.if-not-are_distinct.false c.if-not-all_new.false s),
-  (λ join. (join-tests c.args.sender (tables_in c.args.s.now) c.args.added.now c.args.new.now c.are_sent_by.result c.are_distinct.result c.all_new.result c.all_alone.result
-      (record { sent_is = c.are_sent_by.ensures; distinct_is = c.are_distinct.ensures; fresh_is = c.all_new.ensures; alone_is = c.all_alone.ensures; same = c.requires }) join).3),
+pub returns-then-not-are_sent_by-clause-refused : goal.returns-then-not-are_sent_by-clause-refused
+returns-then-not-are_sent_by-clause-refused c = (
+  refl,
+  λ j.
+      let yes : c.are_sent_by.result ≡ true = c.are_sent_by.ensures.1 (subst (λ (l : List PublishedModule). AreSentBy c.args.sender (tables_in l)) (sym c.requires.same) j.sent) in
+      let no : c.are_sent_by.result ≡ false = c.if-not-are_sent_by.true in
+      cc,
 )
+
+pub returns-then-not-names_differ-clause-refused : goal.returns-then-not-names_differ-clause-refused
+returns-then-not-names_differ-clause-refused c = (
+  refl,
+  λ j.
+      let yes : c.names_differ.result ≡ true = c.names_differ.ensures ∙ ap (λ (l : List PublishedModule). all_differ have_one_name (tables_in l)) c.requires.same ∙ j.once in
+      let no : c.names_differ.result ≡ false = c.if-not-names_differ.true in
+      cc,
+)
+
+pub returns-then-not-branch-clause-refused : goal.returns-then-not-branch-clause-refused
+returns-then-not-branch-clause-refused c = (
+  refl,
+  λ j.
+      let yes : all_follow (tables_in c.args.s.now) (offered c.args.new.now) ≡ true =
+      subst (λ (l : List Module). all_follow (tables_in c.args.s.now) l ≡ true) (offered-tables c.args.new.now) (compatible-follow (tables_in c.args.s.now) (tables_in (published_of c.args.new.now)) j.compatible) in
+      let is : c.in_ok-all_follow.field-0 ≡ all_follow (tables_in c.args.s.now) (offered c.args.new.now) = c.in_ok-all_follow.ensures in
+      let no : c.in_ok-all_follow.field-0 ≡ false = c.if-not-branch.true in
+      cc,
+)
+
+pub links-requires-clause-room : goal.links-requires-clause-room
+links-requires-clause-room c = omega (arith, ap length c.in_ok-scope.ensures.store, ap length c.in_ok-scope.ensures.new, c.requires.few)
+
+pub links-requires-clause-few : goal.links-requires-clause-few
+links-requires-clause-few c =
+    let scope = c.in_ok-scope.scope in
+    omega (
+      arith,
+      with_tables-short (tables_in scope.store.now) (offered scope.new.now),
+      length-map scope.store.now (λ (p : PublishedModule). p.tables),
+      length-map scope.new.now (λ (n : New). n.module),
+      ap length c.in_ok-scope.ensures.store,
+      ap length c.in_ok-scope.ensures.new,
+      c.requires.few,
+    )
+
+pub links-requires-clause-store : goal.links-requires-clause-store
+links-requires-clause-store c = subst (λ (l : List PublishedModule). IsStore l) (sym c.in_ok-scope.ensures.store) c.in_ok-scope.ensures.sound
+
+pub links-requires-clause-once : goal.links-requires-clause-once
+links-requires-clause-once c =
+    subst (λ (l : List New). all_differ have_one_name (offered l) ≡ true) (sym c.in_ok-scope.ensures.new)
+    (subst (λ (l : List Module). all_differ have_one_name l ≡ true) (offered-tables c.args.new.now)
+    (sym (ap (λ (l : List PublishedModule). all_differ have_one_name (tables_in l)) c.requires.same) ∙ sym c.names_differ.ensures ∙ c.if-not-names_differ.false))
+
+pub links-requires-clause-compatible : goal.links-requires-clause-compatible
+links-requires-clause-compatible c =
+    let follow : all_follow (tables_in c.args.s.now) (offered c.args.new.now) ≡ true = sym c.in_ok-all_follow.ensures ∙ c.if-not-branch.false in
+    let fits = follow-compatible (tables_in c.args.s.now) (offered c.args.new.now) c.in_ok-scope.ensures.sound.once follow in
+    subst (λ (l : List PublishedModule). are_compatible (tables_in l) (offered c.in_ok-scope.scope.new.now) ≡ true) (sym c.in_ok-scope.ensures.store)
+    (subst (λ (l : List New). are_compatible (tables_in c.args.s.now) (offered l) ≡ true) (sym c.in_ok-scope.ensures.new) fits)
+
+pub returns-clause-ok : goal.returns-clause-ok
+returns-clause-ok c =
+    on_ok _ _ _ (λ (links : Links (with_tables (tables_in c.in_ok-scope.scope.store.now) (offered c.in_ok-scope.scope.new.now))).
+    let follow : all_follow (tables_in c.args.s.now) (offered c.args.new.now) ≡ true = sym c.in_ok-all_follow.ensures ∙ c.if-not-branch.false in
+    record {
+      sent = subst (λ (l : List PublishedModule). AreSentBy c.args.sender (tables_in l)) c.requires.same (c.are_sent_by.ensures.0 c.if-not-are_sent_by.false);
+      once = sym (ap (λ (l : List PublishedModule). all_differ have_one_name (tables_in l)) c.requires.same) ∙ sym c.names_differ.ensures ∙ c.if-not-names_differ.false;
+      compatible = subst (λ (l : List Module). are_compatible (tables_in c.args.s.now) l ≡ true) (sym (offered-tables c.args.new.now)) (follow-compatible (tables_in c.args.s.now) (offered c.args.new.now) c.in_ok-scope.ensures.sound.once follow);
+      links = subst Links (sym (scope-tables c.args.s.now c.args.new.now))
+          (subst (λ (l : List PublishedModule). Links (with_tables (tables_in l) (offered c.args.new.now))) c.in_ok-scope.ensures.store
+          (subst (λ (l : List New). Links (with_tables (tables_in c.in_ok-scope.scope.store.now) (offered l))) c.in_ok-scope.ensures.new links));
+    }) c.links.ensures.ok
+
+pub returns-clause-linked : goal.returns-clause-linked
+returns-clause-linked c =
+    let scope = c.in_ok-scope.scope in
+    let old = tables_in c.args.s.now in
+    subst (λ (result : List Module). IfOk c.links.result (λ v. Relinks old result v.items)) (sym (scope-tables c.args.s.now c.args.new.now))
+    (subst (λ (l : List PublishedModule). IfOk c.links.result (λ v. Relinks (tables_in l) (with_tables (tables_in l) (offered c.args.new.now)) v.items)) c.in_ok-scope.ensures.store
+    (subst (λ (l : List New). IfOk c.links.result (λ v. Relinks (tables_in scope.store.now) (with_tables (tables_in scope.store.now) (offered l)) v.items)) c.in_ok-scope.ensures.new c.links.ensures.codes))
+
+pub returns-clause-refused : goal.returns-clause-refused
+returns-clause-refused c =
+    if_err _ _ _ (λ (j : MayJoin c.args.sender (tables_in c.args.s.now) (tables_in (published_of c.args.new.now)) (tables_in (with_modules c.args.s.now (published_of c.args.new.now)))).
+    subst (λ (l : List New). Links (with_tables (tables_in c.in_ok-scope.scope.store.now) (offered l))) (sym c.in_ok-scope.ensures.new)
+    (subst (λ (l : List PublishedModule). Links (with_tables (tables_in l) (offered c.args.new.now))) (sym c.in_ok-scope.ensures.store)
+    (subst Links (scope-tables c.args.s.now c.args.new.now) j.links))) c.links.ensures.refused

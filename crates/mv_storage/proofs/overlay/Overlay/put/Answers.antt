@@ -1,22 +1,24 @@
-use Rattle.std.proofs.Common.{sym, ap, ◌∙◌, refl}
+use Rattle.std.proofs.Common.{sym, ap, ◌∙◌, refl, is_some}
+use Rattle.std.specs.Prelude.{not}
 use Rattle.std.specs.BTreeMap.{get}
-use Rattle.std.proofs.lemmas.Result.{on_ok_weaker, on_err_weaker}
-use Rattle.mv_storage.specs.Map.{words_at}
+use Rattle.std.proofs.lemmas.Result.{on_err_weaker, IfOk-weaker}
 use Rattle.mv_storage.specs.Slots.{key_cmp}
 use Rattle.mv_storage.specs.declared.slot.Layer.TheVariants.{Committed, Current}
-use Rattle.mv_storage.proofs.Shown.{shown-same, shown-with}
+use Rattle.mv_storage.proofs.Shown.{shown-same, shown-put}
 use Rattle.mv_storage.proofs.Steps.{reads, layers-equal}
 use Rattle.mv_storage.proofs.overlay.Overlay.put.Goals as goal
 
-pub put_into-requires-clause-absent : goal.put_into-requires-clause-absent
-put_into-requires-clause-absent c =
-    sym (reads Current c.self.inside.slots c.args.key (get key_cmp c.self.inside.slots c.args.key) c.self.invariant.ordered refl) ∙ ap (λ l. words_at l.current c.args.key) c.self.view_is ∙ c.requires
+pub returns-clause-done : goal.returns-clause-done
+returns-clause-done c =
+    let slots = c.self.inside.slots in
+    rw (← c.self.view_is) (IfOk-weaker c.put_into.result _ _
+    (λ done is. is ∙ ap (λ o. not (is_some o)) (sym (reads Current slots c.args.key (get key_cmp slots c.args.key) c.self.invariant.ordered refl))) c.put_into.ensures.done)
 
 pub returns-clause-current : goal.returns-clause-current
 returns-clause-current c =
     let old = c.self.inside.slots.entries in
-    rw (← c.self.view_is) (on_ok_weaker c.put_into.result
-    (λ same. shown-with Current old c.put_into.new.slots.entries c.args.key c.args.value c.self.invariant.ordered c.put_into.ensures.tracked.ordered same) c.put_into.ensures.current)
+    rw (← c.self.view_is) (IfOk-weaker c.put_into.result _ _
+    (λ done same. shown-put Current old c.put_into.new.slots.entries c.args.key c.args.value done c.self.invariant.ordered c.put_into.ensures.tracked.ordered same) c.put_into.ensures.current)
 
 pub returns-clause-committed : goal.returns-clause-committed
 returns-clause-committed c =

@@ -1,0 +1,53 @@
+-- Each refusal is the first phase that an offer fails.
+use Rattle.std.proofs.Common.{◌≡◌, ℕ, None, ◌⊎◌, inl, inr, sym, subst}
+use Rattle.mv_move_types.specs.declared.refusal.Refusal.{Refusal}
+use Rattle.mv_move_types.specs.declared.refusal.Refusal.TheVariants.{Phase, Memory}
+use Rattle.mv_move_types.specs.Module.{Module}
+use Rattle.mv_binary_format.specs.Parsing.{module_of}
+use Rattle.mv_bounds.specs.Bounds.{InBounds}
+use Rattle.mv_bounds.specs.Definitions.{WellDefined}
+use Rattle.mv_bounds.specs.Answers.{IsRefusedByBounds, FailsBounds, out_of_bounds, ill_defined}
+use Rattle.mv_type_states.specs.Sound.{IsSound, IsRefusedByTypes, FailsTypes, ill_signed, unable, endless, ill_typed}
+use Rattle.mv_certificate.specs.Certificate.{Certificate}
+use Rattle.mv_certificate.specs.CertificateText.{IsCertificateText}
+use Rattle.mv_certificate.specs.Answers.{IsRefusedByCertificate, FailsCertificate, bad_locals, bad_borrows, bad_acquires}
+use Rattle.mv_machine.specs.Ledger.{Offer}
+use Rattle.mv_ledger.specs.Publishing.{Spells, FailsAt, no_text, no_bounds, not_defined, not_signed, not_able, no_flow, not_typed, no_certificate, no_locals, no_edges, no_acquires, IsRefusedOffer}
+
+module _ (o : Offer) where
+  pub refused_text : (e : Refusal) → (e ≡ Phase 2) ⊎ (e ≡ Memory) → (e ≡ Phase 2 → module_of o.text ≡ None) → IsRefusedOffer o e
+  refused_text Memory is none = tt
+  refused_text (Phase p) (inl is) none = let same : p ≡ 2 = cc in subst (λ (n : ℕ). FailsAt o n) (sym same) (no_text (none is))
+  refused_text (Phase p) (inr is) none = cc
+
+  pub refused_bounds : (m : Module) (e : Refusal) → Spells o.text m → IsRefusedByBounds m e → IsRefusedOffer o e
+  refused_bounds m Memory text h = tt
+  refused_bounds m (Phase p) text h = fails h
+    where
+      fails : {n : ℕ} → FailsBounds m n → FailsAt o n
+      fails (out_of_bounds out) = no_bounds m text out
+      fails (ill_defined bounds out) = not_defined m text bounds out
+
+  pub refused_types : (m : Module) (e : Refusal) → Spells o.text m → InBounds m → WellDefined m → IsRefusedByTypes m e → IsRefusedOffer o e
+  refused_types m Memory text bounds defined h = tt
+  refused_types m (Phase p) text bounds defined h = fails h
+    where
+      fails : {n : ℕ} → FailsTypes m n → FailsAt o n
+      fails (ill_signed out) = not_signed m text bounds defined out
+      fails (unable signed out) = not_able m text bounds defined signed out
+      fails (endless signed able out) = no_flow m text bounds defined signed able out
+      fails (ill_typed signed able flow out) = not_typed m text bounds defined signed able flow out
+
+  pub refused_stated : (m : Module) (e : Refusal) → Spells o.text m → IsSound m → (e ≡ Phase 9) ⊎ (e ≡ Memory) → (e ≡ Phase 9 → (c : Certificate) → IsCertificateText m o.certificate c → ⊥) → IsRefusedOffer o e
+  refused_stated m Memory text sound is none = tt
+  refused_stated m (Phase p) text sound (inl is) none = let same : p ≡ 9 = cc in subst (λ (n : ℕ). FailsAt o n) (sym same) (no_certificate m text sound (none is))
+  refused_stated m (Phase p) text sound (inr is) none = cc
+
+  pub refused_check : (m : Module) (c : Certificate) (e : Refusal) → Spells o.text m → IsSound m → IsCertificateText m o.certificate c → IsRefusedByCertificate m c e → IsRefusedOffer o e
+  refused_check m c Memory text sound stated h = tt
+  refused_check m c (Phase p) text sound stated h = fails h
+    where
+      fails : {n : ℕ} → FailsCertificate m c n → FailsAt o n
+      fails (bad_locals out) = no_locals m c text sound stated out
+      fails (bad_borrows locals out) = no_edges m c text sound stated locals out
+      fails (bad_acquires holds out) = no_acquires m c text sound stated holds out

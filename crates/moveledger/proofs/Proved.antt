@@ -1,0 +1,80 @@
+-- What is answered where a certificate is made, and where none is.
+use Rattle.std.proofs.Common.{◌≡◌, ℕ, ◌≤◌, Bool, true, false, List, [], ◌∷◌, ◌++◌, length, IsTrue, refl, sym, ap, ◌∙◌, subst}
+use Rattle.std.proofs.lemmas.Bool.{and_from}
+use Rattle.mv_move_types.specs.declared.refusal.Refusal.{Refusal}
+use Rattle.mv_move_types.specs.declared.refusal.Refusal.TheVariants.{Phase, Memory as OutOfMemory}
+use Rattle.mv_move_types.specs.Module.{Module}
+use Rattle.mv_binary_format.specs.ModuleText.{HasText}
+use Rattle.mv_type_states.specs.Sound.{IsSound}
+use Rattle.mv_acquires.specs.Acquires.{AcquiresHold}
+use Rattle.mv_certificate.specs.Answers.{bad_locals, bad_borrows, bad_acquires}
+use Rattle.mv_certificate.specs.Certificate.{Certificate, all_locals_hold, all_edges_hold, certificate_holds}
+use Rattle.mv_certificate.specs.CertificateText.{certificate_text}
+use Rattle.mv_certificate.specs.Laws.{IsOfOneCertificate}
+use Rattle.mv_certificate.specs.Shape.{AllStatedFit}
+use Rattle.mv_analyser.specs.Principal.{IsOfLimits, IsUnproved, PassesCheck}
+use Rattle.mv_analyser.specs.declared.ProveError.{ProveError}
+use Rattle.mv_analyser.specs.declared.ProveError.TheVariants.{Refused, TooComplex, Memory}
+use Rattle.moveledger.specs.Hexadecimal.{hexadecimal, IsHexadecimal}
+use Rattle.mv_ledger.specs.Publishing.{Passes, Spells}
+use Rattle.moveledger.specs.Checking.{AreShort, IsAccepted, IsRefusedAlone, PassesWith, before_line_end, offer_of}
+use Rattle.moveledger.specs.Proving.{HasNoProof, IsAcceptedBack, IsProvableText, IsProvedBy, IsShort, error_of, in_each, in_module}
+use Rattle.moveledger.proofs.Texts.{before_line_end-hexadecimal, before_line_end-line}
+use Rattle.moveledger.proofs.Verdicts.{never-fails}
+
+-- what isn't refused holds
+decided : (b : Bool) → ((IsTrue b → ⊥) → ⊥) → IsTrue b
+decided true h = refl
+decided false h = absurd (h (λ e. cc))
+
+-- a certificate that nothing but want of memory refuses holds, and the acquires lists are right
+module _ (m : Module) (c : Certificate) (passes : PassesCheck m c) where
+  no-phase : (p : ℕ) → Phase p ≡ OutOfMemory → ⊥
+  no-phase p e = cc
+
+  pub passes-holds : IsTrue (certificate_holds m c)
+  passes-holds =
+      let locals = decided (all_locals_hold m c) (λ out. no-phase 10 (passes (Phase 10) (bad_locals out))) in
+      let edges = decided (all_edges_hold m c) (λ out. no-phase 11 (passes (Phase 11) (bad_borrows locals out))) in
+      and_from (all_locals_hold m c) (all_edges_hold m c) locals edges
+
+  pub passes-acquires : AcquiresHold m
+  passes-acquires = decided _ (λ out. no-phase 12 (passes (Phase 12) (bad_acquires passes-holds out)))
+
+-- the text of a certificate that was made proves the module, and is accepted
+module _ (bytes text : List ℕ) (short : IsShort bytes) (m : Module) (spells : Spells bytes m) (sound : IsSound m) (c : Certificate) (shape : AllStatedFit m m.functions c) (check : PassesCheck m c) where
+  passed : Passes (offer_of bytes (certificate_text c)) m c
+  passed = record { text = spells; sound = sound; certificate = (refl, shape); holds = passes-holds m c check; acquires = passes-acquires m c check }
+
+  pub made-proved : text ≡ hexadecimal (certificate_text c) → IsProvedBy bytes text
+  made-proved is = record { short = short; tables = m; certificate = c; written = is; passes = passed }
+
+  module _ (spelled : IsHexadecimal text (certificate_text c)) where
+    accepted : (whole : List ℕ) → before_line_end whole ≡ text → length text ≤ 2097152 → IsAccepted bytes whole
+    accepted whole is few =
+        let passes : PassesWith bytes text = record { certificate = certificate_text c; tables = m; stated = c; spelled = spelled; passes = passed } in
+        subst (λ (l : List ℕ). AreShort bytes l × PassesWith bytes l) (sym is) ((short, few), passes)
+
+    pub made-accepted : text ≡ hexadecimal (certificate_text c) → IsAcceptedBack bytes text
+    made-accepted is =
+        let alone : before_line_end text ≡ text = ap before_line_end is ∙ before_line_end-hexadecimal (certificate_text c) ∙ sym is in
+        λ few. (accepted text alone few, accepted (text ++ 10 ∷ []) (before_line_end-line text) few)
+
+module _ (bytes : List ℕ) (short : IsShort bytes) where
+  -- a module that is refused alone has no certificate
+  pub alone-no_proof : (e : Refusal) → IsRefusedAlone bytes e → HasNoProof bytes (error_of e)
+  alone-no_proof (Phase p) h = in_module p short h
+  alone-no_proof OutOfMemory h = tt
+
+  module _ (m : Module) (text : Spells bytes m) (sound : IsSound m) where
+    -- nor has one that no certificate passes with
+    pub each-no_proof : (e : ProveError) → IsUnproved m e → HasNoProof bytes e
+    each-no_proof (Refused p) h = in_each m p short text sound h
+    each-no_proof TooComplex h = record { short = short; tables = m; text = text; sound = sound; references = h }
+    each-no_proof Memory h = tt
+
+-- where some certificate passes, the module is not refused alone
+pub provable-refused : (bytes : List ℕ) → IsOfOneCertificate → ((m : Module) → Spells bytes m → HasText m) → IsProvableText bytes → (e : Refusal) → IsRefusedAlone bytes e → IsOfLimits (error_of e)
+provable-refused bytes one has provable (Phase p) h =
+    absurd (never-fails (offer_of bytes provable.certificate) provable.tables provable.stated one (has provable.tables provable.passes.text) provable.passes (h provable.certificate))
+provable-refused bytes one has provable OutOfMemory h = tt

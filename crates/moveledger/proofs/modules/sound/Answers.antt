@@ -1,0 +1,26 @@
+use Rattle.std.proofs.Common.{Some, Err, sym, ap, ◌∙◌}
+use Rattle.std.proofs.lemmas.Result.{err_from_is_err_and}
+use Rattle.moveledger.specs.Checking.{offer_of}
+use Rattle.moveledger.proofs.Phases.{refused_text, refused_bounds, refused_types}
+use Rattle.moveledger.proofs.Verdicts.{refused-alone}
+use Rattle.moveledger.proofs.modules.sound.Goals as goal
+
+pub returns-in_err-module-clause-refused : goal.returns-in_err-module-clause-refused
+returns-in_err-module-clause-refused c =
+    let p = err_from_is_err_and c.from_residual.result c.from_residual.ensures.1 in
+    rw (p.1, p.2) (refused-alone c.args.bytes.now c.in_err-module.field-0.0 (λ certificate.
+    refused_text (offer_of c.args.bytes.now certificate) c.in_err-module.field-0.0 c.in_err-module.ensures.errors (λ is. c.in_err-module.ensures.refused (ap Err is))))
+
+pub returns-in_err-bounded-clause-refused : goal.returns-in_err-bounded-clause-refused
+returns-in_err-bounded-clause-refused c =
+    let p = err_from_is_err_and c.from_residual-in_err-bounded.result c.from_residual-in_err-bounded.ensures.1 in
+    rw (p.1, p.2) (refused-alone c.args.bytes.now c.in_err-bounded.field-0.0 (λ certificate.
+    refused_bounds (offer_of c.args.bytes.now certificate) c.in_ok-module.module c.in_err-bounded.field-0.0 c.in_ok-module.ensures.ok c.in_err-bounded.ensures.refused))
+
+pub returns-in_err-typed-clause-refused : goal.returns-in_err-typed-clause-refused
+returns-in_err-typed-clause-refused c =
+    let p = err_from_is_err_and c.from_residual-in_err-typed.result c.from_residual-in_err-typed.ensures.1 in
+    let spelled = c.in_ok-module.ensures.ok ∙ ap Some (sym c.in_ok-bounded.ensures.ok) in
+    rw (p.1, p.2) (refused-alone c.args.bytes.now c.in_err-typed.field-0.0 (λ certificate.
+    refused_types (offer_of c.args.bytes.now certificate) c.in_ok-bounded.bounded c.in_err-typed.field-0.0 spelled
+    c.module-defined.ensures.bounds c.module-defined.ensures.definitions c.in_err-typed.ensures.refused))

@@ -1,0 +1,71 @@
+-- Whether a module is accepted with the text of a certificate, and else the first phase that they fail.
+use Rattle.std.specs.Prelude.{ℕ, ◌-◌, ◌≤◌, ◌==◌, if◌then◌else◌, List, length, take, slice_index, ⊤}
+use Rattle.mv_move_types.specs.declared.refusal.Refusal.{Refusal}
+use Rattle.mv_move_types.specs.declared.refusal.Refusal.TheVariants.{Phase, Memory}
+use Rattle.mv_move_types.specs.Module.{Module}
+use Rattle.mv_type_states.specs.Sound.{IsSound}
+use Rattle.mv_certificate.specs.Certificate.{Certificate}
+use Rattle.mv_machine.specs.Ledger.{Offer}
+use Rattle.hex.specs.declared.error.FromHexError.{FromHexError}
+use Rattle.hex.specs.declared.error.FromHexError.TheVariants.{OutOfMemory}
+use Rattle.moveledger.specs.Hexadecimal.{IsHexadecimal}
+use Rattle.mv_ledger.specs.Publishing.{Spells, Passes, FailsAt}
+
+-- the text without a line end behind it
+abbrev pub before_line_end : List ℕ → List ℕ
+before_line_end text = if slice_index text (length text - 1) == 10 then take (length text - 1) text else text
+
+-- digits that spell no bytes are refused in phase 9
+abbrev pub refusal_of : FromHexError → Refusal
+refusal_of OutOfMemory = Memory
+refusal_of _ = Phase 9
+
+-- the bytes of a module are within their limit, and so are the digits of a certificate
+abbrev pub AreShort : List ℕ → List ℕ → Type 0
+AreShort bytes digits = (length bytes ≤ 65536) × (length digits ≤ 2097152)
+
+-- the bytes of a module, offered with those of a certificate
+abbrev pub offer_of : List ℕ → List ℕ → Offer
+offer_of bytes certificate = record { text = bytes; certificate = certificate }
+
+-- the digits spell the bytes of a certificate with which the module passes phases 2 to 12
+pub record PassesWith (bytes digits : List ℕ) : Type 0 where
+  pub certificate : List ℕ
+  pub tables : Module
+  pub stated : Certificate
+  pub spelled : IsHexadecimal digits certificate
+  pub passes : Passes (offer_of bytes certificate) tables stated
+
+-- the module fails this phase, whatever certificate is offered with it
+abbrev pub FailsAlone : List ℕ → ℕ → Type 0
+FailsAlone bytes phase = (certificate : List ℕ) → FailsAt (offer_of bytes certificate) phase
+
+-- the first of phases 2 to 12 that a module and the digits of a certificate fail
+pub data FailsWith (bytes digits : List ℕ) : ℕ → Type 0 where
+  in_module : (phase : ℕ) → FailsAlone bytes phase → FailsWith bytes digits phase
+  not_hexadecimal : (m : Module) → Spells bytes m → IsSound m → ((certificate : List ℕ) → ¬ IsHexadecimal digits certificate) → FailsWith bytes digits 9
+  in_certificate : (certificate : List ℕ) (phase : ℕ) → IsHexadecimal digits certificate → FailsAt (offer_of bytes certificate) phase → FailsWith bytes digits phase
+
+-- the module and the text are within their limits, and the module passes with the digits before the text's line end
+abbrev pub IsAccepted : List ℕ → List ℕ → Type 0
+IsAccepted bytes text = AreShort bytes (before_line_end text) × PassesWith bytes (before_line_end text)
+
+-- the first phase that a module and the text of a certificate fail
+pub data FailsCheck (bytes text : List ℕ) : ℕ → Type 0 where
+  too_long : ¬ AreShort bytes (before_line_end text) → FailsCheck bytes text 1
+  failing : (phase : ℕ) → AreShort bytes (before_line_end text) → FailsWith bytes (before_line_end text) phase → FailsCheck bytes text phase
+
+-- the module fails the phase that is answered alone, or memory ran out
+abbrev pub IsRefusedAlone : List ℕ → Refusal → Type 0
+IsRefusedAlone bytes (Phase phase) = FailsAlone bytes phase
+IsRefusedAlone bytes Memory = ⊤
+
+-- the module and the digits fail it, or memory ran out
+abbrev pub IsRefusedWith : List ℕ → List ℕ → Refusal → Type 0
+IsRefusedWith bytes digits (Phase phase) = FailsWith bytes digits phase
+IsRefusedWith bytes digits Memory = ⊤
+
+-- the module and the text fail it, or memory ran out
+abbrev pub IsRefusedText : List ℕ → List ℕ → Refusal → Type 0
+IsRefusedText bytes text (Phase phase) = FailsCheck bytes text phase
+IsRefusedText bytes text Memory = ⊤

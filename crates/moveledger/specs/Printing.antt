@@ -1,0 +1,26 @@
+-- What the commands of an author print.
+use Rattle.std.specs.Prelude.{ℕ, List, [], ◌∷◌, ◌++◌, Option, Some, None, Result, Ok, Err, codes, decimal}
+use Rattle.mv_move_types.specs.declared.refusal.Refusal.{Refusal}
+use Rattle.mv_move_types.specs.declared.refusal.Refusal.TheVariants.{Phase, Memory as OutOfMemory}
+use Rattle.mv_analyser.specs.declared.ProveError.{ProveError}
+use Rattle.mv_analyser.specs.declared.ProveError.TheVariants.{Refused, TooComplex, Memory}
+
+-- a text with its line end
+abbrev pub line : List ℕ → List ℕ
+line text = text ++ 10 ∷ []
+
+-- the phase that refuses
+abbrev pub refused_text : ℕ → List ℕ
+refused_text phase = codes "refused " ++ decimal phase
+
+-- what is printed where no certificate is made; nothing where memory ran out
+abbrev pub no_proof_line : ProveError → Option (List ℕ)
+no_proof_line (Refused phase) = Some (line (refused_text phase))
+no_proof_line TooComplex = Some (line (codes "too complex"))
+no_proof_line Memory = None
+
+-- what is printed of a module and its certificate; nothing where memory ran out
+abbrev pub checked_line : Result (Unit {0}) Refusal → Option (List ℕ)
+checked_line (Ok done) = Some (line (codes "accepted"))
+checked_line (Err (Phase phase)) = Some (line (refused_text phase))
+checked_line (Err OutOfMemory) = None

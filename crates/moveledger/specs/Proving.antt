@@ -1,0 +1,63 @@
+-- The text of a certificate that is made for a module, or why there is none.
+use Rattle.std.specs.Prelude.{◌≡◌, ℕ, ◌≤◌, List, [], ◌∷◌, ◌++◌, length, ⊤}
+use Rattle.mv_move_types.specs.declared.refusal.Refusal.{Refusal}
+use Rattle.mv_move_types.specs.declared.refusal.Refusal.TheVariants.{Phase, Memory as OutOfMemory}
+use Rattle.mv_move_types.specs.Module.{Module}
+use Rattle.mv_type_states.specs.Sound.{IsSound}
+use Rattle.mv_certificate.specs.Certificate.{Certificate}
+use Rattle.mv_certificate.specs.CertificateText.{certificate_text}
+use Rattle.mv_analyser.specs.Principal.{FailsEach, IsWithoutReferences}
+use Rattle.mv_analyser.specs.declared.ProveError.{ProveError}
+use Rattle.mv_analyser.specs.declared.ProveError.TheVariants.{Refused, TooComplex, Memory}
+use Rattle.moveledger.specs.Hexadecimal.{hexadecimal}
+use Rattle.mv_ledger.specs.Publishing.{Spells, Passes}
+use Rattle.moveledger.specs.Checking.{FailsAlone, IsAccepted, offer_of}
+
+-- the bytes of a module are within their limit
+abbrev pub IsShort : List ℕ → Type 0
+IsShort bytes = length bytes ≤ 65536
+
+-- the text is the hexadecimal, in lower case, of a certificate's text, and with this the module passes phases 2 to 12
+pub record IsProvedBy (bytes text : List ℕ) : Type 0 where
+  pub short : IsShort bytes
+  pub tables : Module
+  pub certificate : Certificate
+  pub written : text ≡ hexadecimal (certificate_text certificate)
+  pub passes : Passes (offer_of bytes (certificate_text certificate)) tables certificate
+
+-- while it is within its limit, the text is accepted for the module, with a line end behind it and without
+abbrev pub IsAcceptedBack : List ℕ → List ℕ → Type 0
+IsAcceptedBack bytes text = length text ≤ 2097152 → IsAccepted bytes text × IsAccepted bytes (text ++ 10 ∷ [])
+
+-- The first phase that a module fails: 1, one of 2 to 8, or one of 10 to 12 that no certificate passes.
+pub data FailsProof (bytes : List ℕ) : ℕ → Type 0 where
+  too_long : ¬ IsShort bytes → FailsProof bytes 1
+  in_module : (phase : ℕ) → IsShort bytes → FailsAlone bytes phase → FailsProof bytes phase
+  in_each : (m : Module) (phase : ℕ) → IsShort bytes → Spells bytes m → IsSound m → FailsEach m phase → FailsProof bytes phase
+
+-- the bytes spell a module that passes phases 2 to 8 and has a local of reference type
+pub record HasReferences (bytes : List ℕ) : Type 0 where
+  pub short : IsShort bytes
+  pub tables : Module
+  pub text : Spells bytes tables
+  pub sound : IsSound tables
+  pub references : ¬ IsWithoutReferences tables
+
+-- the module fails the phase that is answered; or it has a local that is a reference; or memory ran out
+abbrev pub HasNoProof : List ℕ → ProveError → Type 0
+HasNoProof bytes (Refused phase) = FailsProof bytes phase
+HasNoProof bytes TooComplex = HasReferences bytes
+HasNoProof bytes Memory = ⊤
+
+-- some certificate is there with which the module passes phases 2 to 12
+pub record IsProvableText (bytes : List ℕ) : Type 0 where
+  pub short : IsShort bytes
+  pub certificate : List ℕ
+  pub tables : Module
+  pub stated : Certificate
+  pub passes : Passes (offer_of bytes certificate) tables stated
+
+-- what is answered where a module is refused before a certificate is sought
+abbrev pub error_of : Refusal → ProveError
+error_of (Phase phase) = Refused phase
+error_of OutOfMemory = Memory

@@ -1,0 +1,62 @@
+// What the commands of an author print.
+ghost use Rattle.std.specs.Prelude.{◌≡◌, ◌++◌, Some, IfOk, MatchResult, codes, decimal, string_bytes};
+ghost use Rattle.moveledger.specs.Printing.{line, refused_text, no_proof_line, checked_line};
+
+use mv_analyser::ProveError;
+use mv_move_types::Refusal;
+use std::alloc::{AllocError, Global};
+
+/// The line of a phase that refuses.
+fn refused_line(alloc: Global, phase: u8) -> Result<String, AllocError>
+    ensures { IfOk result (λ text. string_bytes text ≡ line (refused_text phase)) }
+{
+    let mut text = String::from_str(alloc, "refused ")?;
+    write!(text, "{phase}")?;
+    text.push_str("\n")?;
+    Ok(text)
+}
+
+/// What is printed where no certificate is made.
+fn no_proof_line(alloc: Global, e: ProveError) -> Result<String, AllocError>
+    ensures { IfOk result (λ text. Some (string_bytes text) ≡ no_proof_line e) }
+{
+    match e {
+        ProveError::Refused(phase) => refused_line(alloc, phase),
+        ProveError::TooComplex => String::from_str(alloc, "too complex\n"),
+        ProveError::Memory => Err(AllocError),
+    }
+}
+
+/// What is printed of a module that a certificate was to be made for: the certificate's text, or why there is none.
+///
+/// # Errors
+///
+/// An allocation failed, here or before.
+pub fn proved_line(alloc: Global, proved: Result<String, ProveError>) -> Result<String, AllocError>
+    ensures { IfOk result (λ text. MatchResult proved
+        (λ digits. string_bytes text ≡ line (string_bytes digits))
+        (λ e. Some (string_bytes text) ≡ no_proof_line e)) }
+{
+    match proved {
+        Ok(mut text) => {
+            text.push_str("\n")?;
+            Ok(text)
+        }
+        Err(e) => no_proof_line(alloc, e),
+    }
+}
+
+/// What is printed of a module that was checked with a certificate.
+///
+/// # Errors
+///
+/// An allocation failed, here or before.
+pub fn checked_line(alloc: Global, checked: Result<(), Refusal>) -> Result<String, AllocError>
+    ensures { IfOk result (λ text. Some (string_bytes text) ≡ checked_line checked) }
+{
+    match checked {
+        Ok(()) => String::from_str(alloc, "accepted\n"),
+        Err(Refusal::Phase(phase)) => refused_line(alloc, phase),
+        Err(Refusal::Memory) => Err(AllocError),
+    }
+}

@@ -1,0 +1,87 @@
+// A module in which any one bit is turned.
+
+use super::report;
+use super::rows::coins::{BURN_AT_1, BURNING_COINS, MINT_7};
+use super::stream::Record::{Audit, Publish};
+use super::stream::input;
+use mv_ledger::Ledger;
+use std::alloc::Global;
+use std::ops::Range;
+use std::process::Abort;
+use std::test::Fail;
+
+// The bytes of a record before its module: kind, length, sender, the number of modules, and the module's length.
+const BEFORE: usize = 21;
+
+// The number that stands at a place among the words of a line.
+fn number_at(line: &str, place: usize) -> Option<u64> {
+    line.split(' ').nth(place)?.parse::<u64>().ok()
+}
+
+// Whether a line says that a module is published, or refused in a phase from 2 to 13.
+fn is_published_or_refused(line: &str) -> bool {
+    match line.split(' ').nth(1) {
+        Some("published") => true,
+        Some("refused") => number_at(line, 2).is_some_and(|phase| (2..=13).contains(&phase)),
+        _ => false,
+    }
+}
+
+// Whether a line has no count, or one by which all values that were made are stored or taken apart.
+fn is_conserved(line: &str) -> bool {
+    if line.split(' ').nth(1) != Some("count") {
+        return true;
+    }
+    match (number_at(line, 4), number_at(line, 6), number_at(line, 8)) {
+        (Some(stored), Some(packed), Some(unpacked)) => {
+            u128::from(stored) + u128::from(unpacked) == u128::from(packed)
+        }
+        _ => false,
+    }
+}
+
+// Whether an altered module is refused, or its values are conserved.
+fn is_well(alloc: Global, bytes: &[u8]) -> Result<bool, Fail> {
+    let mut ledger = Ledger::new(alloc);
+    let (_, written) = report(alloc, Some(bytes), &mut ledger)?;
+    let text = std::str::from_utf8(written.as_slice())?;
+    let Some(first) = text.lines().next() else {
+        return Ok(false);
+    };
+    Ok(is_published_or_refused(first) && text.lines().all(is_conserved))
+}
+
+// Turns each bit at each of these places of the module.
+fn altered(rt: &impl Abort, alloc: Global, places: Range<usize>) -> Result<(), Fail> {
+    let records = [Publish(&[BURNING_COINS]), MINT_7, BURN_AT_1, Audit];
+    let mut bytes = input(alloc, &records)?;
+    for place in places {
+        let place = BEFORE.saturating_add(place);
+        let whole = bytes.get(place).copied().ok_or("the input is shorter")?;
+        for bit in [1, 2, 4, 8, 16, 32, 64, 128] {
+            if let Some(here) = bytes.get_mut(place) {
+                *here = whole ^ bit;
+            }
+            assert!(rt; is_well(alloc, bytes.as_slice())?, "bit {bit} at {place}");
+        }
+        if let Some(here) = bytes.get_mut(place) {
+            *here = whole;
+        }
+    }
+    Ok(())
+}
+
+#[test]
+fn altered_headers_are_refused(rt: HostRuntime) -> Result<(), Fail> {
+    altered(&rt, rt.alloc(), 0..33)
+}
+
+#[test]
+fn altered_handles_and_names_are_refused_or_conserve_values(rt: HostRuntime) -> Result<(), Fail> {
+    altered(&rt, rt.alloc(), 33..90)
+}
+
+#[test]
+fn altered_definitions_are_refused_or_conserve_values(rt: HostRuntime) -> Result<(), Fail> {
+    altered(&rt, rt.alloc(), 90..126)
+}

@@ -1,0 +1,4 @@
+pub mod Stores
+pub mod Sound
+pub mod Records
+pub mod Instance

@@ -1,0 +1,58 @@
+-- A run that is answered ends as it should, and what is stored is what the tallies leave.
+use Rattle.std.proofs.Common.{◌≡◌, ℕ, ◌+◌, ◌-◌, ◌≤◌, List, [], ◌∷◌, Some, Result, Ok, Err, refl, subst, arith}
+use Rattle.std.specs.Prelude.{slice_get}
+use Rattle.std.specs.List.{AllByRecursion}
+use Rattle.mv_move_types.specs.Module.{Module}
+use Rattle.mv_machine.specs.State.{State, Storage}
+use Rattle.mv_machine.specs.Typing.{Failure, Aborts, Faults}
+use Rattle.mv_machine.specs.Count.{count}
+use Rattle.mv_machine.specs.Run.{RunOutcome, Returned, Aborted, Exhausted, Faulted, FunctionCall, first_state, outcome_from, run, turns}
+use Rattle.mv_machine.specs.Lines.{Reply, Tallied}
+use Rattle.mv_machine.specs.Ledger.{LedgerState, Request, Publish, Run, Show, Audit, BadRun, Bad, modules_of, admitted, attempted, settled, Answers}
+use Rattle.mv_machine.proofs.Laws.{steps_taken, turns-bound}
+use Rattle.mv_ledger.specs.Counting.Headline.{IsOwnWork, EndsWell, CallEndsWell, RunsWell, EveryCountIsTallied}
+use Rattle.mv_ledger.specs.Counting.Returns.{AtReturn}
+use Rattle.mv_ledger.proofs.Counting.Binds.{on_some, WhereOk}
+use Rattle.mv_ledger.proofs.Counting.Own.{run-own}
+
+outcome-bound : (modules : List Module) (budget : ℕ) (r : Result State Failure) → ((s : State) → r ≡ Ok s → s.steps ≡ 0) → steps_taken (outcome_from modules budget r) ≤ budget
+outcome-bound modules budget (Ok s) zero = let b : steps_taken (turns modules budget s) ≤ budget + s.steps = turns-bound modules budget s in let z : s.steps ≡ 0 = zero s refl in omega (arith, b, z)
+outcome-bound modules budget (Err (Aborts kind number)) zero = omega arith
+outcome-bound modules budget (Err (Faults fault)) zero = omega arith
+
+run-bound : (modules : List Module) (storage : Storage) (call : FunctionCall) (budget : ℕ) → steps_taken (run modules storage call budget) ≤ budget
+unfolding run
+run-bound modules storage call budget = outcome-bound modules budget (first_state modules storage call) (λ s e.
+    on_some (slice_get modules call.function.place) _ _ s e (λ home home_is e1.
+    on_some (slice_get home.functions call.function.index) _ _ s e1 (λ d d_is e2.
+    on_some (slice_get home.signatures d.locals) _ _ s e2 (λ others others_are e3.
+    subst (WhereOk (λ (t : State). t.steps ≡ 0)) e3 refl))))
+
+-- a run that is answered meets no fault
+settled-well : (s new : LedgerState) (reply : Reply) (budget : ℕ) (outcome : RunOutcome) → steps_taken outcome ≤ budget → AtReturn (λ storage events. IsOwnWork events) outcome → settled s outcome ≡ Some (reply, new) → EndsWell budget outcome
+settled-well s new reply budget (Returned steps storage events) b own e = (b, own)
+settled-well s new reply budget (Aborted kind number steps) b own e = b
+settled-well s new reply budget (Exhausted stop steps) b own e = b
+settled-well s new reply budget (Faulted fault steps) b own e = absurd cc
+
+attempted-well : (s new : LedgerState) (reply : Reply) (budget : ℕ) (r : Result FunctionCall ℕ) → attempted s budget r ≡ Some (reply, new) → CallEndsWell s budget r
+attempted-well s new reply budget (Ok call) e =
+    settled-well s new reply budget (run (modules_of s) s.storage call budget) (run-bound (modules_of s) s.storage call budget) (run-own (modules_of s) s.storage call budget) e
+attempted-well s new reply budget (Err reason) e = tt
+
+-- a run that is answered ends as it should
+pub answered-well : (IsText : List ℕ → Module → Type 0) (old new : LedgerState) (request : Request) (reply : Reply) → Answers IsText old request reply new → RunsWell old request
+answered-well IsText old new (Publish sender offers) reply a = tt
+answered-well IsText old new (Run r) reply a = attempted-well old new reply r.budget (admitted old r) a
+answered-well IsText old new (Show format) reply a = tt
+answered-well IsText old new (Audit format) reply a = tt
+answered-well IsText old new BadRun reply a = tt
+answered-well IsText old new Bad reply a = tt
+
+-- what is stored is what the tallies leave
+stored-tallied : (storage : Storage) (ts : List Tallied) → AllByRecursion (λ (t : Tallied). count storage t.struct + t.unpacks ≡ t.packs) ts → AllByRecursion (λ (t : Tallied). count storage t.struct ≡ t.packs - t.unpacks) ts
+stored-tallied storage [] a = tt
+stored-tallied storage (t ∷ ts) a = let b : count storage t.struct + t.unpacks ≡ t.packs = a.0 in (omega (arith, b), stored-tallied storage ts a.1)
+
+pub counts-tallied : EveryCountIsTallied
+counts-tallied s balanced = stored-tallied s.storage s.tallies balanced

@@ -1,0 +1,256 @@
+-- Each effect keeps a state fine, and balances what is held against what is made and unmade.
+use Rattle.std.proofs.Common.{◌≡◌, ℕ, ◌+◌, true, cond, List, [], ◌∷◌, ◌++◌, Option, Some, None, refl, sym, ap, subst, ◌∙◌, arith}
+use Rattle.std.specs.Prelude.{reverse, map, replicate, slice_get, slice_set}
+use Rattle.std.specs.List.{AllByRecursion, list_all}
+use Rattle.std.specs.Cmp.{first_so, second_so}
+use Rattle.mv_move_types.specs.declared.token.LeafKind.TheVariants.{Address}
+use Rattle.std.proofs.lemmas.List.{reverse-reverse}
+use Rattle.mv_move_types.specs.Names.{StructName, same_struct}
+use Rattle.mv_move_types.specs.Module.{Module}
+use Rattle.mv_machine.specs.Value.{Value, Leaf, Struct, Ref, Root, Local, Stored, Place, value_at, list_of, fields_of}
+use Rattle.mv_machine.specs.State.{State, root_value, place_value, with_root, with_place, without_stored, with_stored}
+use Rattle.mv_machine.specs.Typing.{abilities_of}
+use Rattle.mv_machine.specs.Count.{count, count_in, count_in_fields}
+use Rattle.mv_machine.specs.Step.{Here, with_stack, may_drop}
+use Rattle.mv_machine.specs.StepParts.{can_drop}
+use Rattle.mv_interpreter.proofs.Names.{some_is}
+use Rattle.mv_ledger.specs.Counting.Held.{held_in_stack, held_in_local, held_in_locals, held_in_frame, held_in_frames, held, made, unmade}
+use Rattle.mv_ledger.specs.Counting.Kept.{IsKept, IsScarce, StackIsKept, LocalIsKept, LocalsAreKept, FramesAreKept, AreNumbered}
+use Rattle.mv_ledger.specs.Counting.Effects.{Stands, in_local, at_place, Appears, a_leaf, a_reference, a_copy, Effect, Restacked, MovedLocal, StoredLocal, Packed, Unpacked, Written, MovedFrom, MovedTo, Called, Resumed}
+use Rattle.mv_ledger.specs.Counting.Fine.{IsAbleStore, IsFine, Balances}
+use Rattle.mv_ledger.proofs.Counting.Binds.{then-is, place-written}
+use Rattle.mv_ledger.proofs.Counting.Counts.{none_in, lacks_copy, lacks_drop, held-append, held-reverse, held-list_of, held-fields_of, held-set, held-entered, kept-append, kept-first, kept-rest, kept-reverse, kept-list_of, kept-set, kept-get, kept-entered, kept-value_at, Replaces, replaces-at}
+use Rattle.mv_ledger.proofs.Counting.Stored.{count-without, count-new, kept-stored_at, kept-without, kept-with, ascending-without, ascending-with}
+use Rattle.mv_ledger.proofs.Counting.Frames.{fine-stack, kept-root, fine-root, held-root}
+use Rattle.mv_ledger.proofs.Counting.Tags.{tag_of-abilities, has_tag-abilities}
+use Rattle.mv_ledger.proofs.Counting.Own.{with_root-tally}
+use Rattle.mv_ledger.proofs.Counting.Packs.{packed-kept}
+
+-- ---- what is dropped or copied holds none
+
+dropped-none : (h : Here) (name : StructName) (vs : List Value) → IsScarce h.modules name → StackIsKept h.modules vs → AllByRecursion (λ v. can_drop h v ≡ true) vs → held_in_stack name vs ≡ 0
+dropped-none h name [] scarce kept d = refl
+dropped-none h name (v ∷ vs) scarce kept d =
+    let first : count_in name v ≡ 0 = none_in h.modules name (λ a. a.drop) (lacks_drop h.modules name scarce) v kept.0 d.0 in
+    let rest : held_in_stack name vs ≡ 0 = dropped-none h name vs scarce kept.1 d.1 in
+    omega (arith, first, rest)
+
+lost-none : (h : Here) (name : StructName) (x : Option Value) → IsScarce h.modules name → LocalIsKept h.modules x → may_drop h x ≡ true → held_in_local name x ≡ 0
+lost-none h name None scarce kept d = refl
+lost-none h name (Some v) scarce kept d = none_in h.modules name (λ a. a.drop) (lacks_drop h.modules name scarce) v kept d
+
+pub left-none : (h : Here) (name : StructName) (xs : List (Option Value)) → IsScarce h.modules name → LocalsAreKept h.modules xs → list_all (may_drop h) xs ≡ true → held_in_locals name xs ≡ 0
+left-none h name [] scarce kept d = refl
+left-none h name (x ∷ xs) scarce kept d =
+    let first : held_in_local name x ≡ 0 = lost-none h name x scarce kept.0 (first_so (may_drop h x) (list_all (may_drop h) xs) d) in
+    let rest : held_in_locals name xs ≡ 0 = left-none h name xs scarce kept.1 (second_so (may_drop h x) (list_all (may_drop h) xs) d) in
+    omega (arith, first, rest)
+
+stands-kept : (modules : List Module) (s : State) (v : Value) → IsFine modules s → Stands s v → IsKept modules v
+stands-kept modules s _ fine (in_local l v e) = kept-get modules s.top.locals l (Some v) fine.framed.0.locals e
+stands-kept modules s _ fine (at_place p v e) =
+    let found = then-is (λ x. value_at x p.path) (root_value s p.root) v e in
+    kept-value_at modules p.path found.0 v (kept-root modules s p.root found.0 fine found.1) found.2
+
+appears-kept : (h : Here) (v : Value) → IsFine h.modules h.state → Appears h v → IsKept h.modules v
+appears-kept h _ fine (a_leaf kind n) = tt
+appears-kept h _ fine (a_reference r) = tt
+appears-kept h _ fine (a_copy v c stands) = stands-kept h.modules h.state v fine stands
+
+appear-kept : (h : Here) (vs : List Value) → IsFine h.modules h.state → AllByRecursion (Appears h) vs → StackIsKept h.modules vs
+appear-kept h [] fine a = tt
+appear-kept h (v ∷ vs) fine a = (appears-kept h v fine a.0, appear-kept h vs fine a.1)
+
+appears-none : (h : Here) (name : StructName) (v : Value) → IsScarce h.modules name → IsFine h.modules h.state → Appears h v → count_in name v ≡ 0
+appears-none h name _ scarce fine (a_leaf kind n) = refl
+appears-none h name _ scarce fine (a_reference r) = refl
+appears-none h name _ scarce fine (a_copy v c stands) = none_in h.modules name (λ a. a.copy) (lacks_copy h.modules name scarce) v (stands-kept h.modules h.state v fine stands) c
+
+appear-none : (h : Here) (name : StructName) (vs : List Value) → IsScarce h.modules name → IsFine h.modules h.state → AllByRecursion (Appears h) vs → held_in_stack name vs ≡ 0
+appear-none h name [] scarce fine a = refl
+appear-none h name (v ∷ vs) scarce fine a =
+    let first : count_in name v ≡ 0 = appears-none h name v scarce fine a.0 in
+    let rest : held_in_stack name vs ≡ 0 = appear-none h name vs scarce fine a.1 in
+    omega (arith, first, rest)
+
+-- ---- a write at a place
+
+-- a write through a reference, and what it replaces
+record Wrote (modules : List Module) (s : State) (root : Root) (next : State) (gone new : Value) : Type 0 where
+  old_root : Value
+  new_root : Value
+  old_is : root_value s root ≡ Some old_root
+  next_is : with_root s root new_root ≡ next
+  replaces : Replaces modules old_root new_root gone new
+
+root-stack : (s : State) (stack : List Value) (root : Root) → root_value (with_stack s stack) root ≡ root_value s root
+root-stack s stack (Local n l) = refl
+root-stack s stack (Stored key) = refl
+
+-- the write of a value of the old one's abilities, on a state with fewer operands
+wrote : (modules : List Module) (s : State) (below : List Value) (p : Place) (old new : Value) (next : State) → IsFine modules s → IsKept modules new →
+    abilities_of modules new ≡ abilities_of modules old → place_value s p ≡ Some old → with_place (with_stack s below) p new ≡ Some next → Wrote modules (with_stack s below) p.root next old new
+wrote modules s below p old new next fine kept same old_is next_is =
+    let w = place-written (with_stack s below) p new next next_is in
+    let found = then-is (λ x. value_at x p.path) (root_value s p.root) old old_is in
+    let one : found.0 ≡ w.old = some_is found.0 w.old (sym found.1 ∙ (sym (root-stack s below p.root) ∙ w.old_is)) in
+    let at : value_at w.old p.path ≡ Some old = subst (λ x. value_at x p.path ≡ Some old) one found.2 in
+    let root_kept : IsKept modules w.old = subst (IsKept modules) one (kept-root modules s p.root found.0 fine found.1) in
+    record {
+      old_root = w.old;
+      new_root = w.new;
+      old_is = w.old_is;
+      next_is = w.next_is;
+      replaces = replaces-at modules p.path w.old w.new old new root_kept kept same at w.new_is;
+    }
+
+kept-unreverse : (modules : List Module) (vs : List Value) → StackIsKept modules (reverse vs) → StackIsKept modules vs
+kept-unreverse modules vs kept = subst (StackIsKept modules) (reverse-reverse vs) (kept-reverse modules (reverse vs) kept)
+
+-- ---- states stay fine
+
+pub effect-fine : (h : Here) (place : ℕ) (next : State) → IsAbleStore h.modules → slice_get h.modules place ≡ Some h.home → IsFine h.modules h.state → Effect h next → IsFine h.modules next
+effect-fine h place _ store home_is fine (Restacked taken given rest s d a) =
+    fine-stack h.modules h.state (given ++ rest) fine
+    (kept-append h.modules given rest (appear-kept h given fine a) (kept-rest h.modules taken rest (subst (StackIsKept h.modules) s fine.framed.0.stack)))
+effect-fine h place _ store home_is fine (MovedLocal l v e) = record {
+  framed = (record { locals = kept-set h.modules h.state.top.locals l None fine.framed.0.locals tt; stack = (kept-get h.modules h.state.top.locals l (Some v) fine.framed.0.locals e, fine.framed.0.stack) }, fine.framed.1);
+  stored = fine.stored;
+  ascending = fine.ascending;
+  numbered = fine.numbered;
+}
+effect-fine h place _ store home_is fine (StoredLocal l old v below s e d) =
+    let kept : StackIsKept h.modules (v ∷ below) = subst (StackIsKept h.modules) s fine.framed.0.stack in
+    record {
+      framed = (record { locals = kept-set h.modules h.state.top.locals l (Some v) fine.framed.0.locals kept.0; stack = kept.1 }, fine.framed.1);
+      stored = fine.stored;
+      ascending = fine.ascending;
+      numbered = fine.numbered;
+    }
+effect-fine h place _ store home_is fine (Packed i struct taken rest tags struct_is s named typed) =
+    let kept : StackIsKept h.modules (reverse taken ++ rest) = subst (StackIsKept h.modules) s fine.framed.0.stack in
+    let fields : StackIsKept h.modules taken = kept-unreverse h.modules taken (kept-first h.modules (reverse taken) rest kept) in
+    record {
+      framed = (record { locals = fine.framed.0.locals; stack = (packed-kept h place i struct tags taken store home_is struct_is named typed fields, kept-rest h.modules (reverse taken) rest kept) }, fine.framed.1);
+      stored = fine.stored;
+      ascending = fine.ascending;
+      numbered = fine.numbered;
+    }
+effect-fine h place _ store home_is fine (Unpacked i struct fields below struct_is s) =
+    let kept : StackIsKept h.modules (Struct struct.name fields ∷ below) = subst (StackIsKept h.modules) s fine.framed.0.stack in
+    let inner : StackIsKept h.modules (list_of fields) = kept-list_of h.modules (kept.0).0 fields (kept.0).2 in
+    record {
+      framed = (record { locals = fine.framed.0.locals; stack = kept-append h.modules (reverse (list_of fields)) below (kept-reverse h.modules (list_of fields) inner) kept.1 }, fine.framed.1);
+      stored = fine.stored;
+      ascending = fine.ascending;
+      numbered = fine.numbered;
+    }
+effect-fine h place _ store home_is fine (Written r new old below tag next s old_is tag_is typed d next_is) =
+    let kept : StackIsKept h.modules (Ref r ∷ new ∷ below) = subst (StackIsKept h.modules) s fine.framed.0.stack in
+    let same : abilities_of h.modules new ≡ abilities_of h.modules old = has_tag-abilities h.modules h.state new tag typed ∙ sym (tag_of-abilities h.modules h.state old tag tag_is) in
+    let w = wrote h.modules h.state below r.place old new next fine kept.1.0 same old_is next_is in
+    subst (IsFine h.modules) w.next_is (fine-root h.modules (with_stack h.state below) r.place.root w.new_root (fine-stack h.modules h.state below fine kept.1.1) w.replaces.kept)
+effect-fine h place _ store home_is fine (MovedFrom key a v below s e) =
+    let kept : StackIsKept h.modules (Leaf Address a ∷ below) = subst (StackIsKept h.modules) s fine.framed.0.stack in
+    record {
+      framed = (record { locals = fine.framed.0.locals; stack = (kept-stored_at h.modules h.state.storage key v fine.stored e, kept.1) }, fine.framed.1);
+      stored = kept-without h.modules h.state.storage key fine.stored;
+      ascending = ascending-without h.state.storage key fine.ascending;
+      numbered = fine.numbered;
+    }
+effect-fine h place _ store home_is fine (MovedTo key r v below s e) =
+    let kept : StackIsKept h.modules (v ∷ Ref r ∷ below) = subst (StackIsKept h.modules) s fine.framed.0.stack in
+    record {
+      framed = (record { locals = fine.framed.0.locals; stack = kept.1.1 }, fine.framed.1);
+      stored = kept-with h.modules h.state.storage key v fine.stored kept.0;
+      ascending = ascending-with h.state.storage key v fine.ascending;
+      numbered = fine.numbered;
+    }
+effect-fine h place _ store home_is fine (Called function others taken rest s) =
+    let kept : StackIsKept h.modules (reverse taken ++ rest) = subst (StackIsKept h.modules) s fine.framed.0.stack in
+    record {
+      framed = (record { locals = kept-entered h.modules taken others (kept-unreverse h.modules taken (kept-first h.modules (reverse taken) rest kept)); stack = tt }, (record { locals = fine.framed.0.locals; stack = kept-rest h.modules (reverse taken) rest kept }, fine.framed.1));
+      stored = fine.stored;
+      ascending = fine.ascending;
+      numbered = (omega arith, fine.numbered);
+    }
+effect-fine h place _ store home_is fine (Resumed results f fs s d e) =
+    let kept : StackIsKept h.modules (reverse results) = subst (StackIsKept h.modules) s fine.framed.0.stack in
+    let under : FramesAreKept h.modules (f ∷ fs) = subst (FramesAreKept h.modules) e fine.framed.1 in
+    let numbers : AreNumbered h.state.top.number (f ∷ fs) = subst (AreNumbered h.state.top.number) e fine.numbered.1 in
+    record {
+      framed = (record { locals = under.0.locals; stack = kept-append h.modules (reverse results) f.stack kept under.0.stack }, under.1);
+      stored = fine.stored;
+      ascending = fine.ascending;
+      numbered = (omega (arith, fine.numbered.0, numbers.0), numbers.1);
+    }
+
+-- ---- what is held is balanced
+
+-- a state that differs in its operands alone
+stack-balances : (name : StructName) (s : State) (stack : List Value) → held_in_stack name stack ≡ held_in_stack name s.top.stack → Balances name s (with_stack s stack)
+stack-balances name s stack e = omega (arith, e)
+
+written-balances : (modules : List Module) (name : StructName) (s : State) (below : List Value) (root : Root) (old_root new_root old new : Value) → IsFine modules s → StackIsKept modules below →
+    root_value (with_stack s below) root ≡ Some old_root → count_in name new_root + count_in name old ≡ count_in name old_root + count_in name new →
+    held_in_stack name s.top.stack ≡ 0 + (count_in name new + held_in_stack name below) → count_in name old ≡ 0 → Balances name s (with_root (with_stack s below) root new_root)
+written-balances modules name s below root old_root new_root old new fine kept old_is counts before out =
+    let moved : held name (with_root (with_stack s below) root new_root) + count_in name old_root ≡ held name (with_stack s below) + count_in name new_root =
+    held-root modules name (with_stack s below) root old_root new_root (fine-stack modules s below fine kept) old_is in
+    let ups : made name (with_root (with_stack s below) root new_root).tally ≡ made name s.tally = ap (made name) (with_root-tally (with_stack s below) root new_root) in
+    let downs : unmade name (with_root (with_stack s below) root new_root).tally ≡ unmade name s.tally = ap (unmade name) (with_root-tally (with_stack s below) root new_root) in
+    omega (arith, counts, before, out, moved, ups, downs)
+
+pub effect-balances : (h : Here) (name : StructName) (next : State) → IsScarce h.modules name → IsFine h.modules h.state → Effect h next → Balances name h.state next
+effect-balances h name _ scarce fine (Restacked taken given rest s d a) =
+    let kept : StackIsKept h.modules (taken ++ rest) = subst (StackIsKept h.modules) s fine.framed.0.stack in
+    let out : held_in_stack name taken ≡ 0 = dropped-none h name taken scarce (kept-first h.modules taken rest kept) d in
+    let into : held_in_stack name given ≡ 0 = appear-none h name given scarce fine a in
+    let before : held_in_stack name h.state.top.stack ≡ held_in_stack name taken + held_in_stack name rest = ap (held_in_stack name) s ∙ held-append name taken rest in
+    let after : held_in_stack name (given ++ rest) ≡ held_in_stack name given + held_in_stack name rest = held-append name given rest in
+    stack-balances name h.state (given ++ rest) (omega (arith, out, into, before, after))
+effect-balances h name _ scarce fine (MovedLocal l v e) =
+    let set : held_in_locals name (slice_set h.state.top.locals l None) + count_in name v ≡ held_in_locals name h.state.top.locals + 0 = held-set name h.state.top.locals l (Some v) None e in
+    omega (arith, set)
+effect-balances h name _ scarce fine (StoredLocal l old v below s e d) =
+    let before : held_in_stack name h.state.top.stack ≡ count_in name v + held_in_stack name below = ap (held_in_stack name) s in
+    let out : held_in_local name old ≡ 0 = lost-none h name old scarce (kept-get h.modules h.state.top.locals l old fine.framed.0.locals e) d in
+    let set : held_in_locals name (slice_set h.state.top.locals l (Some v)) + held_in_local name old ≡ held_in_locals name h.state.top.locals + count_in name v = held-set name h.state.top.locals l old (Some v) e in
+    omega (arith, before, out, set)
+effect-balances h name _ scarce fine (Packed i struct taken rest tags struct_is s named typed) =
+    let before : held_in_stack name h.state.top.stack ≡ held_in_stack name taken + held_in_stack name rest =
+    ap (held_in_stack name) s ∙ (held-append name (reverse taken) rest ∙ ap (λ n. n + held_in_stack name rest) (held-reverse name taken)) in
+    let inner : count_in_fields name (fields_of taken) ≡ held_in_stack name taken = held-fields_of name taken in
+    omega (arith, before, inner)
+effect-balances h name _ scarce fine (Unpacked i struct fields below struct_is s) =
+    let before : held_in_stack name h.state.top.stack ≡ (cond (same_struct struct.name name) 1 0 + count_in_fields name fields) + held_in_stack name below = ap (held_in_stack name) s in
+    let after : held_in_stack name (reverse (list_of fields) ++ below) ≡ count_in_fields name fields + held_in_stack name below =
+    held-append name (reverse (list_of fields)) below ∙ ap (λ n. n + held_in_stack name below) (held-reverse name (list_of fields) ∙ held-list_of name fields) in
+    omega (arith, before, after)
+effect-balances h name _ scarce fine (Written r new old below tag next s old_is tag_is typed d next_is) =
+    let kept : StackIsKept h.modules (Ref r ∷ new ∷ below) = subst (StackIsKept h.modules) s fine.framed.0.stack in
+    let same : abilities_of h.modules new ≡ abilities_of h.modules old = has_tag-abilities h.modules h.state new tag typed ∙ sym (tag_of-abilities h.modules h.state old tag tag_is) in
+    let w = wrote h.modules h.state below r.place old new next fine kept.1.0 same old_is next_is in
+    let before : held_in_stack name h.state.top.stack ≡ 0 + (count_in name new + held_in_stack name below) = ap (held_in_stack name) s in
+    let out : count_in name old ≡ 0 = none_in h.modules name (λ a. a.drop) (lacks_drop h.modules name scarce) old (stands-kept h.modules h.state old fine (at_place r.place old old_is)) d in
+    subst (Balances name h.state) w.next_is
+    (written-balances h.modules name h.state below r.place.root w.old_root w.new_root old new fine kept.1.1 w.old_is (w.replaces.counts name) before out)
+effect-balances h name _ scarce fine (MovedFrom key a v below s e) =
+    let before : held_in_stack name h.state.top.stack ≡ 0 + held_in_stack name below = ap (held_in_stack name) s in
+    let out : count (without_stored h.state.storage key) name + count_in name v ≡ count h.state.storage name = count-without name h.state.storage key v e in
+    omega (arith, before, out)
+effect-balances h name _ scarce fine (MovedTo key r v below s e) =
+    let before : held_in_stack name h.state.top.stack ≡ count_in name v + (0 + held_in_stack name below) = ap (held_in_stack name) s in
+    let into : count (with_stored h.state.storage key v) name ≡ count_in name v + count h.state.storage name = count-new name h.state.storage key v e in
+    omega (arith, before, into)
+effect-balances h name _ scarce fine (Called function others taken rest s) =
+    let before : held_in_stack name h.state.top.stack ≡ held_in_stack name taken + held_in_stack name rest =
+    ap (held_in_stack name) s ∙ (held-append name (reverse taken) rest ∙ ap (λ n. n + held_in_stack name rest) (held-reverse name taken)) in
+    let entered : held_in_locals name (map Some taken ++ replicate others None) ≡ held_in_stack name taken = held-entered name taken others in
+    omega (arith, before, entered)
+effect-balances h name _ scarce fine (Resumed results f fs s d e) =
+    let before : held_in_stack name h.state.top.stack ≡ held_in_stack name (reverse results) = ap (held_in_stack name) s in
+    let left : held_in_locals name h.state.top.locals ≡ 0 = left-none h name h.state.top.locals scarce fine.framed.0.locals d in
+    let under : held_in_frames name h.state.below ≡ held_in_frame name f + held_in_frames name fs = ap (held_in_frames name) e in
+    let after : held_in_stack name (reverse results ++ f.stack) ≡ held_in_stack name (reverse results) + held_in_stack name f.stack = held-append name (reverse results) f.stack in
+    omega (arith, before, left, under, after)

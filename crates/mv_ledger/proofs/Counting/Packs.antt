@@ -1,0 +1,138 @@
+-- A struct value that is packed is kept, and declared as its own definition says.
+use Rattle.std.proofs.Common.{◌≡◌, ℕ, zero, suc, ◌+◌, Bool, true, false, List, [], ◌∷◌, Option, Some, Ok, sym, ap, subst, ◌∙◌, arith}
+use Rattle.std.specs.Prelude.{◌&&◌, slice_get, ◌||◌}
+use Rattle.std.specs.List.{AllByRecursion, list_all}
+use Rattle.std.specs.Option.{option_map_or}
+use Rattle.std.specs.Cmp.{first_so, second_so}
+use Rattle.mv_move_types.specs.declared.tables.StructHandle.{StructHandle}
+use Rattle.mv_move_types.specs.declared.token.Abilities.{Abilities}
+use Rattle.mv_move_types.specs.Options.{◌>>=◌}
+use Rattle.mv_move_types.specs.Results.{for_each}
+use Rattle.mv_move_types.specs.Names.{StructName, same_module}
+use Rattle.mv_move_types.specs.Module.{Module, own_name, struct_name, struct_abilities}
+use Rattle.mv_move_types.specs.declared.tables.Field.{Field}
+use Rattle.mv_machine.specs.Value.{Value, Struct, fields_of}
+use Rattle.mv_machine.specs.State.{State}
+use Rattle.mv_move_types.specs.Tags.{Tag}
+use Rattle.mv_move_types.specs.Named.{declared}
+use Rattle.mv_move_types.specs.AbilitySets.{same_abilities}
+use Rattle.mv_machine.specs.Typing.{abilities_of, has_tag, have_tags, tag_named}
+use Rattle.mv_abilities.specs.Abilities.{token_abilities}
+use Rattle.mv_abilities.specs.Abilities.{AbilitiesHold, implies, field_is_able, struct_is_able}
+use Rattle.mv_linker.specs.Links.{struct_is_there, structs_are_there}
+use Rattle.mv_machine.specs.Step.{Here, OwnStruct}
+use Rattle.mv_machine.specs.StepStructs.{own_struct}
+use Rattle.mv_linker.proofs.Upgraded.{same_abilities-is}
+use Rattle.mv_interpreter.proofs.Names.{some_is}
+use Rattle.mv_interpreter.proofs.Lists.{each}
+use Rattle.mv_ledger.specs.Counting.Kept.{Allows, IsKept, AreKept, StackIsKept}
+use Rattle.mv_ledger.specs.Counting.Fine.{IsAbleStore}
+use Rattle.mv_ledger.proofs.Counting.Binds.{on_bind, on_need, on_some, WhereOk}
+use Rattle.mv_ledger.proofs.Counting.Tags.{has_tag-abilities, tag_named-abilities}
+use Rattle.mv_ledger.proofs.Heirs.{tested}
+
+-- what each element is, the one at an index is
+pub each-get : {A : Type 0} (P : A → Type 0) (xs : List A) (i : ℕ) (x : A) → AllByRecursion P xs → slice_get xs i ≡ Some x → P x
+each-get P [] i x h e = absurd cc
+each-get P (y ∷ ys) zero x h e = subst P (some_is y x e) h.0
+each-get P (y ∷ ys) (suc i) x h e = each-get P ys i x h.1 e
+
+-- a struct handle of a store's module names a struct that is declared as the handle says
+pub there-get : (modules : List Module) (m : Module) (k j : ℕ) (handles : List StructHandle) (handle : StructHandle) → structs_are_there modules m k handles ≡ true → slice_get handles j ≡ Some handle →
+    struct_is_there modules m (k + j) handle ≡ true
+there-get modules m k j [] handle h e = absurd cc
+there-get modules m k zero (x ∷ xs) handle h e =
+    let at : k ≡ k + 0 = omega arith in
+    subst (λ n. struct_is_there modules m n handle ≡ true) at
+    (subst (λ y. struct_is_there modules m k y ≡ true) (some_is x handle e) (first_so (struct_is_there modules m k x) (structs_are_there modules m (k + 1) xs) h))
+there-get modules m k (suc j) (x ∷ xs) handle h e =
+    let at : (k + 1) + j ≡ k + suc j = omega arith in
+    subst (λ n. struct_is_there modules m n handle ≡ true) at
+    (there-get modules m (k + 1) j xs handle (second_so (struct_is_there modules m k x) (structs_are_there modules m (k + 1) xs) h) e)
+
+-- each struct handle of a module names a struct that is declared as the handle says
+abbrev pub HandlesDeclared : List Module → Module → Type 0
+HandlesDeclared modules m = (j : ℕ) (handle : StructHandle) (name : StructName) → slice_get m.struct_handles j ≡ Some handle → struct_name m j ≡ Some name → declared modules name ≡ Some handle.abilities
+
+pub handles-declared : (modules : List Module) (m : Module) → structs_are_there modules m 0 m.struct_handles ≡ true → HandlesDeclared modules m
+handles-declared modules m all j handle name handle_is name_is =
+    let at : 0 + j ≡ j = omega arith in
+    let here : struct_is_there modules m j handle ≡ true = subst (λ n. struct_is_there modules m n handle ≡ true) at (there-get modules m 0 j m.struct_handles handle all handle_is) in
+    let named = tested (λ n. option_map_or (same_abilities handle.abilities) (declared modules n) false) (struct_name m j) here in
+    let found = tested (same_abilities handle.abilities) (declared modules named.0) named.2 in
+    let one : named.0 ≡ name = some_is named.0 name (sym named.1 ∙ name_is) in
+    let same : found.0 ≡ handle.abilities = sym (same_abilities-is handle.abilities found.0 found.2) in
+    sym (ap (declared modules) one) ∙ (found.1 ∙ ap (λ (a : Abilities). Some a) same)
+
+pub each-declared : (modules ms : List Module) → list_all (λ m. structs_are_there modules m 0 m.struct_handles) ms ≡ true → AllByRecursion (HandlesDeclared modules) ms
+each-declared modules [] h = tt
+each-declared modules (m ∷ ms) h = (
+  handles-declared modules m (first_so (structs_are_there modules m 0 m.struct_handles) (list_all (λ m. structs_are_there modules m 0 m.struct_handles) ms) h),
+  each-declared modules ms (second_so (structs_are_there modules m 0 m.struct_handles) (list_all (λ m. structs_are_there modules m 0 m.struct_handles) ms) h),
+)
+
+pub handle-declared : (modules : List Module) (place : ℕ) (m : Module) (j : ℕ) (handle : StructHandle) (name : StructName) → IsAbleStore modules → slice_get modules place ≡ Some m →
+    slice_get m.struct_handles j ≡ Some handle → struct_name m j ≡ Some name → declared modules name ≡ Some handle.abilities
+handle-declared modules place m j handle name store m_is =
+    each-get (HandlesDeclared modules) modules place m (each-declared modules modules store.structs) m_is j handle name
+
+-- what an own struct is: declared with its abilities, and each of its fields has what they ask for
+pub record Owned (modules : List Module) (m : Module) (s : OwnStruct) : Type 0 where
+  pub is_declared : declared modules s.name ≡ Some s.abilities
+  pub able : list_all (field_is_able m s.abilities) s.fields ≡ true
+
+pub own_struct-owned : (h : Here) (place i : ℕ) (s : OwnStruct) → IsAbleStore h.modules → slice_get h.modules place ≡ Some h.home → own_struct h i ≡ Ok s → Owned h.modules h.home s
+unfolding own_struct
+own_struct-owned h place i s store home_is e =
+    on_some (slice_get h.home.structs i) _ _ s e (λ d d_is e1.
+    on_some (slice_get h.home.struct_handles d.handle) _ _ s e1 (λ handle handle_is e2.
+    on_some (struct_name h.home d.handle) _ _ s e2 (λ name name_is e3.
+    on_some (own_name h.home) _ _ s e3 (λ own own_is e4.
+    on_need (same_module name.home own) _ _ s e4 (λ met e5.
+    let able : struct_is_able h.home d ≡ true = each (struct_is_able h.home) h.home.structs i d (each-get AbilitiesHold h.modules place h.home store.able home_is) d_is in
+    let had = tested (λ a. list_all (field_is_able h.home a) d.fields) (struct_abilities h.home d) able in
+    let has : struct_abilities h.home d ≡ Some handle.abilities = ap (λ (o : Option StructHandle). o >>= λ x. Some x.abilities) handle_is in
+    let one : had.0 ≡ handle.abilities = some_is had.0 handle.abilities (sym had.1 ∙ has) in
+    subst (WhereOk (Owned h.modules h.home)) e5 (record {
+      is_declared = handle-declared h.modules place h.home d.handle handle name store home_is handle_is name_is;
+      able = subst (λ a. list_all (field_is_able h.home a) d.fields ≡ true) one had.2;
+    }))))))
+
+pub implied : (a b : Bool) → implies a b ≡ true → a ≡ true → b ≡ true
+implied true b h e = h
+implied false b h e = absurd cc
+
+-- a value of a field's tag has what the struct asks of the field
+field-allows : (modules : List Module) (m : Module) (s : State) (outer : Abilities) (f : Field) (tag : Tag) (v : Value) → field_is_able m outer f ≡ true → tag_named modules m f.token ≡ Ok tag → has_tag s v tag ≡ true →
+    Allows outer (abilities_of modules v)
+field-allows modules m s outer f tag v able named typed =
+    let had = tested (λ a. implies outer.copy a.copy && implies outer.drop a.drop && implies (outer.store || outer.key) a.store) (token_abilities m f.token) able in
+    let front : (implies outer.copy (had.0).copy && implies outer.drop (had.0).drop) ≡ true = first_so (implies outer.copy (had.0).copy && implies outer.drop (had.0).drop) (implies (outer.store || outer.key) (had.0).store) had.2 in
+    let same : had.0 ≡ abilities_of modules v = tag_named-abilities modules m f.token tag had.0 named had.1 ∙ sym (has_tag-abilities modules s v tag typed) in
+    subst (Allows outer) same (record {
+      copy = implied outer.copy (had.0).copy (first_so (implies outer.copy (had.0).copy) (implies outer.drop (had.0).drop) front);
+      drop = implied outer.drop (had.0).drop (second_so (implies outer.copy (had.0).copy) (implies outer.drop (had.0).drop) front);
+    })
+
+fields-kept : (modules : List Module) (m : Module) (s : State) (outer : Abilities) (fs : List Field) (tags : List Tag) (vs : List Value) → list_all (field_is_able m outer) fs ≡ true →
+    for_each (λ f. tag_named modules m f.token) fs ≡ Ok tags → have_tags s vs tags ≡ true → StackIsKept modules vs → AreKept modules outer (fields_of vs)
+fields-kept modules m s outer [] tags [] able named typed kept = tt
+fields-kept modules m s outer [] tags (v ∷ vs) able named typed kept =
+    let none : have_tags s (v ∷ vs) [] ≡ true = subst (WhereOk (λ ts. have_tags s (v ∷ vs) ts ≡ true)) (sym named) typed in
+    absurd cc
+fields-kept modules m s outer (f ∷ fs) tags [] able named typed kept = tt
+fields-kept modules m s outer (f ∷ fs) tags (v ∷ vs) able named typed kept =
+    on_bind (tag_named modules m f.token) _ tags named (λ tag tag_is e1.
+    on_bind (for_each (λ f. tag_named modules m f.token) fs) _ tags e1 (λ rest rest_are e2.
+    let both : (has_tag s v tag && have_tags s vs rest) ≡ true = subst (WhereOk (λ ts. have_tags s (v ∷ vs) ts ≡ true)) (sym e2) typed in (
+      field-allows modules m s outer f tag v (first_so (field_is_able m outer f) (list_all (field_is_able m outer) fs) able) tag_is (first_so (has_tag s v tag) (have_tags s vs rest) both),
+      kept.0,
+      fields-kept modules m s outer fs rest vs (second_so (field_is_able m outer f) (list_all (field_is_able m outer) fs) able) rest_are (second_so (has_tag s v tag) (have_tags s vs rest) both) kept.1,
+    )))
+
+-- a struct value that is packed
+pub packed-kept : (h : Here) (place i : ℕ) (s : OwnStruct) (tags : List Tag) (vs : List Value) → IsAbleStore h.modules → slice_get h.modules place ≡ Some h.home → own_struct h i ≡ Ok s →
+    for_each (λ f. tag_named h.modules h.home f.token) s.fields ≡ Ok tags → have_tags h.state vs tags ≡ true → StackIsKept h.modules vs → IsKept h.modules (Struct s.name (fields_of vs))
+packed-kept h place i s tags vs store home_is struct_is named typed kept =
+    let owned = own_struct-owned h place i s store home_is struct_is in
+    (s.abilities, owned.is_declared, fields-kept h.modules h.home h.state s.abilities s.fields tags vs owned.able named typed kept)

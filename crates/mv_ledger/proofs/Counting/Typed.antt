@@ -1,0 +1,133 @@
+-- Values of their types are kept, over a store whose abilities hold.
+use Rattle.std.proofs.Common.{◌≡◌, Bool, true, false, List, [], ◌∷◌, Some, sym, ap, subst, ◌∙◌}
+use Rattle.std.specs.Prelude.{slice_get, ◌&&◌, ◌||◌}
+use Rattle.std.specs.Cmp.{first_so, second_so}
+use Rattle.std.specs.List.{list_all}
+use Rattle.std.specs.Option.{option_map_or}
+use Rattle.mv_move_types.specs.declared.tables.Field.{Field}
+use Rattle.mv_move_types.specs.declared.token.Abilities.{Abilities}
+use Rattle.mv_move_types.specs.declared.token.Token.{Token}
+use Rattle.mv_move_types.specs.declared.token.Token.TheVariants.{Plain, Reference as ReferenceTo, MutableReference as MutableReferenceTo}
+use Rattle.mv_move_types.specs.declared.token.ValueType.TheVariants.{OfLeaf, OfStruct}
+use Rattle.mv_move_types.specs.AbilitySets.{leaf_abilities}
+use Rattle.mv_move_types.specs.Options.{find_index}
+use Rattle.mv_move_types.specs.Tokens.{same_kind}
+use Rattle.mv_move_types.specs.Names.{StructName, same_struct}
+use Rattle.mv_move_types.specs.Module.{Module, struct_name, name_of_struct, name_at, struct_abilities}
+use Rattle.mv_move_types.specs.Named.{is_struct, module_place, module_named, definition_of, declared}
+use Rattle.mv_module_text.specs.Fits.{address_fits}
+use Rattle.mv_machine.specs.Value.{Value, Leaf, Struct, Ref, Values, NoMore, More}
+use Rattle.mv_machine.specs.State.{Storage}
+use Rattle.mv_machine.specs.Typed.{leaf_fits, is_of_type, are_of_types, is_of_struct, abilities_at, is_fine_entry, is_fine_storage}
+use Rattle.mv_machine.specs.Typing.{abilities_of}
+use Rattle.mv_abilities.specs.Abilities.{AbilitiesHold, token_abilities, implies, field_is_able, struct_is_able}
+use Rattle.mv_interpreter.proofs.Names.{some_is, same_kind-is, same_struct-is}
+use Rattle.mv_interpreter.proofs.Lists.{each, on_some}
+use Rattle.mv_ledger.specs.Counting.Kept.{Allows, IsKept, AreKept, StorageIsKept}
+use Rattle.mv_ledger.specs.Counting.Fine.{IsAbleStore}
+use Rattle.mv_ledger.proofs.Heirs.{tested, found-passes, on_and_then}
+use Rattle.mv_ledger.proofs.Counting.Counts.{declared-abilities}
+use Rattle.mv_ledger.proofs.Counting.Packs.{HandlesDeclared, each-declared, each-get, implied}
+use Rattle.mv_ledger.proofs.Counting.Declared.{definition-declared}
+
+-- a struct's definition, as far as abilities go
+record Defines (modules : List Module) (name : StructName) (m : Module) (fields : List Field) : Type 0 where
+  abilities : Abilities
+  is_declared : declared modules name ≡ Some abilities
+  declares : HandlesDeclared modules m
+  able : list_all (field_is_able m abilities) fields ≡ true
+
+module _ (modules : List Module) (store : IsAbleStore modules) where
+  definition-defines : (name : StructName) (found : Module × List Field) → definition_of modules name ≡ Some found → Defines modules name found.0 found.1
+  definition-defines name found e =
+      on_some (module_named modules name.home) _ found e (λ m m_is e1.
+      on_some (find_index (is_struct m name) m.structs) _ found e1 (λ i i_is e2.
+      on_some (slice_get m.structs i) _ found e2 (λ d d_is e3.
+      on_and_then (slice_get modules) (module_place modules name.home) m m_is (λ place place_is at.
+      let named = tested (λ own. same_struct own name) (name_of_struct m d) (found-passes (is_struct m name) m.structs i d i_is d_is) in
+      let name_is : name_of_struct m d ≡ Some name = named.1 ∙ ap (λ (n : StructName). Some n) (same_struct-is named.0 name named.2) in
+      let able : struct_is_able m d ≡ true = each (struct_is_able m) m.structs i d (each-get AbilitiesHold modules place m store.able at) d_is in
+      let had = tested (λ a. list_all (field_is_able m a) d.fields) (struct_abilities m d) able in
+      let declares : HandlesDeclared modules m = each-get (HandlesDeclared modules) modules place m (each-declared modules modules store.structs) at in
+      let here : Defines modules name m d.fields = record {
+        abilities = had.0;
+        is_declared = definition-declared modules m d name had.0 declares name_is had.1;
+        declares = declares;
+        able = had.2;
+      } in
+      subst (λ (x : Module × List Field). Defines modules name x.0 x.1) (some_is (m, d.fields) found e3) here))))
+
+  -- whether the fields of a struct value are of its definition's types
+  abbrev fields_fit : StructName → Values → Bool
+  fields_fit name fields = option_map_or (λ (d : Module × List Field). are_of_types modules d.0 d.1 fields) (definition_of modules name) false
+
+  -- a value of a type has the abilities that its type has
+  typed-abilities : (m : Module) (t : Token) (v : Value) (a : Abilities) → HandlesDeclared modules m → is_of_type modules m t v ≡ true → token_abilities m t ≡ Some a → a ≡ abilities_of modules v
+  typed-abilities m (Plain (OfLeaf k)) (Leaf j n) a declares h e = sym (some_is (leaf_abilities k) a e) ∙ sym (ap leaf_abilities (same_kind-is j k (first_so (same_kind j k) (leaf_fits k n) h)))
+  typed-abilities m (Plain (OfLeaf k)) (Struct name fields) a declares h e = absurd cc
+  typed-abilities m (Plain (OfLeaf k)) (Ref r) a declares h e = absurd cc
+  typed-abilities m (Plain (OfStruct i)) (Leaf j n) a declares h e = absurd cc
+  typed-abilities m (Plain (OfStruct i)) (Ref r) a declares h e = absurd cc
+  typed-abilities m (Plain (OfStruct i)) (Struct name fields) a declares h e =
+      let named = tested (λ own. same_struct own name) (struct_name m i) (first_so (option_map_or (λ own. same_struct own name) (struct_name m i) false) (fields_fit name fields) h) in
+      on_some (slice_get m.struct_handles i) _ a e (λ handle handle_is e1.
+      let here : declared modules name ≡ Some a = ap (declared modules) (sym (same_struct-is named.0 name named.2)) ∙ declares i handle named.0 handle_is named.1 ∙ e1 in
+      sym (declared-abilities modules name fields a here))
+  typed-abilities m (ReferenceTo t) (Leaf j n) a declares h e = absurd cc
+  typed-abilities m (ReferenceTo t) (Struct name fields) a declares h e = absurd cc
+  typed-abilities m (ReferenceTo t) (Ref r) a declares h e = absurd cc
+  typed-abilities m (MutableReferenceTo t) (Leaf j n) a declares h e = absurd cc
+  typed-abilities m (MutableReferenceTo t) (Struct name fields) a declares h e = absurd cc
+  typed-abilities m (MutableReferenceTo t) (Ref r) a declares h e = absurd cc
+
+  typed-allows : (m : Module) (outer : Abilities) (f : Field) (v : Value) → HandlesDeclared modules m → field_is_able m outer f ≡ true → is_of_type modules m f.token v ≡ true → Allows outer (abilities_of modules v)
+  typed-allows m outer f v declares able typed =
+      let had = tested (λ a. implies outer.copy a.copy && implies outer.drop a.drop && implies (outer.store || outer.key) a.store) (token_abilities m f.token) able in
+      let front : (implies outer.copy (had.0).copy && implies outer.drop (had.0).drop) ≡ true = first_so (implies outer.copy (had.0).copy && implies outer.drop (had.0).drop) (implies (outer.store || outer.key) (had.0).store) had.2 in
+      subst (Allows outer) (typed-abilities m f.token v had.0 declares typed had.1) (record {
+        copy = implied outer.copy (had.0).copy (first_so (implies outer.copy (had.0).copy) (implies outer.drop (had.0).drop) front);
+        drop = implied outer.drop (had.0).drop (second_so (implies outer.copy (had.0).copy) (implies outer.drop (had.0).drop) front);
+      })
+
+  struct-typed : (m : Module) (t : Token) (name : StructName) (fields : Values) → is_of_type modules m t (Struct name fields) ≡ true → fields_fit name fields ≡ true
+  struct-typed m (Plain (OfLeaf k)) name fields h = absurd cc
+  struct-typed m (Plain (OfStruct i)) name fields h = second_so (option_map_or (λ own. same_struct own name) (struct_name m i) false) (fields_fit name fields) h
+  struct-typed m (ReferenceTo t) name fields h = absurd cc
+  struct-typed m (MutableReferenceTo t) name fields h = absurd cc
+
+  mutual
+    typed-kept : (m : Module) (t : Token) (v : Value) → is_of_type modules m t v ≡ true → IsKept modules v
+    typed-kept m t (Leaf j n) h = tt
+    typed-kept m t (Ref r) h = tt
+    typed-kept m t (Struct name fields) h =
+        let found = tested (λ (d : Module × List Field). are_of_types modules d.0 d.1 fields) (definition_of modules name) (struct-typed m t name fields h) in
+        let defines = definition-defines name found.0 found.1 in
+        (defines.abilities, defines.is_declared, typed-fields (found.0).0 defines.abilities (found.0).1 fields defines.declares defines.able found.2)
+
+    typed-fields : (m : Module) (outer : Abilities) (fs : List Field) (vs : Values) → HandlesDeclared modules m → list_all (field_is_able m outer) fs ≡ true → are_of_types modules m fs vs ≡ true → AreKept modules outer vs
+    typed-fields m outer fs NoMore declares able typed = tt
+    typed-fields m outer [] (More v vs) declares able typed = absurd cc
+    typed-fields m outer (f ∷ fs) (More v vs) declares able typed = (
+      typed-allows m outer f v declares (first_so (field_is_able m outer f) (list_all (field_is_able m outer) fs) able) (first_so (is_of_type modules m f.token v) (are_of_types modules m fs vs) typed),
+      typed-kept m f.token v (first_so (is_of_type modules m f.token v) (are_of_types modules m fs vs) typed),
+      typed-fields m outer fs vs declares (second_so (field_is_able m outer f) (list_all (field_is_able m outer) fs) able) (second_so (is_of_type modules m f.token v) (are_of_types modules m fs vs) typed),
+    )
+
+  of_struct-kept : (own : StructName) (v : Value) → is_of_struct modules own v ≡ true → IsKept modules v
+  of_struct-kept own (Leaf j n) h = tt
+  of_struct-kept own (Ref r) h = tt
+  of_struct-kept own (Struct name fields) h =
+      let found = tested (λ (d : Module × List Field). are_of_types modules d.0 d.1 fields) (definition_of modules name) (second_so (same_struct own name) (fields_fit name fields) h) in
+      let defines = definition-defines name found.0 found.1 in
+      (defines.abilities, defines.is_declared, typed-fields (found.0).0 defines.abilities (found.0).1 fields defines.declares defines.able found.2)
+
+  -- so a storage whose values are of their keys' structs
+  pub fine-kept : (es : Storage) → is_fine_storage modules es ≡ true → StorageIsKept modules es
+  fine-kept [] h = tt
+  fine-kept (e ∷ es) h =
+      let here : is_fine_entry modules e ≡ true = first_so (is_fine_entry modules e) (list_all (is_fine_entry modules) es) h in
+      let of_struct = option_map_or (λ name. is_of_struct modules name e.value) (name_at modules e.key.place e.key.index) false in
+      let has_key = option_map_or (λ (a : Abilities). a.key) (abilities_at modules e.key.place e.key.index) false in
+      let typed : of_struct ≡ true = second_so (address_fits e.key.address) of_struct (first_so (address_fits e.key.address && of_struct) has_key here) in
+      let named = tested (λ name. is_of_struct modules name e.value) (name_at modules e.key.place e.key.index) typed in
+      (of_struct-kept named.0 e.value named.2, fine-kept es (second_so (is_fine_entry modules e) (list_all (is_fine_entry modules) es) h))

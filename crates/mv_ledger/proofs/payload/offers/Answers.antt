@@ -1,0 +1,20 @@
+use Rattle.std.proofs.Common.{◌≡◌, ◌+◌, ◌++◌, ◌∷◌, [], Err, ap, arith, subst, sym, ◌∙◌}
+use Rattle.std.proofs.lemmas.Grind.{common_steps}
+use Rattle.std.proofs.lemmas.List.{map-append}
+use Rattle.mv_module_text.proofs.Entries.{ReadsOn, ReadsOn-next, ReadsOn-stops}
+use Rattle.mv_ledger.specs.Asking.{offer_of, offers_of}
+use Rattle.mv_ledger.specs.Payloads.{offer_from}
+use Rattle.mv_ledger.proofs.payload.offers.Goals as goal
+
+pub returns-in_err-next-clause-refused : goal.returns-in_err-next-clause-refused
+returns-in_err-next-clause-refused c is =
+    ReadsOn-stops offer_from 16 c.in_ok-count.count c.each.counter c.args.reader.now c.number.new.self (offers_of c.each.all.items) c.each.reader
+    c.in_ok-count.ensures.reads (omega arith) (c.in_err-next.ensures.refused (ap Err c.in_err-next.ensures.errors)) c.each.invariant
+
+pub each-preserved : goal.each-preserved
+each-preserved c =
+    let pushed : c.push.new.self.items ≡ c.each.all.items ++ c.in_ok-next.next ∷ [] = grind (arith, common_steps) in
+    let offered : offers_of c.push.new.self.items ≡ offers_of c.each.all.items ++ offer_of c.in_ok-next.next ∷ [] = ap offers_of pushed ∙ map-append offer_of c.each.all.items (c.in_ok-next.next ∷ []) in
+    subst (λ z. ReadsOn offer_from c.in_ok-count.count (c.each.counter + 1) c.number.new.self z c.offer.new.reader) (sym offered)
+    (ReadsOn-next offer_from c.in_ok-count.count c.each.counter c.number.new.self (offers_of c.each.all.items) c.each.reader c.offer.new.reader (offer_of c.in_ok-next.next)
+    (omega arith) c.in_ok-next.ensures.ok c.each.invariant)

@@ -1,0 +1,7 @@
+use Rattle.mv_module_text.proofs.Entries.{ReadsOn}
+use Rattle.mv_ledger.specs.Asking.{offers_of}
+use Rattle.mv_ledger.specs.Payloads.{offer_from}
+use Rattle.mv_ledger.proofs.payload.offers.Given as goal
+
+abbrev pub invariant-each : goal.invariant-each
+invariant-each l = ReadsOn offer_from l.count l.counter l.initial.reader (offers_of l.all.items) l.reader

@@ -1,0 +1,6 @@
+use Rattle.std.proofs.Common.{◌≡◌, ◌++◌, map}
+use Rattle.mv_ledger.specs.Tallying.{fresh_tally}
+use Rattle.mv_ledger.proofs.tallies.Tallies.extended.Given as goal
+
+abbrev pub invariant-loop-index : goal.invariant-loop-index
+invariant-loop-index l = l.tallies.items ≡ l.initial.tallies.items ++ map (fresh_tally l.place) (map (λ y. y.now) l.yielded)

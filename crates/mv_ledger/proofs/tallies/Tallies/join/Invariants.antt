@@ -1,0 +1,9 @@
+use Rattle.std.specs.Vec.{vec_len, vec_capacity}
+use Rattle.mv_ledger.specs.Tallying.{with_placed}
+use Rattle.mv_ledger.proofs.TalliesByModule.{lists}
+use Rattle.mv_ledger.proofs.Placing.{IsJoining}
+use Rattle.mv_ledger.proofs.tallies.Tallies.join.Given as goal
+
+abbrev pub invariant-loop-one : goal.invariant-loop-one
+invariant-loop-one l =
+    IsJoining (with_placed l.fn.self l.fn.placed.items) (lists l.self-inside.modules.items) l.one-iterator.rest.items (vec_len l.self-inside.modules) (vec_capacity l.self-inside.modules)

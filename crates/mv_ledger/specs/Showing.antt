@@ -1,0 +1,47 @@
+-- How the lines of a show and of an audit are made, and which of them are left.
+use Rattle.std.specs.Prelude.{Bool, cond, codes, ◌≡◌, ℕ, ◌+◌, List, [], ◌∷◌, ◌++◌, map, length, Option, Some, None, option_map, unwrap_or, slice_get}
+use Rattle.std.specs.Borrow.{Bor}
+use Rattle.mv_move_types.specs.Names.{StructName}
+use Rattle.mv_move_types.specs.Module.{Module, name_of_struct}
+use Rattle.std.specs.Option.{option_map_or}
+use Rattle.mv_move_types.specs.Options.{◌>>=◌}
+use Rattle.mv_move_types.specs.declared.token.LeafKind.TheVariants.{Boolean}
+use Rattle.mv_machine.specs.Value.{Leaf, Values, NoMore, More}
+use Rattle.mv_machine.specs.Flat.{FlatEntry, storage_of, struct_from}
+use Rattle.mv_machine.specs.Lines.{value_text, rest_text, struct_text, entry_line, end_line}
+use Rattle.mv_ledger.specs.declared.texts.Named.{Named}
+
+-- the name of a struct
+abbrev pub name_in : Named → StructName
+name_in n = record { home = record { address = n.address; name = n.home.now }; name = n.name.now }
+
+-- the name of the struct that a module defines at an index
+abbrev pub name_in_module : Module → ℕ → Option StructName
+name_in_module m index = slice_get m.structs index >>= name_of_struct m
+
+-- fields' values with a comma between each two
+abbrev pub fields_text : Values → List ℕ
+fields_text NoMore = []
+fields_text (More v vs) = value_text v ++ rest_text vs
+
+-- There is a value: its text was put behind the old one, and these words are left. Or there is none.
+abbrev pub PutsText : {A : Type 0} → (A → List ℕ) → Option (A × List ℕ) → Option (Bor (List ℕ)) → List ℕ → List ℕ → Type 0
+PutsText text None rest old new = option_map (λ r. r.now) rest ≡ None
+PutsText text (Some p) rest old new = (option_map (λ r. r.now) rest ≡ Some p.1) × (new ≡ old ++ text p.0)
+
+-- the text of a struct's name, or nothing
+abbrev pub key_name_text : Option StructName → List ℕ
+key_name_text name = option_map_or struct_text name []
+
+-- the text of the value of a struct that begins with these words
+abbrev pub key_value_text : List Module → Option StructName → List ℕ → List ℕ
+key_value_text modules name words =
+    value_text (unwrap_or (name >>= λ n. struct_from 8 modules n words >>= λ v. Some v.0) (Leaf Boolean 0))
+
+-- the lines of a show over these entries, behind so many others
+abbrev pub show_from : List Module → List FlatEntry → ℕ → List (List ℕ)
+show_from modules entries n = map (entry_line modules) (storage_of modules entries) ++ end_line (n + length entries) ∷ []
+
+-- what stands before an object of a list: a comma behind another
+abbrev pub comma_if : Bool → List ℕ
+comma_if later = cond later (codes ",") []

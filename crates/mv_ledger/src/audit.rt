@@ -1,0 +1,133 @@
+// The counts of an audit, and their lines.
+ghost use Rattle.std.specs.Prelude.{◌≡◌, ◌<◌, [], ◌∷◌, All, length, map, IfOk, MatchOption};
+ghost use Rattle.mv_linker.specs.Link.{tables_in};
+ghost use Rattle.mv_ledger.specs.Auditing.{count_line, counted_in, counts_from, stored_of};
+ghost use Rattle.mv_ledger.specs.Showing.{name_in};
+ghost use Rattle.mv_ledger.specs.View.{no_struct, tallied};
+
+use crate::tallies::{Tallies, Tally};
+use crate::texts::{Named, put_name, put_number, struct_in};
+use mv_linker::Store;
+use std::alloc::{AllocError, Global};
+use std::marker::Model;
+use std::vec::IntoIter;
+
+/// A struct, and how often its values were made and taken apart.
+#[derive(Clone, Copy)]
+pub struct Counted<'a> {
+    pub name: Named<'a>,
+    pub packs: u128,
+    pub unpacks: u128,
+}
+
+/// The name of no struct.
+fn unnamed<'a>() -> Named<'a>
+    ensures { name_in result ≡ no_struct }
+{
+    Named {
+        address: 0,
+        home: &[],
+        name: &[],
+    }
+}
+
+/// The counts of the structs of the module at a place.
+fn counts_of<'s>(
+    alloc: Global,
+    store: &'s Store,
+    place: usize,
+    tallies: &[Tally],
+) -> Result<Vec<Counted<'s>>, AllocError>
+    requires place { place < length store.now }
+    requires tallies { All (λ t. t.place ≡ place) tallies.now }
+    ensures { IfOk result (λ v. map counted_in v.items ≡ map (tallied (tables_in store.entry.now)) tallies.now) }
+{
+    let mut counts = Vec::new(alloc);
+    if tallies.is_empty() {
+        return Ok(counts);
+    }
+    let home = store.module(place)?;
+    'each: for tally in tallies {
+        counts.push(Counted {
+            name: struct_in(&home, tally.index as usize).unwrap_or(unnamed()),
+            packs: tally.packs,
+            unpacks: tally.unpacks,
+        })?;
+    }
+    Ok(counts)
+}
+
+/// The line of a struct's counts.
+pub fn count_text(alloc: Global, counted: Counted<'_>) -> Result<Vec<u8>, AllocError>
+    ensures { IfOk result (λ text. text.items ≡ count_line (stored_of (counted_in counted.entry)) (counted_in counted.entry)) }
+{
+    let mut text = Vec::new(alloc);
+    text.extend_from_slice(b"count ")?;
+    put_name(alloc, &mut text, counted.name)?;
+    text.extend_from_slice(b" stored ")?;
+    put_number(
+        alloc,
+        &mut text,
+        counted.packs.saturating_sub(counted.unpacks),
+    )?;
+    text.extend_from_slice(b" packed ")?;
+    put_number(alloc, &mut text, counted.packs)?;
+    text.extend_from_slice(b" unpacked ")?;
+    put_number(alloc, &mut text, counted.unpacks)?;
+    Ok(text)
+}
+
+/// The counts of all structs with neither copy nor drop, module by module. A module is read once, where its first count is
+/// asked for. Its model is the list of those that are left.
+#[derive(Drop)]
+pub struct Counts<'a> {
+    store: &'a Store,
+    tallies: &'a Tallies,
+    place: usize,
+    counts: IntoIter<Counted<'a>>,
+}
+
+impl<'a> Model for Counts<'a> {
+    ghost use Rattle.std.specs.Prelude.{List, ◌≡◌, ◌++◌, length, map};
+    ghost use Rattle.std.specs.Vec.Iter.{into_iter_items};
+    ghost use Rattle.mv_machine.specs.Lines.{Tallied};
+    ghost use Rattle.mv_ledger.specs.Auditing.{counted_in, counts_from};
+
+    ghost Value = { List Tallied };
+
+    ghost view = { λ c. map counted_in (into_iter_items c.counts) ++ counts_from c.store.now c.tallies.now c.place };
+
+    ghost invariant = { λ c. length c.tallies.now ≡ length c.store.now };
+}
+
+impl<'a> Counts<'a> {
+    /// The counts of these tallies, which stand module by module as the store's modules do.
+    pub fn new(alloc: Global, store: &'a Store, tallies: &'a Tallies) -> Self
+        requires { length tallies.now ≡ length store.now }
+        ensures { result ≡ counts_from store.entry.now tallies.entry.now 0 }
+    {
+        Counts {
+            store,
+            tallies,
+            place: 0,
+            counts: Vec::new(alloc).into_iter(),
+        }
+    }
+
+    /// The next count; none where all were had.
+    pub fn next(&mut self, alloc: Global) -> Result<Option<Counted<'a>>, AllocError>
+        ensures { IfOk result (λ counted. MatchOption counted ((self.old ≡ []) × (self.new ≡ [])) (λ c. self.old ≡ counted_in c ∷ self.new)) }
+    {
+        'modules: loop {
+            if let Some(counted) = self.counts.next() {
+                return Ok(Some(counted));
+            }
+            if self.place >= self.tallies.len() {
+                return Ok(None);
+            }
+            let tallies = self.tallies.at(self.place);
+            self.counts = counts_of(alloc, self.store, self.place, tallies)?.into_iter();
+            self.place += 1;
+        }
+    }
+}

@@ -1,0 +1,107 @@
+// A show and an audit in one line of JSON.
+ghost use Rattle.std.specs.Prelude.{◌≡◌, ◌++◌, length, map, IfOk, OnOk};
+ghost use Rattle.mv_linker.specs.Link.{tables_in};
+ghost use Rattle.mv_machine.specs.Flat.{storage_of, value_under};
+ghost use Rattle.mv_machine.specs.Lines.{entry_object, show_json};
+ghost use Rattle.mv_ledger.specs.Showing.{comma_if};
+ghost use Rattle.mv_ledger.specs.Auditing.{count_object, counted_in, counts_json, stored_of};
+ghost use Rattle.mv_ledger.specs.View.{all_of, tallied};
+
+use crate::audit::{Counted, Counts};
+use crate::tallies::Tallies;
+use crate::texts::{put_address, put_key, put_name, put_number, struct_at};
+use crate::values::put_value;
+use mv_linker::Store;
+use mv_move_types::Key;
+use mv_storage::Storage;
+use std::alloc::{AllocError, Global};
+
+/// Puts a comma behind a text, where another object stands before.
+fn put_comma(text: &mut Vec<u8>, later: bool) -> Result<(), AllocError>
+    ensures { OnOk result (text.new.items ≡ text.old.items ++ comma_if later) }
+{
+    if later {
+        text.push(b',')?;
+    }
+    Ok(())
+}
+
+/// Puts a stored value as an object behind a text.
+fn put_entry(
+    alloc: Global,
+    text: &mut Vec<u8>,
+    store: &Store,
+    key: Key,
+    words: &[u128],
+) -> Result<(), AllocError>
+    ensures { OnOk result (text.new.items ≡ text.old.items ++ entry_object (tables_in store.now) (record { key = key; value = value_under (tables_in store.now) key words.now })) }
+{
+    let name = struct_at(store, key)?;
+    text.extend_from_slice(b"{\"address\":\"")?;
+    put_address(alloc, text, key.address)?;
+    text.extend_from_slice(b"\",\"struct\":\"")?;
+    put_key(alloc, text, name)?;
+    text.extend_from_slice(b"\",\"value\":\"")?;
+    put_value(alloc, text, store, name, words)?;
+    text.extend_from_slice(b"\"}")?;
+    Ok(())
+}
+
+/// Puts a struct's counts as an object behind a text.
+fn put_counts(alloc: Global, text: &mut Vec<u8>, counted: Counted<'_>) -> Result<(), AllocError>
+    ensures { OnOk result (text.new.items ≡ text.old.items ++ count_object (stored_of (counted_in counted.entry)) (counted_in counted.entry)) }
+{
+    text.extend_from_slice(b"{\"packed\":\"")?;
+    put_number(alloc, text, counted.packs)?;
+    text.extend_from_slice(b"\",\"stored\":\"")?;
+    put_number(alloc, text, counted.packs.saturating_sub(counted.unpacks))?;
+    text.extend_from_slice(b"\",\"struct\":\"")?;
+    put_name(alloc, text, counted.name)?;
+    text.extend_from_slice(b"\",\"unpacked\":\"")?;
+    put_number(alloc, text, counted.unpacks)?;
+    text.extend_from_slice(b"\"}")?;
+    Ok(())
+}
+
+/// A show of all that is stored.
+pub fn json_of_storage(
+    alloc: Global,
+    store: &Store,
+    storage: &Storage,
+) -> Result<Vec<u8>, AllocError>
+    ensures { IfOk result (λ text. text.items ≡ show_json (tables_in store.now) (storage_of (tables_in store.now) storage.now)) }
+{
+    let mut text = Vec::new(alloc);
+    text.extend_from_slice(b"json {\"show\":[")?;
+    let mut entries = storage.iter();
+    let mut later = false;
+    'each: while let Some((key, words)) = entries.next() {
+        put_comma(&mut text, later)?;
+        put_entry(alloc, &mut text, store, key, words)?;
+        later = true;
+    }
+    text.extend_from_slice(b"]}")?;
+    Ok(text)
+}
+
+/// An audit by these tallies, which stand module by module as the store's modules do.
+pub fn json_of_tallies(
+    alloc: Global,
+    store: &Store,
+    tallies: &Tallies,
+) -> Result<Vec<u8>, AllocError>
+    requires { length tallies.now ≡ length store.now }
+    ensures { IfOk result (λ text. text.items ≡ counts_json (map (tallied (tables_in store.now)) (all_of tallies.now))) }
+{
+    let mut text = Vec::new(alloc);
+    text.extend_from_slice(b"json {\"audit\":[")?;
+    let mut counts = Counts::new(alloc, store, tallies);
+    let mut later = false;
+    'each: while let Some(counted) = counts.next(alloc)? {
+        put_comma(&mut text, later)?;
+        put_counts(alloc, &mut text, counted)?;
+        later = true;
+    }
+    text.extend_from_slice(b"]}")?;
+    Ok(text)
+}

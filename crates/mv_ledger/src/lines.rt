@@ -1,0 +1,196 @@
+// The lines of a show and of an audit.
+ghost use Rattle.std.specs.Prelude.{◌≡◌, ◌∷◌, [], ◌+◌, ◌<◌, ◌^◌, length, map, IfOk, MatchOption};
+ghost use Rattle.mv_linker.specs.Link.{tables_in};
+ghost use Rattle.mv_machine.specs.Flat.{storage_of, value_under};
+ghost use Rattle.mv_machine.specs.Lines.{end_line, entry_line, show_lines};
+ghost use Rattle.mv_ledger.specs.Showing.{show_from};
+ghost use Rattle.mv_ledger.specs.Auditing.{audit_from};
+ghost use Rattle.mv_ledger.specs.View.{all_of, tallied};
+
+use crate::audit::{Counts, count_text};
+use crate::tallies::Tallies;
+use crate::texts::{put_address, put_key, put_number, struct_at};
+use crate::values::put_value;
+use mv_linker::Store;
+use mv_move_types::Key;
+use mv_storage::{Entries, Storage};
+use std::alloc::{AllocError, Global};
+use std::marker::Model;
+use std::mem;
+
+/// The line of a stored value: its address, its struct and the value.
+fn entry_text(alloc: Global, store: &Store, key: Key, words: &[u128]) -> Result<Vec<u8>, AllocError>
+    ensures { IfOk result (λ text. text.items ≡ entry_line (tables_in store.now) (record { key = key; value = value_under (tables_in store.now) key words.now })) }
+{
+    let name = struct_at(store, key)?;
+    let mut text = Vec::new(alloc);
+    text.extend_from_slice(b"at ")?;
+    put_address(alloc, &mut text, key.address)?;
+    text.push(b' ')?;
+    put_key(alloc, &mut text, name)?;
+    text.push(b' ')?;
+    put_value(alloc, &mut text, store, name, words)?;
+    Ok(text)
+}
+
+/// The last line, with the number of lines before it.
+fn end_text(alloc: Global, count: u64) -> Result<Vec<u8>, AllocError>
+    ensures { IfOk result (λ text. text.items ≡ end_line count) }
+{
+    let mut text = Vec::new(alloc);
+    text.extend_from_slice(b"end ")?;
+    put_number(alloc, &mut text, u128::from(count))?;
+    Ok(text)
+}
+
+// The stored values that are not shown yet, and the number of those that are.
+#[derive(Drop)]
+struct Stored<'a> {
+    store: &'a Store,
+    entries: Entries<'a>,
+    told: u64,
+    ghost few: { told + length entries < 2 ^ 63 },
+}
+
+impl<'a> Stored<'a> {
+    ghost use Rattle.mv_ledger.specs.Left.{lines_left};
+
+    // The next line, and what is left behind it.
+    fn next(self, alloc: Global) -> Result<(Vec<u8>, Left<'a>), AllocError>
+        ensures { IfOk result (λ r. show_from (tables_in self.entry.store.now) self.entry.entries self.entry.told ≡ r.0.items ∷ lines_left r.1) }
+    {
+        let Stored {
+            store,
+            mut entries,
+            told,
+        } = self;
+        match entries.next() {
+            Some((key, words)) => {
+                let line = entry_text(alloc, store, key, words)?;
+                let told = told + 1;
+                Ok((
+                    line,
+                    Left::Stored(Stored {
+                        store,
+                        entries,
+                        told,
+                    }),
+                ))
+            }
+            None => Ok((end_text(alloc, told)?, Left::Nothing)),
+        }
+    }
+}
+
+// The counts that are not told yet, and the number of those that are.
+#[derive(Drop)]
+struct Counting<'a> {
+    counts: Counts<'a>,
+    told: u64,
+    ghost few: { told + length counts < 2 ^ 63 },
+}
+
+impl<'a> Counting<'a> {
+    ghost use Rattle.mv_ledger.specs.Left.{lines_left};
+
+    // The next line, and what is left behind it.
+    fn next(self, alloc: Global) -> Result<(Vec<u8>, Left<'a>), AllocError>
+        ensures { IfOk result (λ r. audit_from self.entry.counts self.entry.told ≡ r.0.items ∷ lines_left r.1) }
+    {
+        let Counting { mut counts, told } = self;
+        match counts.next(alloc)? {
+            Some(counted) => {
+                let line = count_text(alloc, counted)?;
+                let told = told + 1;
+                Ok((line, Left::Counting(Counting { counts, told })))
+            }
+            None => Ok((end_text(alloc, told)?, Left::Nothing)),
+        }
+    }
+}
+
+// Which lines are left.
+#[derive(Drop)]
+enum Left<'a> {
+    Stored(Stored<'a>),
+    Counting(Counting<'a>),
+    One(Vec<u8>),
+    Nothing,
+}
+
+/// The lines that a show or an audit has yet to tell, without their number and line end. Each is made when it is asked for.
+#[derive(Drop)]
+pub struct Lines<'a> {
+    alloc: Global,
+    left: Left<'a>,
+}
+
+impl<'a> Model for Lines<'a> {
+    ghost use Rattle.std.specs.Prelude.{ℕ, List};
+    ghost use Rattle.mv_ledger.specs.Left.{lines_left};
+
+    ghost Value = { List (List ℕ) };
+
+    ghost view = { λ l. lines_left l.left };
+}
+
+impl<'a> Lines<'a> {
+    /// The lines of a show of all that is stored.
+    pub fn of_storage(alloc: Global, store: &'a Store, storage: &'a Storage) -> Self
+        ensures { result ≡ show_lines (tables_in store.entry.now) (storage_of (tables_in store.entry.now) storage.entry.now) }
+    {
+        Lines {
+            alloc,
+            left: Left::Stored(Stored {
+                store,
+                entries: storage.iter(),
+                told: 0,
+            }),
+        }
+    }
+
+    /// The lines of an audit by these tallies, which stand module by module as the store's modules do.
+    pub fn of_tallies(alloc: Global, store: &'a Store, tallies: &'a Tallies) -> Self
+        requires aligned { length tallies.now ≡ length store.now }
+        requires few { length (all_of tallies.now) < 2 ^ 63 }
+        ensures { result ≡ audit_from (map (tallied (tables_in store.entry.now)) (all_of tallies.entry.now)) 0 }
+    {
+        Lines {
+            alloc,
+            left: Left::Counting(Counting {
+                counts: Counts::new(alloc, store, tallies),
+                told: 0,
+            }),
+        }
+    }
+
+    /// One line.
+    pub fn of_text(alloc: Global, text: Vec<u8>) -> Self
+        ensures { result ≡ text.items ∷ [] }
+    {
+        Lines {
+            alloc,
+            left: Left::One(text),
+        }
+    }
+
+    /// The next line; none where all were told.
+    pub fn next(&mut self) -> Result<Option<Vec<u8>>, AllocError>
+        ensures { IfOk result (λ line. MatchOption line ((self.old ≡ []) × (self.new ≡ [])) (λ text. self.old ≡ text.items ∷ self.new)) }
+    {
+        match mem::replace(&mut self.left, Left::Nothing) {
+            Left::Nothing => Ok(None),
+            Left::One(text) => Ok(Some(text)),
+            Left::Stored(stored) => {
+                let (line, left) = stored.next(self.alloc)?;
+                self.left = left;
+                Ok(Some(line))
+            }
+            Left::Counting(counting) => {
+                let (line, left) = counting.next(self.alloc)?;
+                self.left = left;
+                Ok(Some(line))
+            }
+        }
+    }
+}

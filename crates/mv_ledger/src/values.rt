@@ -1,0 +1,161 @@
+// Values as text.
+ghost use Rattle.std.specs.Prelude.{◌≡◌, ◌++◌, option_map, IfOk, OnOk};
+ghost use Rattle.mv_move_types.specs.Named.{is_struct};
+ghost use Rattle.mv_move_types.specs.Options.{find_index};
+ghost use Rattle.mv_linker.specs.Link.{tables_in};
+ghost use Rattle.mv_machine.specs.Flat.{fields_from, struct_from, value_from};
+ghost use Rattle.mv_machine.specs.Lines.{value_text};
+ghost use Rattle.mv_ledger.specs.Showing.{PutsText, fields_text, key_value_text, name_in};
+
+use crate::texts::{Named, put_leaf, struct_of};
+use mv_binary_format::{Module, StructDefinition};
+use mv_linker::Store;
+use mv_move_types::{Field, Token, ValueType};
+use std::alloc::{AllocError, Global};
+
+// How deep a struct is nested at most.
+const MOST_NESTING: usize = 8;
+
+/// Whether a definition of a module is that of a struct.
+fn is_of(m: &Module<'_>, d: &StructDefinition, name: Named<'_>) -> bool
+    ensures { result ≡ is_struct m.now (name_in name.entry) d.now }
+{
+    match struct_of(m, d.handle() as usize) {
+        Some(own) => {
+            own.address == name.address && own.home == name.home && own.name == name.name
+        }
+        None => false,
+    }
+}
+
+/// The index of a struct's definition in a module.
+fn index_of(m: &Module<'_>, name: Named<'_>) -> Option<usize>
+    ensures { result ≡ find_index (is_struct m.now (name_in name.entry)) m.now.structs }
+{
+    let structs = m.structs();
+    for (i, d) in structs.iter().enumerate() {
+        if is_of(m, d, name) {
+            return Some(i);
+        }
+    }
+    None
+}
+
+/// Puts the value of a struct that begins with some words behind a text, and answers the words behind it. None where the
+/// words begin with no such value.
+#[cycle(values)]
+fn put_struct<'w>(
+    alloc: Global,
+    store: &Store,
+    depth: usize,
+    name: Named<'_>,
+    words: &'w [u128],
+    text: &mut Vec<u8>,
+) -> Result<Option<&'w [u128]>, AllocError>
+    ensures { IfOk result (λ rest. PutsText value_text (struct_from depth (tables_in store.now) (name_in name.entry) words.entry.now)
+        rest text.old.items text.new.items) }
+{
+    if depth == 0 {
+        return Ok(None);
+    }
+    let Some(place) = store.find(name.address, name.home) else {
+        return Ok(None);
+    };
+    let home = store.module(place)?;
+    let Some(index) = index_of(&home, name) else {
+        return Ok(None);
+    };
+    let Some(definition) = home.structs().get(index) else {
+        return Ok(None);
+    };
+    text.push(b'{')?;
+    let rest = put_fields(
+        alloc,
+        store,
+        depth - 1,
+        &home,
+        definition.fields(),
+        words,
+        text,
+    )?;
+    text.push(b'}')?;
+    Ok(rest)
+}
+
+/// Puts the values of fields behind a text, with a comma between each two, and answers the words behind them.
+#[cycle(values)]
+fn put_fields<'w>(
+    alloc: Global,
+    store: &Store,
+    depth: usize,
+    home: &Module<'_>,
+    fields: &[Field],
+    words: &'w [u128],
+    text: &mut Vec<u8>,
+) -> Result<Option<&'w [u128]>, AllocError>
+    ensures { IfOk result (λ rest. PutsText fields_text (fields_from (value_from (struct_from depth (tables_in store.now)) home.now) fields.now words.entry.now)
+        rest text.old.items text.new.items) }
+{
+    let mut rest = words;
+    'each: for (i, field) in fields.iter().enumerate() {
+        if i > 0 {
+            text.push(b',')?;
+        }
+        let Some(more) = put_field(alloc, store, depth, home, field.token, rest, text)? else {
+            return Ok(None);
+        };
+        rest = more;
+    }
+    Ok(Some(rest))
+}
+
+/// Puts the value of a field of a type behind a text, and answers the words behind it.
+#[cycle(values)]
+fn put_field<'w>(
+    alloc: Global,
+    store: &Store,
+    depth: usize,
+    home: &Module<'_>,
+    token: Token,
+    words: &'w [u128],
+    text: &mut Vec<u8>,
+) -> Result<Option<&'w [u128]>, AllocError>
+    ensures { IfOk result (λ rest. PutsText value_text (value_from (struct_from depth (tables_in store.now)) home.now token words.entry.now)
+        rest text.old.items text.new.items) }
+{
+    match token {
+        Token::Plain(ValueType::OfLeaf(kind)) => match words {
+            [] => Ok(None),
+            [first, rest @ ..] => {
+                put_leaf(alloc, text, kind, *first)?;
+                Ok(Some(rest))
+            }
+        },
+        Token::Plain(ValueType::OfStruct(handle)) => match struct_of(home, handle as usize) {
+            Some(name) => put_struct(alloc, store, depth, name, words, text),
+            None => Ok(None),
+        },
+        _ => Ok(None),
+    }
+}
+
+/// Puts a stored value behind a text.
+pub fn put_value(
+    alloc: Global,
+    text: &mut Vec<u8>,
+    store: &Store,
+    name: Option<Named<'_>>,
+    words: &[u128],
+) -> Result<(), AllocError>
+    ensures { OnOk result (text.new.items ≡ text.old.items ++ key_value_text (tables_in store.now) (option_map name_in name.entry) words.now) }
+{
+    let mut value = Vec::new(alloc);
+    let rest = match name {
+        Some(name) => put_struct(alloc, store, MOST_NESTING, name, words, &mut value)?,
+        None => None,
+    };
+    match rest {
+        Some(_) => text.extend_from_slice(&value),
+        None => text.extend_from_slice(b"false"),
+    }
+}

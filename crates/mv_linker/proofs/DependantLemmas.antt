@@ -1,0 +1,142 @@
+-- Published modules that stay and name a module of a bundle.
+--   names-none     a module no handle of which leads to one of the bundle names none of it
+--   apart-placed, apart-unnamed, apart-new   a published module that doesn't have to be linked again
+--   DependantsSoFar   those among the first published modules
+use Rattle.std.proofs.Common.{◌≡◌, ◌⊎◌, ℕ, ◌<◌, ◌≤◌, ◌+◌, ◌++◌, [], ◌∷◌, Bool, true, false, List, length, map, Option, Some, None, slice_get, Contains, refl, sym, ap, subst, ◌∙◌, arith, inl, inr, eqb}
+use Rattle.std.specs.Prelude.{All, ◌==◌, ◌&&◌, is_some, nat_lt, not, position, IsSome, IsTrue}
+use Rattle.std.specs.List.{list_all, list_any}
+use Rattle.std.specs.Option.{option_map_or}
+use Rattle.std.proofs.lemmas.Bool.{and_from, both_ways, cases_eq, cases_lt, eq-eqb, ltb-false}
+use Rattle.std.proofs.lemmas.List.{map-append}
+use Rattle.std.proofs.lemmas.List.Elements.{All-nil, All-push, Contains-append_left, Contains-push}
+use Rattle.std.proofs.lemmas.Option.{same_Some, none-some, slice_get_within}
+use Rattle.mv_move_types.specs.declared.tables.ModuleHandle.{ModuleHandle}
+use Rattle.mv_move_types.specs.Names.{ModuleName}
+use Rattle.mv_move_types.specs.Options.{◌>>=◌, find_index}
+use Rattle.mv_move_types.specs.Module.{Module, module_name, own_name}
+use Rattle.mv_move_types.specs.Named.{have_one_name, is_module, module_place}
+use Rattle.mv_bounds.specs.Definitions.{all_differ}
+use Rattle.mv_linker.specs.declared.dependants.Dependant.{Dependant}
+use Rattle.mv_linker.specs.declared.scope.Scope.{Scope}
+use Rattle.mv_linker.specs.Link.{tables_in}
+use Rattle.mv_linker.specs.Links.{Links, modules_are_there, structs_are_there, function_is_there, names_hold}
+use Rattle.mv_linker.specs.Relinked.{Joins, bundled_target, NamesBundle, IsDependant, IsApart, AreDependants}
+use Rattle.mv_linker.specs.Scope.{offered, places_in, with_tables}
+use Rattle.mv_linker.specs.Targets.{modules_in}
+use Rattle.mv_linker.proofs.Assembling.{joining-offered}
+use Rattle.mv_linker.proofs.Bundled.{bundle-at, old-at, place-at}
+use Rattle.mv_linker.proofs.DependencyLemmas.{all-there, length-places}
+use Rattle.mv_linker.proofs.Found.{on_some, then_found, each, some_passes, there_at}
+use Rattle.mv_linker.proofs.JoinedCodes.{NamesNone}
+use Rattle.mv_linker.proofs.JoinedOrder.{names-stay}
+use Rattle.mv_linker.proofs.Keyed.{position-find_index}
+use Rattle.mv_linker.proofs.Joins.{one-name, bundled-at, placed-at, position-there}
+use Rattle.mv_linker.proofs.Linkable.{some-of}
+use Rattle.mv_linker.proofs.ListTests.{find_index-none}
+use Rattle.mv_linker.proofs.Members.{any-among, among-at, at-among, differ-result, none-among}
+use Rattle.mv_linker.proofs.NameLemmas.{is_module-is, module_place-from}
+use Rattle.mv_linker.proofs.Resolving.{modules_there_at}
+use Rattle.mv_linker.proofs.Scopes.{within_tables}
+use Rattle.mv_linker.proofs.StillThere.{Joining}
+
+-- a handle that names a module is there
+pub handle-below : (m : Module) (h : ℕ) (name : ModuleName) → module_name m h ≡ Some name → h < length m.module_handles
+handle-below m h name e =
+    on_some (slice_get m.module_handles h) (λ (handle : ModuleHandle). slice_get m.addresses handle.address >>= λ address. slice_get m.identifiers handle.name >>= λ name. Some (record { address = address; name = name })) name e
+    (λ handle at rest. slice_get_within m.module_handles h handle at)
+
+-- which module of the bundle a handle names, by parts
+pub target-parts : {P : Type 0} (s : Scope) (m : Module) (h k : ℕ) → bundled_target s m h ≡ Some k
+    → ((name : ModuleName) (p : ℕ) → module_name m h ≡ Some name → module_place (modules_in s) name ≡ Some p → slice_get s.places.items k ≡ Some p → P) → P
+target-parts s m h k e go =
+    on_some (module_name m h) (λ name. module_place (modules_in s) name >>= λ place. position (λ p. p == place) s.places.items) k e
+    (λ name named e1. on_some (module_place (modules_in s) name) (λ place. position (λ p. p == place) s.places.items) k e1
+    (λ p found e2. go name p named found (place-at p k s.places.items e2)))
+
+module _ (s : Scope) (joins : Joins s) where
+  -- a module names none of the bundle if no handle leads to one
+  pub names-none : (m : Module) → (NamesBundle s m → ⊥) → NamesNone (offered s.new.now) m
+  names-none m none n h name among named own =
+      let at = at-among (offered s.new.now) n among in
+      let place = placed-at s joins at.0 n at.1 in
+      let found : module_place (modules_in s) name ≡ Some place.0 = module_place-from (modules_in s) name place.0 n (one-name s joins) (bundled-at s joins at.0 place.0 n at.1 place.1) own in
+      let target : bundled_target s m h ≡ position (λ p. p == place.0) s.places.items =
+      then_found (module_name m h) (λ name. module_place (modules_in s) name >>= λ place. position (λ p. p == place) s.places.items) name (position (λ p. p == place.0) s.places.items) named
+      (then_found (module_place (modules_in s) name) (λ place. position (λ p. p == place) s.places.items) place.0 (position (λ p. p == place.0) s.places.items) found refl) in
+      none (h, ap is_some target ∙ position-there place.0 at.0 s.places.items place.1)
+
+  -- ---- published modules that don't have to be linked again
+
+  -- one that is replaced
+  pub apart-placed : (q : ℕ) → IsSome (position (λ p. p == q) s.places.items) → IsApart s q
+  apart-placed q some m at none names = both_ways (is_some (position (λ p. p == q) s.places.items)) (ap is_some none) some
+
+  -- one that names none of the bundle
+  pub apart-unnamed : (q : ℕ) (m : Module) → slice_get (tables_in s.store.now) q ≡ Some m → (NamesBundle s m → ⊥) → IsApart s q
+  apart-unnamed q m at none n there free names = none (subst (λ (x : Module). NamesBundle s x) (same_Some n m (sym there ∙ at)) names)
+
+  -- each, where the bundle takes no published module's place
+  pub apart-new : list_any (λ p. nat_lt p (length s.store.now)) s.places.items ≡ false → (q : ℕ) → IsApart s q
+  apart-new new q m at free (h, some) =
+      let target = some-of (bundled_target s m h) some in
+      target-parts s m h target.0 target.1 (λ name p named found placed.
+      let far : length s.store.now ≤ p = ltb-false p (length s.store.now) (none-among (λ p. nat_lt p (length s.store.now)) s.places.items p new (among-at s.places.items target.0 p placed)) in
+      let there = modules_there_at (tables_in s.store.now) m (length m.module_handles) h (handle-below m h name named) (all-there (tables_in s.store.now) q m at joins.store.links) in
+      let some_there : list_any (is_module name) (tables_in s.store.now) ≡ true = sym (ap (λ o. option_map_or (λ name. list_any (is_module name) (tables_in s.store.now)) o false) named) ∙ there in
+      let x = any-among (is_module name) (tables_in s.store.now) some_there in
+      let x_at = at-among (tables_in s.store.now) x.0 x.1 in
+      let new_at = names-stay (tables_in s.store.now) (offered s.new.now) x_at.0 x.0 x_at.1 in
+      let there_is : module_place (modules_in s) name ≡ Some x_at.0 = module_place-from (modules_in s) name x_at.0 new_at.0 (one-name s joins) new_at.1 (new_at.2 ∙ is_module-is name x.0 x.2) in
+      let same : x_at.0 ≡ p = same_Some x_at.0 p (sym there_is ∙ found) in
+      let low : x_at.0 < length s.store.now = within_tables s.store.now x_at.0 x.0 x_at.1 in
+      omega (arith, far, same, low))
+
+  -- ---- those that were found
+
+  pub no-dependants : list_any (λ p. nat_lt p (length s.store.now)) s.places.items ≡ false → AreDependants s []
+  no-dependants new = record { each = All-nil (IsDependant s); others = λ q. inr (apart-new new q) }
+
+-- the dependants among the first published modules
+pub record DependantsSoFar (s : Scope) (ds : List Dependant) (i : ℕ) : Type 0 where
+  pub each : All (IsDependant s) ds
+  pub others : (q : ℕ) → q < i → Contains (map (λ (d : Dependant). d.place) ds) q ⊎ IsApart s q
+
+pub none-so_far : (s : Scope) → DependantsSoFar s [] 0
+none-so_far s = record { each = All-nil (IsDependant s); others = λ q low. absurd (omega (arith, low)) }
+
+-- one that is none
+pub next-apart : (s : Scope) (ds : List Dependant) (i : ℕ) → DependantsSoFar s ds i → IsApart s i → DependantsSoFar s ds (i + 1)
+next-apart s ds i so apart = record {
+  each = so.each;
+  others = λ q low. elim (cases_eq q i) [
+    | inl same ↦ inr (subst (λ n. IsApart s n) (sym same) apart)
+    | inr other ↦ so.others q (omega (arith, low, other))
+  ];
+}
+
+-- and one that is
+pub next-dependant : (s : Scope) (ds more : List Dependant) (i : ℕ) (d : Dependant) → DependantsSoFar s ds i → more ≡ ds ++ d ∷ [] → d.place ≡ i → IsDependant s d → DependantsSoFar s more (i + 1)
+next-dependant s ds more i d so pushed place is =
+    let places : List Dependant → List ℕ = map (λ (d : Dependant). d.place) in
+    let all : places more ≡ places ds ++ d.place ∷ [] = ap places pushed ∙ map-append (λ (d : Dependant). d.place) ds (d ∷ []) in
+    record {
+      each = subst (λ l. All (IsDependant s) l) (sym pushed) (All-push (IsDependant s) ds d so.each is);
+      others = λ q low. elim (cases_eq q i) [
+        | inl same ↦ inl (subst (λ l. Contains l q) (sym all) (subst (λ n. Contains (places ds ++ d.place ∷ []) n) (place ∙ sym same) (Contains-push (places ds) d.place)))
+        | inr other ↦ before q all (so.others q (omega (arith, low, other)))
+      ];
+    }
+  where
+    before : (q : ℕ) → map (λ (d : Dependant). d.place) more ≡ map (λ (d : Dependant). d.place) ds ++ d.place ∷ [] → Contains (map (λ (d : Dependant). d.place) ds) q ⊎ IsApart s q → Contains (map (λ (d : Dependant). d.place) more) q ⊎ IsApart s q
+    before q all (inl there) = inl (subst (λ l. Contains l q) (sym all) (Contains-append_left (map (λ (d : Dependant). d.place) ds) (d.place ∷ []) q there))
+    before q all (inr apart) = inr apart
+
+-- once all were looked at
+pub all-dependants : (s : Scope) (ds : List Dependant) (i : ℕ) → DependantsSoFar s ds i → length s.store.now ≤ i → AreDependants s ds
+all-dependants s ds i so most = record {
+  each = so.each;
+  others = λ q. elim (cases_lt q i) [
+    | inl low ↦ so.others q low
+    | inr high ↦ inr (λ m at free names. let low : q < length s.store.now = within_tables s.store.now q m at in absurd (omega (arith, low, high, most)))
+  ];
+}

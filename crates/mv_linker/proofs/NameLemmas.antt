@@ -1,0 +1,121 @@
+-- What the tests of names mean, and where a module of a name stands.
+use Rattle.std.proofs.Common.{◌≡◌, ℕ, zero, suc, ◌<◌, Bool, true, false, List, length, Option, Some, None, slice_get, refl, sym, ap, ap₂, ◌∙◌, eqb, arith, inl, inr}
+use Rattle.std.specs.Prelude.{not}
+use Rattle.std.specs.Option.{option_map_or}
+use Rattle.std.specs.Cmp.{first_so, second_so}
+use Rattle.std.specs.Str.{bytes_eq}
+use Rattle.std.proofs.lemmas.Bool.{eqb-true, eq-eqb, and_from, or_cases, or_left, or_right, cases_order, both_ways}
+use Rattle.std.proofs.lemmas.Slice.Eq.{bytes_eq-Decides}
+use Rattle.mv_move_types.specs.Names.{ModuleName, StructName, same_module, same_struct}
+use Rattle.mv_move_types.specs.Module.{Module, own_name, module_name}
+use Rattle.mv_move_types.specs.Named.{is_module, have_one_name, module_place}
+use Rattle.mv_bounds.specs.Definitions.{all_differ}
+use Rattle.mv_linker.specs.Links.{depends_on, names_module}
+use Rattle.mv_linker.proofs.Found.{found_at, find_first, differ_at, one_place}
+
+abbrev module_of : ℕ → List ℕ → ModuleName
+module_of address name = record { address = address; name = name }
+
+abbrev struct_of : ModuleName → List ℕ → StructName
+struct_of home name = record { home = home; name = name }
+
+pub same_module-same : (a : ModuleName) → same_module a a ≡ true
+same_module-same a = and_from _ _ (eq-eqb a.address a.address refl) ((bytes_eq-Decides a.name a.name).1 refl)
+
+pub same_module-is : (a b : ModuleName) → same_module a b ≡ true → a ≡ b
+same_module-is a b h =
+    let address : a.address ≡ b.address = eqb-true a.address b.address (first_so (eqb a.address b.address) (bytes_eq a.name b.name) h) in
+    let name : a.name ≡ b.name = (bytes_eq-Decides a.name b.name).0 (second_so (eqb a.address b.address) (bytes_eq a.name b.name) h) in
+    ap₂ module_of address name
+
+pub same_struct-same : (a : StructName) → same_struct a a ≡ true
+same_struct-same a = and_from _ _ (same_module-same a.home) ((bytes_eq-Decides a.name a.name).1 refl)
+
+pub same_struct-is : (a b : StructName) → same_struct a b ≡ true → a ≡ b
+same_struct-is a b h =
+    let home : a.home ≡ b.home = same_module-is a.home b.home (first_so (same_module a.home b.home) (bytes_eq a.name b.name) h) in
+    let name : a.name ≡ b.name = (bytes_eq-Decides a.name b.name).0 (second_so (same_module a.home b.home) (bytes_eq a.name b.name) h) in
+    ap₂ struct_of home name
+
+-- a module of a name has that name
+pub is_module-is : (name : ModuleName) (m : Module) → is_module name m ≡ true → own_name m ≡ Some name
+is_module-is name m h = by_name (own_name m) refl
+  where
+    by_name : (o : Option ModuleName) → own_name m ≡ o → own_name m ≡ Some name
+    by_name None e = absurd (both_ways (is_module name m) (ap (λ o. option_map_or (λ own. same_module own name) o false) e) h)
+    by_name (Some own) e =
+        e ∙ ap (λ n. Some n) (same_module-is own name (sym (ap (λ o. option_map_or (λ own. same_module own name) o false) e) ∙ h))
+
+pub is_module-from : (name : ModuleName) (m : Module) → own_name m ≡ Some name → is_module name m ≡ true
+is_module-from name m e = ap (λ o. option_map_or (λ own. same_module own name) o false) e ∙ same_module-same name
+
+pub have_one_name-from : (m n : Module) (name : ModuleName) → own_name m ≡ Some name → own_name n ≡ Some name → have_one_name m n ≡ true
+have_one_name-from m n name e g = ap (λ o. option_map_or (λ own. is_module own n) o false) e ∙ is_module-from name n g
+
+pub have_one_name-is : (m n : Module) → have_one_name m n ≡ true → (name : ModuleName) × (own_name m ≡ Some name) × (own_name n ≡ Some name)
+have_one_name-is m n h = by_name (own_name m) refl
+  where
+    by_name : (o : Option ModuleName) → own_name m ≡ o → (name : ModuleName) × (own_name m ≡ Some name) × (own_name n ≡ Some name)
+    by_name None e = absurd (both_ways (have_one_name m n) (ap (λ o. option_map_or (λ own. is_module own n) o false) e) h)
+    by_name (Some own) e =
+        (own, e, is_module-is own n (sym (ap (λ o. option_map_or (λ own. is_module own n) o false) e) ∙ h))
+
+-- the module of a name stands at one place
+pub name_at_one : (modules : List Module) (name : ModuleName) (j k : ℕ) (m n : Module) → all_differ have_one_name modules ≡ true → slice_get modules j ≡ Some m → slice_get modules k ≡ Some n
+    → own_name m ≡ Some name → own_name n ≡ Some name → j ≡ k
+name_at_one modules name j k m n once e g p q =
+    one_place have_one_name modules j k m n once e g (have_one_name-from m n name p q) (have_one_name-from n m name q p)
+
+pub module_place-is : (modules : List Module) (name : ModuleName) (k : ℕ) → module_place modules name ≡ Some k → (m : Module) × (slice_get modules k ≡ Some m) × (own_name m ≡ Some name)
+module_place-is modules name k e =
+    let f = found_at (is_module name) modules k e in
+    (f.entry, f.at, is_module-is name f.entry f.passes)
+
+pub module_place-from : (modules : List Module) (name : ModuleName) (k : ℕ) (m : Module) → all_differ have_one_name modules ≡ true → slice_get modules k ≡ Some m → own_name m ≡ Some name → module_place modules name ≡ Some k
+module_place-from modules name k m once e own =
+    find_first (is_module name) modules k m e (is_module-from name m own)
+    (λ j y l g q. differ_at have_one_name modules j k y m once l g e (have_one_name-from y m name (is_module-is name y q) own))
+
+-- a handle that names a module
+pub names_module-from : (m n : Module) (name : ModuleName) (h k : ℕ) → h < k → module_name m h ≡ Some name → own_name n ≡ Some name → names_module m n k ≡ true
+names_module-from m n name h zero l e own = absurd (omega (arith, l))
+names_module-from m n name h (suc k) l e own = elim (cases_order h k) [
+  | inl same ↦
+      or_left _ (names_module m n k) (ap (λ o. option_map_or (λ name. is_module name n) o false) (ap (module_name m) (sym same) ∙ e) ∙ is_module-from name n own)
+  | inr (inl low) ↦ or_right (option_map_or (λ name. is_module name n) (module_name m k) false) _ (names_module-from m n name h k low e own)
+  | inr (inr high) ↦ absurd (omega (arith, l, high))
+]
+
+pub record Names (m n : Module) (k : ℕ) : Type 0 where
+  pub name : ModuleName
+  pub handle : ℕ
+  pub below : handle < k
+  pub named : module_name m handle ≡ Some name
+  pub own : own_name n ≡ Some name
+
+pub names_module-is : (m n : Module) (k : ℕ) → names_module m n k ≡ true → Names m n k
+names_module-is m n zero h = absurd (both_ways true (sym h) refl)
+names_module-is m n (suc k) h = elim (or_cases (option_map_or (λ name. is_module name n) (module_name m k) false) (names_module m n k) h) [
+  | inl here ↦ by_name (module_name m k) refl here
+  | inr before ↦
+      let r = names_module-is m n k before in
+      record { name = r.name; handle = r.handle; below = (let l = r.below in omega (arith, l)); named = r.named; own = r.own }
+]
+  where
+    by_name : (o : Option ModuleName) → module_name m k ≡ o → option_map_or (λ name. is_module name n) (module_name m k) false ≡ true → Names m n (suc k)
+    by_name None e here = absurd (both_ways (option_map_or (λ name. is_module name n) (module_name m k) false) (ap (λ o. option_map_or (λ name. is_module name n) o false) e) here)
+    by_name (Some name) e here =
+        record { name = name; handle = k; below = omega arith; named = e; own = is_module-is name n (sym (ap (λ o. option_map_or (λ name. is_module name n) o false) e) ∙ here) }
+
+pub depends_on-is : (m n : Module) → depends_on m n ≡ true → (have_one_name m n ≡ false) × Names m n (length m.module_handles)
+depends_on-is m n h =
+    let apart = first_so (not (have_one_name m n)) (names_module m n (length m.module_handles)) h in
+    (not_so (have_one_name m n) apart, names_module-is m n (length m.module_handles) (second_so (not (have_one_name m n)) (names_module m n (length m.module_handles)) h))
+  where
+    not_so : (b : Bool) → not b ≡ true → b ≡ false
+    not_so true p = sym p
+    not_so false p = refl
+
+pub depends_on-from : (m n : Module) (name : ModuleName) (h : ℕ) → h < length m.module_handles → module_name m h ≡ Some name → own_name n ≡ Some name → have_one_name m n ≡ false → depends_on m n ≡ true
+depends_on-from m n name h low e own apart =
+    and_from (not (have_one_name m n)) (names_module m n (length m.module_handles)) (ap not apart) (names_module-from m n name h (length m.module_handles) low e own)

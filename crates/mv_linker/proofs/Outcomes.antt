@@ -1,0 +1,13 @@
+-- What follows of outcomes.
+use Rattle.std.specs.Prelude.{Result, Ok, Err, OnOk, IfErr}
+use Rattle.mv_move_types.specs.declared.refusal.Refusal.{Refusal}
+use Rattle.mv_move_types.specs.Refusals.{IsRefusedIn}
+use Rattle.mv_linker.proofs.Resolving.{refused_by}
+
+pub on_ok : {A B : Type 0} (r : Result A B) (P Q : Type 0) → (P → Q) → OnOk r P → OnOk r Q
+on_ok (Ok x) P Q f h = f h
+on_ok (Err e) P Q f h = h
+
+pub if_err : {A : Type 0} (r : Result A Refusal) (P Q : Type 0) → (Q → P) → IfErr r (IsRefusedIn 13 P) → IfErr r (IsRefusedIn 13 Q)
+if_err (Ok x) P Q f h = h
+if_err (Err e) P Q f h = refused_by P Q e f h

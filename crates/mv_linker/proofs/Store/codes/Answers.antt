@@ -1,0 +1,12 @@
+use Rattle.std.proofs.Common.{map, ap, ◌∙◌}
+use Rattle.mv_linker.specs.Code.{operations}
+use Rattle.mv_linker.specs.Kept.{published_under}
+use Rattle.mv_linker.specs.Link.{tables_in}
+use Rattle.mv_linker.specs.Linked.{program_of}
+use Rattle.mv_linker.proofs.StoredCodes.{program-is}
+use Rattle.mv_linker.proofs.Store.codes.Goals as goal
+
+pub returns-clause-code : goal.returns-clause-code
+returns-clause-code c =
+    ap (map operations) c.deref.ensures.value
+    ∙ program-is (tables_in (published_under c.self.inside.modules.entries)) c.self.inside.codes.items c.self.invariant.2 ∙ ap (λ s. program_of (tables_in s)) c.self.view_is

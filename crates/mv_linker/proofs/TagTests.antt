@@ -1,0 +1,66 @@
+-- What the tests of types by names mean.
+use Rattle.std.proofs.Common.{◌≡◌, ℕ, Bool, true, false, cond, List, [], ◌∷◌, refl, sym, ap, ap₂, ◌∙◌}
+use Rattle.std.specs.Prelude.{◌==◌}
+use Rattle.std.specs.Bool.{beq}
+use Rattle.std.specs.Cmp.{first_so, second_so}
+use Rattle.std.proofs.lemmas.Bool.{and_from, eq-eqb, eqb-true}
+use Rattle.mv_move_types.specs.declared.token.LeafKind.{LeafKind}
+use Rattle.mv_move_types.specs.Tokens.{same_kind, kind_code}
+use Rattle.mv_move_types.specs.Tags.{Tag, LeafTag, StructTag, ReferenceTag, same_tag, same_tags}
+use Rattle.mv_move_types.specs.declared.token.LeafKind.TheVariants.{Boolean, Number, Address, Signer}
+use Rattle.mv_move_types.specs.declared.token.Width.TheVariants.{U8, U16, U32, U64, U128}
+use Rattle.mv_linker.proofs.NameTests.{same_struct-is, same_struct-same}
+
+-- the kind of a leaf, by its number
+abbrev kind_of : ℕ → LeafKind
+kind_of n = cond (n == 0) Boolean (cond (n == 1) Address (cond (n == 2) Signer (cond (n == 8) (Number U8) (cond (n == 16) (Number U16) (cond (n == 32) (Number U32) (cond (n == 64) (Number U64) (Number U128)))))))
+
+kind_of-code : (k : LeafKind) → kind_of (kind_code k) ≡ k
+kind_of-code Boolean = refl
+kind_of-code Address = refl
+kind_of-code Signer = refl
+kind_of-code (Number U8) = refl
+kind_of-code (Number U16) = refl
+kind_of-code (Number U32) = refl
+kind_of-code (Number U64) = refl
+kind_of-code (Number U128) = refl
+
+kinds_equal : (j k : LeafKind) → same_kind j k ≡ true → j ≡ k
+kinds_equal j k e = sym (kind_of-code j) ∙ ap kind_of (eqb-true (kind_code j) (kind_code k) e) ∙ kind_of-code k
+
+beq-is : (a b : Bool) → beq a b ≡ true → a ≡ b
+beq-is true true e = refl
+beq-is true false e = absurd cc
+beq-is false true e = absurd cc
+beq-is false false e = refl
+
+beq-same : (a : Bool) → beq a a ≡ true
+beq-same true = refl
+beq-same false = refl
+
+pub same_tag-is : (a b : Tag) → same_tag a b ≡ true → a ≡ b
+same_tag-is (LeafTag j) (LeafTag k) e = ap LeafTag (kinds_equal j k e)
+same_tag-is (StructTag m) (StructTag n) e = ap StructTag (same_struct-is m n e)
+same_tag-is (ReferenceTag i a) (ReferenceTag j b) e =
+    ap₂ ReferenceTag (beq-is i j (first_so (beq i j) (same_tag a b) e)) (same_tag-is a b (second_so (beq i j) (same_tag a b) e))
+same_tag-is (LeafTag j) (StructTag n) e = absurd cc
+same_tag-is (LeafTag j) (ReferenceTag i b) e = absurd cc
+same_tag-is (StructTag m) (LeafTag k) e = absurd cc
+same_tag-is (StructTag m) (ReferenceTag i b) e = absurd cc
+same_tag-is (ReferenceTag i a) (LeafTag k) e = absurd cc
+same_tag-is (ReferenceTag i a) (StructTag n) e = absurd cc
+
+pub same_tag-same : (a : Tag) → same_tag a a ≡ true
+same_tag-same (LeafTag k) = eq-eqb (kind_code k) (kind_code k) refl
+same_tag-same (StructTag n) = same_struct-same n
+same_tag-same (ReferenceTag i a) = and_from (beq i i) (same_tag a a) (beq-same i) (same_tag-same a)
+
+pub same_tags-is : (as' bs : List Tag) → same_tags as' bs ≡ true → as' ≡ bs
+same_tags-is [] [] e = refl
+same_tags-is [] (b ∷ bs) e = absurd cc
+same_tags-is (a ∷ as') [] e = absurd cc
+same_tags-is (a ∷ as') (b ∷ bs) e = ap₂ (λ x xs. x ∷ xs) (same_tag-is a b (first_so (same_tag a b) (same_tags as' bs) e)) (same_tags-is as' bs (second_so (same_tag a b) (same_tags as' bs) e))
+
+pub same_tags-same : (as' : List Tag) → same_tags as' as' ≡ true
+same_tags-same [] = refl
+same_tags-same (a ∷ as') = and_from (same_tag a a) (same_tags as' as') (same_tag-same a) (same_tags-same as')

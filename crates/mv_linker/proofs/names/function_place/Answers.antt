@@ -1,0 +1,11 @@
+use Rattle.std.proofs.Common.{false, ◌∙◌}
+use Rattle.std.specs.Option.{option_map_or}
+use Rattle.std.specs.Str.{bytes_eq}
+use Rattle.mv_move_types.specs.Module.{FunctionDefinition, name_of_function}
+use Rattle.mv_linker.proofs.Keyed.{position-find_index}
+use Rattle.mv_linker.proofs.names.function_place.Goals as goal
+
+pub returns : goal.returns
+returns c =
+    c.first_function.ensures
+    ∙ position-find_index (λ (d : FunctionDefinition). option_map_or (bytes_eq c.args.name.now) (name_of_function c.args.m.now d) false) c.args.m.now.functions

@@ -1,0 +1,35 @@
+use Rattle.std.proofs.Common.{◌≡◌, ◌+◌, ◌∙◌, ◌<◌, [], ◌∷◌, ◌++◌, refl, sym, ap, subst, map, take, length, slice_get, Some, List, Vec, Global, arith}
+use Rattle.std.specs.List.{AllZip}
+use Rattle.std.proofs.lemmas.List.{map-append}
+use Rattle.std.proofs.lemmas.Option.{slice_get_read}
+use Rattle.mv_linker.specs.declared.sizes.Defined.{Defined}
+use Rattle.mv_linker.specs.Link.{tables_in}
+use Rattle.mv_linker.specs.Scope.{offered}
+use Rattle.mv_linker.specs.Sizing.{AreFoundFor}
+use Rattle.mv_linker.specs.Targets.{modules_in}
+use Rattle.mv_linker.proofs.HandleDefinitions.{struct-there, zip-more}
+use Rattle.mv_linker.proofs.Scopes.{some-below}
+use Rattle.mv_linker.proofs.scope.Scope.all_defined.Goals as goal
+
+pub defined_for-requires : goal.defined_for-requires
+defined_for-requires c = λ k x e.
+    let names = c.args.names.now in
+    let i = c.loop-n.n-index in
+    let n = c.n-item.result in
+    let low : i < length (offered c.args.self.now.new.now) = omega (arith, c.loop-n-test.true, c.requires.len) in
+    let m = some-below (offered c.args.self.now.new.now) i low in
+    let at : slice_get names i ≡ Some n = slice_get_read names (length names) i n refl c.loop-n-test.true c.n-item.is in
+    struct-there (modules_in c.args.self.now) m.0 k x ((c.requires.each i m.0 n m.1 at).structs.each k x e)
+
+pub loop-n-preserved : goal.loop-n-preserved
+loop-n-preserved c =
+    let s = c.args.self.now in
+    let names = c.args.names.now in
+    let i = c.loop-n.n-index in
+    let n = c.n-item.result in
+    let items : List (Vec Defined Global) → List (List Defined) = map (λ (v : Vec Defined Global). v.items) in
+    let v = c.in_ok-defined_for.field-0 in
+    let at : slice_get names i ≡ Some n = slice_get_read names (length names) i n refl c.loop-n-test.true c.n-item.is in
+    let pushed : items c.push.new.self.items ≡ items c.loop-n.found.items ++ v.items ∷ [] = ap items c.in_ok-push.ensures.items ∙ map-append (λ (v : Vec Defined Global). v.items) c.loop-n.found.items (v ∷ []) in
+    subst (λ (l : List (List Defined)). AllZip (AreFoundFor (tables_in s.store.now) s.places.items) (take (i + 1) names) l) (sym pushed)
+    (zip-more (AreFoundFor (tables_in s.store.now) s.places.items) names (items c.loop-n.found.items) i n v.items c.loop-n.invariant at c.in_ok-defined_for.ensures)

@@ -1,0 +1,9 @@
+use Rattle.std.proofs.Common.{map, take, Vec, Global}
+use Rattle.std.specs.List.{AllZip}
+use Rattle.mv_linker.specs.declared.sizes.Defined.{Defined}
+use Rattle.mv_linker.specs.Link.{tables_in}
+use Rattle.mv_linker.specs.Sizing.{AreFoundFor}
+use Rattle.mv_linker.proofs.scope.Scope.all_defined.Given as goal
+
+abbrev pub invariant-loop-n : goal.invariant-loop-n
+invariant-loop-n l = AllZip (AreFoundFor (tables_in l.self.store.now) l.self.places.items) (take l.n-index l.names) (map (λ (v : Vec Defined Global). v.items) l.found.items)

@@ -1,0 +1,20 @@
+use Rattle.std.proofs.Common.{◌≡◌, ◌+◌, ◌∙◌, sym, ap, subst, get_or, slice_get, Some, take, List}
+use Rattle.std.specs.List.{AllZip}
+use Rattle.std.proofs.lemmas.Option.{slice_get-get_or}
+use Rattle.mv_move_types.specs.declared.tables.Definition.{Definition}
+use Rattle.mv_linker.specs.declared.sizes.Defined.{Defined}
+use Rattle.mv_linker.specs.Link.{tables_in}
+use Rattle.mv_linker.specs.Sizing.{IsFoundAt}
+use Rattle.mv_linker.proofs.HandleDefinitions.{zip-more}
+use Rattle.mv_linker.proofs.scope.Scope.defined_for.Goals as goal
+
+pub loop-d-preserved : goal.loop-d-preserved
+loop-d-preserved c =
+    let s = c.args.self.now in
+    let ds = c.args.names.now.structs.items in
+    let read = c.deref-d-items.result.now in
+    let i = c.loop-d.d-index in
+    let d = get_or read i (record { place = 0; index = 0 }) in
+    let at : slice_get ds i ≡ Some d = ap (λ (l : List Definition). slice_get l i) (sym {A = List Definition} c.deref-d-items.ensures.value) ∙ slice_get-get_or read i (record { place = 0; index = 0 }) c.loop-d-test.true in
+    subst (λ (l : List Defined). AllZip (IsFoundAt (tables_in s.store.now) s.places.items) (take (i + 1) ds) l) (sym {A = List Defined} c.in_ok-push.ensures.items)
+    (zip-more (IsFoundAt (tables_in s.store.now) s.places.items) ds c.loop-d.found.items i d c.defined.result c.loop-d.invariant at c.defined.ensures)

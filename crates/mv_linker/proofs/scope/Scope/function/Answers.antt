@@ -1,0 +1,45 @@
+use Rattle.std.proofs.Common.{◌≡◌, ◌<◌, true, false, length, refl, sym, ap, subst, ◌∙◌, arith}
+use Rattle.std.specs.Option.{option_map_or}
+use Rattle.std.specs.Str.{bytes_eq}
+use Rattle.std.proofs.lemmas.Bool.{leb-true}
+use Rattle.mv_move_types.specs.Module.{Module, FunctionDefinition, name_of_function}
+use Rattle.mv_linker.specs.Targets.{modules_in, tables_of, function_matches, IsFunctionIn, IsFunctionAt}
+use Rattle.mv_linker.proofs.Resolving.{function_nowhere, function_there_is, function_at, target_below}
+use Rattle.mv_linker.proofs.Scopes.{place_below}
+use Rattle.mv_linker.proofs.scope.Scope.function.Goals as goal
+
+pub returns-in_default-clause-refused : goal.returns-in_default-clause-refused
+returns-in_default-clause-refused c = (refl, function_nowhere (modules_in c.args.self.now) c.args.m.now c.args.targets.now c.requires.named c.args.handle c.in_default.ensures.none)
+
+pub returns-in_default-function_in-clause-refused : goal.returns-in_default-function_in-clause-refused
+returns-in_default-function_in-clause-refused c = (
+  refl,
+  λ e.
+      let is = function_there_is (modules_in c.args.self.now) c.args.m.now c.args.targets.now c.requires.named c.args.handle c.in-Some.target.now c.in-Some.ensures.there in
+      let none : function_matches c.args.m.now c.args.handle (tables_of c.in-Some.target.now.module) ≡ false = sym (ap (λ (n : Module). function_matches c.args.m.now c.args.handle n) c.tables-module.ensures) ∙ c.in_default-function_in.ensures.none in
+      let bad : true ≡ false = sym e ∙ is ∙ none in
+      cc,
+)
+
+pub definition-requires-clause-place : goal.definition-requires-clause-place
+definition-requires-clause-place c =
+    omega (arith, c.requires.few, target_below (modules_in c.args.self.now) c.args.m.now c.args.targets.now c.requires.named c.args.handle.module c.in-Some.target.now c.in-Some.ensures.there)
+
+pub definition-requires-clause-index : goal.definition-requires-clause-index
+definition-requires-clause-index c =
+    let found = c.in-Some-function_in.ensures.found in
+    let below : c.in-Some-function_in.index < length c.tables-module.result.now.functions =
+    place_below (λ (d : FunctionDefinition). option_map_or (bytes_eq found.name) (name_of_function c.tables-module.result.now d) false) c.tables-module.result.now.functions c.in-Some-function_in.index found.place in
+    let few = leb-true (length c.tables-module.result.now.functions) 256 c.functions-functions.ensures.few in
+    omega (arith, below, few)
+
+pub returns-clause-ok : goal.returns-clause-ok
+returns-clause-ok c =
+    subst (IsFunctionAt (modules_in c.args.self.now) c.args.m.now c.args.h) (sym c.definition.ensures)
+    (function_at (modules_in c.args.self.now) c.args.m.now c.args.targets.now c.requires.named c.args.h c.args.handle c.in-Some.target.now c.in-Some-function_in.index c.requires.handle c.in-Some.ensures.there
+    (subst (λ (n : Module). IsFunctionIn c.args.m.now c.args.handle n c.in-Some-function_in.index) c.tables-module.ensures c.in-Some-function_in.ensures.found))
+
+pub returns-clause-there : goal.returns-clause-there
+returns-clause-there c =
+    function_there_is (modules_in c.args.self.now) c.args.m.now c.args.targets.now c.requires.named c.args.handle c.in-Some.target.now c.in-Some.ensures.there
+    ∙ sym (ap (λ (n : Module). function_matches c.args.m.now c.args.handle n) c.tables-module.ensures) ∙ c.in-Some-function_in.ensures.there

@@ -1,0 +1,38 @@
+use Rattle.std.proofs.Common.{◌≡◌, true, false, refl}
+use Rattle.std.proofs.lemmas.Result.{err_from_is_err_and}
+use Rattle.mv_linker.specs.Link.{tables_in}
+use Rattle.mv_linker.specs.Links.{Links}
+use Rattle.mv_linker.specs.Scope.{offered}
+use Rattle.mv_linker.specs.Targets.{modules_in}
+use Rattle.mv_linker.proofs.Assembling.{bundle-links, links-all, joining-offered}
+use Rattle.mv_linker.proofs.Resolving.{refused_by}
+use Rattle.mv_linker.proofs.scope.Scope.links.Goals as goal
+use Rattle.mv_linker.proofs.scope.Scope.links.Goals.{In_ok-sizes}
+
+pub returns-then-not-branch-clause-refused : goal.returns-then-not-branch-clause-refused
+returns-then-not-branch-clause-refused c = (
+  refl,
+  λ links.
+      let yes : c.in_ok-is_ordered.field-0 ≡ true = c.in_ok-is_ordered.ensures.ok.1 links.ordered in
+      let no : c.in_ok-is_ordered.field-0 ≡ false = c.if-not-branch.true in
+      cc,
+)
+
+-- the rules hold of all the modules
+all-linked : (c : In_ok-sizes) → Links (modules_in c.args.self.now)
+all-linked c =
+    let s = c.args.self.now in
+    let j = joining-offered s.store.now s.new.now c.requires.store c.requires.passed c.requires.once c.requires.compatible in
+    links-all (tables_in s.store.now) (offered s.new.now) j c.requires.store.links (record { named = c.in_ok-names.ensures.ok; ordered = c.in_ok-is_ordered.ensures.ok.0 c.if-not-branch.false; small = c.in_ok-sizes.ensures.small })
+
+pub codes-requires-clause-links : goal.codes-requires-clause-links
+codes-requires-clause-links c = all-linked (goal.at.codes-requires-clause-links c).In_ok-sizes
+
+pub returns-clause-ok : goal.returns-clause-ok
+returns-clause-ok c = all-linked (goal.at.returns-clause-ok c).In_ok-sizes
+
+pub returns-in_err-sizes-clause-refused : goal.returns-in_err-sizes-clause-refused
+returns-in_err-sizes-clause-refused c =
+    let s = c.args.self.now in
+    let p = err_from_is_err_and c.from_residual-in_err-sizes.result c.from_residual-in_err-sizes.ensures.1 in
+    rw (p.1, p.2) (refused_by _ _ _ (λ (links : Links (modules_in s)). (bundle-links (tables_in s.store.now) (offered s.new.now) c.requires.once links).small) c.in_err-sizes.ensures.refused)

@@ -1,0 +1,26 @@
+use Rattle.std.proofs.Common.{◌≤◌, length, ap, sym, arith}
+use Rattle.mv_linker.specs.Targets.{modules_in}
+use Rattle.mv_linker.proofs.Resolving.{refused_by, no-structs, more-structs, all-structs, struct-of-all}
+use Rattle.mv_linker.proofs.scope.Scope.structs.Goals as goal
+
+pub loop-h-init : goal.loop-h-init
+loop-h-init c = no-structs _ _ _ c.new-found.ensures.items
+
+pub returns-in-Err-clause-refused : goal.returns-in-Err-clause-refused
+returns-in-Err-clause-refused c =
+    refused_by _ _ c.in-Err.e (struct-of-all (modules_in c.args.self.now) c.args.m.now c.loop-h.h c.in-Some.handle (sym c.in-Some.ensures)) c.in-Err.ensures.refused
+
+pub loop-h-preserved : goal.loop-h-preserved
+loop-h-preserved c =
+    more-structs _ _ _ _ _ c.in-Some.handle c.in-Ok.definition c.loop-h.invariant c.in_ok-pushed-in-Ok.ensures.ok (sym c.in-Some.ensures) c.in-Ok.ensures.ok c.in-Ok.ensures.there
+
+pub returns-clause-ok : goal.returns-clause-ok
+returns-clause-ok c = record {
+  len = omega (arith, c.loop-h.invariant.len, ap length c.struct_handles-h-end.ensures);
+  each = c.loop-h.invariant.each;
+}
+
+pub returns-clause-there : goal.returns-clause-there
+returns-clause-there c =
+    let most : length c.args.m.now.struct_handles ≤ c.loop-h.h = omega (arith, ap length c.struct_handles-h-end.ensures) in
+    all-structs _ _ _ _ c.loop-h.invariant most

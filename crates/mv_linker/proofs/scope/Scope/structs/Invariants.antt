@@ -1,0 +1,6 @@
+use Rattle.mv_linker.specs.Targets.{modules_in}
+use Rattle.mv_linker.proofs.Resolving.{StructsSoFar}
+use Rattle.mv_linker.proofs.scope.Scope.structs.Given as goal
+
+abbrev pub invariant-loop-h : goal.invariant-loop-h
+invariant-loop-h l = StructsSoFar (modules_in l.self) l.m l.found.items l.h

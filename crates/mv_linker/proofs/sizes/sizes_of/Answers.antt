@@ -1,0 +1,33 @@
+use Rattle.std.proofs.Common.{◌≡◌, [], ◌∷◌, ◌∙◌, sym, ap, refl, map, false, Option, Vec, Global, List, Some}
+use Rattle.std.specs.Prelude.{is_some}
+use Rattle.std.specs.List.{list_all}
+use Rattle.std.proofs.lemmas.Option.{MatchOption-at_some, MatchOption-at_none}
+use Rattle.mv_linker.specs.declared.sizes.Size.{Size}
+use Rattle.mv_linker.proofs.Rounds.{sizes_known, not_known}
+use Rattle.mv_linker.proofs.sizes.sizes_of.Goals as goal
+
+abbrev items : List (Vec (Option Size) Global) → List (List (Option Size))
+items rows = map (λ (r : Vec (Option Size) Global). r.items) rows
+
+abbrev known : List Size → List (Option Size)
+known sizes = map (λ (s : Size). Some s) sizes
+
+known-map : (rows : List (Vec Size Global)) → map (λ (r : Vec Size Global). known r.items) rows ≡ map known (map (λ (r : Vec Size Global). r.items) rows)
+known-map [] = refl
+known-map (r ∷ rows) = ap (λ l. known r.items ∷ l) (known-map rows)
+
+pub returns-in-Some-clause-ok : goal.returns-in-Some-clause-ok
+returns-in-Some-clause-ok c = λ modules a.
+    let rows = c.deref.result.now in
+    let sizes = c.in-Some.sizes in
+    let all : items rows ≡ map (λ (r : Vec Size Global). known r.items) sizes.items =
+    MatchOption-at_some (list_all (list_all is_some) (items rows) ≡ false) (λ (v : Vec (Vec Size Global) Global). items rows ≡ map (λ (r : Vec Size Global). known r.items) v.items) sizes c.in-Some.is c.in_ok-sizes.ensures in
+    sizes_known modules _ _ a (map (λ (r : Vec Size Global). r.items) sizes.items)
+    (sym (ap items c.deref.ensures.value ∙ c.in_ok-rows.ensures) ∙ all ∙ known-map sizes.items)
+
+pub returns-clause-refused : goal.returns-clause-refused
+returns-clause-refused c = λ modules a.
+    let rows = c.deref.result.now in
+    let unknown : list_all (list_all is_some) (items rows) ≡ false =
+    MatchOption-at_none (list_all (list_all is_some) (items rows) ≡ false) (λ (v : Vec (Vec Size Global) Global). items rows ≡ map (λ (r : Vec Size Global). known r.items) v.items) c.in-None.is c.in_ok-sizes.ensures in
+    (refl, not_known modules _ _ a (items rows) (ap items c.deref.ensures.value ∙ c.in_ok-rows.ensures) unknown)

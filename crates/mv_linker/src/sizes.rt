@@ -1,0 +1,229 @@
+// The sizes of structs: how many leaf values each has, and how deep it nests.
+ghost use Rattle.std.specs.Prelude.{◌≡◌, ◌≤◌, List, length, map, is_some, false, IfOk, IfErr, MatchOption};
+ghost use Rattle.std.specs.List.{list_all};
+ghost use Rattle.mv_move_types.specs.Module.{Module as Tables};
+ghost use Rattle.mv_move_types.specs.Refusals.{IsRefusedIn};
+ghost use Rattle.mv_linker.specs.Sizes.{AreDefined, AreSizes, AreSmall, greater, size_at, size_of_token, size_of_struct, row_of, next_rows, rows_after};
+
+use mv_binary_format::Module;
+use mv_move_types::{Field, Refusal, Token, ValueType};
+use std::alloc::{AllocError, Global};
+
+/// The most leaf values of a struct.
+const MOST_LEAVES: u32 = 256;
+/// The deepest nesting of a struct.
+const DEEPEST: u8 = 8;
+
+/// A struct's size.
+#[derive(Clone, Copy)]
+pub struct Size {
+    /// The leaf values of its fields, those of the structs in them included.
+    pub leaves: u16,
+    /// 1 for a struct with no struct field, else one more than the deepest of its fields.
+    pub nesting: u8,
+}
+
+/// Where the struct that a handle names is defined.
+#[derive(Clone, Copy)]
+pub enum Defined {
+    /// In a published module; its size is known.
+    Published(Size),
+    /// In a module of the bundle: its place there, and the definition's index.
+    Bundled(usize, usize),
+}
+
+/// What the rows say of a struct.
+fn size_at(rows: &[Vec<Option<Size>>], defined: Defined) -> Option<Size>
+    ensures { result ≡ size_at (map (λ r. r.items) rows.now) defined }
+{
+    match defined {
+        Defined::Published(size) => Some(size),
+        Defined::Bundled(place, index) => {
+            let row = rows.get(place)?;
+            row.get(index).copied().unwrap_or(None)
+        }
+    }
+}
+
+/// The size of a field's type.
+fn size_of_token(rows: &[Vec<Option<Size>>], defined: &[Defined], token: Token) -> Option<Size>
+    ensures { result ≡ size_of_token (map (λ r. r.items) rows.now) defined.now token }
+{
+    match token {
+        Token::Plain(ValueType::OfLeaf(_)) => Some(Size {
+            leaves: 1,
+            nesting: 0,
+        }),
+        Token::Plain(ValueType::OfStruct(handle)) => {
+            let at = defined.get(usize::from(handle))?;
+            size_at(rows, *at)
+        }
+        _ => None,
+    }
+}
+
+/// The greater number.
+fn greater(a: u8, b: u8) -> u8
+    ensures { result ≡ greater a b }
+{
+    if a <= b { b } else { a }
+}
+
+/// The size of a struct with these fields, if those of the fields are known and it is small.
+fn size_of_struct(rows: &[Vec<Option<Size>>], defined: &[Defined], fields: &[Field]) -> Option<Size>
+    ensures { result ≡ size_of_struct (map (λ r. r.items) rows.now) defined.now fields.now }
+{
+    let mut leaves: u32 = 0;
+    let mut deepest: u8 = 0;
+    for f in fields {
+        let size = size_of_token(rows, defined, f.token)?;
+        leaves += u32::from(size.leaves);
+        if leaves > MOST_LEAVES {
+            return None;
+        }
+        deepest = greater(deepest, size.nesting);
+    }
+    if deepest < DEEPEST {
+        Some(Size {
+            leaves: leaves as u16,
+            nesting: deepest + 1,
+        })
+    } else {
+        None
+    }
+}
+
+/// The sizes of a module's structs.
+fn row_of(
+    alloc: Global,
+    rows: &[Vec<Option<Size>>],
+    m: &Module<'_>,
+    defined: &[Defined],
+) -> Result<Vec<Option<Size>>, AllocError>
+    ensures { IfOk result (λ v. v.items ≡ row_of (map (λ r. r.items) rows.now) m.now defined.now) }
+{
+    let mut row = Vec::new(alloc);
+    for d in m.structs() {
+        row.push(size_of_struct(rows, defined, d.fields()))?;
+    }
+    Ok(row)
+}
+
+/// The sizes of the bundle's structs, by those that were known before.
+fn next_rows(
+    alloc: Global,
+    rows: &[Vec<Option<Size>>],
+    bundle: &[&Module<'_>],
+    defined: &[&[Defined]],
+) -> Result<Vec<Vec<Option<Size>>>, AllocError>
+    requires { length bundle.now ≤ length defined.now }
+    ensures { IfOk result (λ v. map (λ r. r.items) v.items ≡ next_rows (map (λ r. r.items) rows.now) (map (λ m. m.now) bundle.now) (map (λ d. d.now) defined.now)) }
+{
+    let mut next = Vec::new(alloc);
+    for i in 0..bundle.len() {
+        next.push(row_of(alloc, rows, bundle[i], defined[i])?)?;
+    }
+    Ok(next)
+}
+
+/// What is known of the bundle's structs after 8 rounds: the sizes of all that are small.
+fn rows_of(
+    alloc: Global,
+    bundle: &[&Module<'_>],
+    defined: &[&[Defined]],
+) -> Result<Vec<Vec<Option<Size>>>, AllocError>
+    requires { length bundle.now ≤ length defined.now }
+    ensures { IfOk result (λ v. map (λ r. r.items) v.items ≡ rows_after 8 (map (λ m. m.now) bundle.now) (map (λ d. d.now) defined.now)) }
+{
+    let mut rows = Vec::new(alloc);
+    for _round in 0..DEEPEST {
+        rows = next_rows(alloc, &rows, bundle, defined)?;
+    }
+    Ok(rows)
+}
+
+/// A row without its options, if each size is known.
+fn known_row(alloc: Global, row: &[Option<Size>]) -> Result<Option<Vec<Size>>, AllocError>
+    ensures { IfOk result (λ o. MatchOption o (list_all is_some row.now ≡ false) (λ v. row.now ≡ map (λ s. Some s) v.items)) }
+{
+    let mut known = Vec::new(alloc);
+    for size in row {
+        match size {
+            Some(size) => known.push(*size)?,
+            None => return Ok(None),
+        }
+    }
+    Ok(Some(known))
+}
+
+/// Rows without their options, if each size is known.
+fn known_rows(
+    alloc: Global,
+    rows: &[Vec<Option<Size>>],
+) -> Result<Option<Vec<Vec<Size>>>, AllocError>
+    ensures { IfOk result (λ o. MatchOption o (list_all (list_all is_some) (map (λ r. r.items) rows.now) ≡ false)
+        (λ v. map (λ r. r.items) rows.now ≡ map (λ r. map (λ s. Some s) r.items) v.items)) }
+{
+    let mut known = Vec::new(alloc);
+    for row in rows {
+        match known_row(alloc, row)? {
+            Some(sizes) => known.push(sizes)?,
+            None => return Ok(None),
+        }
+    }
+    Ok(Some(known))
+}
+
+/// The sizes of the structs of a bundle, where `defined` has for each module where its struct handles are defined.
+///
+/// # Errors
+///
+/// `Phase(13)`, where a struct has more than 256 leaf values or nests deeper than 8; `Memory`, where an allocation failed.
+pub fn sizes_of(
+    alloc: Global,
+    bundle: &[&Module<'_>],
+    defined: &[&[Defined]],
+) -> Result<Vec<Vec<Size>>, Refusal>
+    requires { length bundle.now ≤ length defined.now }
+    ensures ok { IfOk result (λ v. (modules : List Tables) → AreDefined modules (map (λ m. m.now) bundle.now) (map (λ d. d.now) defined.now)
+        → AreSizes modules (map (λ m. m.now) bundle.now) (map (λ r. r.items) v.items) × AreSmall modules (map (λ m. m.now) bundle.now)) }
+    ensures refused { IfErr result (λ e. (modules : List Tables) → AreDefined modules (map (λ m. m.now) bundle.now) (map (λ d. d.now) defined.now)
+        → IsRefusedIn 13 (AreSmall modules (map (λ m. m.now) bundle.now)) e) }
+{
+    let rows = rows_of(alloc, bundle, defined)?;
+    match known_rows(alloc, &rows)? {
+        Some(sizes) => Ok(sizes),
+        None => Err(Refusal::Phase(13)),
+    }
+}
+
+#[cfg(test)]
+mod tests {
+    use super::*;
+    use mv_move_types::LeafKind;
+    use std::test::Fail;
+
+    #[test]
+    fn sizes_are_summed(rt: HostRuntime) -> Result<(), Fail> {
+        let alloc = rt.alloc();
+        let leaf = Field {
+            name: 0,
+            token: Token::Plain(ValueType::OfLeaf(LeafKind::Boolean)),
+        };
+        let held = Field {
+            name: 1,
+            token: Token::Plain(ValueType::OfStruct(0)),
+        };
+        let rows: Vec<Vec<Option<Size>>> = Vec::new(alloc);
+        for (nesting, leaves, fits) in [(7, 255, true), (8, 255, false), (1, 256, false)] {
+            let defined = [Defined::Published(Size { leaves, nesting })];
+            let size = size_of_struct(&rows, &defined, &[held, leaf]);
+            assert_eq!(rt; size.is_some(), fits);
+            assert_eq!(rt; size.map_or(256, |s| s.leaves), 256);
+            assert_eq!(rt; size.map_or(8, |s| s.nesting), 8);
+        }
+        let known = size_of_struct(&rows, &[Defined::Bundled(0, 0)], &[held]);
+        assert!(rt; known.is_none(), "nothing is known of it yet");
+        Ok(())
+    }
+}

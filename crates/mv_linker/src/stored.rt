@@ -1,0 +1,68 @@
+// What a store keeps of its modules beside their texts.
+ghost use Rattle.std.specs.Prelude.{◌≡◌, ◌<◌, IsSome, Some, length, map, slice_get, IfSome, IfOk};
+ghost use Rattle.mv_move_types.specs.Module.{name_at};
+ghost use Rattle.mv_linker.specs.Link.{IsStore, tables_in};
+ghost use Rattle.mv_linker.specs.Code.{operations};
+ghost use Rattle.mv_linker.specs.Coded.{AreOwnSizes};
+ghost use Rattle.mv_linker.specs.Linked.{program_of, width_of_others};
+ghost use Rattle.mv_linker.specs.Stored.{IsSizeAt};
+
+use crate::Store;
+use crate::code::Code;
+use crate::sizes::Size;
+use mv_move_types::{Definition, Refusal};
+use mv_type_states::Typed;
+use std::alloc::AllocError;
+
+impl Store {
+    /// The linked code of each module, by its place.
+    pub fn codes(&self) -> &[Code]
+        ensures code { map operations result.now ≡ program_of (tables_in self.now) }
+        ensures store { IsStore self.now }
+    {
+        &self.codes
+    }
+
+    /// The words of the locals of a function behind its arguments, if the function is there.
+    pub fn others(&self, f: Definition) -> Option<u16>
+        ensures { result ≡ width_of_others (tables_in self.now) f }
+    {
+        let code = self.codes.get(usize::from(f.place))?;
+        code.others.get(usize::from(f.index)).copied()
+    }
+
+    /// The sizes of the structs of the module at a place.
+    pub(crate) fn sizes_at(&self, place: usize) -> &[Size]
+        requires { place < length self.now }
+        ensures { IfSome (slice_get (tables_in self.now) place) (λ m. AreOwnSizes (tables_in self.now) m result.now) }
+    {
+        &self.codes[place].sizes
+    }
+
+    /// The size of a struct.
+    pub(crate) fn size(&self, d: Definition) -> Size
+        requires { IsSome (name_at (tables_in self.now) d.place d.index) }
+        ensures { IsSizeAt (tables_in self.now) d result }
+    {
+        self.codes[usize::from(d.place)].sizes[usize::from(d.index)]
+    }
+
+    /// The module at a place, with what it passed before its certificate. It passed that when it was published.
+    pub(crate) fn typed(&self, place: usize) -> Result<Typed<'_>, AllocError>
+        requires { place < length self.now }
+        ensures { IfOk result (λ t. slice_get (tables_in self.now) place ≡ Some t) }
+    {
+        let alloc = self.allocator();
+        let module = self.module(place)?;
+        let bounded = match mv_bounds::check(alloc, module) {
+            Ok(bounded) => bounded,
+            Err(Refusal::Memory) => return Err(AllocError),
+            Err(Refusal::Phase(_)) => unreachable!(),
+        };
+        match mv_type_states::check(alloc, bounded) {
+            Ok(typed) => Ok(typed),
+            Err(Refusal::Memory) => Err(AllocError),
+            Err(Refusal::Phase(_)) => unreachable!(),
+        }
+    }
+}

@@ -1,0 +1,103 @@
+// The modules that a store has once a bundle joins it, found by name and by place.
+ghost use Rattle.std.specs.Prelude.{◌≡◌, ◌<◌, ◌++◌, ◌∷◌, [], Some, length, slice_get, IsTrue, IfOk, IfErr, OnOk};
+ghost use Rattle.mv_move_types.specs.Refusals.{IsRefusedIn};
+ghost use Rattle.mv_move_types.specs.Named.{module_place};
+ghost use Rattle.mv_linker.specs.Links.{module_is_there, modules_are_there};
+ghost use Rattle.mv_linker.specs.Targets.{modules_in, tables_of, IsTarget, AreTargets};
+
+use crate::names::module_name;
+use crate::scope::{Scope, found_among, newest_at};
+use mv_binary_format::Module;
+use mv_move_types::Refusal;
+use std::alloc::{AllocError, Global};
+
+/// A module of a scope: one of the bundle, or one of the store, read from its bytes.
+#[derive(Drop)]
+pub enum Found<'a> {
+    New(&'a Module<'a>),
+    Kept(Module<'a>),
+}
+
+impl<'a> Found<'a> {
+    /// The module.
+    pub fn tables(&self) -> &Module<'a>
+        ensures { result.now ≡ tables_of self.now }
+    {
+        match self {
+            Found::New(m) => m,
+            Found::Kept(m) => m,
+        }
+    }
+}
+
+/// A module that another one names, with its place.
+#[derive(Drop)]
+pub struct Target<'a> {
+    /// Its place among the modules of the scope.
+    pub place: usize,
+    /// The module.
+    pub module: Found<'a>,
+}
+
+/// Puts a target at the end.
+fn pushed<'t>(v: &mut Vec<Target<'t>>, target: Target<'t>) -> Result<(), Refusal>
+    ensures ok { OnOk result (v.new.items ≡ v.old.items ++ target.entry ∷ []) }
+    ensures errors { IfErr result (λ e. e ≡ Refusal.Memory) }
+{
+    match v.push(target) {
+        Ok(()) => Ok(()),
+        Err(_) => Err(Refusal::Memory),
+    }
+}
+
+impl<'a> Scope<'a> {
+    /// The place of the module with this address and identifier.
+    pub fn find(&self, address: u128, name: &[u8]) -> Option<usize>
+        ensures { result ≡ module_place (modules_in self.now) (record { address = address; name = name.now }) }
+    {
+        let before = self.store.find(address, name);
+        found_among(self.new, &self.places, address, name, before)
+    }
+
+    /// The module at a place.
+    pub fn module(&self, place: usize) -> Result<Found<'_>, AllocError>
+        requires { place < length (modules_in self.now) }
+        ensures { IfOk result (λ f. slice_get (modules_in self.now) place ≡ Some (tables_of f)) }
+    {
+        match newest_at(self.new, &self.places, place, None) {
+            Some(m) => Ok(Found::New(m)),
+            None => Ok(Found::Kept(self.store.module(place)?)),
+        }
+    }
+
+    /// The module that a handle names; `Phase(13)`, where it is not there.
+    fn target(&self, m: &Module<'_>, h: usize) -> Result<Target<'_>, Refusal>
+        ensures ok { IfOk result (IsTarget (modules_in self.now) m.now h) }
+        ensures refused { IfErr result (IsRefusedIn 13 (IsTrue (module_is_there (modules_in self.now) m.now h))) }
+    {
+        let Some((address, name)) = module_name(m, h) else {
+            return Err(Refusal::Phase(13));
+        };
+        let Some(place) = self.find(address, name) else {
+            return Err(Refusal::Phase(13));
+        };
+        let module = self.module(place)?;
+        Ok(Target { place, module })
+    }
+
+    /// The modules that a module's handles name; `Phase(13)`, where one is not there.
+    pub fn targets(&self, alloc: Global, m: &Module<'_>) -> Result<Vec<Target<'_>>, Refusal>
+        ensures ok { IfOk result (λ v. AreTargets (modules_in self.now) m.now v.items) }
+        ensures there { OnOk result (IsTrue (modules_are_there (modules_in self.now) m.now (length m.now.module_handles))) }
+        ensures refused { IfErr result (IsRefusedIn 13 (IsTrue (modules_are_there (modules_in self.now) m.now (length m.now.module_handles)))) }
+    {
+        let mut targets = Vec::new(alloc);
+        for h in 0..m.module_handles().len() {
+            match self.target(m, h) {
+                Ok(target) => pushed(&mut targets, target)?,
+                Err(e) => return Err(e),
+            }
+        }
+        Ok(targets)
+    }
+}

@@ -1,0 +1,10 @@
+use Rattle.std.proofs.Common.{◌≡◌, length}
+use Rattle.mv_storage.specs.Slots.{shown}
+use Rattle.mv_storage.specs.declared.slot.Layer.TheVariants.{Committed}
+use Rattle.mv_storage.proofs.entries.Entries.next.Given as goal
+
+abbrev pub invariant-loop-key : goal.invariant-loop-key
+invariant-loop-key l = shown Committed l.initial.self-inside.slots ≡ shown Committed l.self-inside.slots
+
+abbrev pub decreases-loop-key : goal.decreases-loop-key
+decreases-loop-key l = length l.self-inside.slots

@@ -1,0 +1,10 @@
+-- Pieces of a list of words.
+use Rattle.std.specs.Prelude.{ℕ, ◌+◌, cond, nat_le, List, ◌++◌, length, take, drop, Option, Some, None}
+
+-- so many words from a place on, if they are there
+abbrev pub piece : ℕ → ℕ → List ℕ → Option (List ℕ)
+piece from width words = cond (nat_le (from + width) (length words)) (Some (take width (drop from words))) None
+
+-- these words in place of as many, if they are there
+abbrev pub spliced : ℕ → List ℕ → List ℕ → Option (List ℕ)
+spliced from new words = cond (nat_le (from + length new) (length words)) (Some (take from words ++ new ++ drop (from + length new) words)) None

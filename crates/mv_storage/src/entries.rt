@@ -1,0 +1,39 @@
+// Going over what is stored.
+ghost use Rattle.std.specs.Prelude.{◌≡◌, ◌∷◌, [], MatchOption};
+
+use crate::slot::Slot;
+use mv_move_types::Key;
+use std::collections::btree_map::Iter;
+use std::marker::Model;
+
+/// The committed values by ascending key, each with its key. Its model is the list of those that are left.
+#[derive(Drop)]
+pub struct Entries<'a> {
+    pub(crate) slots: Iter<'a, Key, Slot>,
+}
+
+impl<'a> Model for Entries<'a> {
+    ghost use Rattle.std.specs.Prelude.{List};
+    ghost use Rattle.mv_machine.specs.Flat.{FlatEntry};
+
+    ghost Value = { List FlatEntry };
+
+    ghost use Rattle.mv_storage.specs.Slots.{shown};
+    ghost use Rattle.mv_storage.specs.declared.slot.Layer.TheVariants.{Committed};
+
+    ghost view = { λ e. shown Committed e.slots };
+}
+
+impl<'a> Entries<'a> {
+    /// The words of the next value with its key; none where all were had.
+    pub fn next(&mut self) -> Option<(Key, &'a [u128])>
+        ensures { MatchOption result ((self.old ≡ []) × (self.new ≡ [])) (λ e. self.old ≡ record { key = e.0; words = e.1.now } ∷ self.new) }
+    {
+        while let Some((key, slot)) = self.slots.next() {
+            if let Some(words) = slot.committed() {
+                return Some((*key, words));
+            }
+        }
+        None
+    }
+}
