@@ -32,6 +32,7 @@ fn words_that_are_not_there(rt: HostRuntime) -> Result<(), Fail> {
     assert!(rt; matches!(words.copy(1, 2), Err(Halt::Stuck)));
     assert!(rt; matches!(words.copy_word(2), Err(Halt::Stuck)));
     assert!(rt; matches!(words.top(3), Err(Halt::Stuck)));
+    assert_eq!(rt; words.as_slice(), [1, 2].as_slice());
     assert!(rt; matches!(words.settle(1, 1), Err(Halt::Stuck)));
     assert_eq!(rt; words.as_slice(), [1, 2].as_slice());
     Ok(())

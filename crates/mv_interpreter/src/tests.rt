@@ -87,6 +87,8 @@ fn codes(alloc: Global) -> Result<Vec<Code>, AllocError> {
         functions,
         literals: [1].to_vec(alloc)?,
         callees: [adds, calls].to_vec(alloc)?,
+        others: Vec::new(alloc),
+        sizes: Vec::new(alloc),
     };
     let mut codes = Vec::new(alloc);
     codes.push(code)?;
