@@ -159,7 +159,7 @@ all-weaker q r weaker (x ∷ xs) h =
     let p = and_parts (q x) (list_all q xs) h in
     and_from _ _ (weaker x p.0) (all-weaker q r weaker xs p.1)
 
--- a test that was passed, and what stands behind it
+-- a test that was passed, and what stands after it
 cond_parts : {A : Type 0} (b : Bool) (o : Option A) (y : A) → cond b o None ≡ Some y → (b ≡ true) × (o ≡ Some y)
 cond_parts true o y e = (refl, e)
 cond_parts false o y e = absurd (none-some y e)

@@ -49,7 +49,7 @@ entries-complete each text ok back (x ∷ xs) rest fit are =
     let others = entries-complete each text ok back xs rest p.1 (rest-bytes ((text x ++ flat_map text xs) ++ rest) (text x) (flat_map text xs ++ rest) split are) in
     ap (entries_from each (suc (length xs))) split ∙ rw (first, others) refl
 
--- the same behind their number
+-- the same after their number
 pub counted-complete : {A : Type 0} → StandsByForm → (most : ℕ) → most < 2 ^ 64 → (each : List ℕ → Read A) (text : A → List ℕ) (ok : A → Bool) → IsReadBack each text ok → (xs : List A) (rest : List ℕ) → length xs ≤ most → list_all ok xs ≡ true
     → AreBytes (counted text xs ++ rest) → counted_from most each (counted text xs ++ rest) ≡ Some (xs, rest)
 counted-complete numbers most small each text ok back xs rest le fit are =

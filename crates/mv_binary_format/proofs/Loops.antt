@@ -1,5 +1,5 @@
 -- Reading one entry after another, as a loop does.
-use Rattle.std.proofs.Common.{IsTrue, subst, ◌≡◌, ℕ, zero, suc, ◌+◌, ◌-◌, ◌<◌, ◌≤◌, Bool, true, List, [], ◌∷◌, ◌++◌, length, Option, Some, None, option_map, refl, sym, ap, ◌∙◌, append_assoc, arith}
+use Rattle.std.proofs.Common.{IsTrue, subst, ◌≡◌, ℕ, zero, suc, ◌+◌, ◌-◌, ◌<◌, ◌≤◌, List, [], ◌∷◌, ◌++◌, length, Option, Some, None, refl, sym, ap, ◌∙◌, append_assoc, arith}
 use Rattle.std.proofs.lemmas.List.{append-nil}
 use Rattle.mv_move_types.specs.Options.{◌>>=◌}
 use Rattle.mv_module_text.specs.Parsing.{Read, entries_from, counted_from, all_from}
@@ -52,7 +52,7 @@ counted-is_done {A} each front count i bytes total le so_far =
     let one : with_front front (entries_from each (count - i) bytes) ≡ Some (front, bytes) = rw k (ap (λ (xs : List A). Some (xs, bytes)) (append-nil front)) in
     sym so_far ∙ one
 
--- what stands behind what is read
+-- what stands after what is read
 abbrev pub rest_of : {A : Type 0} → Read (List A) → Option (List ℕ)
 rest_of None = None
 rest_of (Some x) = Some x.1
@@ -140,7 +140,7 @@ front-nil (Some x) = refl
 pub record ReadsOn {A : Type 0} (each : List ℕ → Read A) (n i : ℕ) (start : List ℕ) (items : List A) (cur : List ℕ) : Type 0 where
   pub goes : with_front items (entries_from each (n - i) cur) ≡ entries_from each n start
 
--- the entries behind a count
+-- the entries after a count
 counted_from-at : {A : Type 0} (most : ℕ) (each : List ℕ → Read A) (n : ℕ) (bytes start : List ℕ) → number_from most bytes ≡ Some (n, start) → counted_from most each bytes ≡ entries_from each n start
 counted_from-at most each n bytes start e = ap (λ r. r >>= λ c. entries_from each c.0 c.1) e
 

@@ -72,7 +72,7 @@ entries-sound {A} each text ok stands (suc n) bytes xs rest are e =
     let t : bytes ≡ (text x.0 ++ flat_map text ys.0) ++ rest = first.0 ∙ ap (λ z. text x.0 ++ z) back ∙ sym (append_assoc (text x.0) (flat_map text ys.0) rest) in
     (subst (λ (zs : List A). bytes ≡ flat_map text zs ++ rest) p.0 t, h, sym l ∙ ap suc others.2)))
 
--- the same behind their number
+-- the same after their number
 pub counted-sound : {A : Type 0} → StandsByForm → (most : ℕ) → most < 2 ^ 64 → (each : List ℕ → Read A) (text : A → List ℕ) (ok : A → Bool) → Stands each text ok → (bytes : List ℕ) (xs : List A) (rest : List ℕ) → AreBytes bytes
     → counted_from most each bytes ≡ Some (xs, rest) → (bytes ≡ counted text xs ++ rest) × (list_all ok xs ≡ true) × (length xs ≤ most)
 counted-sound numbers most small each text ok stands bytes xs rest are e =

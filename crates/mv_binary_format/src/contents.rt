@@ -8,13 +8,10 @@ ghost use Rattle.mv_binary_format.specs.Tables.{tables_of};
 ghost use Rattle.mv_binary_format.specs.Outcomes.{Takes};
 
 use super::entries::Entry;
-use super::headers::{Header, TableKind, take_header};
+use super::headers::{Header, MOST_BYTES, TableKind, take_header};
 use mv_module_text::Reader;
 use mv_move_types::{Refusal, Version};
 use std::alloc::Global;
-
-// The most bytes that the contents have.
-const MOST_BYTES: u64 = 65536;
 
 // A table's kind, and the bytes of its entries.
 #[derive(Clone, Copy)]
@@ -57,7 +54,7 @@ fn place_of(tables: &[Table<'_>], kind: TableKind) -> Option<usize>
     tables.iter().position(|t| t.kind.code() == code)
 }
 
-// Takes the table of this kind out, and answers its content, which is empty where there is no such table.
+// Takes the table of this kind out, and returns its content, which is empty where there is no such table.
 fn take_content<'a>(tables: &mut Vec<Table<'a>>, kind: TableKind) -> &'a [u8]
     ensures content { result.now ≡ content_of (table_code kind) (tables_of tables.old.items) }
     ensures others { tables_of tables.new.items ≡ without (is_of (table_code kind)) (tables_of tables.old.items) }

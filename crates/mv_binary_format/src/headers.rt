@@ -1,4 +1,4 @@
-// The front of a module: the format's mark, its version, and the headers of its tables.
+// The front of a module: the magic bytes, its version, and the headers of its tables.
 
 ghost use Rattle.std.specs.Prelude.{◌≡◌, ◌==◌, OnSome, position, option_map};
 ghost use Rattle.std.specs.Bool.{then_some};
@@ -17,8 +17,8 @@ use std::alloc::Global;
 // At most one table of each kind.
 const MOST_TABLES: u64 = 10;
 
-// The greatest offset, and the greatest length.
-const MOST_BYTES: u64 = 65536;
+// The most bytes that the contents of all tables have, and so the greatest offset and the greatest length of one.
+pub const MOST_BYTES: u64 = 65536;
 
 // What a table has entries of.
 #[derive(Clone, Copy)]
@@ -84,7 +84,7 @@ pub struct Header {
     pub length: u32,
 }
 
-// Reads the format's mark.
+// Reads the magic bytes.
 pub fn read_magic(reader: &mut Reader<'_>) -> Result<(), Refusal>
     ensures { Marks (marks_from magic) reader.old result reader.new }
 {
@@ -94,7 +94,7 @@ pub fn read_magic(reader: &mut Reader<'_>) -> Result<(), Refusal>
     reader.mark(0x0B)
 }
 
-// Reads the version, a number of four bytes, the lowest first.
+// Reads the version, a little-endian number of four bytes.
 pub fn read_version(reader: &mut Reader<'_>) -> Result<Version, Refusal>
     ensures { ReadsAs version_number version_from reader.old result reader.new }
 {

@@ -14,7 +14,7 @@ use super::laws::{are_bytes, modules_are_read_by_text};
 use mv_module_text::write_index;
 use std::alloc::{AllocError, Global};
 
-// The format's mark, with which each module begins.
+// The magic bytes, with which each module begins.
 const MAGIC: [u8; 4] = [0xA1, 0x1C, 0xEB, 0x0B];
 
 // A header to write: the offset and the length of a table's content.
@@ -138,7 +138,7 @@ fn write(alloc: Global, m: &Module<'_>) -> Result<Vec<u8>, AllocError>
 /// `decode` reads it again as the same module.
 ///
 /// # Errors
-/// Where memory runs out.
+/// If an allocation failed.
 pub fn encode(alloc: Global, m: &Module<'_>) -> Result<Vec<u8>, AllocError>
     ensures ordered { IfOk result (λ v. v.items ≡ ordered_text m.now) }
     ensures text { IfOk result (λ v. IsModuleText v.items m.now) }

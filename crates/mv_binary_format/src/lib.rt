@@ -27,10 +27,10 @@ use mv_module_text::Reader;
 use mv_move_types::Refusal;
 use std::alloc::Global;
 
-/// Reads a module from its bytes; whatever is no text of a module is refused in phase 2.
+/// Reads the module that the bytes are a text of; its names and its code stay slices of them.
 ///
 /// # Errors
-/// [`Refusal::Phase`] with 2 where no module has these bytes, and [`Refusal::Memory`] where memory runs out.
+/// [`Refusal::Phase`] with 2 if the bytes are no module's text; [`Refusal::Memory`] if an allocation failed.
 pub fn decode<'a>(alloc: Global, bytes: &'a [u8]) -> Result<Module<'a>, Refusal>
     ensures ok { IfOk result (λ m. module_of bytes.entry.now ≡ Some m) }
     ensures text { IfOk result (λ m. IsModuleText bytes.entry.now m) }
@@ -42,7 +42,7 @@ pub fn decode<'a>(alloc: Global, bytes: &'a [u8]) -> Result<Module<'a>, Refusal>
     read(alloc, bytes)
 }
 
-// Reads the format's mark, the version, the headers, the contents that they tell of, and the own handle.
+// Reads the magic bytes, the version, the headers, the contents that they tell of, and the own handle.
 #[tactic(auto, unfolding(crate::specs::Parsing::module_of))]
 fn read<'a>(alloc: Global, bytes: &'a [u8]) -> Result<Module<'a>, Refusal>
     ensures { Decides (module_of bytes.entry.now) result }

@@ -23,8 +23,8 @@ use std::marker::Model;
 // The most functions that a module defines.
 const MOST_FUNCTIONS: usize = 256;
 
-/// A module as `decode` answered it. Names and code are slices of its bytes; its model is the record of its tables,
-/// each part of which has a text.
+/// A module that `decode` returned. Names and code are slices of its bytes; its model is the record of its tables, each
+/// part of which has a text.
 #[derive(Drop)]
 pub struct Module<'a> {
     version: Version,
@@ -191,7 +191,7 @@ impl<'a> Module<'a> {
         self.identifiers.get(index).map(|i| i.name())
     }
 
-    /// The addresses that it names, each as the number that its 16 bytes are, the highest first.
+    /// The addresses that it names, each as the number that its 16 bytes are, big-endian.
     pub fn addresses(&self) -> &[u128]
         ensures { result.now ≡ self.now.addresses }
     {
@@ -207,7 +207,7 @@ impl<'a> Module<'a> {
         &self.structs
     }
 
-    /// The functions that it defines.
+    /// The functions that it defines, at most 256.
     pub fn functions(&self) -> &[FunctionDefinition<'a>]
         ensures value { result.now ≡ self.now.functions }
         ensures fits { IsTrue (list_all (function_definition_fits self.now.version) self.now.functions) }

@@ -125,7 +125,7 @@ audit_json storage tallies = json_line (codes "audit") (map (audit_object storag
 
 -- ---- replies
 
--- what the ledger answers to a record
+-- the ledger's reply to a record
 pub data Reply : Type 0 where
   Published : (count : ℕ) → Reply
   Refused : (phase : ℕ) → Reply
@@ -158,10 +158,10 @@ reply_lines (Aborted kind n steps) =
 reply_lines (Exhausted stop steps) = (codes "exhausted " ++ stop_text stop ++ codes " " ++ decimal steps) ∷ []
 reply_lines (Told lines) = lines
 
--- a line of the report: the record's number, a blank, the text and a line end
+-- a line of the report: the record's number, a space, the text and a line end
 abbrev pub numbered : ℕ → List ℕ → List ℕ
 numbered n text = decimal n ++ codes " " ++ text ++ 10 ∷ []
 
--- the bytes that answer the record of this number
+-- the bytes of a reply to the record of this number
 abbrev pub reply_text : ℕ → Reply → List ℕ
 reply_text n reply = flat_map (numbered n) (reply_lines reply)

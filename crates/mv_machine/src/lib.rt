@@ -1,4 +1,4 @@
-//! The defensive machine: its values, states, steps, runs and answers stand in specs/. Here is how a run may end.
+//! The defensive machine: its values, states, steps, runs and replies stand in specs/. Here is how a run may end.
 #![tactic(auto)]
 
 /// Why a run aborts.

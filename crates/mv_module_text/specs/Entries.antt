@@ -82,7 +82,7 @@ constant_text c = token_text c.token ++ uleb (length c.bytes) ++ c.bytes
 abbrev pub identifier_text : List ℕ → List ℕ
 identifier_text name = uleb (length name) ++ name
 
--- 16 bytes, the highest first
+-- 16 bytes, big-endian
 abbrev pub address_text : ℕ → List ℕ
 address_text a = to_be_bytes w128 a
 
@@ -99,7 +99,7 @@ abbrev pub visibility_code : Visibility → ℕ
 visibility_code Private = 0
 visibility_code Public = 1
 
--- a number in as many bytes as its width has, the lowest first
+-- a number in as many bytes as its width has, little-endian
 abbrev pub number_text : Width → ℕ → List ℕ
 number_text U8 n = n ∷ []
 number_text U16 n = to_le_bytes w16 n

@@ -72,7 +72,7 @@ all_from each (suc turns) (b ∷ bytes) = do
   xs ← all_from each turns x.1
   Some (x.0 ∷ xs)
 
--- a number of a width in as many bytes as it has, the lowest first
+-- a number of a width in as many bytes as it has, little-endian
 abbrev pub number_of_from : Width → List ℕ → Read ℕ
 number_of_from w bytes = do
   n ← bytes_from (width_bytes w) bytes
@@ -179,7 +179,7 @@ identifier_from bytes = do
   name ← bytes_from n.0 n.1
   then_some (identifier_fits name.0) name
 
--- 16 bytes, the highest first
+-- 16 bytes, big-endian
 abbrev pub address_from : List ℕ → Read ℕ
 address_from bytes = do
   a ← bytes_from 16 bytes

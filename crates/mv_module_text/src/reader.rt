@@ -20,6 +20,21 @@ use std::marker::Model;
 // Bytes that are no entry are refused when a module is read, which is the second phase.
 const MALFORMED: Refusal = Refusal::Phase(2);
 
+// The greatest index, and the greatest count of what has no limit of its own.
+const MOST_INDEX: u64 = 65535;
+
+// The bits of all four abilities.
+const ALL_ABILITIES: u64 = 15;
+
+// The most bytes of an identifier.
+const MOST_NAME_BYTES: u64 = 128;
+
+// The most types of a signature.
+const MOST_TYPES: u64 = 64;
+
+// The most fields of a struct.
+const MOST_FIELDS: u64 = 32;
+
 /// Reads entries from the front of bytes. What it stands for is the bytes that are left.
 #[derive(Drop)]
 pub struct Reader<'a> {
@@ -58,8 +73,9 @@ impl<'a> Reader<'a> {
 
     /// Reads a ULEB128 number that is at most `max`.
     ///
-    /// Like each function here it refuses with the phase of malformed modules. After that nothing is known of what is
-    /// left.
+    /// # Errors
+    /// [`Refusal::Phase`] with 2 if no such number is at the front, as each function here has it of what it reads. Then
+    /// nothing is known of what is left.
     pub fn number(&mut self, max: u64) -> Result<u64, Refusal>
         ensures reads { Reads (number_from max) self.old result self.new }
         ensures small { IfOk result (λ v. v ≤ max) }
@@ -73,7 +89,8 @@ impl<'a> Reader<'a> {
         }
     }
 
-    /// Reads an index or a count, which is below 2^16.
+    /// Reads an index or a count, which is at most 65,535.
+    #[inline(always)]
     pub fn index(&mut self) -> Result<u16, Refusal>
         ensures { Reads index_from self.old result self.new }
     {
@@ -84,11 +101,12 @@ impl<'a> Reader<'a> {
                 return Ok(u16::from(*first));
             }
         }
-        let number = self.number(65535)?;
+        let number = self.number(MOST_INDEX)?;
         Ok(number as u16)
     }
 
     /// Reads one byte.
+    #[inline(always)]
     pub fn byte(&mut self) -> Result<u8, Refusal>
         ensures { Reads byte_from self.old result self.new }
     {
@@ -99,7 +117,7 @@ impl<'a> Reader<'a> {
         Ok(*first)
     }
 
-    /// Reads one byte that has to be `b`.
+    /// Reads one byte, which has to be `b`.
     pub fn mark(&mut self, b: u8) -> Result<(), Refusal>
         ensures { Marks (mark_from b) self.old result self.new }
     {
@@ -132,7 +150,7 @@ impl<'a> Reader<'a> {
         Ok(front)
     }
 
-    /// The leaf type of a token, if the version has it.
+    /// The kind of leaf with this token, if the version has it.
     pub fn leaf(version: Version, code: u8) -> Option<LeafKind>
         ensures { result ≡ kind_of (version_number version) code }
     {
@@ -196,7 +214,7 @@ impl<'a> Reader<'a> {
     {
         let module = self.index()?;
         let name = self.index()?;
-        let bits = self.number(15)?;
+        let bits = self.number(ALL_ABILITIES)?;
         self.no_type_parameters()?;
         Ok(StructHandle {
             module,
@@ -226,7 +244,7 @@ impl<'a> Reader<'a> {
     pub fn identifier(&mut self) -> Result<&'a [u8], Refusal>
         ensures { ReadsAs (λ s. s.now) identifier_from self.old result self.new }
     {
-        let count = self.number(128)?;
+        let count = self.number(MOST_NAME_BYTES)?;
         let name = self.bytes(count as usize)?;
         if super::identifiers::is_identifier(name) {
             Ok(name)
@@ -235,7 +253,7 @@ impl<'a> Reader<'a> {
         }
     }
 
-    /// Reads an address: the number of its 16 bytes, the highest first.
+    /// Reads an address: the number that its 16 bytes are, big-endian.
     pub fn address(&mut self) -> Result<u128, Refusal>
         ensures { Reads address_from self.old result self.new }
     {
@@ -296,7 +314,7 @@ impl<'a> Reader<'a> {
         })
     }
 
-    // Reads a number of 16 bits, the lowest byte first.
+    // Reads a little-endian number of 16 bits.
     fn u16(&mut self) -> Result<u16, Refusal>
         ensures { Reads (number_of_from U16) self.old result self.new }
     {
@@ -304,7 +322,7 @@ impl<'a> Reader<'a> {
         Ok(LittleEndian::read_u16(bytes))
     }
 
-    // Reads a number of 32 bits, the lowest byte first.
+    // Reads a little-endian number of 32 bits.
     fn u32(&mut self) -> Result<u32, Refusal>
         ensures { Reads (number_of_from U32) self.old result self.new }
     {
@@ -312,7 +330,7 @@ impl<'a> Reader<'a> {
         Ok(LittleEndian::read_u32(bytes))
     }
 
-    // Reads a number of 64 bits, the lowest byte first.
+    // Reads a little-endian number of 64 bits.
     fn u64(&mut self) -> Result<u64, Refusal>
         ensures { Reads (number_of_from U64) self.old result self.new }
     {
@@ -320,7 +338,7 @@ impl<'a> Reader<'a> {
         Ok(LittleEndian::read_u64(bytes))
     }
 
-    // Reads a number of 128 bits, the lowest byte first.
+    // Reads a little-endian number of 128 bits.
     fn u128(&mut self) -> Result<u128, Refusal>
         ensures { Reads (number_of_from U128) self.old result self.new }
     {
@@ -328,7 +346,7 @@ impl<'a> Reader<'a> {
         Ok(LittleEndian::read_u128(bytes))
     }
 
-    /// Reads a number of a width, the lowest byte first.
+    /// Reads a little-endian number of a width.
     pub fn number_of(&mut self, width: Width) -> Result<u128, Refusal>
         ensures reads { Reads (number_of_from width) self.old result self.new }
         ensures small { IfOk result (λ n. n < 2 ^ width_bits width) }
@@ -343,6 +361,7 @@ impl<'a> Reader<'a> {
     }
 
     /// Reads an instruction, as the version has it: its opcode and its immediate.
+    #[inline(always)]
     pub fn instruction(&mut self, version: Version) -> Result<Instruction, Refusal>
         ensures { Reads (instruction_from (version_number version)) self.old result self.new }
     {
@@ -411,13 +430,13 @@ impl<'a> Reader<'a> {
     /// Reads a signature: its types, of which there are at most 64.
     ///
     /// # Errors
-    /// [`Refusal::Memory`] where memory runs out, and then the reader is as before. The same holds of the functions
-    /// below.
+    /// [`Refusal::Phase`] with 2 if no signature is at the front; [`Refusal::Memory`] if an allocation failed, and then
+    /// the reader is as before.
     pub fn signature(&mut self, alloc: Global, version: Version) -> Result<Vec<Token>, Refusal>
         ensures { Collects (signature_from (version_number version)) self.old result self.new }
     {
         let mut ahead = Reader { rest: self.rest };
-        let count = ahead.number(64)?;
+        let count = ahead.number(MOST_TYPES)?;
         let mut tokens = Vec::with_capacity(alloc, count as usize)?;
         'tokens: for _ in 0..count {
             let token = ahead.token(version)?;
@@ -428,11 +447,14 @@ impl<'a> Reader<'a> {
     }
 
     /// Reads the fields of a struct, of which there are at most 32, after their number.
+    ///
+    /// # Errors
+    /// As [`Reader::signature`].
     pub fn fields(&mut self, alloc: Global, version: Version) -> Result<Vec<Field>, Refusal>
         ensures { Collects (counted_from 32 (field_from (version_number version))) self.old result self.new }
     {
         let mut ahead = Reader { rest: self.rest };
-        let count = ahead.number(32)?;
+        let count = ahead.number(MOST_FIELDS)?;
         let mut fields = Vec::with_capacity(alloc, count as usize)?;
         'fields: for _ in 0..count {
             let field = ahead.field(version)?;
@@ -442,12 +464,15 @@ impl<'a> Reader<'a> {
         Ok(fields)
     }
 
-    /// Reads indices after their number.
+    /// Reads indices after their number, which is at most 65,535.
+    ///
+    /// # Errors
+    /// As [`Reader::signature`].
     pub fn indices(&mut self, alloc: Global) -> Result<Vec<u16>, Refusal>
         ensures { Collects (counted_from 65535 index_from) self.old result self.new }
     {
         let mut ahead = Reader { rest: self.rest };
-        let count = ahead.number(65535)?;
+        let count = ahead.number(MOST_INDEX)?;
         let mut indices = Vec::with_capacity(alloc, count as usize)?;
         'indices: for _ in 0..count {
             let index = ahead.index()?;

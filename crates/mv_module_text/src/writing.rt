@@ -14,7 +14,7 @@ use mv_move_types::{
 };
 use std::alloc::AllocError;
 
-// The outcome of a write. Where an allocation failed, what stands in `out` after its first `count` bytes is taken away.
+// The outcome of a write. Where an allocation failed, `out` is cut back to its first `count` bytes.
 fn or_undo(
     written: Result<(), AllocError>,
     count: usize,
@@ -30,8 +30,10 @@ fn or_undo(
     written
 }
 
-/// Writes an index or a count. Like each function here it writes after what is in `out`. Where an allocation fails,
-/// `out` is as before.
+/// Appends an index or a count to `out`.
+///
+/// # Errors
+/// If an allocation failed. Then `out` is as before, here and in each function below.
 pub fn write_index(index: u16, out: &mut Vec<u8>) -> Result<(), AllocError>
     ensures { Writes (uleb index) out.old.items result out.new.items }
 {
@@ -171,7 +173,7 @@ pub fn write_identifier(name: &[u8], out: &mut Vec<u8>) -> Result<(), AllocError
     write_bytes(name, out)
 }
 
-/// Writes an address, the highest byte first.
+/// Writes an address, big-endian.
 pub fn write_address(address: u128, out: &mut Vec<u8>) -> Result<(), AllocError>
     ensures { Writes (address_text address) out.old.items result out.new.items }
 {
@@ -213,7 +215,7 @@ pub fn write_struct_definition(
     or_undo(write_fields(fields, out), count, out)
 }
 
-// Writes a number in as many bytes as its width has, the lowest first.
+// Writes a number in as many bytes as its width has, little-endian.
 fn write_number(width: Width, number: u128, out: &mut Vec<u8>) -> Result<(), AllocError>
     requires { number < 2 ^ width_bits width }
     ensures { Writes (number_text width number) out.old.items result out.new.items }
@@ -284,9 +286,9 @@ pub struct FunctionParts<'a> {
     pub handle: u16,
     /// Who may call it.
     pub visibility: Visibility,
-    /// Whether a transaction may run it.
+    /// Whether a run record may name it.
     pub is_entry: bool,
-    /// The struct definitions that it may take from the storage.
+    /// The struct definitions that it says it reaches in the storage.
     pub acquires: &'a [u16],
     /// The signature of the locals after its parameters.
     pub locals: u16,

@@ -1,4 +1,4 @@
--- Modules and structs by name. An address is the number that its 16 bytes are, the highest first.
+-- Modules and structs by name. An address is the number that its 16 bytes are, big-endian.
 use Rattle.std.specs.Prelude.{ℕ, List, Bool, ◌&&◌, ◌==◌}
 use Rattle.std.specs.Str.{bytes_eq}
 

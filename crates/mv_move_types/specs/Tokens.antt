@@ -47,7 +47,7 @@ same_value_type (OfStruct i) (OfStruct j) = i == j
 same_value_type (OfLeaf j) (OfStruct i) = false
 same_value_type (OfStruct i) (OfLeaf j) = false
 
--- the same, behind references too
+-- the same, references among them
 abbrev pub same_token : Token → Token → Bool
 same_token (Plain a) (Plain b) = same_value_type a b
 same_token (Reference a) (Reference b) = same_value_type a b

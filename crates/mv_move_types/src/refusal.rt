@@ -1,14 +1,14 @@
-// Why a bundle is not published.
+// Why something is refused.
 use std::alloc::AllocError;
 use thiserror::Error;
 
-/// Why something is refused: the phase of publishing whose rules it fails, or want of memory.
+/// Why something is refused: the phase of publishing whose rules it fails, or an allocation that failed.
 #[derive(Clone, Copy, PartialEq, Eq, Debug, Error)]
 pub enum Refusal {
     /// The phase, from 1 to 14, that refuses.
     #[error("refused {0}")]
     Phase(u8),
-    /// A growth was refused.
+    /// An allocation failed.
     #[error("out of memory")]
     Memory,
 }

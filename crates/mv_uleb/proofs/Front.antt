@@ -9,7 +9,7 @@ use Rattle.mv_uleb.specs.Parsing.{spelled, with_low, number_from}
 use Rattle.mv_uleb.specs.Reading.{AreHigh, Spells, EndsWithin, IsLongWithin, IsEndless, IsAbove, IsBeyondWithin, Gives}
 use Rattle.mv_uleb.proofs.Spelled.{IsUleb-more, spelled-further, spelled-front, with_low-parts, number_from-some, number_from-above, number_from-none, number_from-uleb}
 
--- the same reason behind one more byte
+-- the same reason after one more byte
 pub Gives-more : (k max b : ℕ) (rest : List ℕ) (e : UlebError) → 128 ≤ b → b < 256 → Gives k (max / 128) rest (Err e) → Gives (suc k) max (b ∷ rest) (Err e)
 Gives-more k max b rest Ends ge lt g = record { few = omega (arith, g.few); high = (ge, g.high) }
 Gives-more k max b rest Long ge lt g =

@@ -36,7 +36,7 @@ form_is (d ∷ c ∷ a) (f ∷ g ∷ b) n p q =
     let rest : (c ∷ a) ≡ (g ∷ b) = form_is (c ∷ a) (g ∷ b) q.2 u q.5 in
     cc
 
--- what stands behind a byte that isn't the last
+-- what stands after a byte that isn't the last
 pub tail_of : (b n : ℕ) (t : List ℕ) → 128 ≤ b → IsUleb (b ∷ t) n → (high : ℕ) × (0 < high) × (n + 128 ≡ b + 128 * high) × IsUleb t high
 tail_of b n [] ge u = absurd (omega (arith, u.0))
 tail_of b n (c ∷ bs) ge u = (u.2, u.3, u.4, u.5)

@@ -1,4 +1,4 @@
--- ULEB128 numbers: seven bits a byte, the lowest first, in the shortest form.
+-- ULEB128 numbers: seven bits a byte, the least significant first, in the shortest form.
 use Rattle.std.specs.Prelude.{◌≡◌, ℕ, ◌+◌, ◌*◌, ◌<◌, ◌≤◌, List, [], ◌∷◌, zero, suc, ◌/◌, ◌%◌, nat_lt, cond}
 
 -- The bytes are the number's. A byte below 128 is the last, and stands for itself. One from 128 on has the low seven

@@ -1,4 +1,4 @@
-//! ULEB128 numbers, as DWARF has them: seven bits a byte, the lowest first, in the shortest form.
+//! ULEB128 numbers, as DWARF has them: seven bits a byte, the least significant first, in the shortest form.
 #![tactic(auto)]
 
 ghost use Rattle.mv_uleb.specs.Laws.{HasOneForm, HasForm, StandsByForm};
@@ -25,7 +25,7 @@ mod writing;
 pub use reading::read;
 pub use writing::write;
 
-/// No number's bytes begin another's, and no bytes are two numbers'.
+/// No number's form is a prefix of another's, and no bytes are the forms of two numbers.
 pub fn one_form()
     ensures { HasOneForm }
 {}

@@ -8,10 +8,14 @@ ghost use Rattle.mv_uleb.specs.Reading.{EndsEarly, IsLong, IsBeyond, Gives};
 use super::UlebError;
 
 // The most bytes that are looked at: a number of 64 bits has no more.
-const MOST: u8 = 10;
+const MOST_BYTES: u8 = 10;
 
 /// Reads the number at the front of `bytes`, at most `max`, and how many bytes it takes. It looks at no more than ten
-/// bytes. A form that is too long is told before a number that is too great.
+/// bytes.
+///
+/// # Errors
+/// [`UlebError::Ends`] if the bytes end before the number does; [`UlebError::Long`] if a shorter form would do, however
+/// great the number; [`UlebError::Range`] if the number is above `max`, or has more than ten bytes.
 pub fn read(bytes: &[u8], max: u64) -> Result<(u64, usize), UlebError>
     ensures found { IfOk result (λ f. IsUlebUpTo max (take f.1 bytes.now) f.0) }
     ensures within { IfOk result (λ f. f.1 ≤ length bytes.now) }
@@ -23,7 +27,7 @@ pub fn read(bytes: &[u8], max: u64) -> Result<(u64, usize), UlebError>
     ensures range { result ≡ Err UlebError.Range ↔ IsBeyond max bytes.now }
     ensures spelled { (n : ℕ) (rest : List ℕ) → n ≤ max → bytes.now ≡ uleb n ++ rest → result ≡ Ok (n, length (uleb n)) }
 {
-    read_within(bytes, MOST, max)
+    read_within(bytes, MOST_BYTES, max)
 }
 
 // The same, of at most so many bytes.

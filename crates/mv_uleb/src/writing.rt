@@ -5,7 +5,10 @@ ghost use Rattle.mv_uleb.specs.Uleb.{uleb};
 
 use std::alloc::AllocError;
 
-/// Writes the number in its one form behind what is in `out`. Where memory runs out, `out` is as before.
+/// Appends the number's one form to `out`.
+///
+/// # Errors
+/// If an allocation failed. Then `out` is as before.
 pub fn write(n: u64, out: &mut Vec<u8>) -> Result<(), AllocError>
     ensures written { OnOk result (out.new.items ≡ out.old.items ++ uleb n) }
     ensures kept { OnErr result (out.new.items ≡ out.old.items) }

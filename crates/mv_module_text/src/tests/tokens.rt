@@ -109,13 +109,17 @@ fn tokens_are_read_in_their_versions(rt: HostRuntime) {
     }
 }
 
+// Whether no version reads a type at the front of the bytes.
+fn is_refused(bytes: &[u8]) -> bool {
+    let mut five = Reader::new(bytes);
+    let mut six = Reader::new(bytes);
+    five.token(Version::Five) == REFUSED && six.token(Version::Six) == REFUSED
+}
+
 #[test]
 fn what_is_no_type_is_refused(rt: HostRuntime) {
     for bytes in NO_TYPES.iter() {
-        let mut five = Reader::new(*bytes);
-        assert_eq!(rt; five.token(Version::Five), REFUSED);
-        let mut six = Reader::new(*bytes);
-        assert_eq!(rt; six.token(Version::Six), REFUSED);
+        assert!(rt; is_refused(*bytes));
     }
 }
 

@@ -1,9 +1,9 @@
-use Rattle.std.proofs.Common.{◌≡◌, ◌+◌, ◌++◌, ◌∷◌, [], Err, ap, arith, subst, sym, ◌∙◌}
+use Rattle.std.proofs.Common.{◌≡◌, ◌+◌, ◌++◌, ◌∷◌, [], ap, arith, subst, sym, ◌∙◌}
 use Rattle.std.proofs.lemmas.Grind.{common_steps}
 use Rattle.std.proofs.lemmas.List.{map_push}
 use Rattle.mv_binary_format.specs.Parsing.{header_from}
 use Rattle.mv_binary_format.specs.Kinds.{header_of, headers_of}
-use Rattle.mv_binary_format.proofs.Loops.{ReadsOn, ReadsOn-next, ReadsOn-stops}
+use Rattle.mv_binary_format.proofs.Loops.{ReadsOn, ReadsOn-next}
 use Rattle.mv_binary_format.proofs.headers.read_headers.Goals as goal
 
 pub reading-preserved : goal.reading-preserved

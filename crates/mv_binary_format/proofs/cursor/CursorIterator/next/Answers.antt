@@ -1,8 +1,6 @@
-use Rattle.std.proofs.Common.{◌≡◌, ◌-◌, ◌∷◌, suc, length, Some, ap, arith, sym, subst, ◌∙◌}
-use Rattle.std.proofs.lemmas.Grind.{common_steps}
+use Rattle.std.proofs.Common.{◌≡◌, ◌-◌, suc, length, Some, ap, arith, sym, subst, ◌∙◌}
 use Rattle.mv_move_types.specs.Versions.{version_number}
 use Rattle.mv_module_text.specs.Parsing.{instruction_from}
-use Rattle.mv_binary_format.specs.Code.{instructions_of}
 use Rattle.mv_binary_format.proofs.Loops.{entries-first}
 use Rattle.mv_binary_format.proofs.cursor.CursorIterator.next.Goals as goal
 
