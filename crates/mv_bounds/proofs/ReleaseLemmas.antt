@@ -1,14 +1,9 @@
 -- Edges are taken away, target by target.
-use Rattle.std.proofs.Common.{◌≡◌, ℕ, zero, suc, ◌+◌, ◌-◌, ◌<◌, ◌≤◌, ◌==◌, Bool, true, false, cond, List, [], ◌∷◌, ◌++◌, length, get_or, set, take, refl, sym, ap, ◌∙◌, subst, arith, inl, inr, IsTrue, nat_lt, length-set, get_or-set_same, get_or-set_other}
+use Rattle.std.proofs.Common.{◌≡◌, ℕ, ◌+◌, ◌-◌, ◌<◌, ◌≤◌, true, List, [], ◌∷◌, ◌++◌, length, get_or, set, take, refl, sym, ap, ◌∙◌, arith, inl, inr, nat_lt, length-set, get_or-set_same, get_or-set_other}
 use Rattle.std.proofs.lemmas.Bool.{cases_eq, and_from, lt-ltb}
 use Rattle.std.proofs.lemmas.List.Folds.{list_all-append}
-use Rattle.mv_bounds.specs.Removal.{as_number, times, is_zero, are_nodes, Released}
+use Rattle.mv_bounds.specs.Removal.{times, is_zero, Released}
 use Rattle.mv_bounds.proofs.TimesLemmas.{times_push, times_more, times_take, is_one, is_none, zero_is_one, other_is_none}
-
--- nothing is taken away yet
-pub released_none : (n : ℕ) (before ready : List ℕ) → length before ≡ n → Released n before before ready ready []
-released_none n before ready len =
-    record { len = len; edges = λ j l. omega arith; sources = λ j l. refl; nodes = λ h. h }
 
 -- a target that is no node
 pub released_past : (n : ℕ) (before after ready ready' targets : List ℕ) (k x : ℕ) → Released n before after ready ready' (take k targets) → k < length targets → x ≡ get_or targets k 0 → n ≤ x → Released n before after ready ready' (take (k + 1) targets)

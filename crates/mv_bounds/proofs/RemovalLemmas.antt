@@ -1,5 +1,5 @@
 -- Nodes are removed from a graph one by one, and all of them where no node leads to itself.
-use Rattle.std.proofs.Common.{◌≡◌, ◌↔◌, ℕ, zero, suc, ◌+◌, ◌-◌, ◌<◌, ◌≤◌, ◌==◌, Bool, true, false, cond, List, [], ◌∷◌, ◌++◌, length, get_or, set, slice_get, Some, replicate, refl, sym, ap, ◌∙◌, subst, arith, inl, inr, IsTrue, nat_lt, length-set, get_or-set_same, get_or-set_other}
+use Rattle.std.proofs.Common.{◌≡◌, ◌↔◌, ℕ, zero, suc, ◌+◌, ◌-◌, ◌<◌, ◌≤◌, ◌==◌, Bool, true, false, cond, List, [], ◌∷◌, ◌++◌, length, get_or, set, slice_get, Some, replicate, refl, sym, ap, ◌∙◌, subst, arith, inl, inr, nat_lt, length-set, get_or-set_same, get_or-set_other}
 use Rattle.std.specs.List.{list_all}
 use Rattle.std.proofs.lemmas.Bool.{cases_eq, and_parts, and_from, ltb-true, true_from_ne_false, false≢true}
 use Rattle.std.proofs.lemmas.List.{length-replicate, get_or-replicate}
@@ -7,7 +7,7 @@ use Rattle.std.proofs.lemmas.List.Folds.{list_all-append}
 use Rattle.std.proofs.lemmas.Option.{slice_get_within}
 use Rattle.mv_bounds.specs.Cycles.{LeadsTo, IsAcyclic, directly, further}
 use Rattle.mv_bounds.specs.Removal.{as_number, times, edges_to, is_zero, are_nodes, Released, Removal}
-use Rattle.mv_bounds.proofs.TimesLemmas.{times_push, is_one, is_none, zero_is_one, other_is_none, is_zero_at_most, mark_at_most}
+use Rattle.mv_bounds.proofs.TimesLemmas.{times_push, is_one, is_none, zero_is_one, other_is_none, is_zero_at_most}
 use Rattle.mv_bounds.proofs.EdgeLemmas.{edges_removed, removed_before, one_before, unmarked_edges, last_edge, begins_within, none_remains, HasBefore, EndsBy}
 
 -- nothing is removed yet

@@ -73,6 +73,10 @@ fn all_marked(marks: &[bool]) -> bool
 
 /// Whether no node of a graph, which is given by each node's successors, leads to itself. A successor that is no node
 /// leads nowhere. The work grows with the nodes and edges.
+///
+/// # Errors
+///
+/// If an allocation failed.
 pub fn is_acyclic(alloc: Global, graph: &[Vec<usize>]) -> Result<bool, AllocError>
     ensures { IfOk result (λ b. IsTrue b ↔ IsAcyclic (map (λ s. s.items) graph.now)) }
 {

@@ -3,7 +3,7 @@ ghost use Rattle.std.specs.Prelude.{◌≡◌, ◌↔◌, ◌==◌, ◌&&◌, �
 ghost use Rattle.std.specs.List.{list_all, list_any};
 ghost use Rattle.std.specs.Str.{bytes_eq};
 ghost use Rattle.std.specs.BTreeSet.{IsFromIterResult};
-ghost use Rattle.mv_move_types.specs.Module.{Constant as ConstantEntry, StructDefinition as StructTable, FunctionDefinition as FunctionTable};
+ghost use Rattle.mv_move_types.specs.Module.{StructDefinition as StructTable, FunctionDefinition as FunctionTable};
 ghost use Rattle.mv_move_types.specs.Tokens.{same_tokens};
 ghost use Rattle.mv_move_types.specs.declared.tables.ModuleHandle.{ModuleHandle};
 ghost use Rattle.mv_move_types.specs.declared.tables.StructHandle.{StructHandle};
@@ -106,7 +106,7 @@ fn field_handles_differ(alloc: Global, m: &Module) -> Result<bool, AllocError>
     all_distinct(alloc, &places)
 }
 
-/// Whether no two addresses are one.
+/// Whether no two addresses are equal.
 fn addresses_differ(alloc: Global, m: &Module) -> Result<bool, AllocError>
     ensures { IfOk result (λ b. b ≡ all_differ ◌==◌ m.now.addresses) }
 {
@@ -126,7 +126,7 @@ fn identifiers<'a>(alloc: Global, m: &Module<'a>) -> Result<Vec<&'a [u8]>, Alloc
     Ok(names)
 }
 
-/// Whether no two identifiers are one.
+/// Whether no two identifiers are equal.
 fn identifiers_differ(alloc: Global, m: &Module) -> Result<bool, AllocError>
     ensures { IfOk result (λ b. b ≡ all_differ bytes_eq m.now.identifiers) }
 {
@@ -134,7 +134,7 @@ fn identifiers_differ(alloc: Global, m: &Module) -> Result<bool, AllocError>
     all_distinct(alloc, &texts)
 }
 
-/// Whether two lists of types are one.
+/// Whether two lists of types are equal.
 fn same_tokens(a: &[Token], b: &[Token]) -> bool
     ensures { result ≡ same_tokens a.now b.now }
 {
@@ -156,7 +156,7 @@ fn appears_from(m: &Module, from: usize, tokens: &[Token]) -> bool
     false
 }
 
-/// Whether no two signatures are one. Goes from the last one on, so that the work grows with the square of how many
+/// Whether no two signatures are equal. Goes from the last one on, so that the work grows with the square of how many
 /// differ, and not of how many there are.
 fn signatures_differ(m: &Module) -> bool
     ensures { result ≡ all_differ same_tokens m.now.signatures }
@@ -174,21 +174,21 @@ fn signatures_differ(m: &Module) -> bool
     true
 }
 
-/// Whether two constants are one.
+/// Whether two constants are equal: they have one type and the same bytes.
 fn same_constant(a: &Constant, b: &Constant) -> bool
     ensures { result ≡ same_constant a.now b.now }
 {
     a.token() == b.token() && a.bytes() == b.bytes()
 }
 
-/// Whether one of the constants is this one.
+/// Whether one of the constants is equal to this one.
 fn has_constant(constants: &[Constant], c: &Constant) -> bool
     ensures { result ≡ list_any (same_constant c.now) constants.now }
 {
     constants.iter().any(|other| same_constant(c, other))
 }
 
-/// Whether no two of the constants are one.
+/// Whether no two of the constants are equal.
 fn constants_differ(constants: &[Constant]) -> bool
     ensures { result ≡ all_differ same_constant constants.now }
 {

@@ -72,7 +72,7 @@ impl<'a> Bounded<'a> {
         among(self.parameters(f), self.other_locals(f), usize::from(index))
     }
 
-    /// Whether the struct of a definition is declared with key.
+    /// Whether the struct of a definition is declared with key; it is not, if there is no such definition.
     pub fn has_key(&self, definition: u16) -> bool
         ensures { result ≡ has_key self.now definition }
     {

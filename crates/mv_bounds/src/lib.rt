@@ -64,7 +64,12 @@ impl<'a> Bounded<'a> {
 fn code_of(alloc: Global, d: &FunctionDefinition) -> Result<Vec<Instruction>, AllocError>
     ensures { IfOk result (λ v. v.items ≡ d.now.code) }
 {
-    d.code().collect(alloc)
+    let cursor = d.code();
+    let mut code = Vec::with_capacity(alloc, cursor.len())?;
+    for instruction in cursor {
+        code.push(instruction)?;
+    }
+    Ok(code)
 }
 
 /// Each function's instructions.

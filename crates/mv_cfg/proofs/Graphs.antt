@@ -1,18 +1,17 @@
 -- The blocks of code as a flow graph.
-use Rattle.std.proofs.Common.{◌≡◌, ◌↔◌, ℕ, ◌+◌, ◌-◌, ◌<◌, ◌≤◌, Bool, true, false, List, [], ◌∷◌, length, map, get_or, slice_get, Option, Some, None, IsTrue, All, Contains, refl, sym, ap, ◌∙◌, subst, arith, zero, suc, add-one, option_map, ⊎_elim, ◌⊎◌}
+use Rattle.std.proofs.Common.{◌≡◌, ◌↔◌, ℕ, ◌+◌, ◌-◌, ◌<◌, ◌≤◌, true, List, [], ◌∷◌, length, map, get_or, slice_get, Some, IsTrue, All, Contains, refl, sym, ap, ◌∙◌, subst, arith, zero, suc, option_map}
 use Rattle.std.specs.Option.{option_map_or}
-use Rattle.std.proofs.lemmas.Bool.{cases_lt}
-use Rattle.std.proofs.lemmas.List.{get_or_default, length-map}
+use Rattle.std.proofs.lemmas.List.{length-map}
 use Rattle.std.proofs.lemmas.List.Elements.{All-map, All-weaker, All-same, All-contains}
-use Rattle.std.proofs.lemmas.Option.{slice_get_within, slice_get-get_or, slice_get_cases, slice_get_read, none-some, same_Some, slice_get-map, get_or_from_slice_get}
+use Rattle.std.proofs.lemmas.Option.{slice_get_within, slice_get_read, none-some, same_Some, slice_get-map, get_or_from_slice_get}
 use Rattle.mv_move_types.specs.declared.instruction.Instruction.{Instruction}
 use Rattle.mv_cfg.specs.declared.Block.{Block}
 use Rattle.mv_cfg.specs.declared.Cfg.{Cfg}
-use Rattle.mv_cfg.specs.Blocks.{BasicBlock, blocks, blocks_at, block_between, leads_to, ends_well, IsReached as IsReachedInCode, at_start, onward}
+use Rattle.mv_cfg.specs.Blocks.{BasicBlock, blocks, block_between, leads_to, ends_well, IsReached as IsReachedInCode, at_start, onward}
 use Rattle.mv_cfg.specs.Graph.{IsBlock, HasEdge, IsReached, at_entry, along}
 use Rattle.mv_cfg.specs.FlowGraph.{first_of, basic_block_of, IsFlowGraph}
-use Rattle.mv_cfg.specs.Steps.{starts, BranchesInside, IsPlaced, IsPart, IsSplit, IsLinked, IsReachedMarks, IsMarkedAs}
-use Rattle.mv_cfg.proofs.Beginnings.{IsAscending, ascending-at, ascending-same, blocks_at-get, length-blocks_at}
+use Rattle.mv_cfg.specs.Steps.{starts, BranchesInside, IsPlaced, IsSplit, IsLinked}
+use Rattle.mv_cfg.proofs.Beginnings.{ascending-at, ascending-same, blocks_at-get, length-blocks_at}
 use Rattle.mv_cfg.proofs.Leads.{starts-ascending, leads-begin}
 use Rattle.mv_cfg.proofs.Tables.{placed-at}
 

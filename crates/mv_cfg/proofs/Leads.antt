@@ -1,5 +1,5 @@
 -- Where blocks lead: to blocks.
-use Rattle.std.proofs.Common.{◌≡◌, ℕ, ◌+◌, ◌-◌, ◌<◌, ◌≤◌, Bool, true, false, not, cond, nat_eq, List, [], ◌∷◌, length, get_or, slice_get, Some, All, Contains, IsTrue, refl, sym, ap, ◌∙◌, subst, arith, zero, suc, ⊎_elim, eq-eqb}
+use Rattle.std.proofs.Common.{◌≡◌, ℕ, ◌+◌, ◌-◌, ◌<◌, ◌≤◌, Bool, true, false, not, nat_eq, List, [], ◌∷◌, length, get_or, slice_get, Some, All, Contains, IsTrue, refl, sym, ap, ◌∙◌, subst, arith, suc, ⊎_elim, eq-eqb}
 use Rattle.std.specs.List.{list_any}
 use Rattle.std.specs.Option.{option_map_or}
 use Rattle.std.proofs.lemmas.Bool.{cases_lt, false≢true}
@@ -13,7 +13,7 @@ use Rattle.mv_move_types.specs.declared.instruction.Exit.{Exit}
 use Rattle.mv_move_types.specs.declared.instruction.Exit.TheVariants.{Next, Fork, Jump, Leave}
 use Rattle.mv_move_types.specs.Instructions.{exit_of}
 use Rattle.mv_move_types.specs.Flow.{targets, exit_targets, exit_successors, exit_falls_through, successors}
-use Rattle.mv_cfg.specs.Blocks.{is_target, leads_to, ends_well, may_be_last}
+use Rattle.mv_cfg.specs.Blocks.{is_target, leads_to, ends_well}
 use Rattle.mv_cfg.specs.Steps.{starts, BranchesInside}
 use Rattle.mv_cfg.proofs.Ends.{ends_well-last}
 use Rattle.mv_cfg.proofs.Beginnings.{IsAscending, starts_from-ascending, ascending-at, starts_from-target}

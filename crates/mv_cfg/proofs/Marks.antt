@@ -1,13 +1,13 @@
 -- Blocks with marks and without have the same paths.
-use Rattle.std.proofs.Common.{◌≡◌, ◌↔◌, ℕ, ◌<◌, true, false, Bool, List, length, map, get_or, slice_get, Some, Contains, IsTrue, refl, sym, ap, ◌∙◌, subst, arith}
+use Rattle.std.proofs.Common.{ℕ, ◌<◌, Bool, List, length, map, get_or, Contains, IsTrue, sym, ap, ◌∙◌, subst, arith}
 use Rattle.std.proofs.lemmas.Option.{slice_get_within}
 use Rattle.mv_move_types.specs.declared.instruction.Instruction.{Instruction}
 use Rattle.mv_cfg.specs.declared.Block.{Block}
 use Rattle.mv_cfg.specs.declared.Cfg.{Cfg}
 use Rattle.mv_cfg.specs.Blocks.{leads_to, ends_well}
-use Rattle.mv_cfg.specs.Graph.{IsBlock, HasEdge, IsReached}
+use Rattle.mv_cfg.specs.Graph.{IsBlock, HasEdge}
 use Rattle.mv_cfg.specs.FlowGraph.{IsFlowGraph}
-use Rattle.mv_cfg.specs.Steps.{starts, BranchesInside, IsPlaced, IsPart, IsSplit, IsReachedMarks, IsMarkedAs}
+use Rattle.mv_cfg.specs.Steps.{starts, BranchesInside, IsPlaced, IsSplit, IsReachedMarks, IsMarkedAs}
 use Rattle.mv_cfg.proofs.Graphs.{element_at, reached_along, IsFlowGraph-from_marks}
 
 module _ (g new : Cfg) (marks : List Bool) (same : IsMarkedAs g.blocks.items marks new.blocks.items) where

@@ -4,7 +4,7 @@
 --   IsSearch-found      a successor is marked and open
 --   IsSearch-closed     a block whose successors are all marked is no longer open
 --   IsSearch-end        where no block is open the marked ones are those that paths lead to
-use Rattle.std.proofs.Common.{◌≡◌, ℕ, ◌+◌, ◌<◌, ◌≤◌, Bool, true, false, List, [], ◌∷◌, ◌++◌, length, get_or, set, slice_get, Some, All, Contains, replicate, refl, sym, ap, ◌∙◌, subst, arith, zero, suc, inl, inr, ⊎_elim, ◌⊎◌, ◌≢◌}
+use Rattle.std.proofs.Common.{◌≡◌, ℕ, ◌+◌, ◌<◌, ◌≤◌, Bool, true, false, List, [], ◌∷◌, ◌++◌, length, get_or, set, All, Contains, replicate, refl, sym, ap, ◌∙◌, subst, arith, zero, suc, inl, inr, ⊎_elim, ◌⊎◌, ◌≢◌}
 use Rattle.std.proofs.lemmas.Bool.{cases_eq, cases_lt, false≢true}
 use Rattle.std.proofs.lemmas.List.{get_or-set_same, get_or-set_other, get_or-replicate, length-set, length-replicate, get_or_past, get_or_default}
 use Rattle.std.proofs.lemmas.List.Elements.{Contains-push, Contains-push_cases, Contains-append_left, Contains-get_or}

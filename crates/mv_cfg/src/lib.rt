@@ -1,7 +1,7 @@
 //! Phase 7 of publishing, and the flow graph of a function: its blocks, and which blocks follow which.
 #![tactic(auto)]
 
-ghost use Rattle.std.specs.Prelude.{◌≡◌, ℕ, ◌+◌, ◌<◌, length, map, All, IfOk, IfErr, IfSome, slice_get, slice_index, slice_index_or, IsTrue};
+ghost use Rattle.std.specs.Prelude.{◌≡◌, ◌+◌, ◌<◌, length, map, All, IfOk, IfErr, IfSome, slice_get, slice_index, slice_index_or, IsTrue};
 ghost use Rattle.mv_move_types.specs.Flow.{exit_ends_block, exit_falls_through};
 ghost use Rattle.mv_move_types.specs.Refusals.{IsRefusedIn};
 ghost use Rattle.mv_cfg.specs.Blocks.{ends_well, leads_to};
@@ -12,7 +12,7 @@ use mv_bounds::Bounded;
 use mv_move_types::{Exit, Instruction, Refusal};
 use std::alloc::{AllocError, Global};
 
-/// A run of instructions that control enters only at its first one.
+/// A basic block: instructions one after the other, which control enters only at the first.
 #[derive(Drop)]
 pub struct Block {
     /// The first instruction.

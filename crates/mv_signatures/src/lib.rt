@@ -25,6 +25,10 @@ const RESULTS: usize = 8;
 const LOCALS: usize = 64;
 
 /// Accepts exactly the modules whose rules of phase 5 hold.
+///
+/// # Errors
+///
+/// `Phase(5)`, where one of them fails.
 pub fn check(m: &Bounded<'_>) -> Result<(), Refusal>
     ensures ok { OnOk result (WellSigned m.now) }
     ensures refused { IfErr result (IsRefusedIn 5 (WellSigned m.now)) }

@@ -1,6 +1,5 @@
 -- The types at a return, by the function's results.
-use Rattle.std.proofs.Common.{◌≡◌, [], List, length, reverse, slice_get, Option, Some, None, refl, subst}
-use Rattle.std.proofs.lemmas.Option.{MatchOption-at_some}
+use Rattle.std.proofs.Common.{◌≡◌, [], List, reverse, slice_get, Some, refl}
 use Rattle.mv_move_types.specs.declared.tables.FunctionHandle.{FunctionHandle}
 use Rattle.mv_move_types.specs.declared.token.Token.{Token}
 use Rattle.mv_move_types.specs.Tokens.{same_tokens}

@@ -1,7 +1,7 @@
 -- Stacks with the topmost last, and what is taken from them.
-use Rattle.std.proofs.Common.{◌≡◌, ℕ, ◌+◌, ◌<◌, Bool, true, false, ◌&&◌, List, [], ◌∷◌, ◌++◌, length, reverse, append_assoc, get_or, take, drop, slice_get, Option, Some, None, refl, sym, ap, ◌∙◌, subst, zero, suc, add-one, length-append, map, arith, IsTrue, IsSome, option_map, nat_eq, slice_index_or, vec_len, Vec, Global, Err}
-use Rattle.std.proofs.lemmas.List.{reverse-append, reverse-reverse, length-reverse, nil_from_length, map-append, take_more}
-use Rattle.std.proofs.lemmas.Bool.{ltb-true, ne_eqb, eqb-true, eqb-false}
+use Rattle.std.proofs.Common.{◌≡◌, ℕ, ◌+◌, ◌<◌, Bool, true, false, ◌&&◌, List, [], ◌∷◌, ◌++◌, length, reverse, append_assoc, get_or, take, drop, slice_get, Some, None, refl, sym, ap, ◌∙◌, subst, zero, suc, add-one, length-append, map, arith, IsTrue, nat_eq, vec_len, Vec, Global, Err}
+use Rattle.std.proofs.lemmas.List.{reverse-append, reverse-reverse, length-reverse, map-append, take_more}
+use Rattle.std.proofs.lemmas.Bool.{ne_eqb, eqb-false}
 use Rattle.std.proofs.Math.Dec.{eqb-suc-zero}
 use Rattle.mv_move_types.specs.declared.token.Token.{Token}
 use Rattle.mv_move_types.specs.Tokens.{same_token, same_tokens}
@@ -11,7 +11,7 @@ use Rattle.mv_move_types.specs.declared.tables.Field.{Field}
 use Rattle.mv_move_types.specs.Options.{◌>>=◌}
 use Rattle.mv_type_states.specs.TypeRules.{Types, provided, taken}
 use Rattle.mv_type_states.specs.Answers.{Follows}
-use Rattle.mv_type_states.proofs.Tokens.{token_same, both_true}
+use Rattle.mv_type_states.proofs.Tokens.{both_true}
 use Rattle.std.specs.List.{list_all}
 use Rattle.std.proofs.lemmas.Option.{none-some, same_Some}
 
@@ -31,26 +31,6 @@ one_and_others false ws s = refl
 pub taken-last : (ws : List Token) (w : Token) (s : Types) → taken (ws ++ w ∷ []) s ≡ (taken (w ∷ []) s >>= λ below. taken ws below)
 taken-last ws w [] = rw (reverse-push ws w, length_push ws w) refl
 taken-last ws w (t ∷ s) = rw (reverse-push ws w, length_push ws w) (one_and_others (same_token t w) ws s)
-
--- where the last is there, the others are still to be taken
-pub taken-some : (fields others : List Field) (last : Field) (s below : Types) → fields ≡ others ++ last ∷ [] → taken (last.token ∷ []) s ≡ Some below
-    → taken (map (λ f. f.token) others) below ≡ taken (map (λ f. f.token) fields) s
-taken-some fields others last s below is there =
-    rw (is, map-append, taken-last, there) refl
-
--- where it isn't, they can't be taken
-pub taken-none : (fields others : List Field) (last : Field) (s : Types) → fields ≡ others ++ last ∷ [] → taken (last.token ∷ []) s ≡ None
-    → taken (map (λ f. f.token) fields) s ≡ None
-taken-none fields others last s is there =
-    rw (is, map-append, taken-last, there) refl
-
--- the topmost is the one that is wanted
-pub taken-one : (xs : List Token) (w : Token) → taken (w ∷ []) (reverse (xs ++ w ∷ [])) ≡ Some (reverse xs)
-taken-one xs w = rw (reverse-push xs w, token_same w) refl
-
--- it is another
-pub taken-other : (xs : List Token) (t w : Token) → same_token t w ≡ false → taken (w ∷ []) (reverse (xs ++ t ∷ [])) ≡ None
-taken-other xs t w e = rw (reverse-push xs t, e) refl
 
 -- one more field's type is pushed
 pub pushed_fields : (fields : List Field) (n : ℕ) (f : Field) (first old new : List Token) → n < length fields → old ≡ first ++ map (λ f. f.token) (take n fields)
@@ -85,15 +65,6 @@ alone rs s =
     rw length-reverse at (same_tokens-front (reverse rs) s) in
     ap (λ b. provided b []) front ∙ provided_both (same_tokens (take (length rs) s) (reverse rs)) (drop (length rs) s)
 
--- the last is there, and others are still to be taken
-pub taken_types-some : (types others : List Token) (last : Token) (s below : Types) → types ≡ others ++ last ∷ [] → taken (last ∷ []) s ≡ Some below
-    → taken others below ≡ taken types s
-taken_types-some types others last s below is there = rw (is, taken-last, there) refl
-
-pub taken_types-none : (types others : List Token) (last : Token) (s : Types) → types ≡ others ++ last ∷ [] → taken (last ∷ []) s ≡ None
-    → taken types s ≡ None
-taken_types-none types others last s is there = rw (is, taken-last, there) refl
-
 -- where the types can't be taken, they aren't alone on the stack
 pub alone-refused : (e : Refusal) (rs : List Token) (s new : Types) → Follows (Err e) (taken rs s) new → Follows (Err e) (provided (same_tokens s (reverse rs)) []) new
 alone-refused (Phase p) rs s new r = (r.0, rw (alone rs s, r.1) refl)
@@ -102,10 +73,6 @@ alone-refused Memory rs s new r = tt
 -- something is left below them
 pub alone-left : (rs : List Token) (s : Types) (new : List Token) → taken rs s ≡ Some (reverse new) → 0 < length new → provided (same_tokens s (reverse rs)) [] ≡ None
 alone-left rs s new e some = rw (alone rs s, e, length-reverse, ne_eqb (length new) 0 (λ z. omega arith)) refl
-
--- whether a stack is empty, by its length
-pub empty_stack : (v : Vec Token Global) (r : Bool) → r ≡ nat_eq (vec_len v) 0 → r ≡ true → v.items ≡ []
-empty_stack v r e t = nil_from_length v.items (let z : vec_len v ≡ 0 = eqb-true (vec_len v) 0 (sym e ∙ t) in let same = v.ok.0 in omega arith)
 
 pub full_stack : (v : Vec Token Global) (r : Bool) → r ≡ nat_eq (vec_len v) 0 → r ≡ false → 0 < length v.items
 full_stack v r e t = let z : vec_len v ≡ 0 → ⊥ = eqb-false (vec_len v) 0 (sym e ∙ t) in let same = v.ok.0 in omega arith

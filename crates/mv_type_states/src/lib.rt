@@ -72,6 +72,10 @@ impl<'a> Typed<'a> {
     }
 
     /// The types of the whole stack before each instruction of function `f`.
+    ///
+    /// # Errors
+    ///
+    /// If an allocation failed.
     pub fn stack_types(&self, alloc: Global, f: usize) -> Result<StackTypes, AllocError>
         requires { f < length self.now.functions }
         ensures { IfOk result (λ all. IfSome (slice_get self.now.functions f) (λ d. all ≡ types_before self.now d)) }
@@ -105,7 +109,11 @@ fn check_functions(alloc: Global, m: &Bounded<'_>, graphs: &[Cfg]) -> Result<(),
     Ok(())
 }
 
-/// Tries phases 5, 6, 7 and 8: the module, where all hold; else the first that fails.
+/// Tries phases 5, 6, 7 and 8 on a module.
+///
+/// # Errors
+///
+/// `Phase` with the first of these that the module fails; `Memory`, if an allocation failed.
 pub fn check<'a>(alloc: Global, m: Bounded<'a>) -> Result<Typed<'a>, Refusal>
     ensures ok { IfOk result (λ t. t ≡ m.entry) }
     ensures refused { IfErr result (IsRefusedByTypes m.entry) }

@@ -100,7 +100,7 @@ fn list_blocks(
     requires typed { IsTrue (function_is_typed scope.now.module.now scope.now.function.now) }
     ensures { IfOk result (λ all. all ≡ types_before scope.now.module.now scope.now.function.now) }
 {
-    let mut all = StackTypes::new(alloc);
+    let mut all = StackTypes::with_room(alloc, code.len())?;
     for block in &g.blocks {
         list_types(scope, alloc, &code[block.first..=block.last], &mut all)?;
     }

@@ -21,6 +21,7 @@ pub fn number(width: Width) -> Token
 }
 
 /// Puts a type on top of the stack.
+#[inline(always)]
 pub fn push(stack: &mut Vec<Token>, token: Token) -> Result<(), Refusal>
     ensures { Follows result (Some (token ∷ reverse stack.old.items)) (reverse stack.new.items) }
 {
@@ -51,6 +52,7 @@ pub fn push_fields(stack: &mut Vec<Token>, fields: &[Field]) -> Result<(), Refus
 }
 
 /// Takes the topmost type.
+#[inline(always)]
 pub fn take_top(stack: &mut Vec<Token>) -> Result<Token, Refusal>
     ensures { TakesTop result (reverse stack.old.items) (reverse stack.new.items) }
 {
@@ -61,6 +63,7 @@ pub fn take_top(stack: &mut Vec<Token>) -> Result<Token, Refusal>
 }
 
 /// Takes the topmost type, which has to be this one.
+#[inline(always)]
 pub fn pop(stack: &mut Vec<Token>, wanted: Token) -> Result<(), Refusal>
     ensures types { Follows result (taken (wanted ∷ []) (reverse stack.old.items)) (reverse stack.new.items) }
     ensures phase { IfErr result (λ e. e ≡ Refusal.Phase 8) }

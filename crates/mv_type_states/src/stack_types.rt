@@ -1,5 +1,5 @@
 // The types on the stack before each instruction of a function.
-ghost use Rattle.std.specs.Prelude.{◌≡◌, ◌<◌, ◌++◌, ◌∷◌, [], Some, length, reverse, slice_get, OnOk};
+ghost use Rattle.std.specs.Prelude.{◌≡◌, ◌<◌, ◌++◌, ◌∷◌, [], Some, length, reverse, slice_get, IfOk, OnOk};
 
 use mv_move_types::Token;
 use std::alloc::{AllocError, Global};
@@ -32,14 +32,14 @@ impl Model for StackTypes {
 }
 
 impl StackTypes {
-    /// No stack yet.
-    pub(crate) fn new(alloc: Global) -> Self
-        ensures { result ≡ [] }
+    /// No stack yet, with room for those of so many instructions, and for two types in each.
+    pub(crate) fn with_room(alloc: Global, instructions: usize) -> Result<Self, AllocError>
+        ensures { IfOk result (λ s. s ≡ []) }
     {
-        StackTypes {
-            tokens: Vec::new(alloc),
-            parts: Vec::new(alloc),
-        }
+        Ok(StackTypes {
+            tokens: Vec::with_capacity(alloc, instructions.saturating_mul(2))?,
+            parts: Vec::with_capacity(alloc, instructions)?,
+        })
     }
 
     /// Adds a stack, whose last type is the topmost.

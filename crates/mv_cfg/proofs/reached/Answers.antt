@@ -1,9 +1,8 @@
-use Rattle.std.proofs.Common.{◌≡◌, ◌<◌, ◌≤◌, ℕ, ◌+◌, true, false, List, [], ◌∷◌, ◌++◌, length, get_or, set, slice_get, Some, Bool, replicate, refl, sym, ap, ◌∙◌, subst, arith}
+use Rattle.std.proofs.Common.{◌≡◌, ◌<◌, ◌≤◌, ℕ, ◌+◌, true, false, List, [], ◌∷◌, ◌++◌, length, get_or, replicate, refl, sym, ap, ◌∙◌, subst, arith}
 use Rattle.std.proofs.lemmas.List.{length_push, nil_from_length, get_or_read}
 use Rattle.std.proofs.lemmas.Option.{slice_get_read}
-use Rattle.mv_cfg.specs.declared.Block.{Block}
-use Rattle.mv_cfg.specs.Graph.{IsBlock, HasEdge}
-use Rattle.mv_cfg.proofs.Search.{IsSearch, AreMarked, unmarked, IsSearch-start, IsSearch-popped, IsSearch-found, IsSearch-closed, IsSearch-end, open-within, next-within, next-edge, unmarked-set, AreMarked-more, AreMarked-set}
+use Rattle.mv_cfg.specs.Graph.{IsBlock}
+use Rattle.mv_cfg.proofs.Search.{IsSearch, AreMarked, IsSearch-start, IsSearch-popped, IsSearch-found, IsSearch-closed, IsSearch-end, open-within, next-within, next-edge, unmarked-set, AreMarked-more, AreMarked-set}
 use Rattle.mv_cfg.proofs.reached.Goals as goal
 use Rattle.mv_cfg.proofs.reached.Goals.{then-not-index+in_ok-push-2, else-not-index}
 

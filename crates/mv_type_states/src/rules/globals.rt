@@ -7,7 +7,7 @@ use crate::stack::{ADDRESS, BOOLEAN, exchange, pop_all};
 use mv_bounds::Bounded;
 use mv_move_types::{LeafKind, Refusal, Token, ValueType};
 
-/// Whether a value is stored at an address.
+/// Takes an address, and gives a bool.
 pub fn exists(m: &Bounded<'_>, index: u16, stack: &mut Vec<Token>) -> Result<(), Refusal>
     ensures { Follows result (of_global (λ t. boolean) m.now index (reverse stack.old.items)) (reverse stack.new.items) }
 {
@@ -15,7 +15,7 @@ pub fn exists(m: &Bounded<'_>, index: u16, stack: &mut Vec<Token>) -> Result<(),
     exchange(stack, &[ADDRESS], BOOLEAN)
 }
 
-/// A mutable reference to the value at an address.
+/// Takes an address, and gives a mutable reference to the struct.
 pub fn borrow_global_mutably(
     m: &Bounded<'_>,
     index: u16,
@@ -27,7 +27,7 @@ pub fn borrow_global_mutably(
     exchange(stack, &[ADDRESS], Token::MutableReference(stored))
 }
 
-/// An immutable reference to the value at an address.
+/// Takes an address, and gives an immutable reference to the struct.
 pub fn borrow_global(m: &Bounded<'_>, index: u16, stack: &mut Vec<Token>) -> Result<(), Refusal>
     ensures { Follows result (of_global Token.Reference m.now index (reverse stack.old.items)) (reverse stack.new.items) }
 {
@@ -35,7 +35,7 @@ pub fn borrow_global(m: &Bounded<'_>, index: u16, stack: &mut Vec<Token>) -> Res
     exchange(stack, &[ADDRESS], Token::Reference(stored))
 }
 
-/// The value at an address.
+/// Takes an address, and gives the struct.
 pub fn move_from(m: &Bounded<'_>, index: u16, stack: &mut Vec<Token>) -> Result<(), Refusal>
     ensures { Follows result (of_global Token.Plain m.now index (reverse stack.old.items)) (reverse stack.new.items) }
 {
@@ -43,7 +43,7 @@ pub fn move_from(m: &Bounded<'_>, index: u16, stack: &mut Vec<Token>) -> Result<
     exchange(stack, &[ADDRESS], Token::Plain(stored))
 }
 
-/// Takes a reference to a signer, and a value.
+/// Takes a reference to a signer, and the struct above it.
 pub fn move_to(m: &Bounded<'_>, index: u16, stack: &mut Vec<Token>) -> Result<(), Refusal>
     ensures types { Follows result (of_move_to m.now index (reverse stack.old.items)) (reverse stack.new.items) }
     ensures phase { IfErr result (λ e. e ≡ Refusal.Phase 8) }

@@ -22,7 +22,7 @@ impl<'s, 'a> Scope<'s, 'a> {
         }
     }
 
-    /// A local that may be copied.
+    /// Gives the type of a local that may be copied.
     pub fn copy_local(&self, index: u16, stack: &mut Vec<Token>) -> Result<(), Refusal>
         requires { IsScope self.now }
         ensures { Follows result (of_copy self.now.module.now self.now.function.now index (reverse stack.old.items)) (reverse stack.new.items) }
@@ -57,7 +57,7 @@ impl<'s, 'a> Scope<'s, 'a> {
         pop(stack, token)
     }
 
-    /// A mutable reference to a local that is no reference.
+    /// Gives a mutable reference to a local that is no reference.
     pub fn borrow_local_mutably(&self, index: u16, stack: &mut Vec<Token>) -> Result<(), Refusal>
         requires { IsScope self.now }
         ensures { Follows result (of_borrow_local Token.MutableReference self.now.module.now self.now.function.now index (reverse stack.old.items)) (reverse stack.new.items) }
@@ -67,7 +67,7 @@ impl<'s, 'a> Scope<'s, 'a> {
         push(stack, Token::MutableReference(lent))
     }
 
-    /// An immutable reference to a local that is no reference.
+    /// Gives an immutable reference to a local that is no reference.
     pub fn borrow_local(&self, index: u16, stack: &mut Vec<Token>) -> Result<(), Refusal>
         requires { IsScope self.now }
         ensures { Follows result (of_borrow_local Token.Reference self.now.module.now self.now.function.now index (reverse stack.old.items)) (reverse stack.new.items) }

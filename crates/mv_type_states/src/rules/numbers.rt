@@ -7,7 +7,7 @@ use crate::stack::{BOOLEAN, abilities, exchange, number, pop, push, take_top};
 use mv_bounds::Bounded;
 use mv_move_types::{LeafKind, Refusal, Token, ValueType, Width};
 
-/// A constant, of its type.
+/// Gives a constant's type.
 pub fn constant(m: &Bounded<'_>, index: u16, stack: &mut Vec<Token>) -> Result<(), Refusal>
     ensures { Follows result (of_constant m.now index (reverse stack.old.items)) (reverse stack.new.items) }
 {

@@ -1,6 +1,5 @@
 // References: to fields, read, written and frozen.
 ghost use Rattle.std.specs.Prelude.{reverse, IfErr, ◌≡◌};
-ghost use Rattle.mv_abilities.specs.Abilities.{value_type_abilities};
 ghost use Rattle.mv_type_states.specs.TypeRules.{target_of, mutable_target_of, field_types as types_of_field, of_mutable_field, of_immutable_field, of_read, of_write, of_freeze};
 ghost use Rattle.mv_type_states.specs.Answers.{Follows, Finds};
 
@@ -9,7 +8,7 @@ use crate::stack::{abilities, exchange, pop, push, take_top};
 use mv_bounds::Bounded;
 use mv_move_types::{Refusal, Token, ValueType};
 
-/// A mutable reference to a field, from one to its struct.
+/// Takes a mutable reference to a struct, and gives one to its field.
 pub fn borrow_field_mutably(
     m: &Bounded<'_>,
     index: u16,
@@ -25,7 +24,7 @@ pub fn borrow_field_mutably(
     )
 }
 
-/// An immutable reference to a field, from either reference to its struct.
+/// Takes either reference to a struct, and gives an immutable one to its field.
 pub fn borrow_field(m: &Bounded<'_>, index: u16, stack: &mut Vec<Token>) -> Result<(), Refusal>
     ensures { Follows result (of_immutable_field m.now index (reverse stack.old.items)) (reverse stack.new.items) }
 {
@@ -38,7 +37,7 @@ pub fn borrow_field(m: &Bounded<'_>, index: u16, stack: &mut Vec<Token>) -> Resu
     }
 }
 
-/// What a reference refers to, which may be copied.
+/// Takes a reference, and gives what it refers to, which may be copied.
 pub fn read(m: &Bounded<'_>, stack: &mut Vec<Token>) -> Result<(), Refusal>
     ensures { Follows result (of_read m.now (reverse stack.old.items)) (reverse stack.new.items) }
 {

@@ -1,4 +1,4 @@
-use Rattle.std.proofs.Common.{◌≡◌, ◌≤◌, ◌∙◌, ap, map, take, ℕ, Option, List, Vec, Global, length, subst}
+use Rattle.std.proofs.Common.{◌≤◌, ◌∙◌, ap, map, ℕ, List, Vec, Global, length, subst}
 use Rattle.std.proofs.lemmas.List.{take_all}
 use Rattle.mv_move_types.specs.Module.{StructDefinition}
 use Rattle.mv_bounds.specs.Containment.{places_of}

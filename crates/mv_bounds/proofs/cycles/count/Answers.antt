@@ -1,5 +1,4 @@
-use Rattle.std.proofs.Common.{◌≡◌, ◌<◌, ◌≤◌, ◌+◌, arith, get_or, take, length, sym, refl, length-take-le, subst}
-use Rattle.mv_bounds.specs.Removal.{times}
+use Rattle.std.proofs.Common.{◌≤◌, arith, get_or, take, length, refl, length-take-le}
 use Rattle.mv_bounds.proofs.TimesLemmas.{times_length}
 use Rattle.mv_bounds.proofs.CountLemmas.{count_hit, count_miss}
 use Rattle.mv_bounds.proofs.cycles.count.Goals.{then-target-counts, else-target-counts}

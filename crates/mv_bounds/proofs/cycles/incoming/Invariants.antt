@@ -1,4 +1,4 @@
-use Rattle.std.proofs.Common.{◌≡◌, ℕ, ◌+◌, ◌*◌, ◌^◌, ◌<◌, ◌≤◌, length, get_or, take, map, List, [], Vec, Global}
+use Rattle.std.proofs.Common.{◌≡◌, ℕ, ◌*◌, ◌^◌, ◌<◌, ◌≤◌, length, get_or, take, map, [], Vec, Global}
 use Rattle.mv_bounds.specs.Removal.{edges_to}
 use Rattle.mv_bounds.proofs.cycles.incoming.Given as goal
 

@@ -1,4 +1,4 @@
-use Rattle.std.proofs.Common.{◌≡◌, ◌<◌, ◌+◌, ◌-◌, ◌≤◌, ◌∙◌, sym, refl, ap, subst, arith, ℕ, List, Vec, Global, get_or, set, take, length, [], ◌∷◌, ◌++◌, get_or-set_same}
+use Rattle.std.proofs.Common.{◌≡◌, ◌<◌, ◌+◌, ◌-◌, ◌∙◌, sym, refl, ap, subst, arith, ℕ, List, Vec, Global, get_or, set, take, length, [], ◌∷◌, ◌++◌, get_or-set_same}
 use Rattle.mv_bounds.specs.Removal.{Released}
 use Rattle.mv_bounds.proofs.ReleaseLemmas.{one_left, released_past, released_more, released_last}
 use Rattle.mv_bounds.proofs.cycles.release.Goals.{then-target-waiting+then-waiting-target-eq0+in_ok-push, then-target-waiting+else-waiting-target-eq0, else-target-waiting}

@@ -1,4 +1,4 @@
-use Rattle.std.proofs.Common.{◌∙◌, sym, ap, get_or, ◌<◌, length, subst, List}
+use Rattle.std.proofs.Common.{◌∙◌, ap, get_or, ◌<◌, length, subst, List}
 use Rattle.mv_move_types.specs.Module.{FunctionDefinition}
 use Rattle.mv_bounds.proofs.CodeLemmas.{same_code}
 use Rattle.mv_bounds.proofs.indices.functions_in.Goals as goal

@@ -1,4 +1,3 @@
-use Rattle.std.proofs.Common.{◌≡◌, ◌++◌, ◌∷◌, [], map, reverse, ap, sym, ◌∙◌}
 use Rattle.mv_type_states.proofs.Stacks.{pushed_fields}
 use Rattle.mv_type_states.proofs.stack.push_fields.Goals as goal
 

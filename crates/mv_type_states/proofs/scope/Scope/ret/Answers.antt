@@ -1,4 +1,4 @@
-use Rattle.std.proofs.Common.{◌≡◌, IfSome, Some, refl, reverse}
+use Rattle.std.proofs.Common.{◌≡◌, Some, refl, reverse}
 use Rattle.std.proofs.lemmas.Option.{MatchOption-at_some}
 use Rattle.std.proofs.lemmas.Result.{err_from_is_err_and}
 use Rattle.mv_move_types.specs.Module.{FunctionDefinition, result_tokens}
