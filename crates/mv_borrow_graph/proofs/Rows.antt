@@ -2,7 +2,8 @@
 use Rattle.std.proofs.Common.{◌≡◌, ℕ, Bool, true, false, not, List, [], ◌∷◌, ◌++◌, length, take, drop, get_or, slice_get, ◌+◌, ◌-◌, ◌<◌, ◌≤◌, Option, Some, None, Result, refl, sym, ap, ◌∙◌, subst, arith, append_assoc, append-nil}
 use Rattle.std.specs.Bool.{then_some}
 use Rattle.std.specs.List.{list_all, list_any, flat_map}
-use Rattle.std.proofs.Common.{◌&&◌}
+use Rattle.std.proofs.Common.{◌&&◌, ◌||◌}
+use Rattle.std.specs.Prelude.{if◌then◌else◌}
 use Rattle.std.proofs.lemmas.List.{take_more, drop_more, drop_all, flat_map_more}
 use Rattle.mv_move_types.specs.declared.token.Token.{Token}
 use Rattle.mv_move_types.specs.declared.token.Token.TheVariants.{Plain, Reference, MutableReference}
@@ -20,7 +21,7 @@ use Rattle.mv_edges.specs.Ascending.{are_ascending}
 use Rattle.mv_edges.specs.Sorted.{sorted}
 use Rattle.mv_edges.proofs.Sorting.{sorted-ascending, ascending-sorted, sorted-append_swap, sorted-append_sorted, any_filter}
 use Rattle.mv_borrow_graph.specs.BorrowRules.{next_temp, top_temp, no_edge_out, copy_edges, field_edges, opened_edges, result_edges, reference_nodes, without_all, call_edges, is_mutable_token, is_reference_token}
-use Rattle.mv_borrow_graph.specs.Domain.{ordered, Follows, is_picked}
+use Rattle.mv_borrow_graph.specs.Domain.{ordered, Follows}
 
 -- edges that ascend are in their order
 pub kept_order : (es : List Edge) → are_ascending es ≡ true → sorted es ≡ es
@@ -116,19 +117,50 @@ pub tied : (left removed new all more : List Edge) → removed ≡ left → new 
 tied left removed new all more is_removed is_new is = is ∙ (λ i. sorted (is_removed i ++ is_new i)) ∙ sorted-append_sorted left more
 
 -- a call, by what its handle names
-pub called : (p : Point) (i : ℕ) (s : List Edge) (found : Option FunctionHandle) (h : FunctionHandle) (ps rs : List Token) (base : ℕ) (tested mutable all : List Node) (holds : Bool)
+pub called : (p : Point) (i : ℕ) (s : List Edge) (found : Option FunctionHandle) (h : FunctionHandle) (ps rs : List Token) (base : ℕ) (holds : Bool)
     → found ≡ slice_get p.home.function_handles i → found ≡ Some h → Some ps ≡ slice_get p.home.signatures h.parameters → Some rs ≡ slice_get p.home.signatures h.results → base ≡ length p.types - length ps
-    → tested ≡ reference_nodes (is_picked true) base ps → mutable ≡ reference_nodes (is_picked true) base ps → all ≡ reference_nodes (is_picked false) base ps
-    → holds ≡ (list_all (λ n. no_edge_out n s) tested && list_all (λ t. no_edge_out (Glob t) s) (own_acquires p.home i))
-    → ordered (then_some holds (without_all all s ++ result_edges mutable all base rs s)) ≡ ordered (call_edges p i s)
-called p i s found h ps rs base tested mutable all holds is_found some is_ps is_rs is_base is_tested is_mutable is_all is_holds =
+    → holds ≡ (list_all (λ n. no_edge_out n s) (reference_nodes is_mutable_token base ps) && list_all (λ t. no_edge_out (Glob t) s) (own_acquires p.home i))
+    → ordered (then_some holds (without_all (reference_nodes is_reference_token base ps) s ++ result_edges (reference_nodes is_mutable_token base ps) (reference_nodes is_reference_token base ps) base rs s)) ≡ ordered (call_edges p i s)
+called p i s found h ps rs base holds is_found some is_ps is_rs is_base is_holds =
     let handle : slice_get p.home.function_handles i ≡ Some h = sym is_found ∙ some in
     let parameters : slice_get p.home.signatures h.parameters ≡ Some ps = sym is_ps in
     let results : slice_get p.home.signatures h.results ≡ Some rs = sym is_rs in
     let acquired : Bool = list_all (λ t. no_edge_out (Glob t) s) (own_acquires p.home i) in
-    let tested_at : tested ≡ reference_nodes is_mutable_token (length p.types - length ps) ps = is_tested ∙ ap (λ b. reference_nodes is_mutable_token b ps) is_base in
-    let mutable_at : mutable ≡ reference_nodes is_mutable_token (length p.types - length ps) ps = is_mutable ∙ ap (λ b. reference_nodes is_mutable_token b ps) is_base in
-    let all_at : all ≡ reference_nodes is_reference_token (length p.types - length ps) ps = is_all ∙ ap (λ b. reference_nodes is_reference_token b ps) is_base in
+    let after : Bool → ℕ → Option (List Edge) = λ tested b.
+    ordered (then_some tested (without_all (reference_nodes is_reference_token b ps) s ++ result_edges (reference_nodes is_mutable_token b ps) (reference_nodes is_reference_token b ps) b rs s)) in
     rw (handle, parameters, results)
-    (ap (λ x. ordered (then_some x (without_all all s ++ result_edges mutable all base rs s))) is_holds
-    ∙ (λ j. ordered (then_some (list_all (λ n. no_edge_out n s) (tested_at j) && acquired) (without_all (all_at j) s ++ result_edges (mutable_at j) (all_at j) (is_base j) rs s))))
+    (ap (λ x. after x base) is_holds ∙ ap (λ b. after (list_all (λ n. no_edge_out n s) (reference_nodes is_mutable_token b ps) && acquired) b) is_base)
+
+-- the nodes of one more type
+nodes_more : (test : Token → Bool) (place i : ℕ) (types : List Token) (d : Token) → i < length types
+    → reference_nodes test (place + i) (drop i types) ≡ (if test (get_or types i d) then (Temp (place + i) ∷ []) else []) ++ reference_nodes test (place + (i + 1)) (drop (i + 1) types)
+nodes_more test place i types d h =
+    let next : place + i + 1 ≡ place + (i + 1) = omega arith in
+    ap (λ ts. reference_nodes test (place + i) ts) (drop_more types i d h)
+    ∙ ap (λ k. (if test (get_or types i d) then (Temp (place + i) ∷ []) else []) ++ reference_nodes test k (drop (i + 1) types)) next
+
+-- a test of a node that is there only if it is asked for
+tested_more : (p : Node → Bool) (asked : Bool) (n : Node) (ns : List Node) → list_all p ((if asked then (n ∷ []) else []) ++ ns) ≡ ((not asked || p n) && list_all p ns)
+tested_more p true n ns = refl
+tested_more p false n ns = refl
+
+-- one more node is free
+pub free_more : (place i : ℕ) (types : List Token) (d : Token) (s : List Edge) (whole : Bool) → i < length types
+    → (not (is_mutable_token (get_or types i d)) || no_edge_out (Temp (place + i)) s) ≡ true
+    → list_all (λ n. no_edge_out n s) (reference_nodes is_mutable_token (place + i) (drop i types)) ≡ whole
+    → list_all (λ n. no_edge_out n s) (reference_nodes is_mutable_token (place + (i + 1)) (drop (i + 1) types)) ≡ whole
+free_more place i types d s whole h free rest =
+    let p : Node → Bool = λ n. no_edge_out n s in
+    let others : Bool = list_all p (reference_nodes is_mutable_token (place + (i + 1)) (drop (i + 1) types)) in
+    ap (λ b. b && others) (sym free) ∙ sym (tested_more p (is_mutable_token (get_or types i d)) (Temp (place + i)) (reference_nodes is_mutable_token (place + (i + 1)) (drop (i + 1) types)))
+    ∙ ap (list_all p) (sym (nodes_more is_mutable_token place i types d h)) ∙ rest
+
+-- one node is not
+pub one_not_free : (place i : ℕ) (types : List Token) (d : Token) (s : List Edge) (whole : Bool) → i < length types
+    → (not (is_mutable_token (get_or types i d)) || no_edge_out (Temp (place + i)) s) ≡ false
+    → list_all (λ n. no_edge_out n s) (reference_nodes is_mutable_token (place + i) (drop i types)) ≡ whole → false ≡ whole
+one_not_free place i types d s whole h found rest =
+    let p : Node → Bool = λ n. no_edge_out n s in
+    let others : Bool = list_all p (reference_nodes is_mutable_token (place + (i + 1)) (drop (i + 1) types)) in
+    ap (λ b. b && others) (sym found) ∙ sym (tested_more p (is_mutable_token (get_or types i d)) (Temp (place + i)) (reference_nodes is_mutable_token (place + (i + 1)) (drop (i + 1) types)))
+    ∙ ap (list_all p) (sym (nodes_more is_mutable_token place i types d h)) ∙ rest

@@ -1,4 +1,5 @@
 -- A block that goes on leads from edges between nodes that are there to such edges, and so past the operands.
+-- It stands in specs/, since a trait's laws may cite nothing of their own crate but its specs/.
 use Rattle.std.proofs.Common.{◌≡◌, ◌==◌, ℕ, ◌+◌, ◌-◌, ◌<◌, ◌≤◌, zero, suc, Bool, true, false, cond, List, [], ◌∷◌, length, map, Option, Some, None, option_and_then, slice_get, nat_le, IsTrue, Contains, refl, ap, sym, ◌∙◌, subst, arith, get_or, ⊎_elim}
 use Rattle.std.specs.List.{list_all, slice_range}
 use Rattle.std.specs.Option.{option_map_or}

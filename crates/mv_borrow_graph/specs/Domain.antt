@@ -1,8 +1,11 @@
 -- The edges of a function's borrow graph as a domain of states.
-use Rattle.std.specs.Prelude.{◌≡◌, ⊤, ℕ, Bool, true, false, nat_le, List, length, Option, Some, None, Result, Ok, Err, slice_get}
+use Rattle.std.specs.Prelude.{◌≡◌, ℕ, Bool, true, false, nat_le, List, length, Option, Some, None, Result, Ok, Err, slice_get, IsSome}
+use Rattle.std.specs.Option.{option_map_or}
 use Rattle.mv_move_types.specs.declared.token.Token.{Token}
 use Rattle.mv_move_types.specs.Options.{◌>>=◌}
-use Rattle.mv_move_types.specs.Module.{Module, FunctionDefinition}
+use Rattle.mv_move_types.specs.Module.{Module, FunctionDefinition, local_type}
+use Rattle.mv_move_types.specs.declared.instruction.Instruction.{Instruction}
+use Rattle.mv_move_types.specs.declared.instruction.Instruction.TheVariants.{CopyLoc, MoveLoc, StLoc, MutBorrowLoc, ImmBorrowLoc, MutBorrowField, ImmBorrowField, Call, MutBorrowGlobal, ImmBorrowGlobal}
 use Rattle.mv_type_states.specs.TypeRules.{Types}
 use Rattle.mv_type_states.specs.TypesHold.{Point}
 use Rattle.mv_type_states.specs.Sound.{types_before}
@@ -46,8 +49,26 @@ abbrev pub Finds : {A : Type 0} → Result A StepError → Option A → Type 0
 Finds (Ok x) found = found ≡ Some x
 Finds (Err e) found = (e ≡ Need) × (found ≡ None)
 
--- the state after is this one, or a need fails where there is none
+-- the state after is this one, or a need fails where there is none; memory is wanted only where no need fails
 abbrev pub Follows : {S : Type 0} → Result S StepError → Option S → Type 0
 Follows (Ok t) after = after ≡ Some t
 Follows (Err Need) after = after ≡ None
-Follows (Err Memory) after = ⊤
+Follows (Err Memory) after = IsSome after
+
+-- whether a local is of a reference type
+abbrev pub is_reference_local : Module → FunctionDefinition → ℕ → Bool
+is_reference_local m d l = option_map_or is_reference_token (local_type m d l) false
+
+-- whether an instruction puts a reference where none stood: its edges take memory, and those of no other instruction
+abbrev pub places_reference : Module → FunctionDefinition → Instruction → Bool
+places_reference m d (CopyLoc l) = is_reference_local m d l
+places_reference m d (MoveLoc l) = is_reference_local m d l
+places_reference m d (StLoc l) = is_reference_local m d l
+places_reference m d (MutBorrowLoc l) = true
+places_reference m d (ImmBorrowLoc l) = true
+places_reference m d (MutBorrowField i) = true
+places_reference m d (ImmBorrowField i) = true
+places_reference m d (MutBorrowGlobal i) = true
+places_reference m d (ImmBorrowGlobal i) = true
+places_reference m d (Call i) = true
+places_reference m d _ = false

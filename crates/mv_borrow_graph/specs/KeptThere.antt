@@ -1,4 +1,5 @@
 -- An instruction that finds the types that it needs leaves edges between nodes that are there.
+-- It stands in specs/, since a trait's laws may cite nothing of their own crate but its specs/.
 use Rattle.std.proofs.Common.{◌≡◌, ℕ, ◌+◌, ◌-◌, ◌<◌, ◌≤◌, Bool, true, false, not, ◌&&◌, List, [], ◌∷◌, ◌++◌, length, filter, slice_get, reverse, Option, Some, None, refl, sym, ap, ◌∙◌, subst, arith}
 use Rattle.std.specs.Prelude.{nat_lt, nat_le}
 use Rattle.std.specs.Bool.{then_some}

@@ -1,4 +1,5 @@
 -- The order is one, and a step leaves ascending edges.
+-- It stands in specs/, since a trait's laws may cite nothing of their own crate but its specs/.
 use Rattle.std.specs.Prelude.{◌≡◌, List, true, Option, Some, None, length, slice_get, IsTrue}
 use Rattle.std.proofs.Common.{refl, subst}
 use Rattle.mv_move_types.specs.Options.{◌>>=◌}

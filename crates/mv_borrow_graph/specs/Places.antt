@@ -1,6 +1,7 @@
 -- What stands where on the stack before and after some of its types are exchanged for others.
 --   taken ++ rest       the types before, the topmost first
 --   given ++ rest       the types after
+-- It stands in specs/, since a trait's laws may cite nothing of their own crate but its specs/.
 use Rattle.std.proofs.Common.{◌≡◌, ◌==◌, ℕ, zero, suc, ◌+◌, ◌-◌, ◌<◌, ◌≤◌, Bool, true, false, not, ◌&&◌, List, [], ◌∷◌, ◌++◌, length, reverse, Option, Some, None, slice_get, refl, sym, ap, ◌∙◌, subst, arith, true≢false, ⊎_elim, inl, inr, ◌⊎◌, eq-eqb}
 use Rattle.std.specs.Prelude.{nat_lt}
 use Rattle.std.specs.List.{list_all}

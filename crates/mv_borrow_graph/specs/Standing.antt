@@ -1,4 +1,5 @@
 -- The types before the instructions of a block stand among those of the function.
+-- It stands in specs/, since a trait's laws may cite nothing of their own crate but its specs/.
 use Rattle.std.proofs.Common.{◌≡◌, ◌==◌, ℕ, ◌+◌, ◌-◌, ◌<◌, ◌≤◌, zero, suc, Bool, true, false, cond, List, [], ◌∷◌, ◌++◌, length, flat_map, take, drop, Option, Some, None, is_some, option_map, slice_get, nat_le, IsTrue, refl, ap, sym, ◌∙◌, subst, arith, length-drop, length-take}
 use Rattle.std.specs.List.{list_all, slice_range}
 use Rattle.std.specs.Option.{option_map_or}
@@ -16,11 +17,8 @@ use Rattle.mv_cfg.specs.FlowGraph.{IsFlowGraph, basic_block_of}
 use Rattle.mv_type_states.specs.TypeRules.{Types, types_after}
 use Rattle.mv_type_states.specs.TypesHold.{types_through, block_is_typed, function_is_typed}
 use Rattle.mv_type_states.specs.Sound.{types_each, types_before}
+use Rattle.mv_type_states.proofs.BlockLemmas.{types_in}
 use Rattle.mv_type_states.proofs.Tiling.{Tiles, blocks-tile}
-
--- the types before each instruction of a block
-abbrev pub types_in : Module → FunctionDefinition → BasicBlock → List Types
-types_in m d b = types_each m d (slice_range d.code b.first (b.last + 1)) []
 
 -- a list stands in another from a place on
 pub record Stands {A : Type 0} (xs whole : List A) (at : ℕ) : Type 0 where
@@ -30,7 +28,7 @@ pub record Stands {A : Type 0} (xs whole : List A) (at : ℕ) : Type 0 where
 pub Stands-head : {A : Type 0} (x : A) (xs whole : List A) (at : ℕ) → Stands (x ∷ xs) whole at → slice_get whole at ≡ Some x
 Stands-head x xs whole at s = let e : at + 0 ≡ at = omega arith in subst (λ (n : ℕ). slice_get whole n ≡ Some x) e (s.each 0 x refl)
 
--- and the others stand behind it
+-- and the others stand after it
 pub Stands-tail : {A : Type 0} (x : A) (xs whole : List A) (at : ℕ) → Stands (x ∷ xs) whole at → Stands xs whole (suc at)
 Stands-tail x xs whole at s = record {
   each = λ j y e. let n : at + suc j ≡ suc at + j = omega arith in subst (λ (n : ℕ). slice_get whole n ≡ Some y) n (s.each (suc j) y e);
@@ -50,12 +48,12 @@ at_take (suc n) (y ∷ ys) zero x e = e
 at_take (suc n) (y ∷ ys) (suc j) x e = at_take n ys j x e
 
 -- a part of a list stands where it begins
-pub Stands-range : {A : Type 0} (xs : List A) (first behind : ℕ) → Stands (slice_range xs first behind) xs first
-Stands-range xs first behind = record { each = λ j x e. sym (at_drop first xs j) ∙ at_take (behind - first) (drop first xs) j x e }
+pub Stands-range : {A : Type 0} (xs : List A) (first end : ℕ) → Stands (slice_range xs first end) xs first
+Stands-range xs first end = record { each = λ j x e. sym (at_drop first xs j) ∙ at_take (end - first) (drop first xs) j x e }
 
 -- how long it is
-pub length-range : {A : Type 0} (xs : List A) (first behind : ℕ) → behind ≤ length xs → length (slice_range xs first behind) ≡ behind - first
-length-range xs first behind le = omega (arith, length-take (behind - first) (drop first xs), length-drop first xs)
+pub length-range : {A : Type 0} (xs : List A) (first end : ℕ) → end ≤ length xs → length (slice_range xs first end) ≡ end - first
+length-range xs first end le = omega (arith, length-take (end - first) (drop first xs), length-drop first xs)
 
 -- where a step of two ends, the first does
 pub some-height : {A : Type 0} (b : Bool) (o : Option A) → is_some (cond b o None) ≡ true → is_some o ≡ true
@@ -67,11 +65,11 @@ pub tiles_within : (bs : List BasicBlock) (at size : ℕ) → Tiles at bs size �
 tiles_within [] at size t = omega (arith, t)
 tiles_within (b ∷ bs) at size t = let le = tiles_within bs (b.last + 1) size t.1.1 in let one = t.0 in let two = t.1.0 in omega arith
 
--- a block begins behind those before it
-pub tiles_behind : (bs : List BasicBlock) (at size k : ℕ) (b : BasicBlock) → Tiles at bs size → slice_get bs k ≡ Some b → at ≤ b.first
-tiles_behind [] at size k b t e = absurd (none-some b e)
-tiles_behind (c ∷ bs) at size zero b t e = let same : c ≡ b = same_Some c b e in let one : c.first ≡ at = t.0 in let two = ap (λ (s : BasicBlock). s.first) same in omega arith
-tiles_behind (c ∷ bs) at size (suc k) b t e = let le = tiles_behind bs (c.last + 1) size k b t.1.1 e in let one : c.first ≡ at = t.0 in let two : c.first ≤ c.last = t.1.0 in omega arith
+-- a block begins after those before it
+pub tiles_after : (bs : List BasicBlock) (at size k : ℕ) (b : BasicBlock) → Tiles at bs size → slice_get bs k ≡ Some b → at ≤ b.first
+tiles_after [] at size k b t e = absurd (none-some b e)
+tiles_after (c ∷ bs) at size zero b t e = let same : c ≡ b = same_Some c b e in let one : c.first ≡ at = t.0 in let two = ap (λ (s : BasicBlock). s.first) same in omega arith
+tiles_after (c ∷ bs) at size (suc k) b t e = let le = tiles_after bs (c.last + 1) size k b t.1.1 e in let one : c.first ≡ at = t.0 in let two : c.first ≤ c.last = t.1.0 in omega arith
 
 module _ (m : Module) (d : FunctionDefinition) where
   -- as many types as instructions
@@ -108,7 +106,7 @@ module _ (m : Module) (d : FunctionDefinition) where
       let one : c.first ≡ at = t.0 in
       let two : c.first ≤ c.last = t.1.0 in
       let within : c.last + 1 ≤ length d.code = tiles_within bs (c.last + 1) (length d.code) t.1.1 in
-      let behind : c.last + 1 ≤ b.first = tiles_behind bs (c.last + 1) (length d.code) k b t.1.1 e in
+      let after : c.last + 1 ≤ b.first = tiles_after bs (c.last + 1) (length d.code) k b t.1.1 e in
       let size : length (types_in m d c) ≡ c.last + 1 - c.first = length-types_each (slice_range d.code c.first (c.last + 1)) [] (typed_some c p.0) ∙ length-range d.code c.first (c.last + 1) within in
       let sum : length (types_in m d c) + (n - length (types_in m d c)) ≡ n = omega arith in
       let next : c.last + 1 + (n - length (types_in m d c)) ≡ b.first + j = omega arith in

@@ -15,7 +15,7 @@ use std::alloc::Global;
 pub fn kept(holds: bool, s: Edges) -> Result<Edges, StepError>
     requires { IsTrue (are_ascending s) }
     ensures after { Follows result (ordered (then_some holds s)) }
-    ensures need { result ≡ Err StepError.Memory → ⊥ }
+    ensures memory { ¬ (result ≡ Err StepError.Memory) }
 {
     if holds { Ok(s) } else { Err(StepError::Need) }
 }
@@ -23,7 +23,7 @@ pub fn kept(holds: bool, s: Edges) -> Result<Edges, StepError>
 /// The edges without those at a node.
 pub fn released(holds: bool, node: Node, mut s: Edges) -> Result<Edges, StepError>
     ensures after { Follows result (ordered (then_some holds (without node s))) }
-    ensures need { result ≡ Err StepError.Memory → ⊥ }
+    ensures memory { ¬ (result ≡ Err StepError.Memory) }
 {
     if !holds {
         return Err(StepError::Need);

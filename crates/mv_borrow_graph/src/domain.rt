@@ -106,26 +106,35 @@ impl<'t, 'm> BorrowDomain<'t, 'm> {
     }
 }
 
+/// How many edges a search may state at most.
+const MOST_EDGES: usize = 1024;
+
+/// How many positions a label may have that a search states.
+const MOST_POSITIONS: usize = 8;
+
 /// Whether each edge has a label of at most 8 positions.
 fn are_short(edges: &[Edge]) -> bool
     ensures { result ≡ list_all (λ e. nat_le (length e.label.path) 8) edges.now }
 {
-    edges.iter().all(|e| e.label().path().len() <= 8)
+    edges
+        .iter()
+        .all(|e| e.label().path().len() <= MOST_POSITIONS)
 }
 
 /// Whether a search may state the edges: at most 1,024, each with a label of at most 8 positions.
 fn are_few(edges: &[Edge]) -> bool
     ensures { result ≡ few edges.now }
 {
-    edges.len() <= 1024 && are_short(edges)
+    edges.len() <= MOST_EDGES && are_short(edges)
 }
 
 impl<'t, 'm> Domain for BorrowDomain<'t, 'm> {
-    ghost use Rattle.std.specs.Prelude.{◌≡◌, ◌++◌, List, length, IfOk, IsTrue};
+    ghost use Rattle.std.specs.Prelude.{◌≡◌, ◌++◌, List, Option, length, slice_get, false, IfOk, IsErrOf, IsSome, IsTrue};
+    ghost use Rattle.std.specs.Option.{option_map_or};
     ghost use Rattle.mv_edges.specs.Edges.{Edge as EdgeRecord, edges_leq};
     ghost use Rattle.mv_edges.specs.Sorted.{sorted};
     ghost use Rattle.mv_edges.specs.Ascending.{are_ascending};
-    ghost use Rattle.mv_borrow_graph.specs.Domain.{edges_step};
+    ghost use Rattle.mv_borrow_graph.specs.Domain.{edges_step, places_reference};
     ghost use Rattle.mv_borrow_graph.specs.Laws.{edges_lawful};
     ghost use Rattle.mv_borrow_graph.specs.Nodes.{may_begin_with, are_few, IsGraphOf};
 
@@ -167,8 +176,14 @@ impl<'t, 'm> Domain for BorrowDomain<'t, 'm> {
         Edges::join(alloc, a, b)
     }
 
-    #[tactic(auto, using(crate::proofs::Stacks::step_ok, crate::proofs::Stacks::step_need, crate::proofs::Stacks::step_unknown))]
-    fn step(&self, alloc: Global, s: Edges, at: usize) -> Result<Edges, StepError> {
+    /// Memory is wanted only where no need fails, of an instruction that puts a reference where none stood.
+    #[tactic(auto, using(crate::proofs::Stacks::step_ok, crate::proofs::Stacks::step_need, crate::proofs::Stacks::step_meets, crate::proofs::Stacks::step_memory, crate::proofs::Stacks::step_unknown))]
+    fn step(&self, alloc: Global, s: Edges, at: usize) -> Result<Edges, StepError>
+        ensures ok { IfOk result (λ t. edges_step self.now.home self.now.function at s ≡ Option.Some t) }
+        ensures need { IsErrOf result StepError.Need → edges_step self.now.home self.now.function at s ≡ Option.None }
+        ensures meets { IsErrOf result StepError.Memory → IsSome (edges_step self.now.home self.now.function at s) }
+        ensures memory { IsErrOf result StepError.Memory → IsTrue (option_map_or (places_reference self.now.home self.now.function) (slice_get self.now.function.code at) false) }
+    {
         let Some(instruction) = self.instruction(at) else {
             return Err(StepError::Need);
         };

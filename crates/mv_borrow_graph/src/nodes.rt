@@ -1,5 +1,5 @@
 // What types and nodes are, and which nodes the references among types have.
-ghost use Rattle.std.specs.Prelude.{◌≡◌, ◌+◌, ◌≤◌, ◌^◌, ◌++◌, ◌∷◌, [], length, IfOk, OnOk, if◌then◌else◌};
+ghost use Rattle.std.specs.Prelude.{◌≡◌, ◌+◌, ◌≤◌, ◌^◌, ◌++◌, ◌∷◌, ◌||◌, [], not, length, IfOk, OnOk, if◌then◌else◌};
 ghost use Rattle.std.specs.List.{list_all};
 ghost use Rattle.mv_move_types.specs.declared.borrow.Node.TheVariants.{Glob};
 ghost use Rattle.mv_borrow_graph.specs.BorrowRules.{is_mutable_token, is_reference_token, is_root_node, is_temp, no_edge_out, reference_nodes};
@@ -56,11 +56,25 @@ pub fn is_free(node: Node, s: &Edges) -> bool
     !s.has_out_of(node)
 }
 
-/// Whether no edge leads out of any of these nodes.
-pub fn are_free(nodes: &[Node], s: &Edges) -> bool
-    ensures { result ≡ list_all (λ n. no_edge_out n s.now) nodes.now }
+/// Whether no edge leads out of a node, if it is asked for.
+fn is_free_if(asked: bool, node: Node, s: &Edges) -> bool
+    ensures { result ≡ (not asked || no_edge_out node s.now) }
 {
-    nodes.iter().all(|n| is_free(*n, s))
+    !asked || is_free(node, s)
+}
+
+/// Whether no edge leads out of the mutable references among these types, which stand on the stack from a place on.
+pub fn are_free(place: usize, tokens: &[Token], s: &Edges) -> bool
+    requires { place + length tokens.now ≤ 2 ^ 16 }
+    ensures { result ≡ list_all (λ n. no_edge_out n s.now) (reference_nodes is_mutable_token place tokens.now) }
+{
+    for (i, token) in tokens.iter().enumerate() {
+        let node = Node::Temp((place + i) as u16);
+        if !is_free_if(is_mutable_reference(*token), node, s) {
+            return false;
+        }
+    }
+    true
 }
 
 /// Whether no edge leads out of any of these globals.

@@ -1,12 +1,12 @@
 // Where an instruction stands in its function, and what it does to the edges.
-ghost use Rattle.std.specs.Prelude.{◌≡◌, ◌-◌, ◌&&◌, length, reverse, slice_get, IsTrue};
+ghost use Rattle.std.specs.Prelude.{◌≡◌, ◌-◌, ◌&&◌, length, reverse, slice_get, Err, IsTrue};
 ghost use Rattle.std.specs.List.{list_any};
 ghost use Rattle.mv_move_types.specs.declared.borrow.Node.TheVariants.{Temp};
 ghost use Rattle.mv_move_types.specs.Module.{local_type as type_of_local};
 ghost use Rattle.mv_edges.specs.Edges.{same_node};
 ghost use Rattle.mv_edges.specs.Ascending.{are_ascending};
 ghost use Rattle.mv_borrow_graph.specs.BorrowRules.{edges_after, is_mutable, next_temp, top_temp, no_mutable_from};
-ghost use Rattle.mv_borrow_graph.specs.Domain.{Finds, Follows, ordered};
+ghost use Rattle.mv_borrow_graph.specs.Domain.{Finds, Follows, ordered, places_reference};
 
 use crate::changes::{kept, released};
 use crate::nodes::{is_free, is_mutable_reference};
@@ -118,7 +118,9 @@ impl<'d, 'm> Site<'d, 'm> {
 
     /// What an instruction here makes of the edges.
     ///
-    /// Answers `Need` where a need of the instruction fails.
+    /// # Errors
+    /// `Need` where a need of the instruction fails. Else `Memory` if an allocation failed: an instruction that puts no
+    /// reference where none stood takes no memory.
     #[tactic(auto, using(crate::proofs::Rows::kept_order), unfolding(crate::specs::BorrowRules::edges_after))]
     pub fn step(
         &self,
@@ -127,7 +129,8 @@ impl<'d, 'm> Site<'d, 'm> {
         mut s: Edges,
     ) -> Result<Edges, StepError>
         requires { IsTrue (are_ascending s) }
-        ensures { Follows result (ordered (edges_after self.now instruction s)) }
+        ensures after { Follows result (ordered (edges_after self.now instruction s)) }
+        ensures memory { result ≡ Err StepError.Memory → IsTrue (places_reference self.now.home self.now.function instruction) }
     {
         match instruction {
             Instruction::Pop => {

@@ -85,6 +85,22 @@ sorted-append_sorted es fs =
       λ c. elim (Contains-append_cases es fs z c) [ inl d ↦ Contains-append_left es (sorted fs) z d | inr d ↦ Contains-append_right es (sorted fs) z ((contains-sorted fs z).1 d) ],
     ))
 
+-- one more of those that are to be put in their places was
+pub sorted-more : (edges rest total next : List Edge) (x : Edge) → next ≡ sorted (edges ++ x ∷ []) → sorted (edges ++ x ∷ rest) ≡ total → sorted (next ++ rest) ≡ total
+sorted-more edges rest total next x put was =
+    ap (λ es. sorted (es ++ rest)) put ∙ sorted-append_swap (sorted (edges ++ x ∷ [])) rest ∙ sorted-append_sorted rest (edges ++ x ∷ [])
+    ∙ sorted-append_swap rest (edges ++ x ∷ []) ∙ ap sorted (append_assoc edges (x ∷ []) rest) ∙ was
+
+-- a list of no length
+pub none-left : (es : List Edge) → length es ≡ 0 → es ≡ []
+none-left [] h = refl
+none-left (x ∷ es) h = absurd (omega (arith, h))
+
+-- all of them were
+pub sorted-all : (edges rest total : List Edge) → are_ascending edges ≡ true → length rest ≡ 0 → sorted (edges ++ rest) ≡ total → edges ≡ total
+sorted-all edges [] total h none was = sym (sorted-ascending edges h) ∙ ap sorted (sym (append-nil edges)) ∙ was
+sorted-all edges (x ∷ rest) total h none was = absurd (omega (arith, none))
+
 -- of two ascending lists, the head of the left one comes first
 pub sorted_left_first : (a b : Edge) (es fs : List Edge) → are_ascending (a ∷ es) ≡ true → are_ascending (b ∷ fs) ≡ true → edge_before a b ≡ true → sorted ((a ∷ es) ++ b ∷ fs) ≡ a ∷ sorted (es ++ b ∷ fs)
 sorted_left_first a b es fs h g k =

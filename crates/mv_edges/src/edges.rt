@@ -246,9 +246,9 @@ impl Edges {
         ensures edges { IfOk result (λ s. s ≡ sorted (renamed old new self)) }
         ensures ascending { IfOk result (λ s. IsTrue (are_ascending s)) }
     {
-        let mut items = self.into_items();
         let mut edges = Edges::new(alloc);
-        while let Some(e) = items.pop() {
+        // As they ascend, most of them come last.
+        for e in self.into_items() {
             edges.insert(e.renamed(old, new))?;
         }
         Ok(edges)

@@ -72,8 +72,7 @@ impl Edges {
     {
         // For the prover: the edges ascend.
         let _ = self.as_slice();
-        let mut items = others.into_items();
-        while let Some(e) = items.pop() {
+        for e in others.into_items() {
             self.insert(e)?;
         }
         Ok(())

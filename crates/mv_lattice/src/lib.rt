@@ -86,7 +86,8 @@ pub trait Domain {
 
     /// What the instruction at `at` makes of the state.
     ///
-    /// Answers `Need` where a need of the instruction fails. The state is dropped then.
+    /// # Errors
+    /// `Need` where a need of the instruction fails; `Memory` if an allocation failed. The state is dropped then.
     fn step(&self, alloc: Global, s: Self::State, at: usize) -> Result<Self::State, StepError>
         requires state { is_state self.now s }
         requires inside { at < size self.now }

@@ -8,7 +8,7 @@ use crate::{Domain, StepError, carry};
 use mv_cfg::{Block, Cfg};
 use std::alloc::{AllocError, Global};
 
-/// Why no closed flow is answered.
+/// Why no closed flow is found.
 #[derive(Drop, Clone, Copy, PartialEq, Eq, Debug)]
 pub enum SolveError {
     /// There is no closed flow: a need of an instruction fails.

@@ -1,4 +1,5 @@
 -- Where an instruction finds what it needs among some availabilities, it does among all below, and leaves availabilities below.
+-- It stands in specs/, since a trait's laws may cite nothing of their own crate but its specs/.
 use Rattle.std.specs.Prelude.{◌≡◌, ℕ, zero, suc, List, [], ◌∷◌, Bool, true, false, ◌&&◌, Option, Some, None, slice_get, slice_set}
 use Rattle.std.specs.Bool.{then_some}
 use Rattle.std.proofs.Common.{refl, sym, ap, ◌∙◌, subst, true≢false}

@@ -182,7 +182,7 @@ impl<'t, 'm> LocalsDomain<'t, 'm> {
 }
 
 impl<'t, 'm> Domain for LocalsDomain<'t, 'm> {
-    ghost use Rattle.std.specs.Prelude.{⊤, length, IsTrue};
+    ghost use Rattle.std.specs.Prelude.{◌≡◌, ⊤, Option, length, IfOk, IsErrOf, IsTrue};
     ghost use Rattle.mv_locals_safety.specs.LocalsRules.{locals_leq};
     ghost use Rattle.mv_locals_safety.specs.Domain.{IsOfLocals, locals_step};
     ghost use Rattle.mv_locals_safety.specs.Laws.{locals_lawful};
@@ -223,12 +223,17 @@ impl<'t, 'm> Domain for LocalsDomain<'t, 'm> {
         a.join(alloc, b)
     }
 
+    /// No step takes memory.
     fn step(
         &self,
         _alloc: Global,
         s: Availabilities,
         at: usize,
-    ) -> Result<Availabilities, StepError> {
+    ) -> Result<Availabilities, StepError>
+        ensures ok { IfOk result (λ t. locals_step self.now.home self.now.function at s ≡ Option.Some t) }
+        ensures need { IsErrOf result StepError.Need → locals_step self.now.home self.now.function at s ≡ Option.None }
+        ensures memory { ¬ IsErrOf result StepError.Memory }
+    {
         match self.instruction(at) {
             Some(instruction) => self.after(instruction, s),
             None => Err(StepError::Need),

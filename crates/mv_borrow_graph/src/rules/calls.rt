@@ -1,12 +1,12 @@
 // Calls and returns.
-ghost use Rattle.std.specs.Prelude.{◌≡◌, ◌+◌, ◌++◌, ◌∷◌, [], ◌≤◌, ◌^◌, ◌&&◌, ◌||◌, ◌-◌, length, slice_get, option_map, IfOk, IfSome, OnOk, IsTrue};
+ghost use Rattle.std.specs.Prelude.{◌≡◌, ◌+◌, ◌++◌, ◌∷◌, [], ◌≤◌, ◌^◌, ◌&&◌, ◌||◌, ◌-◌, length, slice_get, option_map, Err, IfOk, IfSome, OnOk, IsTrue};
 ghost use Rattle.std.specs.Bool.{then_some};
 ghost use Rattle.std.specs.List.{list_all, list_any};
 ghost use Rattle.mv_move_types.specs.declared.borrow.Node.TheVariants.{Glob};
 ghost use Rattle.mv_move_types.specs.Module.{own_acquires};
 ghost use Rattle.mv_edges.specs.Ascending.{are_ascending};
 ghost use Rattle.mv_edges.specs.Sorted.{sorted};
-ghost use Rattle.mv_borrow_graph.specs.BorrowRules.{call_edges, is_mutable, is_root_node, is_temp, no_edge_out, opened_edges, result_edges, return_edges, without_all};
+ghost use Rattle.mv_borrow_graph.specs.BorrowRules.{call_edges, is_mutable, is_mutable_token, is_reference_token, is_root_node, is_temp, no_edge_out, opened_edges, reference_nodes, result_edges, return_edges, without_all};
 ghost use Rattle.mv_borrow_graph.specs.Domain.{Follows, ordered};
 
 use crate::changes::kept;
@@ -108,23 +108,25 @@ fn tied(
     Ok(s)
 }
 
-/// The same, where a need holds.
+/// Ties the results to the arguments, whose types are given, where a need holds.
 fn tied_if(
     alloc: Global,
     holds: bool,
-    mutable: &[Node],
-    all: &[Node],
     place: usize,
+    parameters: &[Token],
     results: &[Token],
     s: Edges,
 ) -> Result<Edges, StepError>
-    requires { place + length results.now ≤ 2 ^ 16 }
-    ensures { Follows result (ordered (then_some holds (without_all all.now s ++ result_edges mutable.now all.now place results.now s))) }
+    requires taken { place + length parameters.now ≤ 2 ^ 16 }
+    requires given { place + length results.now ≤ 2 ^ 16 }
+    ensures { let mutable = reference_nodes is_mutable_token place parameters.now in let all = reference_nodes is_reference_token place parameters.now in Follows result (ordered (then_some holds (without_all all s ++ result_edges mutable all place results.now s))) }
 {
     if !holds {
         return Err(StepError::Need);
     }
-    Ok(tied(alloc, mutable, all, place, results, s)?)
+    let mutable = nodes_of(alloc, true, place, parameters)?;
+    let all = nodes_of(alloc, false, place, parameters)?;
+    Ok(tied(alloc, &mutable, &all, place, results, s)?)
 }
 
 impl<'d, 'm> Site<'d, 'm> {
@@ -153,10 +155,11 @@ impl<'d, 'm> Site<'d, 'm> {
     }
 
     /// Whether no edge leads out of a call's mutable arguments, or of the globals that the function acquires.
-    fn may_call(&self, mutable: &[Node], callee: u16, s: &Edges) -> bool
-        ensures { result ≡ (list_all (λ n. no_edge_out n s.now) mutable.now && list_all (λ t. no_edge_out (Glob t) s.now) (own_acquires self.now.home callee)) }
+    fn may_call(&self, place: usize, parameters: &[Token], callee: u16, s: &Edges) -> bool
+        requires { place + length parameters.now ≤ 2 ^ 16 }
+        ensures { result ≡ (list_all (λ n. no_edge_out n s.now) (reference_nodes is_mutable_token place parameters.now) && list_all (λ t. no_edge_out (Glob t) s.now) (own_acquires self.now.home callee)) }
     {
-        are_free(mutable, s) && are_free_globals(self.module.own_acquires(callee), s)
+        are_free(place, parameters, s) && are_free_globals(self.module.own_acquires(callee), s)
     }
 
     /// Calls a function: its mutable arguments and the globals that it acquires have to be free.
@@ -173,10 +176,8 @@ impl<'d, 'm> Site<'d, 'm> {
             return Err(StepError::Need);
         };
         let place = self.first_of(parameters.len());
-        let mutable = nodes_of(alloc, true, place, parameters)?;
-        let all = nodes_of(alloc, false, place, parameters)?;
-        let holds = self.may_call(&mutable, callee, &s);
-        tied_if(alloc, holds, &mutable, &all, place, results, s)
+        let holds = self.may_call(place, parameters, callee, &s);
+        tied_if(alloc, holds, place, parameters, results, s)
     }
 
     /// Whether an edge keeps a result from being handed out: it leads to it from what the frame or the storage holds, or
@@ -198,7 +199,8 @@ impl<'d, 'm> Site<'d, 'm> {
     /// Hands out the results, into which nothing of the frame may lead.
     pub fn hand_out(&self, s: Edges) -> Result<Edges, StepError>
         requires { IsTrue (are_ascending s) }
-        ensures { Follows result (ordered (return_edges self.now s)) }
+        ensures after { Follows result (ordered (return_edges self.now s)) }
+        ensures memory { ¬ (result ≡ Err StepError.Memory) }
     {
         kept(!self.any_holds_result(&s), s)
     }

@@ -1,9 +1,9 @@
 // Locals: copied, moved, stored and borrowed.
-ghost use Rattle.std.specs.Prelude.{◌≡◌, ◌++◌, IfOk, IsTrue};
+ghost use Rattle.std.specs.Prelude.{◌≡◌, ◌++◌, Err, IfOk, IsTrue};
 ghost use Rattle.mv_edges.specs.Edges.{inherited};
 ghost use Rattle.mv_edges.specs.Sorted.{sorted};
 ghost use Rattle.mv_edges.specs.Ascending.{are_ascending};
-ghost use Rattle.mv_borrow_graph.specs.BorrowRules.{edges_after, next_temp, copy_edges, move_edges, store_edges};
+ghost use Rattle.mv_borrow_graph.specs.BorrowRules.{edges_after, is_reference_token, next_temp, copy_edges, move_edges, store_edges};
 ghost use Rattle.mv_borrow_graph.specs.Domain.{Follows, ordered};
 
 use crate::changes::{kept, lent};
@@ -24,7 +24,8 @@ impl<'d, 'm> Site<'d, 'm> {
         Ok(s)
     }
 
-    /// Copies a local: the new reference has the edges of its original, and a mutable one is also its child.
+    /// Copies a local: the new reference has the edges of its original, and a mutable one is also its child. A value takes no
+    /// memory.
     pub fn copy_local(
         &self,
         alloc: Global,
@@ -33,21 +34,24 @@ impl<'d, 'm> Site<'d, 'm> {
         s: Edges,
     ) -> Result<Edges, StepError>
         requires { IsTrue (are_ascending s) }
-        ensures { Follows result (ordered (copy_edges self.now local token s)) }
+        ensures after { Follows result (ordered (copy_edges self.now local token s)) }
+        ensures memory { result ≡ Err StepError.Memory → IsTrue (is_reference_token token) }
     {
         let slot = Node::Slot(local);
         match token {
             Token::Plain(_) => kept(self.is_readable(Node::Own(local), &s), s),
             Token::Reference(_) => Ok(self.with_copy(alloc, slot, s)?),
             Token::MutableReference(_) => {
-                let is_unborrowed = is_free(slot, &s);
+                if !is_free(slot, &s) {
+                    return Err(StepError::Need);
+                }
                 let both = self.with_copy(alloc, slot, s)?;
-                lent(alloc, is_unborrowed, slot, self.next(), both)
+                lent(alloc, true, slot, self.next(), both)
             }
         }
     }
 
-    /// Moves a local: a reference takes its edges along, and a value may have none.
+    /// Moves a local: a reference takes its edges along, and a value, which takes no memory, may have none.
     pub fn move_local(
         &self,
         alloc: Global,
@@ -56,7 +60,8 @@ impl<'d, 'm> Site<'d, 'm> {
         s: Edges,
     ) -> Result<Edges, StepError>
         requires { IsTrue (are_ascending s) }
-        ensures { Follows result (ordered (move_edges self.now local token s)) }
+        ensures after { Follows result (ordered (move_edges self.now local token s)) }
+        ensures memory { result ≡ Err StepError.Memory → IsTrue (is_reference_token token) }
     {
         match token {
             Token::Plain(_) => kept(is_free(Node::Own(local), &s), s),
@@ -66,7 +71,7 @@ impl<'d, 'm> Site<'d, 'm> {
         }
     }
 
-    /// Stores into a local: a reference takes its edges along, and an overwritten value may have none.
+    /// Stores into a local: a reference takes its edges along, and an overwritten value, which takes no memory, may have none.
     pub fn store_local(
         &self,
         alloc: Global,
@@ -75,7 +80,8 @@ impl<'d, 'm> Site<'d, 'm> {
         mut s: Edges,
     ) -> Result<Edges, StepError>
         requires { IsTrue (are_ascending s) }
-        ensures { Follows result (ordered (store_edges self.now local token s)) }
+        ensures after { Follows result (ordered (store_edges self.now local token s)) }
+        ensures memory { result ≡ Err StepError.Memory → IsTrue (is_reference_token token) }
     {
         match token {
             Token::Plain(_) => kept(is_free(Node::Own(local), &s), s),

@@ -1,5 +1,5 @@
 // References: to fields, read, written and frozen.
-ghost use Rattle.std.specs.Prelude.{◌≡◌, ◌&&◌, not, slice_get, Some};
+ghost use Rattle.std.specs.Prelude.{◌≡◌, ◌&&◌, not, slice_get, Some, Err};
 ghost use Rattle.std.specs.List.{list_any};
 ghost use Rattle.mv_edges.specs.Edges.{same_node, agrees, out_of, but_out_of};
 ghost use Rattle.std.specs.Bool.{then_some};
@@ -87,7 +87,8 @@ impl<'d, 'm> Site<'d, 'm> {
 
     /// Makes a mutable reference an immutable one: no edge may lead from it to a mutable one, and none out of it is left.
     pub fn freeze(&self, mut s: Edges) -> Result<Edges, StepError>
-        ensures { Follows result (ordered (then_some (no_mutable_from self.now (top_temp self.now) s) (but_out_of (top_temp self.now) s))) }
+        ensures after { Follows result (ordered (then_some (no_mutable_from self.now (top_temp self.now) s) (but_out_of (top_temp self.now) s))) }
+        ensures memory { ¬ (result ≡ Err StepError.Memory) }
     {
         let top = self.top();
         if !self.is_readable(top, &s) {

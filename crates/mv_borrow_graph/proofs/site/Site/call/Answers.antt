@@ -1,4 +1,4 @@
-use Rattle.std.proofs.Common.{List, Option, ◌∙◌, subst}
+use Rattle.std.proofs.Common.{List, Option, subst}
 use Rattle.mv_edges.specs.Edges.{Edge}
 use Rattle.mv_borrow_graph.specs.Domain.{Follows}
 use Rattle.mv_borrow_graph.proofs.Rows.{called}
@@ -7,6 +7,5 @@ use Rattle.mv_borrow_graph.proofs.site.Site.call.Goals as goal
 pub returns : goal.returns
 returns c =
     subst (λ (o : Option (List Edge)). Follows c.tied_if.result o)
-    (called c.args.self.now c.args.callee c.args.s c.function_handle.result c.in-Some.handle c.in-Some-signature.parameters.now c.in-Some-signature-2.results.now c.first_of-place.result
-    c.deref.result.now c.deref-2.result.now c.deref-3.result.now c.may_call-holds.result c.function_handle.ensures c.in-Some.is c.in-Some-signature.ensures.value c.in-Some-signature-2.ensures.value c.first_of-place.ensures.value
-    (c.deref.ensures.value ∙ c.in_ok-mutable.ensures) (c.deref-2.ensures.value ∙ c.in_ok-mutable.ensures) (c.deref-3.ensures.value ∙ c.in_ok-all.ensures) c.may_call-holds.ensures) c.tied_if.ensures
+    (called c.args.self.now c.args.callee c.args.s c.function_handle.result c.in-Some.handle c.in-Some-signature.parameters.now c.in-Some-signature-2.results.now c.first_of-place.result c.may_call-holds.result
+    c.function_handle.ensures c.in-Some.is c.in-Some-signature.ensures.value c.in-Some-signature-2.ensures.value c.first_of-place.ensures.value c.may_call-holds.ensures) c.tied_if.ensures

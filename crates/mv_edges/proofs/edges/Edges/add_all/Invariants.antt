@@ -1,10 +1,7 @@
-use Rattle.std.proofs.Common.{◌≡◌, ◌++◌, List, length}
-use Rattle.mv_edges.specs.Edges.{Edge}
+use Rattle.std.proofs.Common.{◌≡◌, ◌++◌, true}
+use Rattle.mv_edges.specs.Ascending.{are_ascending}
 use Rattle.mv_edges.specs.Sorted.{sorted}
 use Rattle.mv_edges.proofs.edges.Edges.add_all.Given as goal
 
 abbrev pub invariant-loop-e : goal.invariant-loop-e
-invariant-loop-e l = (done : List Edge) × ((l.items.items ++ done ≡ l.fn.others) × (l.self ≡ sorted (done ++ l.fn.self)))
-
-abbrev pub decreases-loop-e : goal.decreases-loop-e
-decreases-loop-e l = length l.items.items
+invariant-loop-e l = (sorted (l.self ++ l.e-iterator.rest.items) ≡ sorted (l.fn.self ++ l.fn.others)) × (are_ascending l.self ≡ true)

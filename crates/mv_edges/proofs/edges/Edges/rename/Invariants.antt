@@ -1,10 +1,9 @@
-use Rattle.std.proofs.Common.{◌≡◌, ◌++◌, List, length}
-use Rattle.mv_edges.specs.Edges.{Edge, renamed}
+use Rattle.std.proofs.Common.{◌≡◌, ◌++◌, true}
+use Rattle.mv_edges.specs.Edges.{renamed}
+use Rattle.mv_edges.specs.Ascending.{are_ascending}
 use Rattle.mv_edges.specs.Sorted.{sorted}
 use Rattle.mv_edges.proofs.edges.Edges.rename.Given as goal
 
 abbrev pub invariant-loop-e : goal.invariant-loop-e
-invariant-loop-e l = (done : List Edge) × ((l.items.items ++ done ≡ l.fn.self) × (l.edges ≡ sorted (renamed l.old l.new done)))
-
-abbrev pub decreases-loop-e : goal.decreases-loop-e
-decreases-loop-e l = length l.items.items
+invariant-loop-e l =
+    (sorted (l.edges ++ renamed l.old l.new l.e-iterator.rest.items) ≡ sorted (renamed l.old l.new l.fn.self)) × (are_ascending l.edges ≡ true)
