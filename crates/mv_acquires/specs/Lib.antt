@@ -1,1 +1,2 @@
 pub mod Acquires
+pub mod Marks

@@ -1,23 +1,31 @@
 //! Phase 12 of publishing: each acquires list is exactly the structs that its function reaches in the storage.
 #![tactic(auto)]
 
-ghost use Rattle.std.specs.Prelude.{◌≡◌, ◌==◌, ◌<◌, length, slice_get, OnOk, IfErr, IfSome, flat_map};
+mod marks;
+
+ghost use Rattle.std.specs.Prelude.{◌≡◌, ℕ, ◌||◌, ◌==◌, ◌<◌, length, slice_get, OnOk, IfOk, IfErr, IfSome, flat_map};
 ghost use Rattle.std.specs.List.{list_all, list_any};
 ghost use Rattle.mv_move_types.specs.Refusals.{IsRefusedIn};
-ghost use Rattle.mv_move_types.specs.Module.{has_key};
+ghost use Rattle.mv_move_types.specs.Module.{has_key, own_acquires};
 ghost use Rattle.mv_bounds.specs.Definitions.{all_differ};
 ghost use Rattle.mv_acquires.specs.Acquires.{AcquiresHold, reached_by, has_member, same_members, acquires_are_right};
+ghost use Rattle.mv_acquires.specs.Marks.{is_marked, AreFollowed};
 
+use marks::{are_same, is_member, mark, mark_all, marks_of};
 use mv_bounds::Bounded;
 use mv_move_types::{Instruction, Refusal};
+use std::alloc::{AllocError, Global};
 
 /// Accepts exactly the modules whose rules of phase 12 hold.
-pub fn check(m: &Bounded<'_>) -> Result<(), Refusal>
+///
+/// # Errors
+///
+/// `Phase(12)`, where one of them fails. `Memory` if an allocation failed.
+pub fn check(alloc: Global, m: &Bounded<'_>) -> Result<(), Refusal>
     ensures ok { OnOk result (AcquiresHold m.now) }
     ensures refused { IfErr result (IsRefusedIn 12 (AcquiresHold m.now)) }
-    ensures phase { IfErr result (λ e. e ≡ Refusal.Phase 12) }
 {
-    if are_lists_right(m) {
+    if are_lists_right(alloc, m)? {
         Ok(())
     } else {
         Err(Refusal::Phase(12))
@@ -25,53 +33,42 @@ pub fn check(m: &Bounded<'_>) -> Result<(), Refusal>
 }
 
 /// Whether each function's list is right.
-fn are_lists_right(m: &Bounded<'_>) -> bool
-    ensures { result ≡ list_all (acquires_are_right m.now) m.now.functions }
+fn are_lists_right(alloc: Global, m: &Bounded<'_>) -> Result<bool, AllocError>
+    ensures { IfOk result (λ right. right ≡ list_all (acquires_are_right m.now) m.now.functions) }
 {
     for f in 0..m.module().functions().len() {
-        if !is_right(m, f) {
-            return false;
+        if !is_right(alloc, m, f)? {
+            return Ok(false);
         }
     }
-    true
+    Ok(true)
 }
 
 /// Whether the list of function `f` has no entry twice, only structs with key, and exactly those that its code reaches.
-fn is_right(m: &Bounded<'_>, f: usize) -> bool
+fn is_right(alloc: Global, m: &Bounded<'_>, f: usize) -> Result<bool, AllocError>
     requires { f < length m.now.functions }
-    ensures { IfSome (slice_get m.now.functions f) (λ d. result ≡ acquires_are_right m.now d) }
+    ensures { IfOk result (λ right. IfSome (slice_get m.now.functions f) (λ d. right ≡ acquires_are_right m.now d)) }
 {
     let list = m.module().functions()[f].acquires();
     let code = m.code(f);
-    is_distinct(list) && have_key(m, list) && is_exact(m, list, code)
+    Ok(is_distinct(alloc, list)? && have_key(m, list) && is_exact(alloc, m, list, code)?)
 }
 
 /// Whether no number stands twice.
-fn is_distinct(numbers: &[u16]) -> bool
-    ensures { result ≡ all_differ ◌==◌ numbers.now }
+fn is_distinct(alloc: Global, numbers: &[u16]) -> Result<bool, AllocError>
+    ensures { IfOk result (λ distinct. distinct ≡ all_differ ◌==◌ numbers.now) }
 {
-    let mut left = numbers;
-    while let Some((first, others)) = left.split_first() {
-        if stands_in(others, *first) {
-            return false;
+    let mut later = Vec::new(alloc);
+    let mut left = numbers.len();
+    while left > 0 {
+        left -= 1;
+        let number = numbers[left];
+        if is_member(&later, number) {
+            return Ok(false);
         }
-        left = others;
+        mark(&mut later, number)?;
     }
-    true
-}
-
-/// Whether the number is one of these.
-fn stands_in(numbers: &[u16], number: u16) -> bool
-    ensures { result ≡ list_any (◌==◌ number) numbers.now }
-{
-    numbers.iter().any(|n| number == *n)
-}
-
-/// Whether the number is one of these, as a member.
-fn is_member(numbers: &[u16], number: u16) -> bool
-    ensures { result ≡ has_member numbers.now number }
-{
-    numbers.iter().any(|n| *n == number)
+    Ok(true)
 }
 
 /// Whether each of these struct definitions has key.
@@ -82,76 +79,69 @@ fn have_key(m: &Bounded<'_>, structs: &[u16]) -> bool
 }
 
 /// Whether a list has exactly the structs that code reaches.
-fn is_exact(m: &Bounded<'_>, list: &[u16], code: &[Instruction]) -> bool
-    ensures { result ≡ same_members list.now (flat_map (reached_by m.now) code.now) }
+fn is_exact(
+    alloc: Global,
+    m: &Bounded<'_>,
+    list: &[u16],
+    code: &[Instruction],
+) -> Result<bool, AllocError>
+    ensures { IfOk result (λ exact. exact ≡ same_members list.now (flat_map (reached_by m.now) code.now)) }
 {
-    are_reached(m, list, code) && is_complete(m, list, code)
+    let listed = marks_of(alloc, list)?;
+    let reached = reached_marks(alloc, m, code)?;
+    Ok(are_same(&listed, &reached))
 }
 
-/// Whether code reaches each struct of a list.
-fn are_reached(m: &Bounded<'_>, list: &[u16], code: &[Instruction]) -> bool
-    ensures { result ≡ list_all (has_member (flat_map (reached_by m.now) code.now)) list.now }
+/// Marks of the structs that code reaches.
+fn reached_marks(
+    alloc: Global,
+    m: &Bounded<'_>,
+    code: &[Instruction],
+) -> Result<Vec<bool>, AllocError>
+    ensures { IfOk result (λ v. (y : ℕ) → is_marked v.items y ≡ has_member (flat_map (reached_by m.now) code.now) y) }
 {
-    list.iter().all(|s| is_reached(m, code, *s))
+    let mut marks = Vec::new(alloc);
+    let mut called = Vec::new(alloc);
+    for i in code {
+        mark_reached(&mut marks, &mut called, m, *i)?;
+    }
+    Ok(marks)
 }
 
-/// Whether some instruction reaches the struct.
-fn is_reached(m: &Bounded<'_>, code: &[Instruction], s: u16) -> bool
-    ensures { result ≡ has_member (flat_map (reached_by m.now) code.now) s }
-{
-    any_reaches(m, code, s)
-}
-
-/// Whether some instruction reaches the struct, one by one.
-fn any_reaches(m: &Bounded<'_>, code: &[Instruction], s: u16) -> bool
-    ensures { result ≡ list_any (λ i. has_member (reached_by m.now i) s) code.now }
-{
-    code.iter().any(|i| reaches(m, *i, s))
-}
-
-/// Whether a list has each struct that code reaches.
-fn is_complete(m: &Bounded<'_>, list: &[u16], code: &[Instruction]) -> bool
-    ensures { result ≡ list_all (has_member list.now) (flat_map (reached_by m.now) code.now) }
-{
-    are_all_listed(m, list, code)
-}
-
-/// Whether a list has each struct that each instruction reaches.
-fn are_all_listed(m: &Bounded<'_>, list: &[u16], code: &[Instruction]) -> bool
-    ensures { result ≡ list_all (λ i. list_all (has_member list.now) (reached_by m.now i)) code.now }
-{
-    code.iter().all(|i| is_listed(m, *i, list))
-}
-
-/// Whether the instruction reaches the struct in the storage, itself or by a call in the own module.
-fn reaches(m: &Bounded<'_>, i: Instruction, s: u16) -> bool
-    ensures { result ≡ has_member (reached_by m.now i) s }
+/// Marks the structs that the instruction reaches in the storage, itself or by a call in the own module.
+fn mark_reached(
+    marks: &mut Vec<bool>,
+    called: &mut Vec<bool>,
+    m: &Bounded<'_>,
+    i: Instruction,
+) -> Result<(), AllocError>
+    requires { AreFollowed m.now called.old.items marks.old.items }
+    ensures exact { OnOk result ((y : ℕ) → is_marked marks.new.items y ≡ (is_marked marks.old.items y || has_member (reached_by m.now i) y)) }
+    ensures followed { OnOk result (AreFollowed m.now called.new.items marks.new.items) }
 {
     match i {
         Instruction::MoveFrom(definition)
         | Instruction::MutBorrowGlobal(definition)
-        | Instruction::ImmBorrowGlobal(definition) => definition == s,
-        Instruction::Call(handle) => is_member(m.own_acquires(handle), s),
-        _ => false,
+        | Instruction::ImmBorrowGlobal(definition) => mark(marks, definition),
+        Instruction::Call(handle) => mark_called(marks, called, m, handle),
+        _ => Ok(()),
     }
 }
 
-/// Whether a list has each struct that the instruction reaches in the storage.
-fn is_listed(m: &Bounded<'_>, i: Instruction, list: &[u16]) -> bool
-    ensures { result ≡ list_all (has_member list.now) (reached_by m.now i) }
+/// Marks what the list of a called function has, at the first of its calls.
+fn mark_called(
+    marks: &mut Vec<bool>,
+    called: &mut Vec<bool>,
+    m: &Bounded<'_>,
+    handle: u16,
+) -> Result<(), AllocError>
+    requires { AreFollowed m.now called.old.items marks.old.items }
+    ensures exact { OnOk result ((y : ℕ) → is_marked marks.new.items y ≡ (is_marked marks.old.items y || has_member (own_acquires m.now handle) y)) }
+    ensures followed { OnOk result (AreFollowed m.now called.new.items marks.new.items) }
 {
-    match i {
-        Instruction::MoveFrom(definition)
-        | Instruction::MutBorrowGlobal(definition)
-        | Instruction::ImmBorrowGlobal(definition) => is_member(list, definition),
-        Instruction::Call(handle) => are_members(list, m.own_acquires(handle)),
-        _ => true,
+    if is_member(called, handle) {
+        return Ok(());
     }
-}
-
-/// Whether each number is one of a list.
-fn are_members(list: &[u16], numbers: &[u16]) -> bool
-    ensures { result ≡ list_all (has_member list.now) numbers.now }
-{
-    numbers.iter().all(|n| is_member(list, *n))
+    mark(called, handle)?;
+    mark_all(marks, m.own_acquires(handle))
 }

@@ -1,4 +1,4 @@
--- Why no certificate of a module is answered.
+-- Why no certificate of a module is made.
 use Rattle.std.specs.Prelude.{◌≡◌, ⊤, ℕ, false, Some, slice_get, IsTrue}
 use Rattle.mv_move_types.specs.declared.refusal.Refusal.{Refusal}
 use Rattle.mv_move_types.specs.declared.refusal.Refusal.TheVariants.{Memory as OutOfMemory}
@@ -29,7 +29,7 @@ HasPlainLocals m d = (l : ℕ) (t : Token) → local_type m d l ≡ Some t → i
 abbrev pub IsWithoutReferences : Module → Type 0
 IsWithoutReferences m = (f : ℕ) (d : FunctionDefinition) → slice_get m.functions f ≡ Some d → HasPlainLocals m d
 
--- no certificate passes the phase that is answered; or the module has a local that is a reference; or memory ran out
+-- no certificate passes the phase that refuses; or the module has a local that is a reference; or memory ran out
 abbrev pub IsUnproved : Module → ProveError → Type 0
 IsUnproved m (Refused phase) = FailsEach m phase
 IsUnproved m TooComplex = IsWithoutReferences m → ⊥

@@ -17,7 +17,7 @@ use mv_move_types::Refusal;
 use mv_type_states::Typed;
 use std::alloc::{AllocError, Global};
 
-/// Why no certificate is answered.
+/// Why no certificate is made.
 #[derive(Drop, Clone, Copy, PartialEq, Eq, Debug)]
 pub enum ProveError {
     /// No certificate passes this phase: 10, 11 or 12.
@@ -50,13 +50,13 @@ fn error_in(phase: u8, e: SolveError) -> ProveError
 }
 
 /// Phase 12: the acquires list of each function is right.
-fn check_acquires(m: &Typed<'_>, c: &Cert) -> Result<(), ProveError>
+fn check_acquires(alloc: Global, m: &Typed<'_>, c: &Cert) -> Result<(), ProveError>
     requires shape { AllStatedFit m.now m.now.functions c.now }
     requires holds { IsTrue (certificate_holds m.now c.now) }
     ensures ok { OnOk result (AcquiresHold m.now) }
     ensures refused { IfErr result (IsUnproved m.now) }
 {
-    match mv_acquires::check(m.bounded()) {
+    match mv_acquires::check(alloc, m.bounded()) {
         Ok(()) => Ok(()),
         Err(Refusal::Phase(phase)) => Err(ProveError::Refused(phase)),
         Err(Refusal::Memory) => Err(ProveError::Memory),
@@ -72,12 +72,12 @@ fn find(alloc: Global, m: &Typed<'_>) -> Result<Cert, ProveError>
 {
     let locals = locals::least_locals(alloc, m)?;
     let c = borrows::with_least_edges(alloc, m, &locals)?;
-    check_acquires(m, &c)?;
+    check_acquires(alloc, m, &c)?;
     Ok(c)
 }
 
 /// A certificate of the module that passes `check`, made of the least states that hold in each function. It is principal: where
-/// some certificate passes, this one is answered, unless the search reaches its limits or an allocation fails.
+/// some certificate passes, this one is returned, unless the search reaches its limits or an allocation fails.
 ///
 /// # Errors
 /// `Refused` with the first of phases 10, 11 and 12 that no certificate passes. `TooComplex` where the search reaches its limits,

@@ -17,7 +17,7 @@ use Rattle.mv_type_states.specs.TypesHold.{function_is_typed}
 use Rattle.mv_type_states.proofs.Tiling.{Tiles, blocks-tile}
 use Rattle.mv_lattice.specs.Flow.{IsFlow, IsClosed, IsClosedAt, IsBelowEach, IsStated, carried, through as carried_through}
 use Rattle.mv_certificate.specs.Certificate.{Rule, through, instructions_of, stated_at, flows_into, block_holds, flow_holds}
-use Rattle.mv_borrow_graph.specs.Standing.{tiles_behind, block_at}
+use Rattle.mv_borrow_graph.specs.Standing.{tiles_after, block_at}
 use Rattle.mv_certificate.proofs.Carried.{Alike, DoAlike, Ends, block_alike}
 use Rattle.mv_certificate.proofs.Marks.{block_of, at_below}
 
@@ -47,7 +47,7 @@ found-tiled (c ∷ bs) (p ∷ os) at size zero b o t be oe =
     rw (eq-eqb c.first b.first same) (same_Some p o oe)
 found-tiled (c ∷ bs) (p ∷ os) at size (suc k) b o t be oe =
     let two : c.first ≤ c.last = t.1.0 in
-    let after : c.last + 1 ≤ b.first = tiles_behind bs (c.last + 1) size k b t.1.1 be in
+    let after : c.last + 1 ≤ b.first = tiles_after bs (c.last + 1) size k b t.1.1 be in
     rw (ne_eqb c.first b.first (λ e. omega arith)) (found-tiled bs os (c.last + 1) size k b o t.1.1 be oe)
 
 -- the first of them begins where they do

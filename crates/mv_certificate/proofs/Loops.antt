@@ -33,7 +33,7 @@ ascending-front (a ∷ b ∷ xs) ys h =
     let p = and_parts (edge_before a b) (are_ascending (b ∷ (xs ++ ys))) h in
     and_from (edge_before a b) (are_ascending (b ∷ xs)) p.0 (ascending-front (b ∷ xs) ys p.1)
 
--- no edges behind those that don't ascend make them ascend
+-- no edges after those that don't ascend make them ascend
 refuted : (b : Bool) → (b ≡ true → ⊥) → b ≡ false
 refuted true h = absurd (h refl)
 refuted false h = refl
@@ -47,7 +47,7 @@ test_fails : (items : List Edge) (o : Read (List Edge)) → are_ascending items 
 test_fails items None h = refl
 test_fails items (Some r) h = rw (not_ascending items r.0 h) refl
 
--- the edges behind a count
+-- the edges after a count
 counted_at : {A : Type 0} (each : List ℕ → Read A) (n : ℕ) (bytes start : List ℕ) → number_from 1024 bytes ≡ Some (n, start)
     → counted_from 1024 each bytes ≡ entries_from each n start
 counted_at each n bytes start e = ap (λ r. r >>= λ c. entries_from each c.0 c.1) e
@@ -114,7 +114,7 @@ StatedOn-next f blocks b m d i start items cur next x lt is e g = record {
       ∙ after_one items x (stated_from m d (drop (i + 1) (map f blocks)) next);
 }
 
--- nothing is behind the end
+-- nothing is after the end
 drop_after : {A : Type 0} (i : ℕ) (xs : List A) → length xs ≤ i → drop i xs ≡ []
 drop_after zero [] le = refl
 drop_after zero (x ∷ xs) le = absurd (omega arith)

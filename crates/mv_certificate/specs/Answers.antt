@@ -13,7 +13,7 @@ pub data FailsCertificate (m : Module) (c : Certificate) : ℕ → Type 0 where
   bad_borrows : IsTrue (all_locals_hold m c) → (IsTrue (all_edges_hold m c) → ⊥) → FailsCertificate m c 11
   bad_acquires : IsTrue (certificate_holds m c) → (AcquiresHold m → ⊥) → FailsCertificate m c 12
 
--- the phase that is answered, or memory ran out
+-- the phase that refuses, or memory ran out
 abbrev pub IsRefusedByCertificate : Module → Certificate → Refusal → Type 0
 IsRefusedByCertificate m c (Phase p) = FailsCertificate m c p
 IsRefusedByCertificate m c Memory = ⊤

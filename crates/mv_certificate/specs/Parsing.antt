@@ -1,4 +1,4 @@
--- The part of a certificate that stands at the front of bytes, and the bytes behind it.
+-- The part of a certificate that stands at the front of bytes, and the bytes after it.
 use Rattle.std.specs.Prelude.{ℕ, ◌==◌, Bool, true, false, cond, List, [], ◌∷◌, length, Option, Some, None}
 use Rattle.std.specs.Bool.{then_some}
 use Rattle.mv_uleb.specs.Parsing.{number_from}
@@ -48,7 +48,7 @@ openness_from bytes = do
   is_open ← openness_of code.0
   Some (is_open, code.1)
 
--- a label at the front: its positions behind their number, and whether it is open
+-- a label at the front: its positions after their number, and whether it is open
 abbrev pub label_from : List ℕ → Read Label
 label_from bytes = do
   path ← counted_from 8 (number_from 31) bytes
@@ -63,7 +63,7 @@ edge_from m d bytes = do
   label ← label_from to.1
   then_some (edge_fits m d (record { from = from.0; label = label.0; to = to.0 })) (record { from = from.0; label = label.0; to = to.0 }, label.1)
 
--- edges behind their number, which ascend
+-- edges after their number, which ascend
 abbrev pub edges_from : Module → FunctionDefinition → List ℕ → Read (List Edge)
 edges_from m d bytes = do
   edges ← counted_from 1024 (edge_from m d) bytes

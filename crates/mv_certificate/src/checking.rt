@@ -162,9 +162,9 @@ pub fn check_edges(alloc: Global, m: &Typed<'_>, c: &Cert) -> Result<(), Refusal
 }
 
 /// Phase 12: the acquires list of each function is right.
-pub fn check_acquires(m: &Typed<'_>) -> Result<(), Refusal>
+pub fn check_acquires(alloc: Global, m: &Typed<'_>) -> Result<(), Refusal>
     ensures ok { OnOk result (AcquiresHold m.now) }
     ensures refused { IfErr result (λ e. (c : Certificate) → IsTrue (certificate_holds m.now c) → IsRefusedByCertificate m.now c e) }
 {
-    mv_acquires::check(m.bounded())
+    mv_acquires::check(alloc, m.bounded())
 }

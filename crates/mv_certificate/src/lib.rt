@@ -104,7 +104,7 @@ pub fn check<'a>(alloc: Global, m: Typed<'a>, c: &Cert) -> Result<Verified<'a>, 
 {
     checking::check_locals(alloc, &m, c)?;
     checking::check_edges(alloc, &m, c)?;
-    checking::check_acquires(&m)?;
+    checking::check_acquires(alloc, &m)?;
     Ok(Verified { typed: m })
 }
 

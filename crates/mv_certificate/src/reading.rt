@@ -24,6 +24,15 @@ use std::alloc::Global;
 // What the reader refuses malformed bytes with. So do the functions here.
 const MALFORMED: Refusal = Refusal::Phase(2);
 
+// How many edges a block's state has at most.
+const MOST_EDGES: u64 = 1024;
+
+// How many positions a label has at most.
+const MOST_POSITIONS: u64 = 8;
+
+// The greatest field position.
+const LAST_POSITION: u64 = 31;
+
 /// Reads an availability.
 fn read_availability(reader: &mut Reader<'_>) -> Result<Availability, Refusal>
     ensures { Reads availability_from reader.old result reader.new }
@@ -85,10 +94,10 @@ fn read_path(alloc: Global, reader: &mut Reader<'_>) -> Result<Vec<u8>, Refusal>
     ensures refused { result ≡ Err (Refusal.Phase 2) → counted_from 8 (number_from 31) reader.old ≡ None }
     ensures errors { IfErr result (λ e. (e ≡ Refusal.Phase 2) ⊎ (e ≡ Refusal.Memory)) }
 {
-    let count = reader.number(8)?;
+    let count = reader.number(MOST_POSITIONS)?;
     let mut path = Vec::new(alloc);
     'path: for _ in 0..count {
-        let position = reader.number(31)?;
+        let position = reader.number(LAST_POSITION)?;
         path.push(position as u8).map_err(|_| Refusal::Memory)?;
     }
     Ok(path)
@@ -127,7 +136,7 @@ fn read_edge(
     }
 }
 
-/// Adds an edge behind the others, which it has to come after.
+/// Adds an edge after the others, which it has to come after in the order of edges.
 fn add_last(edges: &mut Edges, edge: Edge) -> Result<(), Refusal>
     ensures edges { OnOk result (edges.new ≡ edges.old ++ edge ∷ []) }
     ensures ascend { OnOk result (IsTrue (are_ascending edges.new)) }
@@ -152,7 +161,7 @@ fn read_edges(
     ensures refused { result ≡ Err (Refusal.Phase 2) → edges_from m.now d.now reader.old ≡ None }
     ensures errors { IfErr result (λ e. (e ≡ Refusal.Phase 2) ⊎ (e ≡ Refusal.Memory)) }
 {
-    let count = reader.number(1024)?;
+    let count = reader.number(MOST_EDGES)?;
     let mut edges = Edges::new(alloc);
     'edges: for _ in 0..count {
         let edge = read_edge(alloc, reader, m, d)?;

@@ -60,7 +60,7 @@ fn write_node(node: Node, out: &mut Vec<u8>) -> Result<(), AllocError>
     mv_uleb::write(u64::from(index_of(node)), out)
 }
 
-/// Writes field positions behind their number.
+/// Writes field positions after their number.
 fn write_path(path: &[u8], out: &mut Vec<u8>) -> Result<(), AllocError>
     ensures { OnOk result (out.new.items ≡ out.old.items ++ counted uleb path.now) }
 {
@@ -82,7 +82,7 @@ fn write_edge(e: &Edge, out: &mut Vec<u8>) -> Result<(), AllocError>
     Ok(())
 }
 
-/// Writes edges behind their number.
+/// Writes edges after their number.
 fn write_edges(edges: &Edges, out: &mut Vec<u8>) -> Result<(), AllocError>
     ensures { OnOk result (out.new.items ≡ out.old.items ++ counted edge_text edges.now) }
 {

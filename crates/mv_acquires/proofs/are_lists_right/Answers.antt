@@ -4,11 +4,11 @@ use Rattle.mv_acquires.specs.Acquires.{acquires_are_right}
 use Rattle.mv_acquires.proofs.Reached.{all_at_each, not_all_at}
 use Rattle.mv_acquires.proofs.are_lists_right.Goals as goal
 
-pub returns-then-not-is_right : goal.returns-then-not-is_right
-returns-then-not-is_right c =
+pub returns-then-not-branch : goal.returns-then-not-branch
+returns-then-not-branch c =
     let functions_are : c.functions-f-end.result.now ≡ c.args.m.now.functions = c.functions-f-end.ensures.value ∙ ap (λ (m : Module). m.functions) c.module.ensures.value in
     let within : c.loop-f.f < length c.args.m.now.functions = omega (arith, c.loop-f-test.true, ap length functions_are) in
-    sym (not_all_at (acquires_are_right c.args.m.now) c.args.m.now.functions c.loop-f.f c.is_right.result within c.is_right.ensures c.if-not-is_right.true)
+    sym (not_all_at (acquires_are_right c.args.m.now) c.args.m.now.functions c.loop-f.f c.in_ok-is_right.field-0 within c.in_ok-is_right.ensures c.if-not-branch.true)
 
 pub returns : goal.returns
 returns c =

@@ -1,10 +1,16 @@
-use Rattle.std.proofs.Common.{◌≡◌, ◌==◌, length}
+use Rattle.std.proofs.Common.{◌≡◌, ◌==◌, ◌≤◌, ℕ, true, length, drop}
 use Rattle.mv_bounds.specs.Definitions.{all_differ}
+use Rattle.mv_acquires.specs.Acquires.{has_member}
+use Rattle.mv_acquires.specs.Marks.{is_marked}
 use Rattle.mv_acquires.proofs.is_distinct.Given as goal
 
--- nothing seen so far tells the two apart
-abbrev pub invariant-loop-first : goal.invariant-loop-first
-invariant-loop-first l = all_differ ◌==◌ l.numbers ≡ all_differ ◌==◌ l.left
+-- those from here on differ, and are marked
+abbrev pub invariant-loop-left : goal.invariant-loop-left
+invariant-loop-left l = record {
+  within : l.left ≤ length l.numbers;
+  differ : all_differ ◌==◌ (drop l.left l.numbers) ≡ true;
+  exact : (y : ℕ) → is_marked l.later.items y ≡ has_member (drop l.left l.numbers) y;
+}
 
-abbrev pub decreases-loop-first : goal.decreases-loop-first
-decreases-loop-first l = length l.left
+abbrev pub decreases-loop-left : goal.decreases-loop-left
+decreases-loop-left l = l.left
