@@ -11,11 +11,10 @@ use Rattle.mv_move_types.specs.Options.{◌>>=◌}
 use Rattle.mv_bounds.specs.Definitions.{all_differ}
 use Rattle.mv_linker.specs.Link.{tables_in, are_compatible, replaced_in, follows, all_follow}
 use Rattle.mv_linker.specs.Upgrades.{may_replace}
-use Rattle.mv_linker.proofs.NameTests.{have_one-so, so-have_one}
-use Rattle.mv_linker.proofs.OwnHomes.{on_some}
 use Rattle.mv_linker.proofs.Scopes.{within_tables}
-use Rattle.mv_linker.proofs.Upgraded.{found-at}
 use Rattle.mv_linker.proofs.Members.{Among, all-among, among-all, so-named, named-so}
+use Rattle.mv_linker.proofs.NameLemmas.{have_one_name-is, have_one_name-from}
+use Rattle.mv_linker.proofs.Found.{on_some, found_at}
 
 -- what replaces only what it may is compatible
 pub follow-compatible : (old ns : List Module) → all_differ have_one_name old ≡ true → all_follow old ns ≡ true → are_compatible old ns ≡ true
@@ -29,7 +28,7 @@ follow-compatible old ns once all =
         step : (b : Bool) → have_one_name m n ≡ b → (not b || may_replace m n) ≡ true
         step false p = refl
         step true p =
-            let k = have_one-so m n p in
+            let k = have_one_name-is m n p in
             let named : (own_name n >>= module_named old) ≡ Some m = ap (λ o. o >>= module_named old) k.2 ∙ so-named old k.0 m once a k.1 in
             sym (ap (λ o. option_map_or (λ m. may_replace m n) o true) named) ∙ f
 
@@ -42,7 +41,7 @@ compatible-follow old ns fits = among-all (follows old) ns (λ n b. go n b (own_
     deeper n b k p (Some m) q =
         let at = named-so old k m q in
         let both = all-among (λ n. not (have_one_name m n) || may_replace m n) ns n (all-among (λ m. list_all (λ n. not (have_one_name m n) || may_replace m n) ns) old m fits at.0) b in
-        sym (ap (λ b. not b || may_replace m n) (so-have_one m n k at.1 p)) ∙ both
+        sym (ap (λ b. not b || may_replace m n) (have_one_name-from m n k at.1 p)) ∙ both
 
     go : (n : Module) → Among ns n → (o : Option ModuleName) → own_name n ≡ o → follows old n ≡ true
     go n b None p = ap (λ o. option_map_or (λ m. may_replace m n) (o >>= module_named old) true) p
@@ -52,7 +51,7 @@ compatible-follow old ns fits = among-all (follows old) ns (λ n b. go n b (own_
 
 pub replaced-below : (ps : List PublishedModule) (n : Module) (k : ℕ) → replaced_in (tables_in ps) n ≡ Some k → k < length ps
 replaced-below ps n k e = on_some (own_name n) (module_place (tables_in ps)) k e (λ name name_is at.
-    let f = found-at (is_module name) (tables_in ps) k at in within_tables ps k f.0 f.1)
+    let f = found_at (is_module name) (tables_in ps) k at in within_tables ps k f.entry f.at)
 
 pub follows-none : (old : List Module) (n : Module) → replaced_in old n ≡ None → follows old n ≡ true
 follows-none old n e = go (own_name n) refl e

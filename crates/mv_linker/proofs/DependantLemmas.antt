@@ -2,42 +2,35 @@
 --   names-none     a module no handle of which leads to one of the bundle names none of it
 --   apart-placed, apart-unnamed, apart-new   a published module that doesn't have to be linked again
 --   DependantsSoFar   those among the first published modules
-use Rattle.std.proofs.Common.{◌≡◌, ◌⊎◌, ℕ, ◌<◌, ◌≤◌, ◌+◌, ◌++◌, [], ◌∷◌, Bool, true, false, List, length, map, Option, Some, None, slice_get, Contains, refl, sym, ap, subst, ◌∙◌, arith, inl, inr, eqb}
-use Rattle.std.specs.Prelude.{All, ◌==◌, ◌&&◌, is_some, nat_lt, not, position, IsSome, IsTrue}
-use Rattle.std.specs.List.{list_all, list_any}
+use Rattle.std.proofs.Common.{◌≡◌, ◌⊎◌, ℕ, ◌<◌, ◌≤◌, ◌+◌, ◌++◌, [], ◌∷◌, true, false, List, length, map, Some, slice_get, Contains, refl, sym, ap, subst, ◌∙◌, arith, inl, inr}
+use Rattle.std.specs.Prelude.{All, ◌==◌, is_some, nat_lt, position, IsSome}
+use Rattle.std.specs.List.{list_any}
 use Rattle.std.specs.Option.{option_map_or}
-use Rattle.std.proofs.lemmas.Bool.{and_from, both_ways, cases_eq, cases_lt, eq-eqb, ltb-false}
+use Rattle.std.proofs.lemmas.Bool.{both_ways, cases_eq, cases_lt, ltb-false}
 use Rattle.std.proofs.lemmas.List.{map-append}
 use Rattle.std.proofs.lemmas.List.Elements.{All-nil, All-push, Contains-append_left, Contains-push}
-use Rattle.std.proofs.lemmas.Option.{same_Some, none-some, slice_get_within}
+use Rattle.std.proofs.lemmas.Option.{same_Some, slice_get_within}
 use Rattle.mv_move_types.specs.declared.tables.ModuleHandle.{ModuleHandle}
 use Rattle.mv_move_types.specs.Names.{ModuleName}
-use Rattle.mv_move_types.specs.Options.{◌>>=◌, find_index}
-use Rattle.mv_move_types.specs.Module.{Module, module_name, own_name}
-use Rattle.mv_move_types.specs.Named.{have_one_name, is_module, module_place}
-use Rattle.mv_bounds.specs.Definitions.{all_differ}
+use Rattle.mv_move_types.specs.Options.{◌>>=◌}
+use Rattle.mv_move_types.specs.Module.{Module, module_name}
+use Rattle.mv_move_types.specs.Named.{is_module, module_place}
 use Rattle.mv_linker.specs.declared.dependants.Dependant.{Dependant}
 use Rattle.mv_linker.specs.declared.scope.Scope.{Scope}
 use Rattle.mv_linker.specs.Link.{tables_in}
-use Rattle.mv_linker.specs.Links.{Links, modules_are_there, structs_are_there, function_is_there, names_hold}
 use Rattle.mv_linker.specs.Relinked.{Joins, bundled_target, NamesBundle, IsDependant, IsApart, AreDependants}
-use Rattle.mv_linker.specs.Scope.{offered, places_in, with_tables}
+use Rattle.mv_linker.specs.Scope.{offered}
 use Rattle.mv_linker.specs.Targets.{modules_in}
-use Rattle.mv_linker.proofs.Assembling.{joining-offered}
-use Rattle.mv_linker.proofs.Bundled.{bundle-at, old-at, place-at}
-use Rattle.mv_linker.proofs.DependencyLemmas.{all-there, length-places}
-use Rattle.mv_linker.proofs.Found.{on_some, then_found, each, some_passes, there_at}
+use Rattle.mv_linker.proofs.Bundled.{place-at}
+use Rattle.mv_linker.proofs.DependencyLemmas.{all-there}
+use Rattle.mv_linker.proofs.Found.{on_some, then_found, some-of}
 use Rattle.mv_linker.proofs.JoinedCodes.{NamesNone}
 use Rattle.mv_linker.proofs.JoinedOrder.{names-stay}
-use Rattle.mv_linker.proofs.Keyed.{position-find_index}
 use Rattle.mv_linker.proofs.Joins.{one-name, bundled-at, placed-at, position-there}
-use Rattle.mv_linker.proofs.Linkable.{some-of}
-use Rattle.mv_linker.proofs.ListTests.{find_index-none}
-use Rattle.mv_linker.proofs.Members.{any-among, among-at, at-among, differ-result, none-among}
+use Rattle.mv_linker.proofs.Members.{any-among, among-at, at-among, none-among}
 use Rattle.mv_linker.proofs.NameLemmas.{is_module-is, module_place-from}
 use Rattle.mv_linker.proofs.Resolving.{modules_there_at}
 use Rattle.mv_linker.proofs.Scopes.{within_tables}
-use Rattle.mv_linker.proofs.StillThere.{Joining}
 
 -- a handle that names a module is there
 pub handle-below : (m : Module) (h : ℕ) (name : ModuleName) → module_name m h ≡ Some name → h < length m.module_handles

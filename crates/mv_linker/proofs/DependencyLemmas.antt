@@ -12,10 +12,10 @@ use Rattle.mv_linker.specs.declared.targets.Target.{Target}
 use Rattle.mv_linker.proofs.Graphs.{whole-graph}
 use Rattle.mv_linker.proofs.JoinedTargets.{places_of_targets, appended-joined}
 use Rattle.mv_linker.proofs.Members.{among-at, all-among}
-use Rattle.mv_linker.proofs.NameTests.{some_is}
 use Rattle.mv_linker.proofs.Resolving.{each_push}
 use Rattle.mv_linker.proofs.Scopes.{length-with_table}
 use Rattle.mv_linker.proofs.StillThere.{Joining}
+use Rattle.std.proofs.lemmas.Option.{same_Some}
 
 pub map-items : (f : List ℕ → List ℕ) (ds : List (Vec ℕ Global)) → map (λ (d : Vec ℕ Global). f d.items) ds ≡ map f (map (λ (d : Vec ℕ Global). d.items) ds)
 map-items f [] = refl
@@ -34,7 +34,7 @@ length-places ms (n ∷ ns) = ap suc (length-places (with_table ms n) ns)
 pub dependencies-by : (modules : List Module) (place : ℕ) (m : Module) (targets : List Target) (places needed : List ℕ) → slice_get modules place ≡ Some m → AreTargets modules m targets → places ≡ map (λ (t : Target). t.place) targets
     → (AreHandlePlaces modules m places → AreDependencies modules m needed) → AreDependenciesAt modules place needed
 dependencies-by modules place m targets places needed at are e gives n n_at =
-    let same : m ≡ n = some_is m n (sym at ∙ n_at) in
+    let same : m ≡ n = same_Some m n (sym at ∙ n_at) in
     subst (λ (x : Module). AreDependencies modules x needed) same (gives (subst (λ (l : List ℕ). AreHandlePlaces modules m l) (sym e) (places_of_targets modules m targets are)))
 
 pub all-there : (modules : List Module) (place : ℕ) (m : Module) → slice_get modules place ≡ Some m → Links modules → IsTrue (modules_are_there modules m (length m.module_handles))

@@ -113,7 +113,7 @@ module _ (modules : List Module) (base : ℕ) (graph : List (List ℕ)) (g : IsD
       let has = ((g.each a m at.0 e at.1).each (base + b) n f).1 d in
       C.directly a b (shifted base at.0) (slice_get-map (shifted base) graph a ∙ ap (option_map (shifted base)) at.1) (shifted_has base b at.0 has)
 
-  -- a chain of modules: among the first ones if it begins there, and a chain of edges if it ends behind them
+  -- a chain of modules: among the first ones if it begins there, and a chain of edges if it ends after them
   record IsChain (m n : Module) (i j : ℕ) : Type 0 where
     pub early : i < base → (j < base) × Reaches (take base modules) m n
     pub late : (a b : ℕ) → base + a ≡ i → base + b ≡ j → LeadsTo edges a b

@@ -3,10 +3,12 @@ use Rattle.std.proofs.Common.{◌≡◌, ℕ, zero, suc, ◌<◌, Bool, true, fa
 use Rattle.std.specs.Prelude.{not, filter, ◌||◌, ◌&&◌}
 use Rattle.std.specs.List.{list_all, list_any, filter_map, cons_option}
 use Rattle.std.specs.Cmp.{first_so, second_so}
-use Rattle.std.proofs.lemmas.Bool.{cases_order, cases_Bool, both_ways}
+use Rattle.std.proofs.lemmas.Bool.{cases_order, cases_Bool, both_ways, ltb-true}
 use Rattle.std.proofs.lemmas.Option.{same_Some, none-some, slice_get_within, slice_get_read, get_or_from_slice_get}
 use Rattle.mv_move_types.specs.Options.{◌>>=◌, find_index}
 use Rattle.mv_bounds.specs.Definitions.{all_differ}
+use Rattle.mv_bounds.specs.Bounds.{below}
+use Rattle.std.specs.Option.{IsSome}
 
 -- a part that was found, and what follows
 pub on_some : {A B P : Type 0} (r : Option A) (f : A → Option B) (y : B) → (r >>= f) ≡ Some y → ((x : A) → r ≡ Some x → f x ≡ Some y → P) → P
@@ -27,6 +29,15 @@ pub there_at : {A : Type 0} (xs : List A) (k : ℕ) → k < length xs → (x : A
 there_at [] k h = absurd (omega (arith, h))
 there_at (x ∷ xs) zero h = (x, refl)
 there_at (x ∷ xs) (suc k) h = there_at xs k (omega (arith, h))
+
+-- an index below the length, by its test
+pub there_below : {A : Type 0} (xs : List A) (k : ℕ) → below k xs ≡ true → (x : A) × (slice_get xs k ≡ Some x)
+there_below xs k h = there_at xs k (ltb-true k (length xs) h)
+
+-- what is there
+pub some-of : {A : Type 0} (o : Option A) → IsSome o → (x : A) × (o ≡ Some x)
+some-of None e = absurd (both_ways false refl e)
+some-of (Some x) e = (x, refl)
 
 -- the first ones
 pub slice_get-take : {A : Type 0} (xs : List A) (n k : ℕ) → k < n → slice_get (take n xs) k ≡ slice_get xs k
@@ -81,6 +92,24 @@ found_step p y ys k false (Some j) q rest e =
 pub found_at : {A : Type 0} (p : A → Bool) (xs : List A) (k : ℕ) → find_index p xs ≡ Some k → Found p xs k
 found_at p [] k e = absurd (none-some k e)
 found_at p (y ∷ ys) k e = found_step p y ys k (p y) (find_index p ys) refl (λ j q. found_at p ys j q) e
+
+-- a place that was found is one
+pub place_below : {A : Type 0} (p : A → Bool) (xs : List A) (k : ℕ) → find_index p xs ≡ Some k → k < length xs
+place_below p xs k e = let f = found_at p xs k e in slice_get_within xs k f.entry f.at
+
+-- none before it passes
+first_step : {A : Type 0} (p : A → Bool) (x y : A) (xs : List A) (b : Bool) (o : Option ℕ) → p x ≡ b → ((i j : ℕ) → o ≡ Some i → j < i → slice_get xs j ≡ Some y → ⊥) → (k j : ℕ) → cond b (Some 0) (option_map suc o) ≡ Some k → j < k
+    → slice_get (x ∷ xs) j ≡ Some y → p y ≡ true → ⊥
+first_step p x y xs true o q rest k j e l at passes = let zero_is : 0 ≡ k = same_Some 0 k e in omega (arith, l, zero_is)
+first_step p x y xs false None q rest k j e l at passes = none-some k e
+first_step p x y xs false (Some i) q rest k zero e l at passes = both_ways (p x) q (ap p (same_Some x y at) ∙ passes)
+first_step p x y xs false (Some i) q rest k (suc j) e l at passes =
+    let next : suc i ≡ k = same_Some (suc i) k e in
+    rest i j refl (omega (arith, l, next)) at
+
+pub found_first : {A : Type 0} (p : A → Bool) (xs : List A) (k : ℕ) → find_index p xs ≡ Some k → (j : ℕ) (y : A) → j < k → slice_get xs j ≡ Some y → p y ≡ true → ⊥
+found_first p [] k e j y l at passes = none-some k e
+found_first p (x ∷ xs) k e j y l at passes = first_step p x y xs (p x) (find_index p xs) refl (λ i j f l at. found_first p xs i f j y l at passes) k j e l at passes
 
 -- the first that passes is at k, if it passes and none before does
 pub find_first : {A : Type 0} (p : A → Bool) (xs : List A) (k : ℕ) (x : A) → slice_get xs k ≡ Some x → p x ≡ true → ((j : ℕ) (y : A) → j < k → slice_get xs j ≡ Some y → p y ≡ true → ⊥) → find_index p xs ≡ Some k

@@ -1,4 +1,4 @@
--- Graphs of dependencies: of all modules, of modules behind others, and where a store grows.
+-- Graphs of dependencies: of all modules, of modules after others, and where a store grows.
 use Rattle.std.proofs.Common.{◌≡◌, ℕ, zero, suc, ◌+◌, ◌<◌, true, false, List, [], ◌∷◌, ◌++◌, length, take, Some, slice_get, Contains, refl, sym, ap, ◌∙◌, subst, arith, inl, inr, ◌⊎◌, length-append}
 use Rattle.std.specs.List.{list_any}
 use Rattle.std.specs.Option.{option_map_or}
@@ -56,7 +56,7 @@ take-append : (old new : List Module) → take (length old) (old ++ new) ≡ old
 take-append [] new = refl
 take-append (m ∷ ms) new = ap (λ l. m ∷ l) (take-append ms new)
 
--- the graph of modules behind a store that is linked
+-- the graph of modules after a store that is linked
 pub appended-graph : (old new : List Module) (graph : List (List ℕ)) → Links old → all_differ have_one_name (old ++ new) ≡ true → length graph ≡ length new → EachDepends (old ++ new) (length old) graph → IsDependencyGraph (old ++ new) (length old) graph
 appended-graph old new graph links once len deps =
     record {

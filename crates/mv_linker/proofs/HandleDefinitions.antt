@@ -20,12 +20,11 @@ use Rattle.mv_linker.specs.Stored.{AreNamesOf}
 use Rattle.mv_linker.specs.Targets.{IsStructAt}
 use Rattle.mv_linker.proofs.Bundled.{bundle-at, old-at, place-at}
 use Rattle.mv_linker.proofs.DependencyLemmas.{length-places}
-use Rattle.mv_linker.proofs.Found.{then_found, found_at}
+use Rattle.mv_linker.proofs.Found.{then_found, found_at, there_at}
 use Rattle.mv_linker.proofs.JoinedSizes.{keeps-joined}
 use Rattle.mv_linker.proofs.Members.{among-at, at-among, so-named, bundle-there, differ-result}
 use Rattle.mv_linker.proofs.NameLemmas.{module_place-is}
 use Rattle.mv_linker.proofs.OwnDefinitions.{own-definition, struct_named_so}
-use Rattle.mv_linker.proofs.Scopes.{some-below}
 use Rattle.mv_linker.proofs.SizesStay.{definition_made, size-stays}
 use Rattle.mv_linker.proofs.StillThere.{Joining}
 
@@ -81,7 +80,7 @@ module _ (old ns : List Module) (j : Joining old ns) (linked : list_all (λ m. s
   defined-one m h d (Bundled k index) s (found, same) =
       let place : slice_get (places_in old ns) k ≡ Some d.place = place-at d.place k (places_in old ns) found in
       let below : k < length ns = (let low = slice_get_within (places_in old ns) k d.place place in omega (arith, low, length-places old ns)) in
-      let n = some-below ns k below in
+      let n = there_at ns k below in
       let home : s.home ≡ n.0 = same_Some s.home n.0 (sym s.there ∙ bundle-at old ns k d.place n.0 j.apart n.1 place) in
       (s.name, s.named, ap (name_at ns k) same ∙ name-found ns k d.index s.home s.name (n.1 ∙ ap (λ x. Some x) (sym home)) s.index)
   defined-one m h d (Published size) s (none, at) =

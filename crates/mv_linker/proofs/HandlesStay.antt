@@ -15,8 +15,8 @@ use Rattle.mv_linker.specs.Links.{function_named, function_fits, function_is_the
 use Rattle.mv_linker.specs.Linked.{Entered, linked_module}
 use Rattle.mv_linker.specs.Widths.{width_of_tokens}
 use Rattle.mv_linker.specs.Resolved.{callee_of}
-use Rattle.mv_linker.proofs.Named.{each}
 use Rattle.mv_linker.proofs.CodeStays.{WidthsStay, HandlesStay, tokens-stay, module-stays}
+use Rattle.mv_linker.proofs.Found.{each}
 
 -- names keep their places, and the structs that old modules name keep their words
 pub record Stays (old result : List Module) : Type 0 where

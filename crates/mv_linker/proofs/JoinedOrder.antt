@@ -28,7 +28,7 @@ with_tables-length : (ms ns : List Module) → length (with_tables ms ns) ≤ le
 with_tables-length ms [] = omega arith
 with_tables-length ms (n ∷ ns) = (let one = with_table-length ms n in let rest = with_tables-length (with_table ms n) ns in omega (arith, one, rest))
 
--- a bundle of which each module takes a place of its own stands behind the others
+-- a bundle of which each module takes a place of its own stands after the others
 pub with_tables-appended : (ms ns : List Module) → length (with_tables ms ns) ≡ length ms + length ns → with_tables ms ns ≡ ms ++ ns
 with_tables-appended ms [] h = sym (append-nil ms)
 with_tables-appended ms (n ∷ ns) h =

@@ -1,8 +1,5 @@
 pub mod Adding
-pub mod NameTests
 pub mod Members
-pub mod Owns
-pub mod OwnHomes
 pub mod Upgraded
 pub mod Resolving
 pub mod Outcomes
@@ -13,7 +10,6 @@ pub mod Compatible
 pub mod Empty
 pub mod Scopes
 pub mod Keyed
-pub mod Named
 pub mod ListTests
 pub mod Depends
 pub mod Found
@@ -47,3 +43,4 @@ pub mod DependantLemmas
 pub mod Linkable
 pub mod PlacedCodes
 pub mod Joins
+pub mod InterfaceLemmas

@@ -11,7 +11,8 @@ use Rattle.mv_bounds.specs.Definitions.{all_differ}
 use Rattle.mv_linker.specs.Link.{are_compatible}
 use Rattle.mv_linker.specs.Scope.{with_table, with_tables}
 use Rattle.mv_linker.specs.Upgrades.{may_replace}
-use Rattle.mv_linker.proofs.NameTests.{some_is, is_module-so, so-is_module, have_one-is, have_one-so, so-have_one}
+use Rattle.std.proofs.lemmas.Option.{same_Some}
+use Rattle.mv_linker.proofs.NameLemmas.{is_module-is, is_module-from, have_one-is, have_one_name-is, have_one_name-from}
 
 -- an element of a list
 abbrev pub Among : {A : Type 0} → List A → A → Type 0
@@ -29,7 +30,7 @@ among-all p (y ∷ ys) h = and_from (p y) (list_all p ys) (h y (inl refl)) (amon
 
 pub among-at : {A : Type 0} (xs : List A) (k : ℕ) (x : A) → slice_get xs k ≡ Some x → Among xs x
 among-at [] k x e = absurd cc
-among-at (y ∷ ys) zero x e = inl (some_is x y (sym e))
+among-at (y ∷ ys) zero x e = inl (same_Some x y (sym e))
 among-at (y ∷ ys) (suc k) x e = inr (among-at ys k x e)
 
 pub at-among : {A : Type 0} (xs : List A) (x : A) → Among xs x → (k : ℕ) × (slice_get xs k ≡ Some x)
@@ -69,7 +70,7 @@ pub turned : (a b : Module) → have_one_name a b ≡ false → have_one_name b 
 turned a b h = step (cases_Bool (have_one_name b a))
   where
     step : (have_one_name b a ≡ true) ⊎ (have_one_name b a ≡ false) → have_one_name b a ≡ false
-    step (inl e) = let o = have_one-so b a e in let one : have_one_name a b ≡ true = so-have_one a b o.0 o.2 o.1 in absurd cc
+    step (inl e) = let o = have_one_name-is b a e in let one : have_one_name a b ≡ true = have_one_name-from a b o.0 o.2 o.1 in absurd cc
     step (inr e) = e
 
 -- modules with the name of one that differs from another differ from it too
@@ -78,10 +79,10 @@ carried m n x h k = step (cases_Bool (have_one_name n x))
   where
     step : (have_one_name n x ≡ true) ⊎ (have_one_name n x ≡ false) → have_one_name n x ≡ false
     step (inl e) =
-        let o = have_one-so n m h in
-        let q = have_one-so n x e in
-        let same : q.0 ≡ o.0 = some_is q.0 o.0 (sym q.1 ∙ o.1) in
-        let one : have_one_name m x ≡ true = so-have_one m x o.0 o.2 (q.2 ∙ ap Some same) in
+        let o = have_one_name-is n m h in
+        let q = have_one_name-is n x e in
+        let same : q.0 ≡ o.0 = same_Some q.0 o.0 (sym q.1 ∙ o.1) in
+        let one : have_one_name m x ≡ true = have_one_name-from m x o.0 o.2 (q.2 ∙ ap Some same) in
         absurd cc
     step (inr e) = e
 
@@ -106,11 +107,11 @@ unique [] x y k h a b p q = absurd a
 unique (m ∷ ms) x y k h (inl e) (inl f) p q = e ∙ sym f
 unique (m ∷ ms) x y k h (inl e) (inr b) p q =
     let no : have_one_name m y ≡ false = first_differs m ms h y b in
-    let yes : have_one_name m y ≡ true = so-have_one m y k (sym (ap own_name e) ∙ p) q in
+    let yes : have_one_name m y ≡ true = have_one_name-from m y k (sym (ap own_name e) ∙ p) q in
     absurd cc
 unique (m ∷ ms) x y k h (inr a) (inl f) p q =
     let no : have_one_name m x ≡ false = first_differs m ms h x a in
-    let yes : have_one_name m x ≡ true = so-have_one m x k (sym (ap own_name f) ∙ q) p in
+    let yes : have_one_name m x ≡ true = have_one_name-from m x k (sym (ap own_name f) ∙ q) p in
     absurd cc
 unique (m ∷ ms) x y k h (inr a) (inr b) p q = unique ms x y k (rest_differ m ms h) a b p q
 
@@ -128,7 +129,7 @@ named-so [] k x e = absurd cc
 named-so (m ∷ ms) k x e = step (is_module k m) refl (sym (named_step m ms k) ∙ e) (λ f. named-so ms k x f)
   where
     step : (b : Bool) → is_module k m ≡ b → cond b (Some m) (module_named ms k) ≡ Some x → (module_named ms k ≡ Some x → Among ms x × (own_name x ≡ Some k)) → Among (m ∷ ms) x × (own_name x ≡ Some k)
-    step true p q ih = let same : x ≡ m = some_is x m (sym q) in (inl same, ap own_name same ∙ is_module-so m k p)
+    step true p q ih = let same : x ≡ m = same_Some x m (sym q) in (inl same, ap own_name same ∙ is_module-is k m p)
     step false p q ih = let r = ih q in (inr r.0, r.1)
 
 pub so-named : (ms : List Module) (k : ModuleName) (x : Module) → all_differ have_one_name ms ≡ true → Among ms x → own_name x ≡ Some k → module_named ms k ≡ Some x
@@ -136,8 +137,8 @@ so-named [] k x h a p = absurd a
 so-named (m ∷ ms) k x h a p = named_step m ms k ∙ step (is_module k m) refl a (λ b. so-named ms k x (rest_differ m ms h) b p)
   where
     step : (b : Bool) → is_module k m ≡ b → Among (m ∷ ms) x → (Among ms x → module_named ms k ≡ Some x) → cond b (Some m) (module_named ms k) ≡ Some x
-    step true q a ih = ap Some (unique (m ∷ ms) m x k h (inl refl) a (is_module-so m k q) p)
-    step false q (inl e) ih = let yes : is_module k m ≡ true = so-is_module m k (sym (ap own_name e) ∙ p) in absurd cc
+    step true q a ih = ap Some (unique (m ∷ ms) m x k h (inl refl) a (is_module-is k m q) p)
+    step false q (inl e) ih = let yes : is_module k m ≡ true = is_module-from k m (sym (ap own_name e) ∙ p) in absurd cc
     step false q (inr a) ih = ih a
 
 -- ---- with one more module
@@ -234,9 +235,9 @@ follower old ns once apart fits k m e = step (cases_Bool (list_any (is_module k)
     step : (list_any (is_module k) ns ≡ true) ⊎ (list_any (is_module k) ns ≡ false) → (n : Module) × (module_named (with_tables old ns) k ≡ Some n) × ((n ≡ m) ⊎ (Among ns n × (may_replace m n ≡ true)))
     step (inl h) =
         let r = any-among (is_module k) ns h in
-        let own : own_name r.0 ≡ Some k = is_module-so r.0 k r.2 in
+        let own : own_name r.0 ≡ Some k = is_module-is k r.0 r.2 in
         let both = all-among (λ n. not (have_one_name m n) || may_replace m n) ns r.0 (all-among (λ m. list_all (λ n. not (have_one_name m n) || may_replace m n) ns) old m fits at.0) r.1 in
-        (r.0, so-named (with_tables old ns) k r.0 (differ-result old ns once) (bundle-there old ns r.0 apart r.1) own, inr (r.1, replaces r.0 (so-have_one m r.0 k at.1 own) both))
+        (r.0, so-named (with_tables old ns) k r.0 (differ-result old ns once) (bundle-there old ns r.0 apart r.1) own, inr (r.1, replaces r.0 (have_one_name-from m r.0 k at.1 own) both))
       where
         replaces : (n : Module) → have_one_name m n ≡ true → (not (have_one_name m n) || may_replace m n) ≡ true → may_replace m n ≡ true
         replaces n p q = sym (ap (λ b. not b || may_replace m n) p) ∙ q

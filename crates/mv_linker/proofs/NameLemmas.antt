@@ -60,6 +60,14 @@ have_one_name-is m n h = by_name (own_name m) refl
     by_name (Some own) e =
         (own, e, is_module-is own n (sym (ap (λ o. option_map_or (λ own. is_module own n) o false) e) ∙ h))
 
+-- two modules with one name pass the same tests
+pub one_test : (m n : Module) → own_name m ≡ own_name n → (name : ModuleName) → is_module name m ≡ is_module name n
+one_test m n e name = ap (λ (x : Option ModuleName). option_map_or (λ own. same_module own name) x false) e
+
+-- a test of one name is a test of the name
+pub have_one-is : (m n : Module) (own : ModuleName) → own_name m ≡ Some own → have_one_name m n ≡ is_module own n
+have_one-is m n own e = ap (λ (x : Option ModuleName). option_map_or (λ name. is_module name n) x false) e
+
 -- the module of a name stands at one place
 pub name_at_one : (modules : List Module) (name : ModuleName) (j k : ℕ) (m n : Module) → all_differ have_one_name modules ≡ true → slice_get modules j ≡ Some m → slice_get modules k ≡ Some n
     → own_name m ≡ Some name → own_name n ≡ Some name → j ≡ k

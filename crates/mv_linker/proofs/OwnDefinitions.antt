@@ -1,11 +1,16 @@
--- A module's struct definitions are its own, and their names stand for them.
+-- A module's name, and its struct definitions: they are its own, and their names stand for them.
+--   defined_own, defined_alone      definitions by their handles: of the own module, one each
+--   own_name-some                   a module whose indices are in bounds has a name
+--   one_module_handle, one_struct_handle   a module or a struct has one handle
+--   owns-structs                    a module owns the structs that it defines
+--   definition_place, own-definition   a definition is the one that its name stands for
 use Rattle.std.proofs.Common.{◌≡◌, ℕ, zero, suc, ◌+◌, ◌<◌, ◌≤◌, Bool, true, false, cond, List, [], ◌∷◌, map, length, refl, sym, ap, subst, ◌∙◌, Option, Some, None, arith, eqb, inl, inr}
 use Rattle.std.specs.Prelude.{slice_get, ◌&&◌, ◌==◌, count_by, option_map, option_and_then}
 use Rattle.std.specs.List.{list_all}
 use Rattle.std.specs.Option.{option_map_or}
 use Rattle.std.specs.Cmp.{first_so, second_so}
 use Rattle.std.specs.Str.{bytes_eq}
-use Rattle.std.proofs.lemmas.Bool.{ltb-true, eqb-true, eqb-false, eq-eqb, and_from, cases_order, both_ways}
+use Rattle.std.proofs.lemmas.Bool.{eqb-true, eqb-false, eq-eqb, and_from, cases_order, both_ways}
 use Rattle.std.proofs.lemmas.List.Recursion.{is_count_by}
 use Rattle.std.proofs.lemmas.Option.{same_Some, none-some, slice_get-map, slice_get_within}
 use Rattle.std.proofs.lemmas.Slice.Eq.{bytes_eq-Decides}
@@ -13,12 +18,12 @@ use Rattle.mv_move_types.specs.declared.tables.ModuleHandle.{ModuleHandle}
 use Rattle.mv_move_types.specs.declared.tables.StructHandle.{StructHandle}
 use Rattle.mv_move_types.specs.Options.{◌>>=◌, find_index}
 use Rattle.mv_move_types.specs.Names.{ModuleName, StructName, same_struct}
-use Rattle.mv_move_types.specs.Module.{Module, StructDefinition, module_name, struct_name, name_of_struct}
+use Rattle.mv_move_types.specs.Module.{Module, StructDefinition, module_name, struct_name, name_of_struct, own_name}
 use Rattle.mv_move_types.specs.Named.{have_one_name, module_named, is_struct, definition_of}
 use Rattle.mv_bounds.specs.Bounds.{InBounds, below, struct_in, field_in, struct_handle_in, module_handle_in}
 use Rattle.mv_bounds.specs.Definitions.{WellDefined, all_differ, defined_once, struct_home}
 use Rattle.mv_linker.specs.Sizes.{OwnsStructs}
-use Rattle.mv_linker.proofs.Found.{on_some, then_found, there_at, each, find_first, one_place}
+use Rattle.mv_linker.proofs.Found.{on_some, then_found, each, find_first, one_place, there_below}
 use Rattle.mv_linker.proofs.NameLemmas.{same_struct-same, same_struct-is, module_place-from}
 
 eqb-same : (n : ℕ) → eqb n n ≡ true
@@ -26,10 +31,6 @@ eqb-same n = eq-eqb n n refl
 
 bytes-same : (xs : List ℕ) → bytes_eq xs xs ≡ true
 bytes-same xs = (bytes_eq-Decides xs xs).1 refl
-
--- an index below the length
-there_below : {A : Type 0} (xs : List A) (k : ℕ) → below k xs ≡ true → (x : A) × (slice_get xs k ≡ Some x)
-there_below xs k h = there_at xs k (ltb-true k (length xs) h)
 
 -- how many are this number
 number_of : ℕ → List ℕ → ℕ
@@ -100,11 +101,11 @@ defined_alone home own n h j k defined e l p q =
     twice a b = absurd (omega (arith, a, b))
 
 -- a struct's name by its parts
-abbrev named_in : ModuleName → List ℕ → StructName
+abbrev pub named_in : ModuleName → List ℕ → StructName
 named_in home name = record { home = home; name = name }
 
 module _ (m : Module) (bounds : InBounds m) where
-  module_there : (h : ℕ) → below h m.module_handles ≡ true → (name : ModuleName) × (module_name m h ≡ Some name)
+  pub module_there : (h : ℕ) → below h m.module_handles ≡ true → (name : ModuleName) × (module_name m h ≡ Some name)
   module_there h e =
       let handle = there_below m.module_handles h e in
       let fine = each (module_handle_in m) m.module_handles h handle.0 bounds.module_handles handle.1 in
@@ -112,13 +113,20 @@ module _ (m : Module) (bounds : InBounds m) where
       let name = there_below m.identifiers handle.0.name (second_so (below handle.0.address m.addresses) (below handle.0.name m.identifiers) fine) in
       (record { address = address.0; name = name.0 }, rw (handle.1, address.1, name.1) refl)
 
-  struct_name_by : (h : ℕ) (handle : StructHandle) (home : ModuleName) (name : List ℕ) → slice_get m.struct_handles h ≡ Some handle → module_name m handle.module ≡ Some home → slice_get m.identifiers handle.name ≡ Some name → struct_name m h ≡ Some (named_in home name)
+  pub struct_name_by : (h : ℕ) (handle : StructHandle) (home : ModuleName) (name : List ℕ) → slice_get m.struct_handles h ≡ Some handle → module_name m handle.module ≡ Some home → slice_get m.identifiers handle.name ≡ Some name → struct_name m h ≡ Some (named_in home name)
   struct_name_by h handle home name p q r =
       then_found (slice_get m.struct_handles h) _ handle (Some (named_in home name)) p (then_found (module_name m handle.module) _ home (Some (named_in home name)) q (then_found (slice_get m.identifiers handle.name) _ name (Some (named_in home name)) r refl))
 
+-- a module whose indices are in bounds has a name
+pub own_name-some : (m : Module) → InBounds m → (name : ModuleName) × (own_name m ≡ Some name)
+own_name-some m bounds = module_there m bounds m.own bounds.own
+
+pub own_name-not_none : (m : Module) → InBounds m → own_name m ≡ None → ⊥
+own_name-not_none m bounds none = let some = own_name-some m bounds in none-some some.0 (sym none ∙ some.1)
+
 module _ (m : Module) (defined : WellDefined m) where
   -- a module has one handle
-  one_module_handle : (a b : ℕ) (name : ModuleName) → module_name m a ≡ Some name → module_name m b ≡ Some name → a ≡ b
+  pub one_module_handle : (a b : ℕ) (name : ModuleName) → module_name m a ≡ Some name → module_name m b ≡ Some name → a ≡ b
   one_module_handle a b name e g =
       on_some (slice_get m.module_handles a) _ name e (λ x x_is e1.
       on_some (slice_get m.addresses x.address) _ name e1 (λ p p_is e2.
@@ -138,7 +146,7 @@ module _ (m : Module) (defined : WellDefined m) where
       (and_from _ _ (subst (λ (z : ℕ). (z == x.address) ≡ true) address_at (eqb-same x.address)) (subst (λ (z : ℕ). (z == x.name) ≡ true) name_at (eqb-same x.name)))))))))
 
   -- a struct has one handle
-  one_struct_handle : (a b : ℕ) (name : StructName) → struct_name m a ≡ Some name → struct_name m b ≡ Some name → a ≡ b
+  pub one_struct_handle : (a b : ℕ) (name : StructName) → struct_name m a ≡ Some name → struct_name m b ≡ Some name → a ≡ b
   one_struct_handle a b name e g =
       on_some (slice_get m.struct_handles a) _ name e (λ x x_is e1.
       on_some (module_name m x.module) _ name e1 (λ p p_is e2.
@@ -155,11 +163,11 @@ module _ (m : Module) (defined : WellDefined m) where
       (and_from _ _ (subst (λ (z : ℕ). (x.module == z) ≡ true) home_at (eqb-same x.module)) (subst (λ (z : ℕ). (x.name == z) ≡ true) name_at (eqb-same x.name)))
       (and_from _ _ (subst (λ (z : ℕ). (z == x.module) ≡ true) home_at (eqb-same x.module)) (subst (λ (z : ℕ). (z == x.name) ≡ true) name_at (eqb-same x.name)))))))))
 
-abbrev handle_of : StructDefinition → ℕ
+abbrev pub handle_of : StructDefinition → ℕ
 handle_of d = d.handle
 
 -- a definition's handle is of the own module
-own_handle : (m : Module) → WellDefined m → (i : ℕ) (d : StructDefinition) (handle : StructHandle) → slice_get m.structs i ≡ Some d → slice_get m.struct_handles d.handle ≡ Some handle → handle.module ≡ m.own
+pub own_handle : (m : Module) → WellDefined m → (i : ℕ) (d : StructDefinition) (handle : StructHandle) → slice_get m.structs i ≡ Some d → slice_get m.struct_handles d.handle ≡ Some handle → handle.module ≡ m.own
 own_handle m defined i d handle at e =
     let listed : slice_get (map handle_of m.structs) i ≡ Some d.handle = slice_get-map handle_of m.structs i ∙ ap (option_map handle_of) at in
     let of_own : struct_home m d.handle ≡ m.own = defined_own (struct_home m) m.own (length m.struct_handles) d.handle i (map handle_of m.structs) defined.structs (slice_get_within m.struct_handles d.handle handle e) listed in
@@ -180,8 +188,8 @@ struct_named_so None name e = absurd (both_ways false refl e)
 struct_named_so (Some own) name e = ap (λ x. Some x) (same_struct-is own name e)
 
 -- the first definition with a name is the one of its handle
-found : (m : Module) (defined : WellDefined m) (name : StructName) (i : ℕ) (d : StructDefinition) → slice_get m.structs i ≡ Some d → struct_name m d.handle ≡ Some name → d.handle < length m.struct_handles → find_index (is_struct m name) m.structs ≡ Some i
-found m defined name i d d_at named small =
+pub definition_place : (m : Module) (defined : WellDefined m) (name : StructName) (i : ℕ) (d : StructDefinition) → slice_get m.structs i ≡ Some d → struct_name m d.handle ≡ Some name → d.handle < length m.struct_handles → find_index (is_struct m name) m.structs ≡ Some i
+definition_place m defined name i d d_at named small =
     let listed : slice_get (map handle_of m.structs) i ≡ Some d.handle = slice_get-map handle_of m.structs i ∙ ap (option_map handle_of) d_at in
     find_first (is_struct m name) m.structs i d d_at (ap (λ (x : Option StructName). option_map_or (λ own. same_struct own name) x false) named ∙ same_struct-same name)
     (λ j e l e_at passes.
@@ -205,7 +213,7 @@ own-definition modules place m once home_at bounds defined i d d_at =
     let home_named : module_name m handle.0.module ≡ Some own.0 = ap (module_name m) (own_handle m defined i d handle.0 d_at handle.1) ∙ own.1 in
     let named : struct_name m d.handle ≡ Some name = struct_name_by m bounds d.handle handle.0 own.0 identifier.0 handle.1 home_named identifier.1 in
     let module_is : module_named modules own.0 ≡ Some m = ap (option_and_then (slice_get modules)) (module_place-from modules own.0 place m once home_at own.1) ∙ home_at in
-    let index : find_index (is_struct m name) m.structs ≡ Some i = found m defined name i d d_at named small in (
+    let index : find_index (is_struct m name) m.structs ≡ Some i = definition_place m defined name i d d_at named small in (
       name,
       named,
       then_found (module_named modules own.0) _ m (Some (m, d.fields)) module_is (then_found (find_index (is_struct m name) m.structs) _ i (Some (m, d.fields)) index (then_found (slice_get m.structs i) _ d (Some (m, d.fields)) d_at refl)),

@@ -2,8 +2,8 @@
 --   count-below, places-within    the places that were taken
 --   placed-at, listed             the codes, by their places
 --   relinking                     what the codes are
-use Rattle.std.proofs.Common.{◌≡◌, ◌⊎◌, ℕ, zero, suc, ◌+◌, ◌<◌, ◌≤◌, ◌++◌, [], ◌∷◌, Bool, true, false, cond, List, length, map, Option, Some, None, slice_get, Contains, refl, sym, ap, ap₂, subst, ◌∙◌, arith, inl, inr}
-use Rattle.std.specs.Prelude.{All, ◌==◌, unwrap_or, position}
+use Rattle.std.proofs.Common.{◌≡◌, ℕ, zero, suc, ◌+◌, ◌<◌, ◌≤◌, ◌++◌, [], ◌∷◌, cond, List, length, map, Option, Some, None, slice_get, Contains, refl, sym, ap, subst, ◌∙◌, arith, inl, inr}
+use Rattle.std.specs.Prelude.{◌==◌, unwrap_or, position}
 use Rattle.std.specs.List.{zip}
 use Rattle.std.proofs.lemmas.Bool.{ne_eqb}
 use Rattle.std.proofs.lemmas.List.Elements.{Contains-append_left, Contains-append_right}
@@ -19,18 +19,18 @@ use Rattle.mv_linker.specs.declared.to_link.ToLink.{ToLink}
 use Rattle.mv_linker.specs.Coded.{IsCode, AreCodes, AreToLink}
 use Rattle.mv_linker.specs.Link.{tables_in}
 use Rattle.mv_linker.specs.Ordering.{count_after, ArePlaces}
-use Rattle.mv_linker.specs.Relinked.{Joins, NamesBundle, IsDependant, IsApart, AreDependants, AreLinkable}
-use Rattle.mv_linker.specs.Scope.{offered, with_table, with_tables, place_for, places_in}
+use Rattle.mv_linker.specs.Relinked.{Joins, IsDependant, AreDependants, AreLinkable}
+use Rattle.mv_linker.specs.Scope.{offered, with_table, place_for, places_in}
 use Rattle.mv_linker.specs.Targets.{modules_in}
 use Rattle.mv_linker.proofs.DependantLemmas.{names-none}
 use Rattle.mv_linker.proofs.Joins.{joining, kept-at}
 use Rattle.mv_linker.proofs.DependencyLemmas.{count-places}
 use Rattle.mv_linker.proofs.Bundled.{place-at}
-use Rattle.mv_linker.proofs.Found.{Contains-at, at-Contains}
+use Rattle.mv_linker.proofs.Found.{Contains-at, at-Contains, place_below}
 use Rattle.mv_linker.proofs.Linkable.{at-all, mapped-at, are-to-link}
 use Rattle.mv_linker.proofs.RelinkingLemmas.{IsRelinking}
 use Rattle.mv_linker.proofs.JoinedCodes.{code-kept}
-use Rattle.mv_linker.proofs.Scopes.{length-with_table, place_below}
+use Rattle.mv_linker.proofs.Scopes.{length-with_table}
 
 -- ---- places
 

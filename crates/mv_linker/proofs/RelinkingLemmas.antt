@@ -7,7 +7,7 @@ use Rattle.mv_linker.specs.declared.code.Code.{Code}
 use Rattle.mv_linker.specs.declared.code.CodeAt.{CodeAt}
 use Rattle.mv_linker.specs.Coded.{IsCode}
 use Rattle.mv_linker.specs.Ordering.{count_after, ArePlaces}
-use Rattle.mv_linker.specs.Stored.{AreCodesOf, Relinks}
+use Rattle.mv_linker.specs.Stored.{Relinks}
 use Rattle.mv_linker.proofs.WithAt.{length-put_all, from-put_all, WasPut}
 
 -- Each module that was linked has its code in the result, where it stands at its place or at the next one; and the code of each

@@ -6,7 +6,7 @@ use Rattle.std.specs.List.{list_all, list_any}
 use Rattle.std.proofs.lemmas.List.{length_push}
 use Rattle.std.specs.Option.{option_map_or}
 use Rattle.std.proofs.lemmas.Bool.{and_from, cases_eq}
-use Rattle.std.proofs.lemmas.Option.{slice_get_within}
+use Rattle.std.proofs.lemmas.Option.{slice_get_within, same_Some}
 use Rattle.mv_move_types.specs.declared.tables.Definition.{Definition}
 use Rattle.mv_move_types.specs.declared.tables.StructHandle.{StructHandle}
 use Rattle.mv_move_types.specs.declared.tables.FunctionHandle.{FunctionHandle}
@@ -21,11 +21,8 @@ use Rattle.mv_move_types.specs.Options.{◌>>=◌}
 use Rattle.mv_linker.specs.Links.{module_is_there, modules_are_there, struct_is_there, structs_are_there, function_fits, function_named, function_is_there}
 use Rattle.mv_linker.specs.Targets.{tables_of, IsTarget, AreTargets, struct_matches, function_matches, IsStructIn, IsFunctionIn, IsStructAt, IsFunctionAt, EachAt}
 use Rattle.mv_linker.specs.declared.targets.Target.{Target}
-use Rattle.mv_linker.proofs.NameTests.{some_is}
 use Rattle.mv_linker.proofs.Members.{among-any, among-at, at-among, among-all, all-among}
-use Rattle.mv_linker.proofs.Scopes.{some-below, place_below}
-use Rattle.mv_linker.proofs.Upgraded.{found-at}
-use Rattle.mv_linker.proofs.OwnHomes.{on_some}
+use Rattle.mv_linker.proofs.Found.{on_some, found_at, there_at, place_below}
 
 -- the module of the name that a target has
 target_named : (modules : List Module) (m : Module) (h : ℕ) (t : Target) (is : IsTarget modules m h t) → module_named modules is.name ≡ Some (tables_of t.module)
@@ -43,7 +40,7 @@ not_there (m ∷ ms) name e = step (is_module name m) (module_place ms name) ref
 
 -- and one that is
 pub is_there : (modules : List Module) (name : ModuleName) (k : ℕ) → module_place modules name ≡ Some k → list_any (is_module name) modules ≡ true
-is_there modules name k e = let f = found-at (is_module name) modules k e in among-any (is_module name) modules f.0 (among-at modules k f.0 f.1) f.2
+is_there modules name k e = let f = found_at (is_module name) modules k e in among-any (is_module name) modules f.entry (among-at modules k f.entry f.at) f.passes
 
 -- ---- refusals
 
@@ -104,9 +101,9 @@ module _ (modules : List Module) (m : Module) (targets : List Target) (named : A
           on_some (module_name m x.module) _ s.name e1 (λ home home_is e2.
           on_some (slice_get m.identifiers x.name) _ s.name e2 (λ n n_is e3.
           let full : StructName = record { home = home; name = n } in
-          let same : full ≡ s.name = some_is full s.name e3 in
-          let handles : x ≡ handle = some_is x handle (sym x_is ∙ p) in
-          let home_same : home ≡ is.name = some_is home is.name (sym home_is ∙ ap (λ z. module_name m z.module) handles ∙ is.named) in
+          let same : full ≡ s.name = same_Some full s.name e3 in
+          let handles : x ≡ handle = same_Some x handle (sym x_is ∙ p) in
+          let home_same : home ≡ is.name = same_Some home is.name (sym home_is ∙ ap (λ z. module_name m z.module) handles ∙ is.named) in
           sym (ap (λ (z : StructName). z.home) same) ∙ home_same)))
 
   pub function_at : (h : ℕ) (handle : FunctionHandle) (t : Target) (i : ℕ) → slice_get m.function_handles h ≡ Some handle → slice_get targets handle.module ≡ Some t → IsFunctionIn m handle (tables_of t.module) i
@@ -131,7 +128,7 @@ module _ (modules : List Module) (m : Module) (targets : List Target) (named : A
           let bad : false ≡ true = sym (ap (λ o. option_map_or (λ name. option_map_or (same_abilities handle.abilities) (declared modules name) false) o false) nameless) ∙ e in
           cc
       none (Some name) r = on_some (slice_get m.module_handles handle.module) _ name r (λ x x_is rest.
-          let there = some-below targets handle.module (subst (λ n. handle.module < n) (sym named.len) (slice_get_within m.module_handles handle.module x x_is)) in
+          let there = there_at targets handle.module (subst (λ n. handle.module < n) (sym named.len) (slice_get_within m.module_handles handle.module x x_is)) in
           let clash : Some there.0 ≡ None = sym there.1 ∙ q in
           cc)
 
@@ -143,7 +140,7 @@ module _ (modules : List Module) (m : Module) (targets : List Target) (named : A
           let bad : false ≡ true = sym (ap (λ o. option_map_or (λ n. option_map_or (λ name. option_map_or (function_fits m handle n) (function_named n name) false) (slice_get m.identifiers handle.name) false) (o >>= module_named modules) false) r) ∙ e in
           cc
       none (Some name) r = on_some (slice_get m.module_handles handle.module) _ name r (λ x x_is rest.
-          let there = some-below targets handle.module (subst (λ n. handle.module < n) (sym named.len) (slice_get_within m.module_handles handle.module x x_is)) in
+          let there = there_at targets handle.module (subst (λ n. handle.module < n) (sym named.len) (slice_get_within m.module_handles handle.module x x_is)) in
           let clash : Some there.0 ≡ None = sym there.1 ∙ q in
           cc)
 
@@ -161,7 +158,7 @@ pub structs_there_at : (modules : List Module) (m : Module) (base : ℕ) (handle
 structs_there_at modules m base [] k s e p = absurd cc
 structs_there_at modules m base (x ∷ xs) zero s e p =
     let zero_right : base + 0 ≡ base = omega arith in
-    ap (λ h. struct_is_there modules m h s) zero_right ∙ ap (struct_is_there modules m base) (sym (some_is x s p)) ∙ first_so (struct_is_there modules m base x) (structs_are_there modules m (base + 1) xs) e
+    ap (λ h. struct_is_there modules m h s) zero_right ∙ ap (struct_is_there modules m base) (sym (same_Some x s p)) ∙ first_so (struct_is_there modules m base x) (structs_are_there modules m (base + 1) xs) e
 structs_there_at modules m base (x ∷ xs) (suc k) s e p =
     let next : base + suc k ≡ base + 1 + k = omega arith in
     ap (λ h. struct_is_there modules m h s) next ∙ structs_there_at modules m (base + 1) xs k s (second_so (struct_is_there modules m base x) (structs_are_there modules m (base + 1) xs) e) p
@@ -176,7 +173,7 @@ structs_there_all modules m base (x ∷ xs) f =
 
 -- one more element
 pub each_push : {A : Type 0} (P : ℕ → A → Type 0) (xs : List A) (x : A) → EachAt P xs → P (length xs) x → (k : ℕ) (y : A) → slice_get (xs ++ x ∷ []) k ≡ Some y → P k y
-each_push P [] x all last zero y e = subst (P 0) (some_is x y e) last
+each_push P [] x all last zero y e = subst (P 0) (same_Some x y e) last
 each_push P [] x all last (suc k) y e = absurd cc
 each_push P (z ∷ xs) x all last zero y e = all 0 y e
 each_push P (z ∷ xs) x all last (suc k) y e = each_push (λ j. P (suc j)) xs x (λ j w p. all (suc j) w p) last k y e
@@ -230,7 +227,7 @@ more-structs modules m ds more h handle d s e at is there = record {
   where
     step : (k : ℕ) (x : StructHandle) → k < h + 1 → slice_get m.struct_handles k ≡ Some x → (k ≡ h) ⊎ (k ≡ h → ⊥) → struct_is_there modules m k x ≡ true
     step k x l p (inl q) =
-        let same : x ≡ handle = some_is x handle (sym p ∙ ap (slice_get m.struct_handles) q ∙ at) in
+        let same : x ≡ handle = same_Some x handle (sym p ∙ ap (slice_get m.struct_handles) q ∙ at) in
         ap (λ n. struct_is_there modules m n x) q ∙ ap (struct_is_there modules m h) same ∙ there
     step k x l p (inr q) = s.there k x (omega (arith, l, q)) p
 
@@ -263,7 +260,7 @@ more-functions modules m ds more h handle d s e at is there = record {
   where
     step : (k : ℕ) (x : FunctionHandle) → k < h + 1 → slice_get m.function_handles k ≡ Some x → (k ≡ h) ⊎ (k ≡ h → ⊥) → function_is_there modules m x ≡ true
     step k x l p (inl q) =
-        let same : x ≡ handle = some_is x handle (sym p ∙ ap (slice_get m.function_handles) q ∙ at) in
+        let same : x ≡ handle = same_Some x handle (sym p ∙ ap (slice_get m.function_handles) q ∙ at) in
         ap (function_is_there modules m) same ∙ there
     step k x l p (inr q) = s.there k x (omega (arith, l, q)) p
 

@@ -14,7 +14,8 @@ use Rattle.mv_linker.specs.declared.New.{New}
 use Rattle.mv_linker.specs.Link.{tables_in}
 use Rattle.mv_linker.specs.News.{published_of}
 use Rattle.mv_linker.specs.Scope.{offered, with_table, with_tables, place_for, places_in, all_named, found_among, newest_at}
-use Rattle.mv_linker.proofs.NameTests.{some_is, is_module-so, one_test, have_one-so, so-have_one}
+use Rattle.mv_linker.proofs.NameLemmas.{is_module-is, one_test, have_one_name-is, have_one_name-from}
+use Rattle.mv_linker.proofs.Found.{there_at}
 
 -- ---- the tables of a store with a bundle
 
@@ -55,11 +56,11 @@ find-with_table [] n own name named = refl
 find-with_table (m ∷ ms) n own name named = step (have_one_name n m) refl (is_module name n) refl (is_module name m) refl (find-with_table ms n own name named)
   where
     clash : have_one_name n m ≡ false → is_module name n ≡ true → is_module name m ≡ true → ⊥
-    clash h p q = let one : have_one_name n m ≡ true = so-have_one n m name (is_module-so n name p) (is_module-so m name q) in cc
+    clash h p q = let one : have_one_name n m ≡ true = have_one_name-from n m name (is_module-is name n p) (is_module-is name m q) in cc
 
     agree : have_one_name n m ≡ true → is_module name n ≡ false → is_module name m ≡ true → ⊥
     agree h p q =
-        let own = have_one-so n m h in
+        let own = have_one_name-is n m h in
         let same : is_module name n ≡ is_module name m = one_test n m (own.1 ∙ sym own.2) name in
         cc
 
@@ -224,11 +225,6 @@ place-for ms n own e = ap (λ o. unwrap_or (find_index (λ m. option_map_or (λ 
 
 -- ---- what there is below a place
 
-pub some-below : {A : Type 0} (xs : List A) (k : ℕ) → k < length xs → (x : A) × (slice_get xs k ≡ Some x)
-some-below [] k h = absurd (omega (arith, h))
-some-below (x ∷ xs) zero h = (x, refl)
-some-below (x ∷ xs) (suc k) h = some-below xs k (omega (arith, h))
-
 -- a module of the store is at its place there
 pub tables-there : (ps : List PublishedModule) (k : ℕ) (m : Module) → k < length ps → IfSome (slice_get ps k) (λ p. m ≡ p.tables) → slice_get (tables_in ps) k ≡ Some m
 tables-there [] k m h e = absurd (omega (arith, h))
@@ -242,17 +238,7 @@ within_tables (p ∷ ps) (suc k) m e = omega (arith, within_tables ps k m e)
 
 -- where none of the bundle stands, the store has a module
 pub kept-below : (ps : List PublishedModule) (ns : List Module) (k : ℕ) → newest_at k ns (places_in (tables_in ps) ns) None ≡ None → k < length (with_tables (tables_in ps) ns) → k < length ps
-kept-below ps ns k none h = let x = some-below (with_tables (tables_in ps) ns) k h in within_tables ps k x.0 (sym (kept-there (tables_in ps) ns k none) ∙ x.1)
-
--- a place that was found is one
-pub place_below : {A : Type 0} (p : A → Bool) (xs : List A) (k : ℕ) → find_index p xs ≡ Some k → k < length xs
-place_below p [] k e = absurd cc
-place_below p (x ∷ xs) k e = step (p x) (find_index p xs) refl k e (λ j f. place_below p xs j f)
-  where
-    step : (b : Bool) (o : Option ℕ) → find_index p xs ≡ o → (k : ℕ) → cond b (Some 0) (option_map suc o) ≡ Some k → ((j : ℕ) → find_index p xs ≡ Some j → j < length xs) → k < suc (length xs)
-    step true o f k e ih = let zero_is : 0 ≡ k = some_is 0 k e in omega (arith, zero_is)
-    step false None f k e ih = absurd cc
-    step false (Some j) f k e ih = let next : suc j ≡ k = some_is (suc j) k e in omega (arith, next, ih j f)
+kept-below ps ns k none h = let x = there_at (with_tables (tables_in ps) ns) k h in within_tables ps k x.0 (sym (kept-there (tables_in ps) ns k none) ∙ x.1)
 
 -- ---- the places of the modules of a bundle that were looked at
 

@@ -23,11 +23,12 @@ use Rattle.mv_linker.specs.Scope.{with_tables}
 use Rattle.mv_linker.specs.TypesByName.{both_there, signature_named, same_signature}
 use Rattle.mv_move_types.specs.Tags.{Tag, same_tags}
 use Rattle.mv_linker.specs.Upgrades.{structs_stay, have_one_type, function_stays, may_replace}
-use Rattle.mv_linker.proofs.NameTests.{some_is, is_module-so, so-is_module, so-have_one, have_one-so}
 use Rattle.mv_linker.proofs.Members.{Among, all-among, any-among, among-any, among-at, so-named, named-so, follower}
-use Rattle.mv_linker.proofs.OwnHomes.{on_some}
-use Rattle.mv_linker.proofs.Upgraded.{Replaces, both-there, declared-stays, found-at}
+use Rattle.mv_linker.proofs.Upgraded.{Replaces, both-there, declared-stays}
 use Rattle.mv_linker.proofs.TagTests.{same_tags-is, same_tags-same}
+use Rattle.std.proofs.lemmas.Option.{same_Some}
+use Rattle.mv_linker.proofs.NameLemmas.{is_module-is, is_module-from, have_one_name-from, have_one_name-is}
+use Rattle.mv_linker.proofs.Found.{on_some, found_at}
 
 -- a bundle that may join old modules
 pub record Joining (old ns : List Module) : Type 0 where
@@ -44,7 +45,7 @@ signatures-joined : (a b c : Option (List Tag)) → both_there same_tags a b ≡
 signatures-joined a b c h k =
     let p = both-there same_tags a b h in
     let q = both-there same_tags b c k in
-    let middle : p.1 ≡ q.0 = some_is p.1 q.0 (sym p.3 ∙ q.2) in
+    let middle : p.1 ≡ q.0 = same_Some p.1 q.0 (sym p.3 ∙ q.2) in
     let same : p.0 ≡ q.1 = same_tags-is p.0 p.1 p.4 ∙ middle ∙ same_tags-is q.0 q.1 q.4 in
     ap (λ x. both_there same_tags x c) p.2 ∙ ap (both_there same_tags (Some p.0)) (q.3 ∙ ap Some (sym same)) ∙ same_tags-same p.0
 
@@ -57,9 +58,9 @@ module _ (old ns : List Module) (j : Joining old ns) where
       go None e = absurd cc
       go (Some k) e =
           let x = any-among (is_module k) old e in
-          let f = follower old ns j.once j.apart j.fits k x.0 (so-named old k x.0 j.once x.1 (is_module-so x.0 k x.2)) in
+          let f = follower old ns j.once j.apart j.fits k x.0 (so-named old k x.0 j.once x.1 (is_module-is k x.0 x.2)) in
           let n = named-so (with_tables old ns) k f.0 f.1 in
-          among-any (is_module k) (with_tables old ns) f.0 n.0 (so-is_module f.0 k n.1)
+          among-any (is_module k) (with_tables old ns) f.0 n.0 (is_module-from k f.0 n.1)
 
   pub modules-still-there : (m : Module) (h : ℕ) → modules_are_there old m h ≡ true → modules_are_there (with_tables old ns) m h ≡ true
   modules-still-there m zero e = refl
@@ -126,9 +127,9 @@ module _ (old ns : List Module) (j : Joining old ns) where
       go : (o : Option ℕ) → function_place x name ≡ o → (o >>= slice_get x.functions) ≡ Some d → name_of_function x d ≡ Some name
       go None p q = absurd cc
       go (Some k) p q =
-          let f = found-at (λ (d : FunctionDefinition). option_map_or (bytes_eq name) (name_of_function x d) false) x.functions k p in
-          let same : f.0 ≡ d = some_is f.0 d (sym f.1 ∙ q) in
-          subst (λ z. name_of_function x z ≡ Some name) same (named f.0 (name_of_function x f.0) refl f.2)
+          let f = found_at (λ (d : FunctionDefinition). option_map_or (bytes_eq name) (name_of_function x d) false) x.functions k p in
+          let same : f.entry ≡ d = same_Some f.entry d (sym f.at ∙ q) in
+          subst (λ z. name_of_function x z ≡ Some name) same (named f.entry (name_of_function x f.entry) refl f.passes)
 
   function-among : (x : Module) (name : List ℕ) (d : FunctionDefinition) → function_named x name ≡ Some d → Among x.functions d
   function-among x name d e = on_some (function_place x name) (slice_get x.functions) d e (λ k k_is at. among-at x.functions k d at)
@@ -212,11 +213,11 @@ module _ (old ns : List Module) (j : Joining old ns) where
                 where
                   apart : (have_one_name m x ≡ true) ⊎ (have_one_name m x ≡ false) → have_one_name m x ≡ false
                   apart (inl one) =
-                      let o = have_one-so m x one in
+                      let o = have_one_name-is m x one in
                       let x_named : own_name x ≡ Some k = (named-so old k x p').1 in
                       let y_named : own_name y ≡ Some k = (named-so (with_tables old ns) k y g).1 in
-                      let same : o.0 ≡ k = some_is o.0 k (sym o.2 ∙ x_named) in
-                      let yes : have_one_name y m ≡ true = so-have_one y m k y_named (o.1 ∙ ap Some same) in
+                      let same : o.0 ≡ k = same_Some o.0 k (sym o.2 ∙ x_named) in
+                      let yes : have_one_name y m ≡ true = have_one_name-from y m k y_named (o.1 ∙ ap Some same) in
                       let never : have_one_name y m ≡ false = kept y r.0 in
                       absurd cc
                   apart (inr other) = other

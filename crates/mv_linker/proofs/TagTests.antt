@@ -1,15 +1,15 @@
 -- What the tests of types by names mean.
-use Rattle.std.proofs.Common.{◌≡◌, ℕ, Bool, true, false, cond, List, [], ◌∷◌, refl, sym, ap, ap₂, ◌∙◌}
+use Rattle.std.proofs.Common.{◌≡◌, ℕ, true, cond, List, [], ◌∷◌, refl, sym, ap, ap₂, ◌∙◌}
 use Rattle.std.specs.Prelude.{◌==◌}
 use Rattle.std.specs.Bool.{beq}
-use Rattle.std.specs.Cmp.{first_so, second_so}
+use Rattle.std.specs.Cmp.{first_so, second_so, booleans_Decides}
 use Rattle.std.proofs.lemmas.Bool.{and_from, eq-eqb, eqb-true}
 use Rattle.mv_move_types.specs.declared.token.LeafKind.{LeafKind}
 use Rattle.mv_move_types.specs.Tokens.{same_kind, kind_code}
 use Rattle.mv_move_types.specs.Tags.{Tag, LeafTag, StructTag, ReferenceTag, same_tag, same_tags}
 use Rattle.mv_move_types.specs.declared.token.LeafKind.TheVariants.{Boolean, Number, Address, Signer}
 use Rattle.mv_move_types.specs.declared.token.Width.TheVariants.{U8, U16, U32, U64, U128}
-use Rattle.mv_linker.proofs.NameTests.{same_struct-is, same_struct-same}
+use Rattle.mv_linker.proofs.NameLemmas.{same_struct-is, same_struct-same}
 
 -- the kind of a leaf, by its number
 abbrev kind_of : ℕ → LeafKind
@@ -28,21 +28,11 @@ kind_of-code (Number U128) = refl
 kinds_equal : (j k : LeafKind) → same_kind j k ≡ true → j ≡ k
 kinds_equal j k e = sym (kind_of-code j) ∙ ap kind_of (eqb-true (kind_code j) (kind_code k) e) ∙ kind_of-code k
 
-beq-is : (a b : Bool) → beq a b ≡ true → a ≡ b
-beq-is true true e = refl
-beq-is true false e = absurd cc
-beq-is false true e = absurd cc
-beq-is false false e = refl
-
-beq-same : (a : Bool) → beq a a ≡ true
-beq-same true = refl
-beq-same false = refl
-
 pub same_tag-is : (a b : Tag) → same_tag a b ≡ true → a ≡ b
 same_tag-is (LeafTag j) (LeafTag k) e = ap LeafTag (kinds_equal j k e)
 same_tag-is (StructTag m) (StructTag n) e = ap StructTag (same_struct-is m n e)
 same_tag-is (ReferenceTag i a) (ReferenceTag j b) e =
-    ap₂ ReferenceTag (beq-is i j (first_so (beq i j) (same_tag a b) e)) (same_tag-is a b (second_so (beq i j) (same_tag a b) e))
+    ap₂ ReferenceTag ((booleans_Decides i j).0 (first_so (beq i j) (same_tag a b) e)) (same_tag-is a b (second_so (beq i j) (same_tag a b) e))
 same_tag-is (LeafTag j) (StructTag n) e = absurd cc
 same_tag-is (LeafTag j) (ReferenceTag i b) e = absurd cc
 same_tag-is (StructTag m) (LeafTag k) e = absurd cc
@@ -53,7 +43,7 @@ same_tag-is (ReferenceTag i a) (StructTag n) e = absurd cc
 pub same_tag-same : (a : Tag) → same_tag a a ≡ true
 same_tag-same (LeafTag k) = eq-eqb (kind_code k) (kind_code k) refl
 same_tag-same (StructTag n) = same_struct-same n
-same_tag-same (ReferenceTag i a) = and_from (beq i i) (same_tag a a) (beq-same i) (same_tag-same a)
+same_tag-same (ReferenceTag i a) = and_from (beq i i) (same_tag a a) ((booleans_Decides i i).1 refl) (same_tag-same a)
 
 pub same_tags-is : (as' bs : List Tag) → same_tags as' bs ≡ true → as' ≡ bs
 same_tags-is [] [] e = refl

@@ -1,8 +1,8 @@
 -- What the old modules name stays there once a bundle joins that replaces what it may.
-use Rattle.std.proofs.Common.{◌≡◌, ℕ, zero, suc, ◌<◌, Bool, true, false, cond, List, [], ◌∷◌, refl, sym, ap, ap₂, subst, ◌∙◌, Option, Some, None, option_map, arith}
+use Rattle.std.proofs.Common.{◌≡◌, ℕ, zero, suc, ◌<◌, Bool, true, false, List, [], ◌∷◌, refl, sym, ap, ap₂, subst, ◌∙◌, Option, Some, None, option_map, arith}
 use Rattle.std.specs.Prelude.{slice_get, ◌&&◌, option_and_then}
 use Rattle.std.specs.Bool.{beq}
-use Rattle.std.specs.Cmp.{first_so, second_so}
+use Rattle.std.specs.Cmp.{first_so, second_so, booleans_Decides}
 use Rattle.std.specs.Option.{option_map_or}
 use Rattle.std.specs.Str.{bytes_eq}
 use Rattle.std.proofs.lemmas.Bool.{and_parts}
@@ -18,9 +18,10 @@ use Rattle.mv_bounds.specs.Bounds.{InBounds}
 use Rattle.mv_bounds.specs.Definitions.{WellDefined}
 use Rattle.mv_linker.specs.TypesByName.{both_there}
 use Rattle.mv_linker.specs.Upgrades.{same_fields, same_struct_definition, structs_stay}
-use Rattle.mv_linker.proofs.NameTests.{some_is, same_struct-is, same_struct-same}
-use Rattle.mv_linker.proofs.Owns.{find_first}
-use Rattle.mv_linker.proofs.OwnHomes.{own-home}
+use Rattle.std.proofs.lemmas.Option.{same_Some}
+use Rattle.mv_linker.proofs.NameLemmas.{same_struct-same}
+use Rattle.mv_linker.proofs.Found.{find_first, found_at, found_first}
+use Rattle.mv_linker.proofs.OwnDefinitions.{struct_named_so, owns-structs}
 
 -- ---- tests of two parts that are there
 
@@ -28,16 +29,6 @@ pub both-there : {A B : Type 0} (same : A → B → Bool) (a : Option A) (b : Op
 both-there same None b e = absurd cc
 both-there same (Some x) None e = absurd cc
 both-there same (Some x) (Some y) e = (x, y, refl, refl, e)
-
-pub beq-is : (a b : Bool) → beq a b ≡ true → a ≡ b
-beq-is true true e = refl
-beq-is true false e = absurd cc
-beq-is false true e = absurd cc
-beq-is false false e = refl
-
-pub beq-same : (a : Bool) → beq a a ≡ true
-beq-same true = refl
-beq-same false = refl
 
 abbrev abilities_of : Bool → Bool → Bool → Bool → Abilities
 abilities_of copy drop store key = record { copy = copy; drop = drop; store = store; key = key }
@@ -48,10 +39,10 @@ same_abilities-is a b h =
     let one = and_parts (beq a.copy b.copy && beq a.drop b.drop && beq a.store b.store) (beq a.key b.key) h in
     let two = and_parts (beq a.copy b.copy && beq a.drop b.drop) (beq a.store b.store) one.0 in
     let three = and_parts (beq a.copy b.copy) (beq a.drop b.drop) two.0 in
-    let copy : a.copy ≡ b.copy = beq-is a.copy b.copy three.0 in
-    let drop : a.drop ≡ b.drop = beq-is a.drop b.drop three.1 in
-    let store : a.store ≡ b.store = beq-is a.store b.store two.1 in
-    let key : a.key ≡ b.key = beq-is a.key b.key one.1 in
+    let copy : a.copy ≡ b.copy = (booleans_Decides a.copy b.copy).0 three.0 in
+    let drop : a.drop ≡ b.drop = (booleans_Decides a.drop b.drop).0 three.1 in
+    let store : a.store ≡ b.store = (booleans_Decides a.store b.store).0 two.1 in
+    let key : a.key ≡ b.key = (booleans_Decides a.key b.key).0 one.1 in
     ap (λ x. abilities_of x a.drop a.store a.key) copy ∙ ap (λ x. abilities_of b.copy x a.store a.key) drop
     ∙ ap (λ x. abilities_of b.copy b.drop x a.key) store ∙ ap (λ x. abilities_of b.copy b.drop b.store x) key
 
@@ -62,7 +53,7 @@ stays-at : (m n : Module) (ds es : List StructDefinition) (k : ℕ) (d : StructD
     → (e : StructDefinition) × (slice_get es k ≡ Some e) × (same_struct_definition m d n e ≡ true)
 stays-at m n [] es k d h p = absurd cc
 stays-at m n (x ∷ ds) [] k d h p = absurd cc
-stays-at m n (x ∷ ds) (y ∷ es) zero d h p = (y, refl, subst (λ z. same_struct_definition m z n y ≡ true) (some_is x d p) (first_so (same_struct_definition m x n y) (structs_stay m ds n es) h))
+stays-at m n (x ∷ ds) (y ∷ es) zero d h p = (y, refl, subst (λ z. same_struct_definition m z n y ≡ true) (same_Some x d p) (first_so (same_struct_definition m x n y) (structs_stay m ds n es) h))
 stays-at m n (x ∷ ds) (y ∷ es) (suc k) d h p = stays-at m n ds es k d (second_so (same_struct_definition m x n y) (structs_stay m ds n es) h) p
 
 -- and those before were there before
@@ -71,40 +62,12 @@ stayed-at : (m n : Module) (ds es : List StructDefinition) (j k : ℕ) (d e : St
 stayed-at m n [] es j k d e h p l q = absurd cc
 stayed-at m n (x ∷ ds) [] j k d e h p l q = absurd cc
 stayed-at m n (x ∷ ds) (y ∷ es) j zero d e h p l q = absurd (omega (arith, l))
-stayed-at m n (x ∷ ds) (y ∷ es) zero (suc k) d e h p l q = (x, refl, subst (λ z. same_struct_definition m x n z ≡ true) (some_is y e q) (first_so (same_struct_definition m x n y) (structs_stay m ds n es) h))
+stayed-at m n (x ∷ ds) (y ∷ es) zero (suc k) d e h p l q = (x, refl, subst (λ z. same_struct_definition m x n z ≡ true) (same_Some y e q) (first_so (same_struct_definition m x n y) (structs_stay m ds n es) h))
 stayed-at m n (x ∷ ds) (y ∷ es) (suc j) (suc k) d e h p l q = stayed-at m n ds es j k d e (second_so (same_struct_definition m x n y) (structs_stay m ds n es) h) p (omega (arith, l)) q
-
--- what the first that passes is
-pub found-at : {A : Type 0} (p : A → Bool) (xs : List A) (k : ℕ) → find_index p xs ≡ Some k → (x : A) × (slice_get xs k ≡ Some x) × (p x ≡ true)
-found-at p [] k e = absurd cc
-found-at {A = A} p (x ∷ xs) k e = step (p x) refl (find_index p xs) refl k e (λ j g. found-at p xs j g)
-  where
-    step : (b : Bool) → p x ≡ b → (o : Option ℕ) → find_index p xs ≡ o → (k : ℕ) → cond b (Some 0) (option_map suc o) ≡ Some k → ((j : ℕ) → find_index p xs ≡ Some j → (y : A) × (slice_get xs j ≡ Some y) × (p y ≡ true)) → (y : A) × (slice_get (x ∷ xs) k ≡ Some y) × (p y ≡ true)
-    step true q o r k g ih = (x, ap (slice_get (x ∷ xs)) (sym (some_is 0 k g)), q)
-    step false q None r k g ih = absurd cc
-    step false q (Some j) r k g ih = let t = ih j r in (t.0, ap (slice_get (x ∷ xs)) (sym (some_is (suc j) k g)) ∙ t.1, t.2)
-
-pub found-first : {A : Type 0} (p : A → Bool) (xs : List A) (k : ℕ) → find_index p xs ≡ Some k → (j : ℕ) (y : A) → j < k → slice_get xs j ≡ Some y → p y ≡ true → ⊥
-found-first p [] k e j y l q r = cc
-found-first {A = A} p (x ∷ xs) k e j y l q r = step (p x) refl (find_index p xs) refl k e j l q (λ i g j l q. found-first p xs i g j y l q r)
-  where
-    step : (b : Bool) → p x ≡ b → (o : Option ℕ) → find_index p xs ≡ o → (k : ℕ) → cond b (Some 0) (option_map suc o) ≡ Some k → (j : ℕ) → j < k → slice_get (x ∷ xs) j ≡ Some y
-        → ((i : ℕ) → find_index p xs ≡ Some i → (j : ℕ) → j < i → slice_get xs j ≡ Some y → ⊥) → ⊥
-    step true a o b k g j l q ih = let zero_is : 0 ≡ k = some_is 0 k g in omega (arith, l, zero_is)
-    step false a None b k g j l q ih = cc
-    step false a (Some i) b k g zero l q ih = let same : x ≡ y = some_is x y q in let yes : p x ≡ true = ap p same ∙ r in cc
-    step false a (Some i) b k g (suc j) l q ih = let next : suc i ≡ k = some_is (suc i) k g in ih i b j (omega (arith, l, next)) q
 
 -- a struct's name by its parts
 abbrev name_with : ModuleName → List ℕ → StructName
 name_with home name = record { home = home; name = name }
-
-struct-so : (m : Module) (name : StructName) (d : StructDefinition) → is_struct m name d ≡ true → name_of_struct m d ≡ Some name
-struct-so m name d e = go (name_of_struct m d) e
-  where
-    go : (o : Option StructName) → option_map_or (λ own. same_struct own name) o false ≡ true → o ≡ Some name
-    go None e = absurd cc
-    go (Some own) e = ap Some (same_struct-is own name e)
 
 so-struct : (m : Module) (name : StructName) (d : StructDefinition) → name_of_struct m d ≡ Some name → is_struct m name d ≡ true
 so-struct m name d e = subst (λ (x : Option StructName). option_map_or (λ own. same_struct own name) x false ≡ true) (sym e) (same_struct-same name)
@@ -130,22 +93,22 @@ module _ (m n : Module) (r : Replaces m n) where
   one_name : (j : ℕ) (d e : StructDefinition) → slice_get m.structs j ≡ Some d → slice_get n.structs j ≡ Some e → same_struct_definition m d n e ≡ true → (name : StructName) × (name_of_struct m d ≡ Some name) × (name_of_struct n e ≡ Some name)
   one_name j d e p q h =
       let b = both-there (λ (a b : StructName). bytes_eq a.name b.name) (name_of_struct m d) (name_of_struct n e) (parts d e h).0 in
-      let homes : b.0.home ≡ b.1.home = some_is b.0.home b.1.home (sym (own-home m r.bounds r.defined j d b.0 p b.2) ∙ r.named ∙ own-home n r.new_bounds r.new_defined j e b.1 q b.3) in
+      let homes : b.0.home ≡ b.1.home = same_Some b.0.home b.1.home (sym (owns-structs m r.defined j d b.0 p b.2) ∙ r.named ∙ owns-structs n r.new_defined j e b.1 q b.3) in
       let names : b.0.name ≡ b.1.name = (bytes_eq-Decides b.0.name b.1.name).0 b.4 in
       (b.0, b.2, b.3 ∙ ap Some (sym (ap₂ name_with homes names)))
 
   -- an old struct is found at its place
   pub struct-stays : (name : StructName) (k : ℕ) → find_index (is_struct m name) m.structs ≡ Some k → find_index (is_struct n name) n.structs ≡ Some k
   struct-stays name k e =
-      let f = found-at (is_struct m name) m.structs k e in
-      let s = stays-at m n m.structs n.structs k f.0 r.stays f.1 in
-      let o = one_name k f.0 s.0 f.1 s.1 s.2 in
-      let same : o.0 ≡ name = some_is o.0 name (sym o.1 ∙ struct-so m name f.0 f.2) in
+      let f = found_at (is_struct m name) m.structs k e in
+      let s = stays-at m n m.structs n.structs k f.entry r.stays f.at in
+      let o = one_name k f.entry s.0 f.at s.1 s.2 in
+      let same : o.0 ≡ name = same_Some o.0 name (sym o.1 ∙ struct_named_so (name_of_struct m f.entry) name f.passes) in
       find_first (is_struct n name) n.structs k s.0 s.1 (so-struct n name s.0 (o.2 ∙ ap Some same)) (λ j y l at passes.
-      let b = stayed-at m n m.structs n.structs j k f.0 y r.stays f.1 l at in
+      let b = stayed-at m n m.structs n.structs j k f.entry y r.stays f.at l at in
       let p = one_name j b.0 y b.1 at b.2 in
-      let again : p.0 ≡ name = some_is p.0 name (sym p.2 ∙ struct-so n name y passes) in
-      found-first (is_struct m name) m.structs k e j b.0 l b.1 (so-struct m name b.0 (p.1 ∙ ap Some again)))
+      let again : p.0 ≡ name = same_Some p.0 name (sym p.2 ∙ struct_named_so (name_of_struct n y) name passes) in
+      found_first (is_struct m name) m.structs k e j b.0 l b.1 (so-struct m name b.0 (p.1 ∙ ap Some again)))
 
   -- with its abilities
   pub declared-stays : (name : StructName) (a : Abilities) → declared_in name m ≡ Some a → declared_in name n ≡ Some a
@@ -163,12 +126,12 @@ module _ (m n : Module) (r : Replaces m n) where
           → declared_in name n ≡ Some a
       step None p g = absurd cc
       step (Some k) p g =
-          let f = found-at (is_struct m name) m.structs k p in
-          let s = stays-at m n m.structs n.structs k f.0 r.stays f.1 in
-          let b = both-there same_abilities (struct_abilities m f.0) (struct_abilities n s.0) (parts f.0 s.0 s.2).1 in
-          let old : option_map (λ (h : StructHandle). h.abilities) (slice_get m.struct_handles f.0.handle) ≡ Some a =
-          sym (ap (option_and_then (λ (d : StructDefinition). option_map (λ (h : StructHandle). h.abilities) (slice_get m.struct_handles d.handle))) f.1) ∙ g in
-          let is : b.0 ≡ a = some_is b.0 a (sym b.2 ∙ one m f.0 ∙ old) in
+          let f = found_at (is_struct m name) m.structs k p in
+          let s = stays-at m n m.structs n.structs k f.entry r.stays f.at in
+          let b = both-there same_abilities (struct_abilities m f.entry) (struct_abilities n s.0) (parts f.entry s.0 s.2).1 in
+          let old : option_map (λ (h : StructHandle). h.abilities) (slice_get m.struct_handles f.entry.handle) ≡ Some a =
+          sym (ap (option_and_then (λ (d : StructDefinition). option_map (λ (h : StructHandle). h.abilities) (slice_get m.struct_handles d.handle))) f.at) ∙ g in
+          let is : b.0 ≡ a = same_Some b.0 a (sym b.2 ∙ one m f.entry ∙ old) in
           let new : option_map (λ (h : StructHandle). h.abilities) (slice_get n.struct_handles s.0.handle) ≡ Some a =
           sym (one n s.0) ∙ b.3 ∙ ap Some (sym (same_abilities-is b.0 b.1 b.4) ∙ is) in
           ap (option_and_then (λ i. option_and_then (λ (d : StructDefinition). option_map (λ (h : StructHandle). h.abilities) (slice_get n.struct_handles d.handle)) (slice_get n.structs i))) (struct-stays name k p)

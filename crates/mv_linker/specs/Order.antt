@@ -20,7 +20,7 @@ pub record AreDependencies (modules : List Module) (m : Module) (places : List �
   pub there : (j : ℕ) → Contains places j → j < length modules
   pub each : (j : ℕ) (n : Module) → slice_get modules j ≡ Some n → Contains places j ↔ IsTrue (depends_on m n)
 
--- a graph's entry has the dependencies of the module that stands so far behind the first `base` ones, and those depend on each other alone, without a cycle
+-- a graph's entry has the dependencies of the module that stands so far after the first `base` ones, and those depend on each other alone, without a cycle
 pub record IsDependencyGraph (modules : List Module) (base : ℕ) (graph : List (List ℕ)) : Type 0 where
   pub len : base + length graph ≡ length modules
   pub each : (i : ℕ) (m : Module) (places : List ℕ) → slice_get modules (base + i) ≡ Some m → slice_get graph i ≡ Some places → AreDependencies modules m places

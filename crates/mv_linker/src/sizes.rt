@@ -12,7 +12,7 @@ use std::alloc::{AllocError, Global};
 /// The most leaf values of a struct.
 const MOST_LEAVES: u32 = 256;
 /// The deepest nesting of a struct.
-const DEEPEST: u8 = 8;
+pub(crate) const DEEPEST: u8 = 8;
 
 /// A struct's size.
 #[derive(Clone, Copy)]

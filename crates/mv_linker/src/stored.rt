@@ -1,14 +1,17 @@
 // What a store keeps of its modules beside their texts.
-ghost use Rattle.std.specs.Prelude.{◌≡◌, ◌<◌, IsSome, Some, length, map, slice_get, IfSome, IfOk};
+ghost use Rattle.std.specs.Prelude.{◌≡◌, ◌<◌, IsSome, Some, length, map, option_map, slice_get, IfSome, IfOk};
 ghost use Rattle.mv_move_types.specs.Module.{name_at};
+ghost use Rattle.mv_move_types.specs.Named.{function_place};
 ghost use Rattle.mv_linker.specs.Link.{IsStore, tables_in};
 ghost use Rattle.mv_linker.specs.Code.{operations};
 ghost use Rattle.mv_linker.specs.Coded.{AreOwnSizes};
+ghost use Rattle.mv_linker.specs.Interfaces.{IsInterfaceAt};
 ghost use Rattle.mv_linker.specs.Linked.{program_of, width_of_others};
 ghost use Rattle.mv_linker.specs.Stored.{IsSizeAt};
 
 use crate::Store;
 use crate::code::Code;
+use crate::interfaces::{Interface, index_of};
 use crate::sizes::Size;
 use mv_move_types::{Definition, Refusal};
 use mv_type_states::Typed;
@@ -23,12 +26,26 @@ impl Store {
         &self.codes
     }
 
-    /// The words of the locals of a function behind its arguments, if the function is there.
+    /// The words of the locals of a function after its arguments, if the function is there.
     pub fn others(&self, f: Definition) -> Option<u16>
         ensures { result ≡ width_of_others (tables_in self.now) f }
     {
         let code = self.codes.get(usize::from(f.place))?;
         code.others.get(usize::from(f.index)).copied()
+    }
+
+    /// The function with this identifier in the module at a place: its index there, and what a call from outside asks of it.
+    /// No memory is taken, and no byte of the module is read.
+    pub fn function(&self, place: usize, name: &[u8]) -> Option<(usize, &Interface)>
+        requires { place < length self.now }
+        ensures index { IfSome (slice_get (tables_in self.now) place) (λ m. option_map (λ p. p.0) result ≡ function_place m name.now) }
+        ensures interface { IfSome result (λ p. IsInterfaceAt (tables_in self.now) place p.0 p.1.now) }
+        ensures few { IfSome result (λ p. p.0 < 256) }
+        ensures store { IsStore self.now }
+    {
+        let interfaces = &self.codes[place].interfaces;
+        let index = index_of(interfaces, name)?;
+        Some((index, &interfaces[index]))
     }
 
     /// The sizes of the structs of the module at a place.

@@ -73,7 +73,7 @@ below-with_words (e ∷ es) low k w b h =
     ⊎_elim (λ (t : key_before k e.key ≡ true). rw t h) (λ (f : key_before k e.key ≡ false). rw f b) (bool_cases (key_before k e.key))))
     (bool_cases (same_key e.key k))
 
--- where a key is neither another nor before it, it is behind it
+-- where a key is neither another nor before it, it is after it
 behind : (a b : Key) → same_key a b ≡ false → key_before b a ≡ false → key_before a b ≡ true
 behind a b p q = ⊎_elim (λ e. cc) (λ s. ⊎_elim (λ t. t) (λ t. cc) s) (keys_compare a b)
 

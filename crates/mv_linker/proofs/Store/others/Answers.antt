@@ -2,7 +2,6 @@ use Rattle.std.proofs.Common.{◌≡◌, List, Option, None, Some, slice_get, sy
 use Rattle.mv_move_types.specs.Options.{◌>>=◌}
 use Rattle.mv_move_types.specs.Published.{PublishedModule}
 use Rattle.mv_linker.specs.declared.code.Code.{Code}
-use Rattle.mv_linker.specs.Kept.{published_under}
 use Rattle.mv_linker.specs.Link.{tables_in}
 use Rattle.mv_linker.specs.Stored.{AreCodesOf}
 use Rattle.mv_linker.proofs.StoredCodes.{got, others-known}

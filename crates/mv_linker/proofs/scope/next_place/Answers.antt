@@ -5,9 +5,9 @@ use Rattle.mv_move_types.specs.Module.{Module, own_name}
 use Rattle.mv_move_types.specs.Named.{module_place}
 use Rattle.mv_linker.specs.Link.{tables_in}
 use Rattle.mv_linker.specs.Scope.{offered, with_tables, places_in, found_among}
-use Rattle.mv_linker.proofs.Named.{own_name-not_none}
 use Rattle.mv_linker.proofs.Scopes.{find-with_tables, place-for}
 use Rattle.mv_linker.proofs.scope.next_place.Goals as goal
+use Rattle.mv_linker.proofs.OwnDefinitions.{own_name-not_none}
 
 pub unreachable-requires : goal.unreachable-requires
 unreachable-requires c =

@@ -8,8 +8,8 @@ use Rattle.mv_linker.specs.Scope.{offered}
 use Rattle.mv_linker.specs.Sizing.{AreFoundFor}
 use Rattle.mv_linker.specs.Targets.{modules_in}
 use Rattle.mv_linker.proofs.HandleDefinitions.{struct-there, zip-more}
-use Rattle.mv_linker.proofs.Scopes.{some-below}
 use Rattle.mv_linker.proofs.scope.Scope.all_defined.Goals as goal
+use Rattle.mv_linker.proofs.Found.{there_at}
 
 pub defined_for-requires : goal.defined_for-requires
 defined_for-requires c = λ k x e.
@@ -17,7 +17,7 @@ defined_for-requires c = λ k x e.
     let i = c.loop-n.n-index in
     let n = c.n-item.result in
     let low : i < length (offered c.args.self.now.new.now) = omega (arith, c.loop-n-test.true, c.requires.len) in
-    let m = some-below (offered c.args.self.now.new.now) i low in
+    let m = there_at (offered c.args.self.now.new.now) i low in
     let at : slice_get names i ≡ Some n = slice_get_read names (length names) i n refl c.loop-n-test.true c.n-item.is in
     struct-there (modules_in c.args.self.now) m.0 k x ((c.requires.each i m.0 n m.1 at).structs.each k x e)
 

@@ -1,7 +1,6 @@
-use Rattle.std.proofs.Common.{◌≡◌, ℕ, Some, None, slice_get, sym, ap, subst, ◌∙◌}
+use Rattle.std.proofs.Common.{◌≡◌, Some, None, slice_get, sym, ap, subst, ◌∙◌}
 use Rattle.std.specs.Prelude.{◌==◌, is_some, position}
 use Rattle.mv_move_types.specs.Module.{Module}
-use Rattle.mv_linker.specs.Link.{tables_in}
 use Rattle.mv_linker.specs.Links.{names_hold}
 use Rattle.mv_linker.specs.Stored.{AreNames}
 use Rattle.mv_linker.specs.Targets.{modules_in}

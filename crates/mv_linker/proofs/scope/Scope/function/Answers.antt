@@ -5,8 +5,8 @@ use Rattle.std.proofs.lemmas.Bool.{leb-true}
 use Rattle.mv_move_types.specs.Module.{Module, FunctionDefinition, name_of_function}
 use Rattle.mv_linker.specs.Targets.{modules_in, tables_of, function_matches, IsFunctionIn, IsFunctionAt}
 use Rattle.mv_linker.proofs.Resolving.{function_nowhere, function_there_is, function_at, target_below}
-use Rattle.mv_linker.proofs.Scopes.{place_below}
 use Rattle.mv_linker.proofs.scope.Scope.function.Goals as goal
+use Rattle.mv_linker.proofs.Found.{place_below}
 
 pub returns-in_default-clause-refused : goal.returns-in_default-clause-refused
 returns-in_default-clause-refused c = (refl, function_nowhere (modules_in c.args.self.now) c.args.m.now c.args.targets.now c.requires.named c.args.handle c.in_default.ensures.none)

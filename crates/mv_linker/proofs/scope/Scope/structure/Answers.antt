@@ -3,8 +3,8 @@ use Rattle.mv_move_types.specs.Module.{Module}
 use Rattle.mv_move_types.specs.Named.{is_struct}
 use Rattle.mv_linker.specs.Targets.{modules_in, tables_of, struct_matches, IsStructIn, IsStructAt}
 use Rattle.mv_linker.proofs.Resolving.{struct_nowhere, struct_there_is, struct_at, target_below}
-use Rattle.mv_linker.proofs.Scopes.{place_below}
 use Rattle.mv_linker.proofs.scope.Scope.structure.Goals as goal
+use Rattle.mv_linker.proofs.Found.{place_below}
 
 pub returns-in_default-clause-refused : goal.returns-in_default-clause-refused
 returns-in_default-clause-refused c = (refl, struct_nowhere (modules_in c.args.self.now) c.args.m.now c.args.targets.now c.requires.named c.args.h c.args.handle c.requires.handle c.in_default.ensures.none)

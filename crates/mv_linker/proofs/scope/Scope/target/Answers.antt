@@ -3,8 +3,8 @@ use Rattle.mv_move_types.specs.Names.{ModuleName}
 use Rattle.mv_move_types.specs.Named.{is_module}
 use Rattle.mv_linker.specs.Targets.{modules_in}
 use Rattle.mv_linker.proofs.Resolving.{nowhere}
-use Rattle.mv_linker.proofs.Scopes.{place_below}
 use Rattle.mv_linker.proofs.scope.Scope.target.Goals as goal
+use Rattle.mv_linker.proofs.Found.{place_below}
 
 pub returns-in_default-find-clause-refused : goal.returns-in_default-find-clause-refused
 returns-in_default-find-clause-refused c =

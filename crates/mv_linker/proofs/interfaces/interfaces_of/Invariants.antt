@@ -1,0 +1,13 @@
+use Rattle.std.proofs.Common.{◌≡◌, ℕ, length, Some, slice_get}
+use Rattle.mv_move_types.specs.Module.{FunctionDefinition}
+use Rattle.mv_bounds.specs.Bounds.{InBounds}
+use Rattle.mv_linker.specs.declared.interfaces.Interface.{Interface}
+use Rattle.mv_linker.specs.Interfaces.{IsInterfaceOf}
+use Rattle.mv_linker.proofs.interfaces.interfaces_of.Given as goal
+
+-- those of the functions so far
+abbrev pub invariant-loop-d : goal.invariant-loop-d
+invariant-loop-d l = record {
+  count : length l.interfaces.items ≡ l.d-index;
+  each : InBounds l.m → (k : ℕ) (d : FunctionDefinition) (i : Interface) → slice_get l.m.functions k ≡ Some d → slice_get l.interfaces.items k ≡ Some i → IsInterfaceOf l.m d i;
+}
