@@ -4,8 +4,6 @@ pub mod Typing
 pub mod Flat
 pub mod Borrows
 pub mod Guided
-pub mod Names
 pub mod Lists
-pub mod Owns
 pub mod Homes
 pub mod Joined

@@ -20,7 +20,6 @@ pub mod FlowFacts
 pub mod Advances
 pub mod First
 pub mod Names
-pub mod Owns
 pub mod OwnDefinitions
 pub mod Callees
 pub mod Store
@@ -31,6 +30,5 @@ pub mod Abilities
 pub mod Untouched
 pub mod Clean
 pub mod Cleaned
-pub mod Known
 pub mod Admitted
 pub mod TypedCalls

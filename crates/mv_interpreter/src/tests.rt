@@ -88,6 +88,7 @@ fn codes(alloc: Global) -> Result<Vec<Code>, AllocError> {
         literals: [1].to_vec(alloc)?,
         callees: [adds, calls].to_vec(alloc)?,
         others: Vec::new(alloc),
+        interfaces: Vec::new(alloc),
         sizes: Vec::new(alloc),
     };
     let mut codes = Vec::new(alloc);

@@ -1,6 +1,6 @@
 -- The ways out of an admission: the first reason against a run, or its call.
-use Rattle.std.proofs.Common.{◌≡◌, ℕ, ◌<◌, ◌≤◌, ◌^◌, Bool, true, false, nat_lt, List, Option, Some, None, get_or, Result, Ok, Err, refl, sym, ap, ◌∙◌, subst, arith}
-use Rattle.std.specs.Prelude.{slice_get, ok_or, nat_le, IfSome}
+use Rattle.std.proofs.Common.{◌≡◌, ℕ, ◌<◌, ◌≤◌, ◌^◌, Bool, true, false, nat_lt, List, Option, Some, None, Result, Ok, Err, refl, sym, ap, ◌∙◌, subst, arith}
+use Rattle.std.specs.Prelude.{slice_get, ok_or, nat_le}
 use Rattle.std.proofs.lemmas.Bool.Decides.{nat_tests}
 use Rattle.mv_move_types.specs.declared.token.Token.{Token}
 use Rattle.mv_move_types.specs.Results.{◌>>=◌, ◌>>◌, need}
@@ -17,7 +17,7 @@ use Rattle.mv_ledger.specs.declared.executing.Call.{Call}
 use Rattle.mv_ledger.specs.declared.executing.Barred.{Barred}
 use Rattle.mv_ledger.specs.declared.executing.Barred.TheVariants.{Rejected}
 use Rattle.mv_ledger.specs.Running.{IsAdmission, IsAdmitted}
-use Rattle.mv_ledger.proofs.Calls.{place-below, tables-at, there, function-below}
+use Rattle.mv_ledger.proofs.Calls.{there}
 
 -- ---- one part after the other
 
@@ -98,23 +98,6 @@ module _ (published : List PublishedModule) (runs : ℕ) (r : RunRequest) where
     pub entry : d.is_entry ≡ true
     pub tokens_are : parameter_tokens home d ≡ Some tokens
 
-  -- the module is found by its name, and read from its place
-  pub finds_module : (o : Option ℕ) (place : ℕ) (home : Module) → r.budget ≤ 10000000 → o ≡ module_place modules r.home → o ≡ Some place → IfSome (slice_get published place) (λ p. home ≡ p.tables) → FindsModule place home
-  finds_module o place home fits found_is some loaded = record {
-    fits = fits;
-    place_is = sym found_is ∙ some;
-    home_is = tables-at published place home (place-below published r.home o place found_is some) loaded;
-  }
-
-  -- the function is found by its name, and stands at its index
-  pub finds_function : (o : Option ℕ) (place : ℕ) (home : Module) (index : ℕ) (functions : List FunctionDefinition) (d : FunctionDefinition) → FindsModule place home → o ≡ function_place home r.function → o ≡ Some index
-      → functions ≡ home.functions → d ≡ get_or functions index d → FindsFunction place home index d
-  finds_function o place home index functions d at found_is some functions_are is = record {
-    at = at;
-    index_is = sym found_is ∙ some;
-    d_is = there functions home.functions index d functions_are (function-below home r.function index (sym found_is ∙ some)) is;
-  }
-
   -- 2: the budget is beyond its limit
   pub no_budget : 10000000 < r.budget → IsAdmitted published runs r (Err (Rejected 2))
   unfolding admitted
@@ -147,27 +130,15 @@ module _ (published : List PublishedModule) (runs : ℕ) (r : RunRequest) where
       (found (slice_get home.functions index) 4 _ d (Err 5) at.d_is
       (failed d.is_entry 5 _ private)))))) refl
 
-  -- 6: its parameters have no types
-  pub no_types : (place : ℕ) (home : Module) (index : ℕ) (d : FunctionDefinition) → FindsFunction place home index d → d.is_entry ≡ true → parameter_tokens home d ≡ None → IsAdmitted published runs r (Err (Rejected 6))
-  unfolding admitted
-  no_types place home index d at entry none = each_admits (Err 6) (Err (Rejected 6)) (λ storage tallies.
-      passed (nat_le r.budget 10000000) 2 _ (Err 6) (within r.budget 10000000 at.at.fits)
-      (found (module_place modules r.home) 3 _ place (Err 6) at.at.place_is
-      (found (slice_get modules place) 3 _ home (Err 6) at.at.home_is
-      (found (function_place home r.function) 4 _ index (Err 6) at.index_is
-      (found (slice_get home.functions index) 4 _ d (Err 6) at.d_is
-      (passed d.is_entry 5 _ (Err 6) entry
-      (missing (parameter_tokens home d) 6 _ none))))))) refl
-
   -- what comes once the types are found
-  behind_types : (place : ℕ) (home : Module) (index : ℕ) (d : FunctionDefinition) (tokens : List Token) (result : Result FunctionCall ℕ) → FindsTypes place home index d tokens
+  after_types : (place : ℕ) (home : Module) (index : ℕ) (d : FunctionDefinition) (tokens : List Token) (result : Result FunctionCall ℕ) → FindsTypes place home index d tokens
       → (need (are_arguments tokens (with_signer r.sender tokens r.arguments)) 6
       >> (need (nat_lt runs (2 ^ 32)) 7
       >> Ok (record { function = record { place = place; index = index }; arguments = with_signer r.sender tokens r.arguments })))
       ≡ result
       → (storage : Storage) (tallies : List Tallied) → admitted (ledger storage tallies) r ≡ result
   unfolding admitted
-  behind_types place home index d tokens result types rest storage tallies =
+  after_types place home index d tokens result types rest storage tallies =
       passed (nat_le r.budget 10000000) 2 _ result (within r.budget 10000000 types.at.at.fits)
       (found (module_place modules r.home) 3 _ place result types.at.at.place_is
       (found (slice_get modules place) 3 _ home result types.at.at.home_is
@@ -179,12 +150,12 @@ module _ (published : List PublishedModule) (runs : ℕ) (r : RunRequest) where
   -- 6: the arguments are not of the parameters' types
   pub no_arguments : (place : ℕ) (home : Module) (index : ℕ) (d : FunctionDefinition) (tokens : List Token) → FindsTypes place home index d tokens → are_arguments tokens (with_signer r.sender tokens r.arguments) ≡ false → IsAdmitted published runs r (Err (Rejected 6))
   no_arguments place home index d tokens types differ = each_admits (Err 6) (Err (Rejected 6))
-      (behind_types place home index d tokens (Err 6) types (failed (are_arguments tokens (with_signer r.sender tokens r.arguments)) 6 _ differ)) refl
+      (after_types place home index d tokens (Err 6) types (failed (are_arguments tokens (with_signer r.sender tokens r.arguments)) 6 _ differ)) refl
 
   -- 7: no further run may be had
   pub no_runs : (place : ℕ) (home : Module) (index : ℕ) (d : FunctionDefinition) (tokens : List Token) → FindsTypes place home index d tokens → are_arguments tokens (with_signer r.sender tokens r.arguments) ≡ true → 4294967296 ≤ runs → IsAdmitted published runs r (Err (Rejected 7))
   no_runs place home index d tokens types same full = each_admits (Err 7) (Err (Rejected 7))
-      (behind_types place home index d tokens (Err 7) types
+      (after_types place home index d tokens (Err 7) types
       (passed (are_arguments tokens (with_signer r.sender tokens r.arguments)) 6 _ (Err 7) same
       (failed (nat_lt runs (2 ^ 32)) 7 _ (not_below runs 4294967296 full)))) refl
 
@@ -194,7 +165,7 @@ module _ (published : List PublishedModule) (runs : ℕ) (r : RunRequest) where
   admits place home index d tokens c types same room call_is budget_is =
       let call : FunctionCall = record { function = record { place = place; index = index }; arguments = with_signer r.sender tokens r.arguments } in
       each_admits (Ok call) (Ok c)
-      (behind_types place home index d tokens (Ok call) types
+      (after_types place home index d tokens (Ok call) types
       (passed (are_arguments tokens (with_signer r.sender tokens r.arguments)) 6 _ (Ok call) same
       (passed (nat_lt runs (2 ^ 32)) 7 _ (Ok call) (below runs 4294967296 room) refl)))
       (call_is, budget_is)

@@ -1,7 +1,7 @@
 -- The counts of an audit, module by module.
-use Rattle.std.proofs.Common.{◌≡◌, ℕ, zero, suc, ◌+◌, ◌<◌, ◌≤◌, List, [], ◌∷◌, ◌++◌, map, length, take, drop, get_or, Option, Some, None, option_map, refl, sym, ap, ap₂, ◌∙◌, subst, arith, add-one, zero-add}
+use Rattle.std.proofs.Common.{◌≡◌, ℕ, zero, suc, ◌+◌, ◌<◌, List, [], ◌∷◌, ◌++◌, map, length, take, drop, get_or, Option, Some, None, option_map, refl, sym, ap, ap₂, ◌∙◌, subst, arith, add-one, zero-add}
 use Rattle.std.specs.Prelude.{All, slice_get, unwrap_or}
-use Rattle.std.proofs.lemmas.List.{map-append, drop_all, take_more}
+use Rattle.std.proofs.lemmas.List.{map-append, take_more}
 use Rattle.std.proofs.lemmas.List.Elements.{All-get_or}
 use Rattle.mv_move_types.specs.Names.{StructName}
 use Rattle.mv_move_types.specs.Module.{Module}
@@ -9,12 +9,13 @@ use Rattle.mv_move_types.specs.Options.{◌>>=◌}
 use Rattle.mv_move_types.specs.Published.{PublishedModule}
 use Rattle.mv_machine.specs.Lines.{Tallied}
 use Rattle.mv_linker.specs.Link.{tables_in}
+use Rattle.mv_interpreter.specs.Flat.Agreement.{nameless}
 use Rattle.mv_ledger.specs.declared.audit.Counted.{Counted}
 use Rattle.mv_ledger.specs.declared.tallies.Tally.{Tally}
 use Rattle.mv_ledger.specs.declared.texts.Named.{Named}
 use Rattle.mv_ledger.specs.Showing.{name_in, name_in_module}
 use Rattle.mv_ledger.specs.Auditing.{counted_in, counts_from}
-use Rattle.mv_ledger.specs.View.{all_of, ArePlaced, no_struct, tallied}
+use Rattle.mv_ledger.specs.View.{all_of, ArePlaced, tallied}
 use Rattle.mv_ledger.proofs.Places.{had}
 
 -- ---- the counts of one module
@@ -25,15 +26,15 @@ named_or (Some n) d = refl
 
 -- a tally with its struct's name, from its module
 tallied-in : (published : List PublishedModule) (place : ℕ) (home : Module) (t : Tally) → slice_get (tables_in published) place ≡ Some home → t.place ≡ place
-    → unwrap_or (name_in_module home t.index) no_struct ≡ (tallied (tables_in published) t).struct
+    → unwrap_or (name_in_module home t.index) nameless ≡ (tallied (tables_in published) t).struct
 tallied-in published place home t home_is here =
-    sym (ap (λ p. unwrap_or (slice_get (tables_in published) p >>= λ m. name_in_module m t.index) no_struct) here
-    ∙ ap (λ o. unwrap_or (o >>= λ m. name_in_module m t.index) no_struct) home_is)
+    sym (ap (λ p. unwrap_or (slice_get (tables_in published) p >>= λ m. name_in_module m t.index) nameless) here
+    ∙ ap (λ o. unwrap_or (o >>= λ m. name_in_module m t.index) nameless) home_is)
 
 -- one more
 pub counts-more : (published : List PublishedModule) (place : ℕ) (home : Module) (ts : List Tally) (i : ℕ) (d : Tally) (o : Option Named) (none name : Named) (before after : List Counted)
     → i < length ts → All (λ t. t.place ≡ place) ts → slice_get (tables_in published) place ≡ Some home
-    → option_map name_in o ≡ name_in_module home (get_or ts i d).index → name_in none ≡ no_struct → name ≡ unwrap_or o none
+    → option_map name_in o ≡ name_in_module home (get_or ts i d).index → name_in none ≡ nameless → name ≡ unwrap_or o none
     → map counted_in before ≡ map (tallied (tables_in published)) (take i ts) → after ≡ before ++ record { name = name; packs = (get_or ts i d).packs; unpacks = (get_or ts i d).unpacks } ∷ []
     → map counted_in after ≡ map (tallied (tables_in published)) (take (i + 1) ts)
 counts-more published place home ts i d o none name before after lt placed home_is named unnamed name_is so_far pushed =
@@ -78,9 +79,3 @@ module _ (whole : List Tallied) (published : List PublishedModule) (tallies : Li
         ∙ ap (λ tss. map (tallied (tables_in published)) (all_of tss)) (sym (drop-had tallies place lt ∙ ap (λ n. had tallies place ∷ drop n tallies) (sym (add-one place))))
         ∙ ap (λ (cs : List Counted). map counted_in cs ++ counts_from published tallies place) (sym none) ∙ is.left;
   }
-
-  -- there are none behind the last module
-  pub reading-end : length tallies ≤ place → counts ≡ [] → whole ≡ []
-  reading-end past none =
-      sym is.left ∙ ap (λ (cs : List Counted). map counted_in cs ++ counts_from published tallies place) none
-      ∙ ap (λ tss. map (tallied (tables_in published)) (all_of tss)) (drop_all place tallies past)

@@ -1,27 +1,17 @@
 -- What stands at the places that a run record's names lead to.
-use Rattle.std.proofs.Common.{◌≡◌, ℕ, zero, suc, ◌<◌, Bool, true, false, cond, List, [], ◌∷◌, length, Option, Some, None, option_map, get_or, refl, sym, ap, ◌∙◌, arith}
+use Rattle.std.proofs.Common.{◌≡◌, ℕ, zero, suc, ◌<◌, false, List, [], ◌∷◌, length, Option, Some, None, get_or, refl, sym, ap, ◌∙◌, arith}
 use Rattle.std.specs.Prelude.{slice_get, IfSome}
 use Rattle.std.specs.Borrow.{Bor}
 use Rattle.std.specs.Slice.{IsItemAt}
 use Rattle.std.proofs.lemmas.Option.{slice_get_past}
 use Rattle.std.specs.Option.{option_map_or}
 use Rattle.std.specs.Str.{bytes_eq}
-use Rattle.mv_move_types.specs.Options.{find_index}
 use Rattle.mv_move_types.specs.Names.{ModuleName}
 use Rattle.mv_move_types.specs.Module.{Module, name_of_function}
 use Rattle.mv_move_types.specs.Named.{is_module, module_place, function_place}
 use Rattle.mv_move_types.specs.Published.{PublishedModule}
 use Rattle.mv_linker.specs.Link.{tables_in}
-
--- what is found in a list stands below its length
-find_index-below : {A : Type 0} (p : A → Bool) (xs : List A) (k : ℕ) → find_index p xs ≡ Some k → k < length xs
-find_index-below p [] k e = cc
-find_index-below p (x ∷ xs) k e = step (p x) (find_index p xs) k e (λ j. find_index-below p xs j)
-  where
-    step : (b : Bool) (o : Option ℕ) (k : ℕ) → cond b (Some 0) (option_map suc o) ≡ Some k → ((j : ℕ) → o ≡ Some j → j < length xs) → k < length (x ∷ xs)
-    step true o k e below = let z : 0 ≡ k = cc in omega arith
-    step false None k e below = cc
-    step false (Some j) k e below = let lt : j < length xs = below j refl in let s : suc j ≡ k = cc in omega arith
+use Rattle.mv_linker.proofs.Found.{place_below}
 
 tables-length : (published : List PublishedModule) → length (tables_in published) ≡ length published
 tables-length [] = refl
@@ -29,12 +19,12 @@ tables-length (p ∷ published) = ap suc (tables-length published)
 
 -- a function that is found is one of its module's
 pub function-below : (m : Module) (name : List ℕ) (k : ℕ) → function_place m name ≡ Some k → k < length m.functions
-function-below m name k is = find_index-below (λ d. option_map_or (bytes_eq name) (name_of_function m d) false) m.functions k is
+function-below m name k is = place_below (λ d. option_map_or (bytes_eq name) (name_of_function m d) false) m.functions k is
 
 -- a module that is found is one of the store's
 pub place-below : (published : List PublishedModule) (name : ModuleName) (o : Option ℕ) (k : ℕ) → o ≡ module_place (tables_in published) name → o ≡ Some k → k < length published
 place-below published name o k is some =
-    let lt : k < length (tables_in published) = find_index-below (is_module name) (tables_in published) k (sym is ∙ some) in
+    let lt : k < length (tables_in published) = place_below (is_module name) (tables_in published) k (sym is ∙ some) in
     omega (arith, tables-length published)
 
 -- its tables stand at its place

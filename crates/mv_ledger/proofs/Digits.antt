@@ -50,7 +50,7 @@ digits (suc k) n =
 pub address_digits : (a : ℕ) → encode_lower (to_be_bytes w128 a) ≡ address_text a
 address_digits a = digits 16 a
 
--- what a list has where something was put behind it
-pub put_behind : {T E : Type 0} (r : Result T E) (old new xs ys : List ℕ) → new ≡ (if is_ok r then old ++ xs else old) → xs ≡ ys → OnOk r (new ≡ old ++ ys)
-put_behind (Ok v) old new xs ys h e = h ∙ ap (λ l. old ++ l) e
-put_behind (Err d) old new xs ys h e = tt
+-- what a list has where something was put after it
+pub put_after : {T E : Type 0} (r : Result T E) (old new xs ys : List ℕ) → new ≡ (if is_ok r then old ++ xs else old) → xs ≡ ys → OnOk r (new ≡ old ++ ys)
+put_after (Ok v) old new xs ys h e = h ∙ ap (λ l. old ++ l) e
+put_after (Err d) old new xs ys h e = tt

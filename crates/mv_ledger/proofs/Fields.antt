@@ -1,5 +1,5 @@
 -- The values of fields, and their text, one after the other.
-use Rattle.std.proofs.Common.{◌≡◌, ℕ, ◌+◌, ◌<◌, List, [], ◌∷◌, ◌++◌, length, drop, refl, sym, ap, ◌∙◌, subst, append-nil, append_assoc, length-append, arith, Option, Some, None, codes, Bor}
+use Rattle.std.proofs.Common.{◌≡◌, ℕ, ◌+◌, ◌<◌, List, [], ◌∷◌, ◌++◌, length, drop, refl, sym, ap, ◌∙◌, append-nil, append_assoc, length-append, arith, Option, Some, None, codes, Bor}
 use Rattle.mv_move_types.specs.declared.tables.Field.{Field}
 use Rattle.mv_move_types.specs.declared.token.Token.{Token}
 use Rattle.mv_move_types.specs.Options.{◌>>=◌}
@@ -16,13 +16,9 @@ puts_some text (Some p) rest old new h =
     let same : rest.now ≡ p.1 = cc (h.0) in
     (p.0, (ap (λ r. Some (p.0, r)) (sym same), h.1))
 
-pub puts_none : {A : Type 0} (text : A → List ℕ) (o : Option (A × List ℕ)) (old new : List ℕ) → PutsText text o None old new → o ≡ None
-puts_none text None old new h = refl
-puts_none text (Some p) old new h = cc (h.0)
-
 -- ---- values one after the other
 
--- some values, and others behind them
+-- some values, and others after them
 abbrev pub fields_before : List Value → Values → Values
 fields_before [] vs = vs
 fields_before (v ∷ done) vs = More v (fields_before done vs)
@@ -31,14 +27,10 @@ fields_before-push : (done : List Value) (v : Value) (vs : Values) → fields_be
 fields_before-push [] v vs = refl
 fields_before-push (d ∷ done) v vs = ap (More d) (fields_before-push done v vs)
 
--- some values, and those behind them if there are any
+-- some values, and those after them if there are any
 abbrev pub after : List Value → Option (Values × List ℕ) → Option (Values × List ℕ)
 after done None = None
 after done (Some p) = Some (fields_before done p.0, p.1)
-
-after-nil : (o : Option (Values × List ℕ)) → o ≡ after [] o
-after-nil None = refl
-after-nil (Some p) = refl
 
 after-push : (done : List Value) (v : Value) (o : Option (Values × List ℕ)) → after done (o >>= λ r. Some (More v r.0, r.1)) ≡ after (done ++ v ∷ []) o
 after-push done v None = refl
@@ -48,9 +40,6 @@ after-push done v (Some p) = ap (λ vs. Some (vs, p.1)) (sym (fields_before-push
 after-field : (value : Token → List ℕ → Option (Value × List ℕ)) (f : Field) (fs : List Field) (words more : List ℕ) (v : Value) → value f.token words ≡ Some (v, more)
     → fields_from value (f ∷ fs) words ≡ (fields_from value fs more >>= λ r. Some (More v r.0, r.1))
 after-field value f fs words more v e = ap (λ o. o >>= λ first. fields_from value fs first.1 >>= λ r. Some (More first.0 r.0, r.1)) e
-
-no-field : (value : Token → List ℕ → Option (Value × List ℕ)) (f : Field) (fs : List Field) (words : List ℕ) → value f.token words ≡ None → fields_from value (f ∷ fs) words ≡ None
-no-field value f fs words e = ap (λ o. o >>= λ first. fields_from value fs first.1 >>= λ r. Some (More first.0 r.0, r.1)) e
 
 -- ---- their text
 
@@ -79,15 +68,12 @@ abbrev pub HasPut : (Token → List ℕ → Option (Value × List ℕ)) → List
 HasPut value all n words rest old new =
     (done : List Value) × ((length done ≡ n) × (fields_from value all words ≡ after done (fields_from value (drop n all) rest)) × (new ≡ old ++ fields_text (fields_before done NoMore)))
 
-pub HasPut-start : (value : Token → List ℕ → Option (Value × List ℕ)) (all : List Field) (words old : List ℕ) → HasPut value all 0 words words old old
-HasPut-start value all words old = ([], (refl, after-nil (fields_from value all words), sym (append-nil old)))
-
 length-push : (done : List Value) (v : Value) (n : ℕ) → length done ≡ n → length (done ++ v ∷ []) ≡ n + 1
 length-push done v n e = omega (arith, e, length-append done (v ∷ []))
 
 module _ (value : Token → List ℕ → Option (Value × List ℕ)) (all : List Field) (n : ℕ) (words rest old new : List ℕ) (f : Field) (h : HasPut value all n words rest old new) (left : drop n all ≡ f ∷ drop (n + 1) all) where
-  behind : (more : List ℕ) (v : Value) → value f.token rest ≡ Some (v, more) → fields_from value all words ≡ after (h.0 ++ v ∷ []) (fields_from value (drop (n + 1) all) more)
-  behind more v e =
+  following : (more : List ℕ) (v : Value) → value f.token rest ≡ Some (v, more) → fields_from value all words ≡ after (h.0 ++ v ∷ []) (fields_from value (drop (n + 1) all) more)
+  following more v e =
       h.1.1 ∙ ap (λ l. after h.0 (fields_from value l rest)) left ∙ ap (after h.0) (after-field value f (drop (n + 1) all) rest more v e)
       ∙ after-push h.0 v (fields_from value (drop (n + 1) all) more)
 
@@ -97,7 +83,7 @@ module _ (value : Token → List ℕ → Option (Value × List ℕ)) (all : List
       let so_far : List ℕ = fields_text (fields_before h.0 NoMore) in
       let text : new2 ≡ old ++ fields_text (fields_before (h.0 ++ p.0 ∷ []) NoMore) =
       p.1.1 ∙ ap (λ l. l ++ value_text p.0) h.1.2 ∙ append_assoc old so_far (value_text p.0) ∙ ap (λ l. old ++ l) (sym (fields_text-first h.0 p.0 (h.1.0 ∙ first))) in
-      (h.0 ++ p.0 ∷ [], (length-push h.0 p.0 n h.1.0, behind more.now p.0 p.1.0, text))
+      (h.0 ++ p.0 ∷ [], (length-push h.0 p.0 n h.1.0, following more.now p.0 p.1.0, text))
 
   pub HasPut-later : (more : Bor (List ℕ)) (new2 : List ℕ) → 0 < n → PutsText value_text (value f.token rest) (Some more) (new ++ codes ",") new2 → HasPut value all (n + 1) words more.now old new2
   HasPut-later more new2 later put =
@@ -107,19 +93,4 @@ module _ (value : Token → List ℕ → Option (Value × List ℕ)) (all : List
       let text : new2 ≡ old ++ fields_text (fields_before (h.0 ++ p.0 ∷ []) NoMore) =
       p.1.1 ∙ ap (λ l. (l ++ codes ",") ++ value_text p.0) h.1.2 ∙ ap (λ l. l ++ value_text p.0) (append_assoc old so_far (codes ",")) ∙ append_assoc old (so_far ++ codes ",") (value_text p.0)
       ∙ ap (λ l. old ++ l) (sym (fields_text-later h.0 p.0 some)) in
-      (h.0 ++ p.0 ∷ [], (length-push h.0 p.0 n h.1.0, behind more.now p.0 p.1.0, text))
-
-  -- a field has no value
-  pub HasPut-none : value f.token rest ≡ None → fields_from value all words ≡ None
-  HasPut-none e = h.1.1 ∙ ap (λ l. after h.0 (fields_from value l rest)) left ∙ ap (after h.0) (no-field value f (drop (n + 1) all) rest e)
-
--- all were put
-after-all : (done : List Value) (rest : List ℕ) → after done (Some (NoMore, rest)) ≡ Some (fields_before done NoMore, rest)
-after-all done rest = refl
-
-pub HasPut-end : (value : Token → List ℕ → Option (Value × List ℕ)) (all : List Field) (n : ℕ) (words old new : List ℕ) (rest : Bor (List ℕ)) → HasPut value all n words rest.now old new → drop n all ≡ []
-    → PutsText fields_text (fields_from value all words) (Some rest) old new
-HasPut-end value all n words old new rest h end =
-    let e : fields_from value all words ≡ Some (fields_before h.0 NoMore, rest.now) = h.1.1 ∙ ap (λ l. after h.0 (fields_from value l rest.now)) end in
-    let P : Option (Values × List ℕ) → Type 0 = λ o. PutsText fields_text o (Some rest) old new in
-    subst P (sym e) (refl, h.1.2)
+      (h.0 ++ p.0 ∷ [], (length-push h.0 p.0 n h.1.0, following more.now p.0 p.1.0, text))

@@ -6,6 +6,7 @@ use Rattle.std.specs.Option.{option_map_or}
 use Rattle.std.specs.Cmp.{first_so, second_so}
 use Rattle.std.specs.Str.{bytes_eq}
 use Rattle.std.proofs.lemmas.Slice.Eq.{bytes_eq-Decides}
+use Rattle.std.proofs.lemmas.Option.{same_Some}
 use Rattle.mv_move_types.specs.declared.token.Abilities.{Abilities}
 use Rattle.mv_move_types.specs.declared.tables.Field.{Field}
 use Rattle.mv_move_types.specs.AbilitySets.{same_abilities}
@@ -17,13 +18,14 @@ use Rattle.mv_move_types.specs.Published.{PublishedModule, has_name_of, with_mod
 use Rattle.mv_linker.specs.Upgrades.{same_fields, same_struct_definition, structs_stay, function_stays, may_replace}
 use Rattle.mv_linker.specs.Link.{IsStore, tables_in, are_compatible}
 use Rattle.mv_linker.proofs.Upgraded.{same_abilities-is}
+use Rattle.mv_linker.proofs.NameLemmas.{same_module-same, is_module-is}
+use Rattle.mv_linker.proofs.Found.{each, on_some, then_found}
 use Rattle.mv_interpreter.specs.Owned.{IsOwn}
-use Rattle.mv_interpreter.proofs.Names.{some_is, same_module-same}
-use Rattle.mv_interpreter.proofs.Lists.{each, on_some, then_found, mapped_at}
+use Rattle.mv_interpreter.proofs.Lists.{mapped_at}
 use Rattle.mv_interpreter.proofs.Homes.{own_of_store}
 use Rattle.mv_ledger.specs.declared.tallies.Tally.{Tally}
 use Rattle.mv_ledger.specs.View.{AreScarce, is_scarce_struct, scarce_indices}
-use Rattle.mv_ledger.proofs.Stores.{own_is, one_own}
+use Rattle.mv_ledger.proofs.Stores.{one_own}
 use Rattle.mv_ledger.proofs.Places.{had}
 
 -- a test of an option that passes had something to test
@@ -43,7 +45,7 @@ Inherits old new = (place : ℕ) (m : Module) → slice_get old place ≡ Some m
 placed_with : (ps : List PublishedModule) (new p : PublishedModule) (place : ℕ) → slice_get ps place ≡ Some p →
     (q : PublishedModule) × (slice_get (with_module ps new) place ≡ Some q) × ((q ≡ p) ⊎ ((q ≡ new) × (has_name_of new.tables p ≡ true)))
 placed_with [] new p place e = absurd cc
-placed_with (x ∷ xs) new p zero e = by_case (has_name_of new.tables x) refl (some_is x p e)
+placed_with (x ∷ xs) new p zero e = by_case (has_name_of new.tables x) refl (same_Some x p e)
   where
     by_case : (b : Bool) → has_name_of new.tables x ≡ b → x ≡ p → (q : PublishedModule) × (slice_get (cond b (new ∷ xs) (x ∷ with_module xs new)) zero ≡ Some q) × ((q ≡ p) ⊎ ((q ≡ new) × (has_name_of new.tables p ≡ true)))
     by_case true h same = (new, refl, inr (refl, subst (λ (y : PublishedModule). has_name_of new.tables y ≡ true) same h))
@@ -96,7 +98,7 @@ offered m (n ∷ bundle) h = (
 
 get-mapped : {A B : Type 0} (f : A → B) (xs : List A) (i : ℕ) (x : A) → slice_get xs i ≡ Some x → slice_get (map f xs) i ≡ Some (f x)
 get-mapped f [] i x e = absurd cc
-get-mapped f (y ∷ ys) zero x e = ap (λ (z : _). Some (f z)) (some_is y x e)
+get-mapped f (y ∷ ys) zero x e = ap (λ (z : _). Some (f z)) (same_Some y x e)
 get-mapped f (y ∷ ys) (suc i) x e = get-mapped f ys i x e
 
 -- each old place has an heir after a bundle that may join
@@ -129,7 +131,7 @@ module _ (m : Module) (d : StructDefinition) (n : Module) (e : StructDefinition)
   names-same a b a_is b_is =
       let x = tested (λ (x : StructName). option_map_or (λ (y : StructName). bytes_eq x.name y.name) (name_of_struct n e) false) (name_of_struct m d) (first_so names_alike abilities_alike front) in
       let y = tested (λ (y : StructName). bytes_eq (x.0).name y.name) (name_of_struct n e) x.2 in
-      ap (λ (z : StructName). z.name) (some_is a x.0 (sym a_is ∙ x.1)) ∙ (bytes_eq-Decides (x.0).name (y.0).name).0 y.2 ∙ ap (λ (z : StructName). z.name) (some_is y.0 b (sym y.1 ∙ b_is))
+      ap (λ (z : StructName). z.name) (same_Some a x.0 (sym a_is ∙ x.1)) ∙ (bytes_eq-Decides (x.0).name (y.0).name).0 y.2 ∙ ap (λ (z : StructName). z.name) (same_Some y.0 b (sym y.1 ∙ b_is))
 
   pub fields-same : same_fields m d.fields n e.fields ≡ true
   fields-same = second_so (names_alike && abilities_alike) (same_fields m d.fields n e.fields) same
@@ -139,7 +141,7 @@ stays-at : (m n : Module) (ds es : List StructDefinition) (i : ℕ) (d : StructD
     (e : StructDefinition) × (slice_get es i ≡ Some e) × (same_struct_definition m d n e ≡ true)
 stays-at m n [] es i d h e = absurd cc
 stays-at m n (x ∷ xs) [] i d h e = absurd cc
-stays-at m n (x ∷ xs) (y ∷ ys) zero d h e = (y, refl, subst (λ z. same_struct_definition m z n y ≡ true) (some_is x d e) (first_so (same_struct_definition m x n y) (structs_stay m xs n ys) h))
+stays-at m n (x ∷ xs) (y ∷ ys) zero d h e = (y, refl, subst (λ z. same_struct_definition m z n y ≡ true) (same_Some x d e) (first_so (same_struct_definition m x n y) (structs_stay m xs n ys) h))
 stays-at m n (x ∷ xs) (y ∷ ys) (suc i) d h e = stays-at m n xs ys i d (second_so (same_struct_definition m x n y) (structs_stay m xs n ys) h) e
 
 -- what is found by its place passes the test
@@ -149,11 +151,11 @@ found-passes test (y ∷ ys) i x e g = by_case (λ j. found-passes test ys j x) 
   where
     by_case : ((j : ℕ) → find_index test ys ≡ Some j → slice_get ys j ≡ Some x → test x ≡ true) → (b : Bool) → test y ≡ b → (o : Option ℕ) → find_index test ys ≡ o → cond b (Some 0) (option_map suc o) ≡ Some i → test x ≡ true
     by_case ih true s o o_is h =
-        let first : slice_get (y ∷ ys) 0 ≡ Some x = subst (λ n. slice_get (y ∷ ys) n ≡ Some x) (sym (some_is 0 i h)) g in
-        subst (λ z. test z ≡ true) (some_is y x first) s
+        let first : slice_get (y ∷ ys) 0 ≡ Some x = subst (λ n. slice_get (y ∷ ys) n ≡ Some x) (sym (same_Some 0 i h)) g in
+        subst (λ z. test z ≡ true) (same_Some y x first) s
     by_case ih false s None o_is h = absurd cc
     by_case ih false s (Some j) o_is h =
-        let rest : slice_get (y ∷ ys) (suc j) ≡ Some x = subst (λ n. slice_get (y ∷ ys) n ≡ Some x) (sym (some_is (suc j) i h)) g in
+        let rest : slice_get (y ∷ ys) (suc j) ≡ Some x = subst (λ n. slice_get (y ∷ ys) n ≡ Some x) (sym (same_Some (suc j) i h)) g in
         ih j o_is rest
 
 pub on_and_then : {A B P : Type 0} (f : A → Option B) (o : Option A) (y : B) → option_and_then f o ≡ Some y → ((x : A) → o ≡ Some x → f x ≡ Some y → P) → P
@@ -168,9 +170,9 @@ home-of modules name m fields e =
     on_some (find_index (is_struct x name) x.structs) _ whole e1 (λ i i_is e2.
     on_some (slice_get x.structs i) _ whole e2 (λ d d_is e3.
     let made : Module × List Field = (x, d.fields) in
-    let same : x ≡ m = ap (λ (p : Module × List Field). p.0) (some_is made whole e3) in
+    let same : x ≡ m = ap (λ (p : Module × List Field). p.0) (same_Some made whole e3) in
     on_and_then (slice_get modules) (module_place modules name.home) x x_is (λ place place_is at.
-    subst (λ (y : Module). own_name y ≡ Some name.home) same (own_is name.home x (found-passes (is_module name.home) modules place x place_is at))))))
+    subst (λ (y : Module). own_name y ≡ Some name.home) same (is_module-is name.home x (found-passes (is_module name.home) modules place x place_is at))))))
 
 -- a definition of an heir, which is as it was
 pub record Stayed (m : Module) (d : StructDefinition) (name : StructName) (n : Module) (i : ℕ) : Type 0 where
@@ -190,11 +192,11 @@ module _ (old new : List PublishedModule) (old_store : IsStore old) (new_store :
       let e : StructDefinition = found.0 in
       let mine : IsOwn (tables_in old) m i d = own_of_store old place m old_store m_at i d at in
       let theirs : IsOwn (tables_in new) n i e = own_of_store new place n new_store n_at i e found.1 in
-      let same : mine.name ≡ name = some_is mine.name name (sym mine.named ∙ named) in
+      let same : mine.name ≡ name = same_Some mine.name name (sym mine.named ∙ named) in
       let idents : theirs.name.name ≡ name.name = sym (names-same m d n e found.2 name theirs.name named theirs.named) in
       let new_home : own_name n ≡ Some theirs.name.home = home-of (tables_in new) theirs.name n e.fields theirs.definition in
       let old_home : own_name m ≡ Some mine.name.home = home-of (tables_in old) mine.name m d.fields mine.definition in
-      let homes : theirs.name.home ≡ name.home = some_is theirs.name.home name.home (sym new_home ∙ sym h.0 ∙ old_home ∙ ap (λ (x : StructName). Some x.home) same) in
+      let homes : theirs.name.home ≡ name.home = same_Some theirs.name.home name.home (sym new_home ∙ sym h.0 ∙ old_home ∙ ap (λ (x : StructName). Some x.home) same) in
       let made : ModuleName → List ℕ → StructName = λ x y. record { home = x; name = y } in
       record {
         definition = e;
@@ -211,7 +213,7 @@ module _ (old new : List PublishedModule) (old_store : IsStore old) (new_store :
       on_some (slice_get m.structs index) _ name e1 (λ d d_at named.
       let n = inherits place m m_at in
       let s = stayed place index m n.0 d name m_at n.1 n.2 d_at named in
-      then_found (slice_get (tables_in new) place) _ n.0 name n.1 (then_found (slice_get (n.0).structs index) _ s.definition name s.is_there s.is_named)))
+      then_found (slice_get (tables_in new) place) _ n.0 (Some name) n.1 (then_found (slice_get (n.0).structs index) _ s.definition (Some name) s.is_there s.is_named)))
 
 -- ---- the structs with neither copy nor drop
 
@@ -255,6 +257,6 @@ had-first old new tss scarce inherits i n n_at = by_old (had-scarce old tss scar
     by_old (inr none) = (scarce_indices n, ap (λ (ts : List Tally). map (λ (t : Tally). t.index) ts ++ scarce_indices n) (sym none))
     by_old (inl (m, m_at, is)) =
         let k = inherits i m m_at in
-        let same : k.0 ≡ n = some_is k.0 n (sym k.1 ∙ n_at) in
+        let same : k.0 ≡ n = same_Some k.0 n (sym k.1 ∙ n_at) in
         let r = by_heir m n (subst (λ (x : Module). IsHeir m x) same k.2) in
         (r.0, r.1 ∙ ap (λ (xs : List ℕ). xs ++ r.0) (sym is))

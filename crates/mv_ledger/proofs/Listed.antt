@@ -1,5 +1,5 @@
 -- Objects with a comma between each two, one after the other.
-use Rattle.std.proofs.Common.{◌≡◌, ℕ, Bool, true, false, List, [], ◌∷◌, ◌++◌, append-nil, append_assoc, refl, sym, ap, ap₂, ◌∙◌, codes}
+use Rattle.std.proofs.Common.{◌≡◌, ℕ, Bool, true, false, List, [], ◌∷◌, ◌++◌, append_assoc, refl, sym, ap, ap₂, ◌∙◌, codes}
 use Rattle.mv_machine.specs.Lines.{with_commas}
 use Rattle.mv_ledger.specs.Showing.{comma_if}
 
@@ -16,15 +16,12 @@ with_commas-push (d ∷ e ∷ done) t =
     ∙ sym (append_assoc (d ++ codes ",") (with_commas (e ∷ done) ++ codes ",") t)
     ∙ ap (λ l. l ++ t) (sym (append_assoc (d ++ codes ",") (with_commas (e ∷ done)) (codes ",")))
 
--- some of the objects are put behind the beginning of a line, and these are left
+-- some of the objects are put after the beginning of a line, and these are left
 pub record IsListed (front : List ℕ) (whole left : List (List ℕ)) (later : Bool) (text : List ℕ) : Type 0 where
   pub done : List (List ℕ)
   pub whole_is : whole ≡ done ++ left
   pub later_is : later ≡ is_some done
   pub text_is : text ≡ front ++ with_commas done
-
-pub listed-none : (front : List ℕ) (whole : List (List ℕ)) (text : List ℕ) → text ≡ front → IsListed front whole whole false text
-listed-none front whole text is = record { done = []; whole_is = refl; later_is = refl; text_is = is ∙ sym (append-nil front) }
 
 some-push : (done : List (List ℕ)) (t : List ℕ) → true ≡ is_some (done ++ t ∷ [])
 some-push [] t = refl
@@ -41,7 +38,3 @@ module _ (front : List ℕ) (whole left : List (List ℕ)) (later : Bool) (text 
         put_object ∙ ap (λ l. l ++ object) (put_comma ∙ ap₂ (λ l b. l ++ comma_if b) is.text_is is.later_is ∙ append_assoc front (with_commas is.done) (comma_if (is_some is.done)))
         ∙ append_assoc front (with_commas is.done ++ comma_if (is_some is.done)) object ∙ ap (λ l. front ++ l) (sym (with_commas-push is.done object));
   }
-
-  -- all are
-  pub listed-all : left ≡ [] → text ≡ front ++ with_commas whole
-  listed-all none = is.text_is ∙ ap (λ ts. front ++ with_commas ts) (sym (is.whole_is ∙ ap (λ l. is.done ++ l) none ∙ append-nil is.done))

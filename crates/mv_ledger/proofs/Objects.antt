@@ -1,4 +1,4 @@
--- An object as it is put behind a text, piece by piece.
+-- An object as it is put after a text, piece by piece.
 use Rattle.std.proofs.Common.{◌≡◌, ℕ, List, [], ◌∷◌, ◌++◌, append_assoc, codes}
 use Rattle.mv_machine.specs.Lines.{member, object}
 

@@ -15,10 +15,11 @@ use Rattle.mv_move_types.specs.Options.{find_index}
 use Rattle.mv_move_types.specs.Published.{PublishedModule, has_name_of, with_module, with_modules}
 use Rattle.mv_bounds.specs.Definitions.{all_differ}
 use Rattle.mv_linker.specs.Link.{tables_in}
+use Rattle.mv_linker.specs.Stored.{with_at}
 use Rattle.mv_ledger.specs.declared.tallies.Tally.{Tally}
 use Rattle.mv_ledger.specs.declared.tallies.Placed.{Placed}
 use Rattle.mv_ledger.specs.View.{ArePlaced, AreScarce, scarce_indices}
-use Rattle.mv_ledger.specs.Tallying.{fresh_tally, tallies_at, with_tallies_at, with_placed, AreWithin, place_for, ArePlacedFor}
+use Rattle.mv_ledger.specs.Tallying.{fresh_tally, tallies_at, with_placed, AreWithin, place_for, ArePlacedFor}
 use Rattle.mv_ledger.proofs.Stores.{one_name-turns, one_name-same}
 
 -- the place that a module of this name takes: that of the one of its name, or the next one
@@ -224,7 +225,7 @@ count-joined old bundle tss placed differ for = joined-count old tss old bundle 
 
 -- ---- tallies
 
--- the tallies of each module from this place on, behind those that it had
+-- the tallies of each module from this place on, after those that it had
 abbrev pub EachIs : (ℕ → List Tally) → ℕ → List Module → List (List Tally) → Type 0
 EachIs own place [] [] = Unit {0}
 EachIs own place [] (ts ∷ tss) = ⊥
@@ -232,14 +233,14 @@ EachIs own place (m ∷ ms) [] = ⊥
 EachIs own place (m ∷ ms) (ts ∷ tss) = (ts ≡ tallies_at place m (own place)) × EachIs own (place + 1) ms tss
 
 each-with : (own : ℕ → List Tally) (place : ℕ) (cur : List PublishedModule) (tss : List (List Tally)) (n : PublishedModule) (ts : List Tally) → ts ≡ tallies_at (place + spot cur n.tables) n.tables (own (place + spot cur n.tables))
-    → EachIs own place (tables_in cur) tss → EachIs own place (tables_in (with_module cur n)) (with_tallies_at (spot cur n.tables) ts tss)
+    → EachIs own place (tables_in cur) tss → EachIs own place (tables_in (with_module cur n)) (with_at (spot cur n.tables) ts tss)
 each-with own place [] [] n ts is e = let same : place + 0 ≡ place = omega arith in (subst (λ (k : ℕ). ts ≡ tallies_at k n.tables (own k)) same is, tt)
 each-with own place [] (us ∷ uss) n ts is e = absurd e
 each-with own place (q ∷ qs) [] n ts is e = absurd e
 each-with own place (q ∷ qs) (us ∷ uss) n ts is e = by_case (has_name_of n.tables q) (λ here. each-with own (place + 1) qs uss n ts here e.1) is
   where
-    by_case : (b : Bool) → (ts ≡ tallies_at (place + 1 + spot qs n.tables) n.tables (own (place + 1 + spot qs n.tables)) → EachIs own (place + 1) (tables_in (with_module qs n)) (with_tallies_at (spot qs n.tables) ts uss)) → ts ≡ tallies_at (place + cond b 0 (suc (spot qs n.tables))) n.tables (own (place + cond b 0 (suc (spot qs n.tables))))
-        → EachIs own place (tables_in (cond b (n ∷ qs) (q ∷ with_module qs n))) (with_tallies_at (cond b 0 (suc (spot qs n.tables))) ts (us ∷ uss))
+    by_case : (b : Bool) → (ts ≡ tallies_at (place + 1 + spot qs n.tables) n.tables (own (place + 1 + spot qs n.tables)) → EachIs own (place + 1) (tables_in (with_module qs n)) (with_at (spot qs n.tables) ts uss)) → ts ≡ tallies_at (place + cond b 0 (suc (spot qs n.tables))) n.tables (own (place + cond b 0 (suc (spot qs n.tables))))
+        → EachIs own place (tables_in (cond b (n ∷ qs) (q ∷ with_module qs n))) (with_at (cond b 0 (suc (spot qs n.tables))) ts (us ∷ uss))
     by_case true ih is = let same : place + 0 ≡ place = omega arith in (subst (λ (k : ℕ). ts ≡ tallies_at k n.tables (own k)) same is, e.1)
     by_case false ih is =
         let same : place + suc (spot qs n.tables) ≡ place + 1 + spot qs n.tables = omega arith in
@@ -251,8 +252,8 @@ each-joined own cur [] tss [] s e = e
 each-joined own cur [] tss (p ∷ ps) s e = absurd s
 each-joined own cur (n ∷ ns) tss [] s e = absurd s
 each-joined own cur (n ∷ ns) tss (p ∷ ps) s e =
-    each-joined own (with_module cur n) ns (with_tallies_at p.place p.tallies.items tss) ps s.2
-    (subst (λ (k : ℕ). EachIs own 0 (tables_in (with_module cur n)) (with_tallies_at k p.tallies.items tss)) (sym s.0)
+    each-joined own (with_module cur n) ns (with_at p.place p.tallies.items tss) ps s.2
+    (subst (λ (k : ℕ). EachIs own 0 (tables_in (with_module cur n)) (with_at k p.tallies.items tss)) (sym s.0)
     (each-with own 0 cur tss n p.tallies.items (subst (λ (k : ℕ). p.tallies.items ≡ tallies_at k n.tables (own k)) (s.0 ∙ sym (zero-add (spot cur n.tables))) s.1) e))
 
 -- a module with all its tallies gets none

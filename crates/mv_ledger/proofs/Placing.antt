@@ -1,10 +1,10 @@
 -- The modules of a bundle are placed one after the other.
 use Rattle.std.proofs.Common.{◌≡◌, Bor, ℕ, zero, suc, ◌+◌, ◌<◌, ◌≤◌, Bool, true, false, cond, List, [], ◌∷◌, ◌++◌, map, length, take, drop, get_or, Option, Some, None, refl, sym, ap, ap₂, ◌∙◌, subst, arith, zero-add}
-use Rattle.std.specs.Prelude.{All, nat_lt, slice_get, slice_set, unwrap_or, option_and_then, is_none, is_some, not}
+use Rattle.std.specs.Prelude.{All, nat_lt, slice_get, slice_set, unwrap_or, option_and_then, is_none, is_some, not, ◌==◌}
 use Rattle.std.specs.declared.vec.Vec.{Vec}
 use Rattle.std.specs.declared.alloc.Global.{Global}
-use Rattle.std.proofs.lemmas.Bool.{ltb-true, ltb-false}
-use Rattle.std.proofs.lemmas.List.{append_assoc, length-map, map-append, map-set, map_more, take_all}
+use Rattle.std.proofs.lemmas.Bool.{ltb-true, ltb-false, eqb-true, eqb-false}
+use Rattle.std.proofs.lemmas.List.{append_assoc, length-map, map-append, map-set, map_more}
 use Rattle.mv_move_types.specs.Module.{Module, own_name}
 use Rattle.mv_move_types.specs.Named.{module_place}
 use Rattle.mv_move_types.specs.Published.{PublishedModule}
@@ -12,10 +12,12 @@ use Rattle.mv_linker.specs.Link.{tables_in}
 use Rattle.mv_ledger.specs.declared.tallies.Tally.{Tally}
 use Rattle.mv_ledger.specs.declared.tallies.Placed.{Placed}
 use Rattle.mv_ledger.specs.View.{ArePlaced, scarce_indices}
-use Rattle.mv_ledger.specs.Tallying.{fresh_tally, tallies_at, with_tallies_at, with_placed, AreWithin, place_for, is_published, ArePlacedFor}
+use Rattle.mv_ledger.specs.Tallying.{fresh_tally, tallies_at, with_placed, AreWithin, place_for, is_published, ArePlacedFor}
 use Rattle.mv_ledger.proofs.TalliesByModule.{lists}
 use Rattle.mv_linker.specs.declared.New.{New}
 use Rattle.mv_linker.specs.News.{published_one, published_of}
+use Rattle.mv_linker.proofs.WithAt.{set-with_at, push-with_at, length-with_at}
+use Rattle.mv_linker.specs.Stored.{with_at}
 use Rattle.mv_ledger.proofs.Places.{place-found, is_there, spot, spot-below, had}
 
 -- the next place after these
@@ -51,44 +53,24 @@ none-so (Some k) false e = refl
 
 -- ---- lists of tallies by place
 
--- those of a place that is there are set
-put-there : (place : ℕ) (ts : List Tally) (tss : List (List Tally)) → place < length tss → slice_set tss place ts ≡ with_tallies_at place ts tss
-put-there place ts [] lt = absurd (omega (arith, lt))
-put-there zero ts (us ∷ tss) lt = refl
-put-there (suc place) ts (us ∷ tss) lt = ap (λ (xs : List (List Tally)). us ∷ xs) (put-there place ts tss (omega (arith, lt)))
+-- those of a place that is there are set, and those of any other come last
+pub set-there : (vs : List (Vec Tally Global)) (place : ℕ) (w : Vec Tally Global) → place < length vs → lists (slice_set vs place w) ≡ with_at place w.items (lists vs)
+set-there vs place w lt = map-set (λ v. v.items) vs place w ∙ set-with_at (lists vs) place w.items (omega (arith, lt, length-map vs (λ (v : Vec Tally Global). v.items)))
 
--- those of any other come last
-put-last : (place : ℕ) (ts : List Tally) (tss : List (List Tally)) → length tss ≤ place → tss ++ ts ∷ [] ≡ with_tallies_at place ts tss
-put-last place ts [] le = refl
-put-last zero ts (us ∷ tss) le = absurd (omega (arith, le))
-put-last (suc place) ts (us ∷ tss) le = ap (λ (xs : List (List Tally)). us ∷ xs) (put-last place ts tss (omega (arith, le)))
-
--- the same of vectors
-pub set-there : (vs : List (Vec Tally Global)) (place : ℕ) (w : Vec Tally Global) → place < length vs → lists (slice_set vs place w) ≡ with_tallies_at place w.items (lists vs)
-set-there vs place w lt = map-set (λ v. v.items) vs place w ∙ put-there place w.items (lists vs) (omega (arith, lt, length-map vs (λ (v : Vec Tally Global). v.items)))
-
-pub push-last : (vs us : List (Vec Tally Global)) (place : ℕ) (w : Vec Tally Global) → length vs ≤ place → us ≡ vs ++ w ∷ [] → lists us ≡ with_tallies_at place w.items (lists vs)
+pub push-last : (vs us : List (Vec Tally Global)) (place : ℕ) (w : Vec Tally Global) → length vs ≤ place → us ≡ vs ++ w ∷ [] → lists us ≡ with_at place w.items (lists vs)
 push-last vs us place w le is =
-    ap lists is ∙ map-append (λ (v : Vec Tally Global). v.items) vs (w ∷ []) ∙ put-last place w.items (lists vs) (omega (arith, le, length-map vs (λ (v : Vec Tally Global). v.items)))
+    ap lists is ∙ map-append (λ (v : Vec Tally Global). v.items) vs (w ∷ []) ∙ push-with_at (lists vs) place w.items (omega (arith, le, length-map vs (λ (v : Vec Tally Global). v.items)))
 
-length-there : (place : ℕ) (ts : List Tally) (tss : List (List Tally)) → place < length tss → length (with_tallies_at place ts tss) ≡ length tss
-length-there place ts [] lt = absurd (omega (arith, lt))
-length-there zero ts (us ∷ tss) lt = refl
-length-there (suc place) ts (us ∷ tss) lt = ap suc (length-there place ts tss (omega (arith, lt)))
-
-length-last : (place : ℕ) (ts : List Tally) (tss : List (List Tally)) → length tss ≤ place → length (with_tallies_at place ts tss) ≡ length tss + 1
-length-last place ts [] le = refl
-length-last zero ts (us ∷ tss) le = absurd (omega (arith, le))
-length-last (suc place) ts (us ∷ tss) le = let ih : length (with_tallies_at place ts tss) ≡ length tss + 1 = length-last place ts tss (omega (arith, le)) in omega (arith, ih)
-
-length-put : (place : ℕ) (ts : List Tally) (tss : List (List Tally)) → cond (nat_lt place (length tss)) (length tss) (length tss + 1) ≡ length (with_tallies_at place ts tss)
-length-put place ts tss = by_case (nat_lt place (length tss)) refl
+length-put : (place : ℕ) (ts : List Tally) (tss : List (List Tally)) → place ≤ length tss → cond (nat_lt place (length tss)) (length tss) (length tss + 1) ≡ length (with_at place ts tss)
+length-put place ts tss le = by_case (nat_lt place (length tss)) refl (place == length tss) refl ∙ sym (length-with_at tss place ts le)
   where
-    by_case : (b : Bool) → nat_lt place (length tss) ≡ b → cond b (length tss) (length tss + 1) ≡ length (with_tallies_at place ts tss)
-    by_case true e = sym (length-there place ts tss (ltb-true place (length tss) e))
-    by_case false e = sym (length-last place ts tss (ltb-false place (length tss) e))
+    by_case : (b : Bool) → nat_lt place (length tss) ≡ b → (c : Bool) → (place == length tss) ≡ c → cond b (length tss) (length tss + 1) ≡ cond c (length tss + 1) (length tss)
+    by_case true e true g = let less : place < length tss = ltb-true place (length tss) e in let same : place ≡ length tss = eqb-true place (length tss) g in absurd (omega (arith, less, same))
+    by_case true e false g = refl
+    by_case false e true g = refl
+    by_case false e false g = let more : length tss ≤ place = ltb-false place (length tss) e in let other : place ≡ length tss → ⊥ = eqb-false place (length tss) g in absurd (omega (arith, le, more, other))
 
-placed-put : (start : ℕ) (tss : List (List Tally)) (place : ℕ) (ts : List Tally) → place ≤ length tss → All (λ (t : Tally). t.place ≡ start + place) ts → ArePlaced start tss → ArePlaced start (with_tallies_at place ts tss)
+placed-put : (start : ℕ) (tss : List (List Tally)) (place : ℕ) (ts : List Tally) → place ≤ length tss → All (λ (t : Tally). t.place ≡ start + place) ts → ArePlaced start tss → ArePlaced start (with_at place ts tss)
 placed-put start [] place ts le at placed = let same : start + place ≡ start = omega (arith, le) in (subst (λ (k : ℕ). All (λ (t : Tally). t.place ≡ k) ts) same at, tt)
 placed-put start (us ∷ tss) zero ts le at placed = let same : start + 0 ≡ start = omega arith in (subst (λ (k : ℕ). All (λ (t : Tally). t.place ≡ k) ts) same at, placed.1)
 placed-put start (us ∷ tss) (suc place) ts le at placed =
@@ -106,13 +88,13 @@ pub record IsJoining (whole tss : List (List Tally)) (rest : List Placed) (len c
 pub joining-room : (whole tss : List (List Tally)) (rest more : List Placed) (p : Placed) (len capacity : ℕ) → IsJoining whole tss rest len capacity → rest ≡ p ∷ more → len < capacity
 joining-room whole tss rest more p len capacity h is = let long : length rest ≡ suc (length more) = ap length is in omega (arith, long, h.fits)
 
-pub joining-next : (whole tss after : List (List Tally)) (rest more : List Placed) (p : Placed) (len now capacity room : ℕ) → IsJoining whole tss rest len capacity → rest ≡ p ∷ more → after ≡ with_tallies_at p.place p.tallies.items tss
+pub joining-next : (whole tss after : List (List Tally)) (rest more : List Placed) (p : Placed) (len now capacity room : ℕ) → IsJoining whole tss rest len capacity → rest ≡ p ∷ more → after ≡ with_at p.place p.tallies.items tss
     → now ≤ len + 1 → room ≡ capacity → IsJoining whole after more now room
 joining-next whole tss after rest more p len now capacity room h is put one same =
     let step = subst (λ (ps : List Placed). AreWithin (length tss) ps) is h.within in
     record {
       whole_is = h.whole_is ∙ ap (with_placed tss) is ∙ ap (λ (us : List (List Tally)). with_placed us more) (sym put);
-      within = subst (λ (k : ℕ). AreWithin k more) (length-put p.place p.tallies.items tss ∙ ap length (sym put)) step.2;
+      within = subst (λ (k : ℕ). AreWithin k more) (length-put p.place p.tallies.items tss step.0 ∙ ap length (sym put)) step.2;
       placed = subst (λ (us : List (List Tally)). ArePlaced 0 us) (sym put) (placed-put 0 tss p.place p.tallies.items step.0 (subst (λ (k : ℕ). All (λ (t : Tally). t.place ≡ k) p.tallies.items) (sym (zero-add p.place)) step.1) h.placed);
       fits = let long : length rest ≡ suc (length more) = ap length is in omega (arith, long, one, same, h.fits);
     }
@@ -137,10 +119,6 @@ pub record IsPlacing (old : List PublishedModule) (tss : List (List Tally)) (new
   pub placed : ArePlacedFor (tables_in old) tss (length old) (tables_in (published_of (take i news))) all
   pub next_is : next ≡ next_after (tables_in old) (length old) (tables_in (published_of (take i news)))
   pub few : next ≤ length old + i
-
-pub placing-none : (old : List PublishedModule) (tss : List (List Tally)) (news : List New) (all : List Placed) (next : ℕ) → all ≡ [] → next ≡ length old → IsPlacing old tss news 0 all next
-placing-none old tss news all next none is =
-    subst (λ (ps : List Placed). IsPlacing old tss news 0 ps next) (sym none) (record { placed = tt; next_is = is; few = omega (arith, is) })
 
 tables-more : (news : List New) (i : ℕ) (d : New) → i < length news → tables_in (published_of (take (i + 1) news)) ≡ tables_in (published_of (take i news)) ++ (get_or news i d).module ∷ []
 tables-more news i d lt = ap tables_in (map_more published_one news i d lt) ∙ map-append (λ (p : PublishedModule). p.tables) (published_of (take i news)) (published_one (get_or news i d) ∷ [])
@@ -190,7 +168,3 @@ module _ (old : List PublishedModule) (tss : List (List Tally)) (news : List New
       least : (b : Bool) (now : ℕ) → now ≡ cond b (next + 1) next → now ≤ length old + (i + 1)
       least true now e = omega (arith, e, h.few)
       least false now e = omega (arith, e, h.few)
-
--- all of them
-pub placing-all : (old : List PublishedModule) (tss : List (List Tally)) (news : List New) (i : ℕ) (all : List Placed) (next : ℕ) → IsPlacing old tss news i all next → length news ≤ i → ArePlacedFor (tables_in old) tss (length old) (tables_in (published_of news)) all
-placing-all old tss news i all next h past = subst (λ (ns : List New). ArePlacedFor (tables_in old) tss (length old) (tables_in (published_of ns)) all) (take_all i news past) h.placed

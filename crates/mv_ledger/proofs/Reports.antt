@@ -1,5 +1,5 @@
 -- What a show and an audit reply.
-use Rattle.std.proofs.Common.{◌≡◌, Bool, ℕ, ◌+◌, ◌-◌, ◌*◌, ◌^◌, ◌<◌, ◌≤◌, List, [], ◌∷◌, ◌++◌, map, length, Some, refl, sym, ap, ap₂, ◌∙◌, arith, zero-add, length-append, codes}
+use Rattle.std.proofs.Common.{◌≡◌, Bool, ℕ, ◌+◌, ◌-◌, ◌*◌, ◌<◌, ◌≤◌, List, [], ◌∷◌, ◌++◌, map, length, Some, refl, sym, ap, ap₂, arith, zero-add, length-append, codes}
 use Rattle.std.specs.Prelude.{All}
 use Rattle.std.specs.List.{AllByRecursion, filter, enumerate_from}
 use Rattle.std.proofs.lemmas.List.{length-map}
@@ -11,9 +11,9 @@ use Rattle.mv_move_types.specs.Module.{Module, StructDefinition}
 use Rattle.mv_move_types.specs.Published.{PublishedModule}
 use Rattle.mv_machine.specs.Count.{count}
 use Rattle.mv_machine.specs.State.{Storage}
-use Rattle.mv_machine.specs.Lines.{Tallied, Refused as ToldRefused, Told as ToldLines, audit_line, audit_lines, audit_object, audit_json, end_line, json_line}
-use Rattle.mv_machine.specs.Ledger.{Format, Request, Publish, Run, Show, Audit, BadRun, Bad, shown, audited}
-use Rattle.mv_linker.specs.Link.{IsPublishable, IsStore, tables_in}
+use Rattle.mv_machine.specs.Lines.{Tallied, Refused as ToldRefused, Told as ToldLines, audit_lines, audit_json, end_line, json_line}
+use Rattle.mv_machine.specs.Ledger.{Format, Publish, Run, Show, Audit, BadRun, Bad, shown, audited}
+use Rattle.mv_linker.specs.Link.{IsPublishable, tables_in}
 use Rattle.mv_ledger.specs.declared.tallies.Tally.{Tally}
 use Rattle.mv_ledger.specs.RecordText.{IsShapeless, format_text}
 use Rattle.mv_ledger.specs.Answering.{Replies}

@@ -28,7 +28,7 @@ use Rattle.mv_ledger.proofs.ShapesOfArguments.{arg_text, arg_fits, argument-part
 abbrev sized_fits : ℕ → List ℕ → Bool
 sized_fits most bytes = nat_le (length bytes) most && list_all is_byte bytes
 
--- bytes behind their number at the front
+-- bytes after their number at the front
 sized-parts : (most : ℕ) → most < 2 ^ 64 → Parts (sized_from most) sized (sized_fits most)
 sized-parts most lt bytes rest v ok e =
     on_bind (number_from most bytes) _ (v, rest) e (λ n n_is e1.
@@ -71,10 +71,6 @@ offer-whole rest v ok =
     (sized-whole 65536 (omega arith) (sized v.certificate ++ rest) v.text q.0)
     ∙ ap (λ r. r >>= λ certificate. Some (record { text = v.text; certificate = certificate.0 }, certificate.1))
     (sized-whole 1048576 (omega arith) rest v.certificate well)
-
--- so few modules, each within its limits
-abbrev offers_fit : List Offer → Bool
-offers_fit os = nat_le (length os) 16 && list_all offer_fits os
 
 -- a sender and a bundle
 abbrev bundle_text : ℕ × List Offer → List ℕ

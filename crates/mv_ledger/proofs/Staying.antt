@@ -5,6 +5,8 @@ use Rattle.std.specs.Option.{option_map_or}
 use Rattle.std.specs.Cmp.{first_so, second_so}
 use Rattle.std.specs.Str.{bytes_eq}
 use Rattle.std.proofs.lemmas.List.Elements.{All-head, All-tail, All-weaker}
+use Rattle.std.proofs.lemmas.Option.{same_Some}
+use Rattle.std.proofs.lemmas.Bool.{and_from}
 use Rattle.mv_move_types.specs.declared.refusal.Refusal.{Refusal}
 use Rattle.mv_move_types.specs.declared.tables.Field.{Field}
 use Rattle.mv_move_types.specs.declared.tables.Key.{Key}
@@ -31,12 +33,12 @@ use Rattle.mv_linker.specs.TypesByName.{token_named, value_type_named}
 use Rattle.mv_linker.specs.Upgrades.{same_field, same_fields}
 use Rattle.mv_linker.specs.Links.{struct_is_there, structs_are_there}
 use Rattle.mv_linker.specs.Link.{IsStore, tables_in}
+use Rattle.mv_linker.proofs.NameLemmas.{same_struct-is}
+use Rattle.mv_linker.proofs.Found.{each, on_some, then_found}
+use Rattle.mv_linker.proofs.TagTests.{same_tag-is}
 use Rattle.mv_interpreter.specs.Owned.{IsOwn}
 use Rattle.mv_interpreter.specs.Runs.{IsFineWords}
-use Rattle.mv_interpreter.proofs.Names.{some_is, same_struct-is, both}
-use Rattle.mv_interpreter.proofs.Lists.{each, on_some, then_found}
 use Rattle.mv_interpreter.proofs.Homes.{own_of_store}
-use Rattle.mv_interpreter.proofs.Typing.Tests.{same_tag-is}
 use Rattle.mv_ledger.specs.Judging.{IsAcceptedBy}
 use Rattle.mv_ledger.proofs.Counting.Packs.{there-get}
 use Rattle.mv_ledger.proofs.Heirs.{Inherits, inherited, tested, found-passes, on_and_then, stayed, name-stays, Stayed}
@@ -145,7 +147,7 @@ defined-there modules name a e =
     on_and_then (λ i. option_and_then (λ (d : StructDefinition). option_map (λ (h : StructHandle). h.abilities) (slice_get m.struct_handles d.handle)) (slice_get m.structs i)) (find_index (is_struct m name) m.structs) a e1 (λ i i_is e2.
     on_and_then (λ (d : StructDefinition). option_map (λ (h : StructHandle). h.abilities) (slice_get m.struct_handles d.handle)) (slice_get m.structs i) a e2 (λ d d_is e3.
     let made : Module × List Field = (m, d.fields) in
-    (made, then_found (module_named modules name.home) _ m made m_is (then_found (find_index (is_struct m name) m.structs) _ i made i_is (then_found (slice_get m.structs i) _ d made d_is refl))))))
+    (made, then_found (module_named modules name.home) _ m (Some made) m_is (then_found (find_index (is_struct m name) m.structs) _ i (Some made) i_is (then_found (slice_get m.structs i) _ d (Some made) d_is refl))))))
 
 -- a struct that a type of a module names is defined
 named-there : (modules : List Module) (m : Module) (t : Token) (name : StructName) → structs_are_there modules m 0 m.struct_handles ≡ true → token_named m t ≡ Some (StructTag name) → (d : Module × List Field) × (definition_of modules name ≡ Some d)
@@ -161,7 +163,7 @@ named-there modules m (Plain (OfStruct h)) name all e = by_name (struct_name m h
         let here : struct_is_there modules m h handle ≡ true = subst (λ (n : ℕ). struct_is_there modules m n handle ≡ true) at (there-get modules m 0 h m.struct_handles handle all handle_is) in
         let n = tested (λ n. option_map_or (same_abilities handle.abilities) (declared modules n) false) (struct_name m h) here in
         let a = tested (same_abilities handle.abilities) (declared modules n.0) n.2 in
-        let name_is : n.0 ≡ name = some_is n.0 own (sym n.1 ∙ is) ∙ same in
+        let name_is : n.0 ≡ name = same_Some n.0 own (sym n.1 ∙ is) ∙ same in
         defined-there modules name a.0 (ap (declared modules) (sym name_is) ∙ a.1))
 named-there modules m (Reference t) name all e = by_type (value_type_named m t) e
   where
@@ -195,13 +197,13 @@ module _ (old new : List PublishedModule) (old_store : IsStore old) (new_store :
       on_some (slice_get m.structs i) _ d e2 (λ x x_is e3.
       on_and_then (slice_get (tables_in old)) (module_place (tables_in old) name.home) m m_is (λ place place_is at.
       let made : Module × List Field = (m, x.fields) in
-      let same : made ≡ d = some_is made d e3 in
+      let same : made ≡ d = same_Some made d e3 in
       let t = tested (λ own. same_struct own name) (name_of_struct m x) (found-passes (is_struct m name) m.structs i x i_is x_is) in
       let named : name_of_struct m x ≡ Some name = t.1 ∙ ap (λ (n : StructName). Some n) (same_struct-is t.0 name t.2) in
       let n = inherits place m at in
       let s : Stayed m x name n.0 i = stayed old new old_store new_store inherits place i m n.0 x name at n.1 n.2 x_is named in
       let own : IsOwn (tables_in new) n.0 i s.definition = own_of_store new place n.0 new_store n.1 i s.definition s.is_there in
-      let one : own.name ≡ name = some_is own.name name (sym own.named ∙ s.is_named) in
+      let one : own.name ≡ name = same_Some own.name name (sym own.named ∙ s.is_named) in
       let after : Module × List Field = (n.0, s.definition.fields) in
       subst (BecomesIn name) same (record {
         place = place;
@@ -285,7 +287,7 @@ module _ (old new : List PublishedModule) (old_store : IsStore old) (new_store :
         let was = option_map_or (λ d. are_of_types (tables_in old) d.0 d.1 fields) (definition_of (tables_in old) name) false in
         let t = tested (λ d. are_of_types (tables_in old) d.0 d.1 fields) (definition_of (tables_in old) name) (second_so (same_struct own name) was h) in
         let b : BecomesIn name t.0 = becomes name t.0 t.1 in
-        both (same_struct own name) (option_map_or (λ d. are_of_types (tables_in new) d.0 d.1 fields) (definition_of (tables_in new) name) false) (first_so (same_struct own name) was h)
+        and_from (same_struct own name) (option_map_or (λ d. are_of_types (tables_in new) d.0 d.1 fields) (definition_of (tables_in new) name) false) (first_so (same_struct own name) was h)
         (ap (λ (o : Option (Module × List Field)). option_map_or (λ d. are_of_types (tables_in new) d.0 d.1 fields) o false) b.is_new ∙ are-stay fields t.0.0 t.0.1 b.new_one.0 b.new_one.1 b.alike t.2)
 
     are-stay : (vs : Values) (m : Module) (fs : List Field) (n : Module) (gs : List Field) → AreAlike m fs n gs → are_of_types (tables_in old) m fs vs ≡ true → are_of_types (tables_in new) n gs vs ≡ true
@@ -297,7 +299,7 @@ module _ (old new : List PublishedModule) (old_store : IsStore old) (new_store :
     are-stay (More v vs) m [] n (g ∷ gs) alike h = absurd alike
     are-stay (More v vs) m (f ∷ fs) n [] alike h = absurd alike
     are-stay (More v vs) m (f ∷ fs) n (g ∷ gs) alike h =
-        both (is_of_type (tables_in new) n g.token v) (are_of_types (tables_in new) n gs vs)
+        and_from (is_of_type (tables_in new) n g.token v) (are_of_types (tables_in new) n gs vs)
         (type-by-tag (tables_in new) n g.token v ∙ ap (λ (o : Option Tag). fits_tag (tables_in new) o v) (sym alike.0)
         ∙ tag-stays v (token_named m f.token) (sym (type-by-tag (tables_in old) m f.token v) ∙ first_so (is_of_type (tables_in old) m f.token v) (are_of_types (tables_in old) m fs vs) h))
         (are-stay vs m fs n gs alike.1 (second_so (is_of_type (tables_in old) m f.token v) (are_of_types (tables_in old) m fs vs) h))
@@ -344,13 +346,13 @@ module _ (old new : List PublishedModule) (old_store : IsStore old) (new_store :
       ap (λ (o : Option StructName). option_map_or (λ name. is_of_struct (tables_in new) name v) o false) (name-stays old new old_store new_store inherits k.place k.index name.0 name.1) ∙ struct-stays name.0 v name.2 in
       let able : key_part (tables_in new) k ≡ true =
       ap (λ (o : Option Abilities). option_map_or (λ (a : Abilities). a.key) o false) (sym (abilities-stay k.place k.index name.0 name.1)) ∙ second_so (front_part (tables_in old) k v) (key_part (tables_in old) k) h in
-      both (front_part (tables_in new) k v) (key_part (tables_in new) k) (both (address_fits k.address) (struct_part (tables_in new) k v) (first_so (address_fits k.address) (struct_part (tables_in old) k v) front) named) able
+      and_from (front_part (tables_in new) k v) (key_part (tables_in new) k) (and_from (address_fits k.address) (struct_part (tables_in new) k v) (first_so (address_fits k.address) (struct_part (tables_in old) k v) front) named) able
 
   -- what is stored is fine after the bundle too
   pub storage-stays : (es : Storage) → is_fine_storage (tables_in old) es ≡ true → is_fine_storage (tables_in new) es ≡ true
   storage-stays [] h = refl
   storage-stays (e ∷ es) h =
-      both (is_fine_entry (tables_in new) e) (is_fine_storage (tables_in new) es)
+      and_from (is_fine_entry (tables_in new) e) (is_fine_storage (tables_in new) es)
       (entry-stays e.key e.value (first_so (is_fine_entry (tables_in old) e) (is_fine_storage (tables_in old) es) h))
       (storage-stays es (second_so (is_fine_entry (tables_in old) e) (is_fine_storage (tables_in old) es) h))
 

@@ -15,7 +15,7 @@ use Rattle.mv_linker.specs.News.{HasItsTexts}
 use Rattle.mv_ledger.specs.Publishing.{Passes}
 use Rattle.mv_linker.specs.Link.{have_one_name}
 use Rattle.mv_move_types.specs.Named.{is_module}
-use Rattle.mv_interpreter.proofs.Names.{same_module-is}
+use Rattle.mv_linker.proofs.NameLemmas.{is_module-is}
 
 -- equality of bytes is symmetric
 nat-turns : (a b : ℕ) → (a == b) ≡ (b == a)
@@ -40,21 +40,13 @@ one_name-turns m n = step (own_name m) (own_name n)
     step (Some a) None = refl
     step (Some a) (Some b) = module-turns b a
 
--- a module of a name has that name
-pub own_is : (name : ModuleName) (m : Module) → is_module name m ≡ true → own_name m ≡ Some name
-own_is name m h = step (own_name m) h
-  where
-    step : (o : Option ModuleName) → option_map_or (λ own. same_module own name) o false ≡ true → o ≡ Some name
-    step None e = absurd cc
-    step (Some own) e = ap Some (same_module-is own name e)
-
 -- modules with one name have the same name
 pub one_own : (m n : Module) → have_one_name m n ≡ true → own_name m ≡ own_name n
 one_own m n h = step (own_name m) refl h
   where
     step : (o : Option ModuleName) → own_name m ≡ o → option_map_or (λ name. is_module name n) o false ≡ true → own_name m ≡ own_name n
     step None is e = absurd cc
-    step (Some name) is e = is ∙ sym (own_is name n e)
+    step (Some name) is e = is ∙ sym (is_module-is name n e)
 
 -- so that a third has the name of both or of none
 pub one_name-same : (k m n : Module) → have_one_name m n ≡ true → have_one_name k m ≡ have_one_name k n

@@ -35,9 +35,6 @@ struct_put name (Some p) rest old front most new opens put closes =
 abbrev definition_in : StructName → Module → Option (Module × List Field)
 definition_in name m = find_index (is_struct m name) m.structs >>= λ i. slice_get m.structs i >>= λ d. Some (m, d.fields)
 
-pub no_home : (modules : List Module) (name : StructName) → module_place modules name.home ≡ None → definition_of modules name ≡ None
-no_home modules name e = ap (λ p. option_and_then (slice_get modules) p >>= definition_in name) e
-
 module _ (modules : List Module) (name : StructName) (place : ℕ) (home : Module) (place_is : module_place modules name.home ≡ Some place) (home_is : slice_get modules place ≡ Some home) where
   named : definition_of modules name ≡ definition_in name home
   named = ap (λ p. option_and_then (slice_get modules) p >>= definition_in name) place_is ∙ ap (λ m. m >>= definition_in name) home_is
@@ -65,12 +62,6 @@ pub puts_missing : (depth : ℕ) (modules : List Module) (name : StructName) (wo
 puts_missing depth modules name words old new e =
     let P : Option (Value × List ℕ) → Type 0 = λ o. PutsText value_text o None old new in
     subst P (sym (missing depth modules name words e)) refl
-
--- none, where it is nested too deep
-pub puts_too_deep : (depth : ℕ) (modules : List Module) (name : StructName) (words old new : List ℕ) → depth ≡ 0 → PutsText value_text (struct_from depth modules name words) None old new
-puts_too_deep depth modules name words old new e =
-    let P : Option (Value × List ℕ) → Type 0 = λ o. PutsText value_text o None old new in
-    subst P (sym (ap (λ n. struct_from n modules name words) e)) refl
 
 -- its fields' values
 pub puts_fields : (depth : ℕ) (modules : List Module) (name : StructName) (home : Module) (fields : List Field) (words : List ℕ) (rest : Option (Bor (List ℕ))) (old front most new : List ℕ) → (depth ≢ 0) → definition_of modules name ≡ Some (home, fields)

@@ -1,13 +1,14 @@
 -- Tallies where modules are added, and after a run.
-use Rattle.std.proofs.Common.{◌≡◌, ℕ, ◌+◌, ◌*◌, ◌^◌, ◌<◌, ◌≤◌, Bool, true, false, cond, List, [], ◌∷◌, map, Option, Some, None, refl, sym, ap, ap₂, ◌∙◌, subst, arith}
-use Rattle.std.specs.Prelude.{◌==◌, All, IsSome, slice_get, unwrap_or}
+use Rattle.std.proofs.Common.{◌≡◌, ℕ, ◌+◌, ◌*◌, ◌^◌, ◌≤◌, Bool, true, false, cond, List, [], ◌∷◌, map, Option, Some, None, refl, sym, ap, ap₂, ◌∙◌, subst, arith}
+use Rattle.std.specs.Prelude.{◌==◌, All, slice_get, unwrap_or}
 use Rattle.std.specs.List.{sum_by}
 use Rattle.std.specs.Option.{option_map_or}
 use Rattle.std.specs.Cmp.{first_so, second_so}
-use Rattle.std.proofs.lemmas.Bool.{eqb-true}
+use Rattle.std.proofs.lemmas.Bool.{eqb-true, and_from, eq-eqb}
 use Rattle.std.proofs.lemmas.Bool.Decides.{same_from_decides}
 use Rattle.std.proofs.lemmas.List.Elements.{All-head, All-tail, All-map, All-weaker}
 use Rattle.std.proofs.lemmas.List.Sums.{sum_by-cons, sum_by-le-sum_by}
+use Rattle.std.proofs.lemmas.Option.{same_Some}
 use Rattle.mv_move_types.specs.Names.{ModuleName, StructName, same_module, same_struct}
 use Rattle.mv_move_types.specs.Module.{Module, StructDefinition, name_at, name_of_struct, module_name, own_name}
 use Rattle.mv_move_types.specs.Named.{is_struct, definition_of}
@@ -20,22 +21,18 @@ use Rattle.mv_machine.specs.Lines.{Tallied}
 use Rattle.mv_machine.specs.Run.{packs, unpacks}
 use Rattle.mv_machine.specs.Ledger.{tally_with}
 use Rattle.mv_linker.specs.Link.{IsStore, IsPublishable, tables_in, have_one_name}
+use Rattle.mv_linker.proofs.NameLemmas.{same_module-same, same_struct-same, same_struct-is}
+use Rattle.mv_linker.proofs.Found.{on_some, there_below, each, one_place, some-of}
 use Rattle.mv_interpreter.specs.declared.StructTally.{StructTally}
 use Rattle.mv_interpreter.specs.Runs.{Tallies, packs_in, unpacks_in, is_tally_of}
 use Rattle.mv_interpreter.specs.Owned.{IsOwn}
 use Rattle.mv_interpreter.specs.Runs.{is_tally_at}
-use Rattle.mv_interpreter.proofs.Names.{some_is, eqb-same, both, same_module-same, same_struct-same, same_struct-is}
-use Rattle.mv_interpreter.proofs.Lists.{on_some, there_at, each, mapped_at, All-at}
-use Rattle.mv_interpreter.proofs.Owns.{one_place}
+use Rattle.mv_interpreter.proofs.Lists.{mapped_at, All-at}
 use Rattle.mv_interpreter.proofs.Homes.{own_of_store}
+use Rattle.mv_interpreter.specs.Flat.Agreement.{nameless}
 use Rattle.mv_ledger.specs.declared.tallies.Tally.{Tally}
-use Rattle.mv_ledger.specs.View.{IsNamed, IsSmall, AreScarce, tallied, no_struct}
-use Rattle.mv_ledger.specs.Tallying.{packs_at, unpacks_at, tally_after, HasRoomLeft}
-
--- what is there
-pub there_is : {A : Type 0} (o : Option A) → IsSome o → (x : A) × (o ≡ Some x)
-there_is (Some x) h = (x, refl)
-there_is None h = absurd cc
+use Rattle.mv_ledger.specs.View.{IsNamed, IsSmall, AreScarce, tallied}
+use Rattle.mv_ledger.specs.Tallying.{packs_at, unpacks_at, tally_after}
 
 -- functions that agree on a list's elements
 pub map-where : {A B : Type 0} (P : A → Type 0) (f g : A → B) → ((x : A) → P x → f x ≡ g x) → (xs : List A) → All P xs → map f xs ≡ map g xs
@@ -50,10 +47,10 @@ map-then f g (x ∷ xs) = ap (λ ys. g (f x) ∷ ys) (map-then f g xs)
 -- a module handle names a module
 pub module_there : (m : Module) → InBounds m → (h : ℕ) → below h m.module_handles ≡ true → (name : ModuleName) × (module_name m h ≡ Some name)
 module_there m bounds h e =
-    let handle = there_at m.module_handles h e in
+    let handle = there_below m.module_handles h e in
     let fine = each (module_handle_in m) m.module_handles h handle.0 bounds.module_handles handle.1 in
-    let address = there_at m.addresses handle.0.address (first_so (below handle.0.address m.addresses) (below handle.0.name m.identifiers) fine) in
-    let name = there_at m.identifiers handle.0.name (second_so (below handle.0.address m.addresses) (below handle.0.name m.identifiers) fine) in
+    let address = there_below m.addresses handle.0.address (first_so (below handle.0.address m.addresses) (below handle.0.name m.identifiers) fine) in
+    let name = there_below m.identifiers handle.0.name (second_so (below handle.0.address m.addresses) (below handle.0.name m.identifiers) fine) in
     (record { address = address.0; name = name.0 }, rw (handle.1, address.1, name.1) refl)
 
 module _ (published : List PublishedModule) (store : IsStore published) where
@@ -84,12 +81,12 @@ module _ (published : List PublishedModule) (store : IsStore published) where
       one : (m n : Module) (d f : StructDefinition) → slice_get (tables_in published) p ≡ Some m → slice_get (tables_in published) q ≡ Some n
           → name_of_struct m d ≡ Some name → name_of_struct n f ≡ Some name → IsOwn (tables_in published) m i d → IsOwn (tables_in published) n j f → (p ≡ q) × (i ≡ j)
       one m n d f m_is n_is e2 g2 left right =
-          let first : left.name ≡ name = some_is left.name name (sym left.named ∙ e2) in
-          let second : right.name ≡ name = some_is right.name name (sym right.named ∙ g2) in
+          let first : left.name ≡ name = same_Some left.name name (sym left.named ∙ e2) in
+          let second : right.name ≡ name = same_Some right.name name (sym right.named ∙ g2) in
           let names : left.name ≡ right.name = first ∙ sym second in
-          let found : (m, d.fields) ≡ (n, f.fields) = some_is (m, d.fields) (n, f.fields) (sym left.definition ∙ ap (definition_of (tables_in published)) names ∙ right.definition) in
+          let found : (m, d.fields) ≡ (n, f.fields) = same_Some (m, d.fields) (n, f.fields) (sym left.definition ∙ ap (definition_of (tables_in published)) names ∙ right.definition) in
           let modules : m ≡ n = ap (λ (x : Module × List Field). x.0) found in
-          let indices : i ≡ j = some_is i j (sym left.index ∙ ap₂ (λ (x : Module) (y : StructName). find_index (is_struct x y) x.structs) modules names ∙ right.index) in
+          let indices : i ≡ j = same_Some i j (sym left.index ∙ ap₂ (λ (x : Module) (y : StructName). find_index (is_struct x y) x.structs) modules names ∙ right.index) in
           (place_of p q m m_is (n_is ∙ ap Some (sym modules)), indices)
 
   -- the tally of a struct, by its name and by its place
@@ -102,7 +99,7 @@ module _ (published : List PublishedModule) (store : IsStore published) where
 
       here_so : (u.place ≡ place) × (u.index ≡ index) → is_tally_at place index u ≡ true
       here_so h =
-          both (u.place == place) (u.index == index) (subst (λ (x : ℕ). (u.place == x) ≡ true) h.0 (eqb-same u.place)) (subst (λ (x : ℕ). (u.index == x) ≡ true) h.1 (eqb-same u.index))
+          and_from (u.place == place) (u.index == index) (subst (λ (x : ℕ). (u.place == x) ≡ true) h.0 (eq-eqb u.place u.place refl)) (subst (λ (x : ℕ). (u.index == x) ≡ true) h.1 (eq-eqb u.index u.index refl))
 
       found : (o : Option StructName) → name_at (tables_in published) u.place u.index ≡ o → option_map_or (λ own. same_struct own name) o false ≡ true → (u.place ≡ place) × (u.index ≡ index)
       found None is h = absurd cc
@@ -130,13 +127,13 @@ module _ (published : List PublishedModule) (store : IsStore published) where
   tally-after : (run : List StructTally) (events : List Event) → Tallies (tables_in published) run events → (t : Tally) → IsNamed (tables_in published) t
       → tallied (tables_in published) (tally_after run t) ≡ tally_with events (tallied (tables_in published) t)
   tally-after run events counted t h =
-      let name = there_is (name_at (tables_in published) t.place t.index) h in
-      let struct : name.0 ≡ unwrap_or (name_at (tables_in published) t.place t.index) no_struct = ap (λ (o : Option StructName). unwrap_or o no_struct) (sym name.1) in
-      let made : packs_at t.place t.index run ≡ packs (unwrap_or (name_at (tables_in published) t.place t.index) no_struct) events =
+      let name = some-of (name_at (tables_in published) t.place t.index) h in
+      let struct : name.0 ≡ unwrap_or (name_at (tables_in published) t.place t.index) nameless = ap (λ (o : Option StructName). unwrap_or o nameless) (sym name.1) in
+      let made : packs_at t.place t.index run ≡ packs (unwrap_or (name_at (tables_in published) t.place t.index) nameless) events =
       packs_are t.place t.index name.0 name.1 run ∙ counted.packed name.0 ∙ ap (λ (s : StructName). packs s events) struct in
-      let taken : unpacks_at t.place t.index run ≡ unpacks (unwrap_or (name_at (tables_in published) t.place t.index) no_struct) events =
+      let taken : unpacks_at t.place t.index run ≡ unpacks (unwrap_or (name_at (tables_in published) t.place t.index) nameless) events =
       unpacks_are t.place t.index name.0 name.1 run ∙ counted.unpacked name.0 ∙ ap (λ (s : StructName). unpacks s events) struct in
-      ap₂ (λ (m n : ℕ). grown (unwrap_or (name_at (tables_in published) t.place t.index) no_struct) (t.packs + m) (t.unpacks + n)) made taken
+      ap₂ (λ (m n : ℕ). grown (unwrap_or (name_at (tables_in published) t.place t.index) nameless) (t.packs + m) (t.unpacks + n)) made taken
     where
       grown : StructName → ℕ → ℕ → Tallied
       grown s m n = record { struct = s; packs = m; unpacks = n }
@@ -172,16 +169,6 @@ small-after runs run ts few small = All-map (IsSmall (runs + 1)) (tally_after ru
 -- a run leaves the tallies' structs
 pub named-after : (modules : List Module) (run : List StructTally) (ts : List Tally) → All (IsNamed modules) ts → All (IsNamed modules) (map (tally_after run) ts)
 named-after modules run ts named = All-map (IsNamed modules) (tally_after run) ts named
-
--- there is room for a run
-pub room-left : (runs : ℕ) (ts : List Tally) → runs ≤ 4294967296 → All (IsSmall runs) ts → All HasRoomLeft ts
-room-left runs ts few small = All-weaker (IsSmall runs) HasRoomLeft one ts small
-  where
-    fits : (n : ℕ) → n ≤ runs * 2 ^ 64 → n + 2 ^ 64 < 2 ^ 128
-    fits n h = omega arith
-
-    one : (t : Tally) → IsSmall runs t → HasRoomLeft t
-    one t h = (fits t.packs h.0, fits t.unpacks h.1)
 
 -- and their indices
 pub scarce-after : (run : List StructTally) (modules : List Module) (tss : List (List Tally)) → AreScarce modules tss → AreScarce modules (map (map (tally_after run)) tss)

@@ -6,7 +6,7 @@ use Rattle.std.specs.declared.vec.Vec.{Vec}
 use Rattle.std.specs.Vec.{with_items}
 use Rattle.std.specs.declared.alloc.Global.{Global}
 use Rattle.std.proofs.lemmas.Bool.{eqb-true}
-use Rattle.std.proofs.lemmas.List.{append-nil, append_assoc, get_or-map, length-map, map-append, map-set, with_items_is}
+use Rattle.std.proofs.lemmas.List.{get_or-map, length-map, map-append, map-set, with_items_is}
 use Rattle.std.proofs.lemmas.List.Elements.{All-nil, All-cons, All-head, All-tail, All-map, All-weaker}
 use Rattle.std.proofs.lemmas.List.Sums.{sum_by-cons, sum_by_more}
 use Rattle.mv_interpreter.specs.declared.StructTally.{StructTally}
@@ -36,7 +36,7 @@ pub all-first : (tss : List (List Tally)) → tss ≡ map (map (tally_after []))
 all-first [] = refl
 all-first (ts ∷ tss) = ap₂ (λ x xs. x ∷ xs) (tallies-first ts) (all-first tss)
 
--- one more entry of a run, behind those before it
+-- one more entry of a run, after those before it
 tally-more : (run : List StructTally) (i : ℕ) (d : StructTally) (t : Tally) → i < length run → tally_after (get_or run i d ∷ []) (tally_after (take i run) t) ≡ tally_after (take (i + 1) run) t
 tally-more run i d t h = ap₂ (with_counts t) (one (λ u. cond (is_tally_at t.place t.index u) u.packs 0) t.packs) (one (λ u. cond (is_tally_at t.place t.index u) u.unpacks 0) t.unpacks)
   where
@@ -73,11 +73,11 @@ entry-before e place [] placed h = refl
 entry-before e place (ts ∷ tss) placed h =
     ap₂ (λ x xs. x ∷ xs) (tallies-other e place ts (λ is. omega (arith, is, h)) placed.0) (entry-before e (place + 1) tss placed.1 (omega (arith, h)))
 
--- and of a place behind them
-pub entry-behind : (e : StructTally) (place : ℕ) (tss : List (List Tally)) → ArePlaced place tss → place + length tss ≤ e.place → map (map (tally_after (e ∷ []))) tss ≡ tss
-entry-behind e place [] placed h = refl
-entry-behind e place (ts ∷ tss) placed h =
-    ap₂ (λ x xs. x ∷ xs) (tallies-other e place ts (λ is. omega (arith, is, h)) placed.0) (entry-behind e (place + 1) tss placed.1 (omega (arith, h)))
+-- and of a place after them
+pub entry-after : (e : StructTally) (place : ℕ) (tss : List (List Tally)) → ArePlaced place tss → place + length tss ≤ e.place → map (map (tally_after (e ∷ []))) tss ≡ tss
+entry-after e place [] placed h = refl
+entry-after e place (ts ∷ tss) placed h =
+    ap₂ (λ x xs. x ∷ xs) (tallies-other e place ts (λ is. omega (arith, is, h)) placed.0) (entry-after e (place + 1) tss placed.1 (omega (arith, h)))
 
 -- an entry of one of these modules changes its tallies alone
 entry-at : (e : StructTally) (place p : ℕ) (tss : List (List Tally)) (d : List Tally) → ArePlaced place tss → p < length tss → e.place ≡ place + p
@@ -91,17 +91,6 @@ entry-at e place (suc p) (ts ∷ tss) d placed h is =
 pub placed-after : (run : List StructTally) (place : ℕ) (tss : List (List Tally)) → ArePlaced place tss → ArePlaced place (map (map (tally_after run)) tss)
 placed-after run place [] placed = placed
 placed-after run place (ts ∷ tss) placed = (All-map (λ (t : Tally). t.place ≡ place) (tally_after run) ts placed.0, placed-after run (place + 1) tss placed.1)
-
--- the first so many modules keep theirs
-pub placed-take : (count place : ℕ) (tss : List (List Tally)) → ArePlaced place tss → ArePlaced place (take count tss)
-placed-take zero place tss placed = tt
-placed-take (suc count) place [] placed = tt
-placed-take (suc count) place (ts ∷ tss) placed = (placed.0, placed-take count (place + 1) tss placed.1)
-
--- a further module comes behind them
-pub placed-push : (place count : ℕ) (tss : List (List Tally)) (ts : List Tally) → ArePlaced place tss → count ≡ place + length tss → All (λ t. t.place ≡ count) ts → ArePlaced place (tss ++ ts ∷ [])
-placed-push place count [] ts placed is fresh = (subst (λ (n : ℕ). All (λ (t : Tally). t.place ≡ n) ts) (omega (arith, is)) fresh, tt)
-placed-push place count (us ∷ tss) ts placed is fresh = (placed.0, placed-push (place + 1) count tss ts placed.1 (omega (arith, is)) fresh)
 
 -- one more entry, for all tallies
 tallies-more-run : (run : List StructTally) (i : ℕ) (d : StructTally) (ts : List Tally) → i < length run
@@ -120,11 +109,6 @@ pub all-map : (f : Tally → Tally) (tss : List (List Tally)) → all_of (map (m
 all-map f [] = refl
 all-map f (ts ∷ tss) = ap (λ xs. map f ts ++ xs) (all-map f tss) ∙ sym (map-append f ts (all_of tss))
 
--- and with those of a further module
-pub all-push : (tss : List (List Tally)) (ts : List Tally) → all_of (tss ++ ts ∷ []) ≡ all_of tss ++ ts
-all-push [] ts = append-nil ts
-all-push (us ∷ tss) ts = ap (λ xs. us ++ xs) (all-push tss ts) ∙ sym (append_assoc us (all_of tss) ts)
-
 -- what holds of all of them holds of a module's
 pub all-at : (P : Tally → Type 0) (tss : List (List Tally)) (p : ℕ) (d : List Tally) → All P (all_of tss) → p < length tss → All P (get_or tss p d)
 all-at P [] p d all h = absurd (omega (arith, h))
@@ -133,11 +117,11 @@ all-at P (ts ∷ tss) zero d all h = All-front ts (all_of tss) all
     All-front : (xs ys : List Tally) → All P (xs ++ ys) → All P xs
     All-front [] ys both = All-nil P
     All-front (x ∷ xs) ys both = All-cons P x xs (All-head P x (xs ++ ys) both) (All-front xs ys (All-tail P x (xs ++ ys) both))
-all-at P (ts ∷ tss) (suc p) d all h = all-at P tss p d (All-behind ts (all_of tss) all) (omega (arith, h))
+all-at P (ts ∷ tss) (suc p) d all h = all-at P tss p d (All-after ts (all_of tss) all) (omega (arith, h))
   where
-    All-behind : (xs ys : List Tally) → All P (xs ++ ys) → All P ys
-    All-behind [] ys both = both
-    All-behind (x ∷ xs) ys both = All-behind xs ys (All-tail P x (xs ++ ys) both)
+    All-after : (xs ys : List Tally) → All P (xs ++ ys) → All P ys
+    All-after [] ys both = both
+    All-after (x ∷ xs) ys both = All-after xs ys (All-tail P x (xs ++ ys) both)
 
 -- the tallies of a vector whose slice was changed
 pub written : (e : StructTally) (v : Vec Tally Global) (before after : List Tally) → after ≡ map (tally_after (e ∷ [])) before → before ≡ v.items → length before ≡ v.len → (with_items v after).items ≡ map (tally_after (e ∷ [])) v.items
@@ -155,11 +139,11 @@ module _ (run : List StructTally) (i : ℕ) (d e : StructTally) (old : List (Lis
   next-is : map (map (tally_after (e ∷ []))) (lists vs) ≡ map (map (tally_after (take (i + 1) run))) old
   next-is = ap₂ (λ (u : StructTally) (tss : List (List Tally)). map (map (tally_after (u ∷ []))) tss) e_is is ∙ after-more run i d old h
 
-  -- an entry of a place behind all modules changes nothing
-  pub step-behind : length vs ≤ e.place → lists vs ≡ map (map (tally_after (take (i + 1) run))) old
-  step-behind far =
-      let behind : 0 + length (lists vs) ≤ e.place = omega (arith, far, length-map vs (λ v. v.items)) in
-      sym (entry-behind e 0 (lists vs) placed-so behind) ∙ next-is
+  -- an entry of a place after all modules changes nothing
+  pub step-after : length vs ≤ e.place → lists vs ≡ map (map (tally_after (take (i + 1) run))) old
+  step-after far =
+      let following : 0 + length (lists vs) ≤ e.place = omega (arith, far, length-map vs (λ v. v.items)) in
+      sym (entry-after e 0 (lists vs) placed-so following) ∙ next-is
 
   -- any other changes the tallies of its module
   pub step-at : (v w : Vec Tally Global) → e.place < length vs → v ≡ get_or vs e.place v → w.items ≡ map (tally_after (e ∷ [])) v.items → lists (slice_set vs e.place w) ≡ map (map (tally_after (take (i + 1) run))) old

@@ -13,9 +13,10 @@ use Rattle.mv_move_types.specs.Module.{Module, StructDefinition, name_at, name_o
 use Rattle.mv_bounds.specs.Bounds.{InBounds, below, struct_in, field_in, struct_handle_in}
 use Rattle.mv_machine.specs.Lines.{Tallied}
 use Rattle.mv_machine.specs.Ledger.{scarce_name, untouched_tally}
-use Rattle.mv_interpreter.proofs.Lists.{then_found, there_at, each}
+use Rattle.mv_linker.proofs.Found.{then_found, there_below, each}
+use Rattle.mv_interpreter.specs.Flat.Agreement.{nameless}
 use Rattle.mv_ledger.specs.declared.tallies.Tally.{Tally}
-use Rattle.mv_ledger.specs.View.{IsNamed, tallied, no_struct}
+use Rattle.mv_ledger.specs.View.{IsNamed, tallied}
 use Rattle.mv_ledger.specs.Tallying.{is_scarce_struct, scarce_indices, fresh_tally}
 use Rattle.mv_ledger.proofs.TalliesAfter.{module_there}
 
@@ -63,12 +64,12 @@ module _ (m : Module) where
   pub struct_there : InBounds m → (k : ℕ) (d : StructDefinition) → slice_get m.structs k ≡ Some d → (name : StructName) × (name_of_struct m d ≡ Some name)
   struct_there bounds k d e =
       let fine = each (struct_in m) m.structs k d bounds.structs e in
-      let handle = there_at m.struct_handles d.handle (first_so (below d.handle m.struct_handles) (list_all (field_in m) d.fields) fine) in
+      let handle = there_below m.struct_handles d.handle (first_so (below d.handle m.struct_handles) (list_all (field_in m) d.fields) fine) in
       let fine_handle = each (struct_handle_in m) m.struct_handles d.handle handle.0 bounds.struct_handles handle.1 in
       let home = module_there m bounds handle.0.module (first_so (below handle.0.module m.module_handles) (below handle.0.name m.identifiers) fine_handle) in
-      let name = there_at m.identifiers handle.0.name (second_so (below handle.0.module m.module_handles) (below handle.0.name m.identifiers) fine_handle) in
+      let name = there_below m.identifiers handle.0.name (second_so (below handle.0.module m.module_handles) (below handle.0.name m.identifiers) fine_handle) in
       let made : StructName = record { home = home.0; name = name.0 } in
-      (made, then_found (slice_get m.struct_handles d.handle) _ handle.0 made handle.1 (then_found (module_name m handle.0.module) _ home.0 made home.1 (then_found (slice_get m.identifiers handle.0.name) _ name.0 made name.1 refl)))
+      (made, then_found (slice_get m.struct_handles d.handle) _ handle.0 (Some made) handle.1 (then_found (module_name m handle.0.module) _ home.0 (Some made) home.1 (then_found (slice_get m.identifiers handle.0.name) _ name.0 (Some made) name.1 refl)))
 
   module _ (modules : List Module) (place : ℕ) where
     -- definitions have the names that are found at their indices from this one on
@@ -102,7 +103,7 @@ module _ (m : Module) where
         by_test rest false true = rest
         by_test rest false false =
             let here = first n d ds there in
-            ap₂ (λ (o : Option StructName) (ts : List Tallied). untouched_tally (unwrap_or o no_struct) ∷ ts) here.2 rest
+            ap₂ (λ (o : Option StructName) (ts : List Tallied). untouched_tally (unwrap_or o nameless) ∷ ts) here.2 rest
             ∙ ap (λ (o : Option StructName). map untouched_tally (cons_option o (filter_map (scarce_name m) ds))) (sym here.1)
 
         by_abilities : map (tallied modules) (fresh_from (n + 1) ds) ≡ map untouched_tally (filter_map (scarce_name m) ds) → (o : Option Abilities) → map (tallied modules) (map (fresh_tally place) (map (λ p. p.0) (cond (option_map_or (λ (a : Abilities). not a.copy && not a.drop) o false) ((n, d) ∷ filter (λ p. is_scarce_struct m p.1) (enumerate_from (n + 1) ds)) (filter (λ p. is_scarce_struct m p.1) (enumerate_from (n + 1) ds)))))

@@ -14,15 +14,16 @@ use Rattle.mv_bounds.specs.Bounds.{InBounds}
 use Rattle.mv_machine.specs.Lines.{Tallied}
 use Rattle.mv_machine.specs.Ledger.{scarce_name, scarce_structs, tally_of, untouched_tally}
 use Rattle.mv_linker.specs.Link.{IsStore, IsPublishable, tables_in}
+use Rattle.mv_linker.proofs.Found.{then_found, some-of}
 use Rattle.mv_interpreter.specs.declared.StructTally.{StructTally}
-use Rattle.mv_interpreter.proofs.Names.{eqb-same}
-use Rattle.mv_interpreter.proofs.Lists.{then_found, mapped_at, All-at}
+use Rattle.mv_interpreter.proofs.Lists.{mapped_at, All-at}
+use Rattle.mv_interpreter.specs.Flat.Agreement.{nameless}
 use Rattle.mv_ledger.specs.declared.tallies.Tally.{Tally}
-use Rattle.mv_ledger.specs.View.{all_of, ArePlaced, AreScarce, IsNamed, IsSmall, tallied, no_struct, is_scarce_struct, scarce_indices}
+use Rattle.mv_ledger.specs.View.{all_of, ArePlaced, AreScarce, IsNamed, IsSmall, tallied, is_scarce_struct, scarce_indices}
 use Rattle.mv_ledger.specs.Tallying.{AddsTallies, fresh_tally, tallies_at}
 use Rattle.mv_ledger.proofs.Places.{had, EachIs}
 use Rattle.mv_ledger.proofs.Heirs.{Inherits, had-first, name-stays, indices_from}
-use Rattle.mv_ledger.proofs.TalliesAfter.{there_is, map-where, map-then, tally_is}
+use Rattle.mv_ledger.proofs.TalliesAfter.{map-where, map-then, tally_is}
 use Rattle.mv_ledger.proofs.TalliesFresh.{struct_there, fresh-tallied, fresh-named, AreThere}
 
 -- ---- what is found first
@@ -41,15 +42,15 @@ find-where : {A : Type 0} (P : A → Type 0) (p q : A → Bool) → ((x : A) →
 find-where P p q agree [] all = refl
 find-where P p q agree (x ∷ xs) all = ap₂ (λ b o. cond b (Some x) o) (agree x (All-head P x xs all)) (find-where P p q agree xs (All-tail P x xs all))
 
--- nothing is found behind these
+-- nothing is found after these
 find-front : {A : Type 0} (P : A → Type 0) (p q : A → Bool) → ((x : A) → P x → p x ≡ q x) → (xs ys : List A) → All P xs → find p ys ≡ None → find p (xs ++ ys) ≡ find q xs
 find-front P p q agree [] ys all none = none
 find-front P p q agree (x ∷ xs) ys all none = ap₂ (λ b o. cond b (Some x) o) (agree x (All-head P x xs all)) (find-front P p q agree xs ys (All-tail P x xs all) none)
 
 -- nor among them
-find-behind : {A : Type 0} (P : A → Type 0) (p : A → Bool) → ((x : A) → P x → p x ≡ false) → (xs ys : List A) → All P xs → find p (xs ++ ys) ≡ find p ys
-find-behind P p never [] ys all = refl
-find-behind P p never (x ∷ xs) ys all = ap (λ b. cond b (Some x) (find p (xs ++ ys))) (never x (All-head P x xs all)) ∙ find-behind P p never xs ys (All-tail P x xs all)
+find-after : {A : Type 0} (P : A → Type 0) (p : A → Bool) → ((x : A) → P x → p x ≡ false) → (xs ys : List A) → All P xs → find p (xs ++ ys) ≡ find p ys
+find-after P p never [] ys all = refl
+find-after P p never (x ∷ xs) ys all = ap (λ b. cond b (Some x) (find p (xs ++ ys))) (never x (All-head P x xs all)) ∙ find-after P p never xs ys (All-tail P x xs all)
 
 -- ---- tallies by their places
 
@@ -73,7 +74,7 @@ there-by-index place index t at = ap (λ (b : Bool). b && (t.index == index)) (e
 none-before : (place index next : ℕ) (tss : List (List Tally)) → place < next → ArePlaced next tss → find (stands_at place index) (all_of tss) ≡ None
 none-before place index next [] low placed = refl
 none-before place index next (ts ∷ tss) low placed =
-    find-behind (λ (t : Tally). t.place ≡ next) (stands_at place index) (not-there place index next (λ same. omega (arith, low, same))) ts (all_of tss) placed.0
+    find-after (λ (t : Tally). t.place ≡ next) (stands_at place index) (not-there place index next (λ same. omega (arith, low, same))) ts (all_of tss) placed.0
     ∙ none-before place index (next + 1) tss (omega (arith, low)) placed.1
 
 -- a tally among all is found among those of its place
@@ -86,7 +87,7 @@ found-at place index (ts ∷ tss) zero placed =
     (none-before place index (place + 1) tss (omega arith) placed.1)
 found-at place index (ts ∷ tss) (suc k) placed =
     let same : place + suc k ≡ place + 1 + k = omega arith in
-    find-behind (λ (t : Tally). t.place ≡ place) (stands_at (place + suc k) index) (not-there (place + suc k) index place (λ e. omega (arith, e))) ts (all_of tss) placed.0
+    find-after (λ (t : Tally). t.place ≡ place) (stands_at (place + suc k) index) (not-there (place + suc k) index place (λ e. omega (arith, e))) ts (all_of tss) placed.0
     ∙ ap (λ (n : ℕ). find (stands_at n index) (all_of tss)) same ∙ found-at (place + 1) index tss k placed.1
 
 -- ---- indices ascend
@@ -123,7 +124,7 @@ module _ {B : Type 0} (g : Tally → B) (place : ℕ) where
   resolve : (ts : List Tally) (rest : List ℕ) → Ascends (map (λ (t : Tally). t.index) ts ++ rest) → map g (ts ++ map (fresh_tally place) rest) ≡ map (resolved ts) (map (λ (t : Tally). t.index) ts ++ rest)
   resolve [] rest up = map-then (fresh_tally place) g rest
   resolve (t ∷ ts) rest up =
-      ap₂ (λ (x : B) (xs : List B). x ∷ xs) (sym (ap (λ (b : Bool). unwrap_or (option_map g (cond b (Some t) (find (λ (u : Tally). u.index == t.index) ts))) (g (fresh_tally place t.index))) (eqb-same t.index)))
+      ap₂ (λ (x : B) (xs : List B). x ∷ xs) (sym (ap (λ (b : Bool). unwrap_or (option_map g (cond b (Some t) (find (λ (u : Tally). u.index == t.index) ts))) (g (fresh_tally place t.index))) (eq-eqb t.index t.index refl)))
       (resolve ts rest up.1 ∙ map-where (λ y. t.index < y) (resolved ts) (resolved (t ∷ ts)) other (map (λ (t : Tally). t.index) ts ++ rest) up.0)
     where
       other : (y : ℕ) → t.index < y → resolved ts y ≡ resolved (t ∷ ts) y
@@ -161,22 +162,22 @@ module _ (new : List PublishedModule) (store : IsStore new) (tss : List (List Ta
 
   -- the name of the struct at a place and an index
   abbrev name_of : ℕ → ℕ → StructName
-  name_of place x = unwrap_or (name_at (tables_in new) place x) no_struct
+  name_of place x = unwrap_or (name_at (tables_in new) place x) nameless
 
   -- a tally is of the struct of a name if it is of its place and index
   by_place : (place index : ℕ) (name : StructName) → name_at (tables_in new) place index ≡ Some name → (t : Tally) → IsNamed (tables_in new) t → same_struct (tallied (tables_in new) t).struct name ≡ stands_at place index t
   by_place place index name at t h =
-      let own = there_is (name_at (tables_in new) t.place t.index) h in
+      let own = some-of (name_at (tables_in new) t.place t.index) h in
       let entry : StructTally = record { place = t.place; index = t.index; packs = 0; unpacks = 0 } in
-      ap (λ (o : Option StructName). same_struct (unwrap_or o no_struct) name) own.1
+      ap (λ (o : Option StructName). same_struct (unwrap_or o nameless) name) own.1
       ∙ ap (λ (o : Option StructName). option_map_or (λ own. same_struct own name) o false) (sym own.1)
       ∙ sym (tally_is new store place index name at entry)
 
   -- the tally of a struct of the store
   old-tally : (place index : ℕ) → IsSome (name_at (tables_in new) place index) → tally_of olds (name_of place index) ≡ resolved (tallied (tables_in new)) place (had tss place) index
   old-tally place index h =
-      let own = there_is (name_at (tables_in new) place index) h in
-      let name : name_of place index ≡ own.0 = ap (λ (o : Option StructName). unwrap_or o no_struct) own.1 in
+      let own = some-of (name_at (tables_in new) place index) h in
+      let name : name_of place index ≡ own.0 = ap (λ (o : Option StructName). unwrap_or o nameless) own.1 in
       let found : find (λ (t : Tallied). same_struct t.struct (name_of place index)) olds ≡ option_map (tallied (tables_in new)) (find (λ (t : Tally). t.index == index) (had tss place)) =
       ap (λ (s : StructName). find (λ (t : Tallied). same_struct t.struct s) olds) name
       ∙ find-map (λ (t : Tallied). same_struct t.struct own.0) (tallied (tables_in new)) (all_of tss)
@@ -197,7 +198,7 @@ module _ (new : List PublishedModule) (store : IsStore new) (tss : List (List Ta
         let name = struct_there m bounds k d e in (
           name.0,
           name.1,
-          subst (λ (j : ℕ). name_at (tables_in new) place j ≡ Some name.0) (sym (zero-add k)) (then_found (slice_get (tables_in new) place) _ m name.0 at (then_found (slice_get m.structs k) _ d name.0 e name.1)),
+          subst (λ (j : ℕ). name_at (tables_in new) place j ≡ Some name.0) (sym (zero-add k)) (then_found (slice_get (tables_in new) place) _ m (Some name.0) at (then_found (slice_get m.structs k) _ d (Some name.0) e name.1)),
         )
 
     -- its structs' names by their indices
@@ -304,7 +305,7 @@ module _ (old new : List PublishedModule) (tss after : List (List Tally)) (old_s
     (scarce : AreScarce (tables_in old) tss) (named : All (IsNamed (tables_in old)) (all_of tss)) (each : EachIs (had tss) 0 (tables_in new) after) where
   stays : (t : Tally) → IsNamed (tables_in old) t → IsNamed (tables_in new) t
   stays t h =
-      let name = there_is (name_at (tables_in old) t.place t.index) h in
+      let name = some-of (name_at (tables_in old) t.place t.index) h in
       subst (λ (o : Option StructName). IsSome o) (sym (name-stays old new old_store new_store inherits t.place t.index name.0 name.1)) refl
 
   named-so : All (IsNamed (tables_in new)) (all_of tss)
@@ -321,11 +322,11 @@ module _ (old new : List PublishedModule) (tss after : List (List Tally)) (old_s
   tallied-so = map-where (IsNamed (tables_in old)) (tallied (tables_in new)) (tallied (tables_in old)) one (all_of tss) named
     where
       named_as : Tally → Option StructName → Tallied
-      named_as t name = record { struct = unwrap_or name no_struct; packs = t.packs; unpacks = t.unpacks }
+      named_as t name = record { struct = unwrap_or name nameless; packs = t.packs; unpacks = t.unpacks }
 
       one : (t : Tally) → IsNamed (tables_in old) t → tallied (tables_in new) t ≡ tallied (tables_in old) t
       one t h =
-          let name = there_is (name_at (tables_in old) t.place t.index) h in
+          let name = some-of (name_at (tables_in old) t.place t.index) h in
           ap (named_as t) (name-stays old new old_store new_store inherits t.place t.index name.0 name.1 ∙ sym name.1)
 
   pub tallies-added : AddsTallies old new (all_of tss) (all_of after)

@@ -57,7 +57,7 @@ verifying-fails offers i news d Memory h lt refused = tt
 verifying-fails offers i news d (Phase p) h lt refused = record {
   before = offers_of (take i offers);
   offer = offer_of (get_or offers i d);
-  behind = offers_of (drop (i + 1) offers);
+  after = offers_of (drop (i + 1) offers);
   bundle = published_of news;
   are =
       ap offers_of (sym (take-append-drop i offers) ∙ ap (λ (xs : List Offered). take i offers ++ xs) (drop_more offers i d lt))

@@ -26,7 +26,7 @@ count_line stored t =
 abbrev pub counts_from : List PublishedModule → List (List Tally) → ℕ → List Tallied
 counts_from published tallies place = map (tallied (tables_in published)) (all_of (drop place tallies))
 
--- the lines of an audit of these counts, behind so many others
+-- the lines of an audit of these counts, after so many others
 abbrev pub audit_from : List Tallied → ℕ → List (List ℕ)
 audit_from counts n = map (λ t. count_line (stored_of t) t) counts ++ end_line (n + length counts) ∷ []
 

@@ -73,9 +73,9 @@ IsRefusedOffer o Memory = ⊤
 pub record FailsAmong (offers : List Offer) (phase : ℕ) : Type 0 where
   pub before : List Offer
   pub offer : Offer
-  pub behind : List Offer
+  pub after : List Offer
   pub bundle : List PublishedModule
-  pub are : offers ≡ before ++ offer ∷ behind
+  pub are : offers ≡ before ++ offer ∷ after
   pub passed : AllPass before bundle
   pub fails : FailsAt offer phase
 

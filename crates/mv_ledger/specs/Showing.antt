@@ -24,7 +24,7 @@ abbrev pub fields_text : Values → List ℕ
 fields_text NoMore = []
 fields_text (More v vs) = value_text v ++ rest_text vs
 
--- There is a value: its text was put behind the old one, and these words are left. Or there is none.
+-- There is a value: its text was put after the old one, and these words are left. Or there is none.
 abbrev pub PutsText : {A : Type 0} → (A → List ℕ) → Option (A × List ℕ) → Option (Bor (List ℕ)) → List ℕ → List ℕ → Type 0
 PutsText text None rest old new = option_map (λ r. r.now) rest ≡ None
 PutsText text (Some p) rest old new = (option_map (λ r. r.now) rest ≡ Some p.1) × (new ≡ old ++ text p.0)
@@ -38,10 +38,10 @@ abbrev pub key_value_text : List Module → Option StructName → List ℕ → L
 key_value_text modules name words =
     value_text (unwrap_or (name >>= λ n. struct_from 8 modules n words >>= λ v. Some v.0) (Leaf Boolean 0))
 
--- the lines of a show over these entries, behind so many others
+-- the lines of a show over these entries, after so many others
 abbrev pub show_from : List Module → List FlatEntry → ℕ → List (List ℕ)
 show_from modules entries n = map (entry_line modules) (storage_of modules entries) ++ end_line (n + length entries) ∷ []
 
--- what stands before an object of a list: a comma behind another
+-- what stands before an object of a list: a comma after another
 abbrev pub comma_if : Bool → List ℕ
 comma_if later = cond later (codes ",") []

@@ -1,11 +1,12 @@
 -- The tallies after a bundle, and after a run.
-use Rattle.std.specs.Prelude.{◌≡◌, ℕ, zero, suc, ◌+◌, ◌^◌, ◌<◌, ◌≤◌, nat_lt, All, Bool, cond, List, [], ◌∷◌, ◌++◌, map, drop, length, option_and_then, unwrap_or, slice_get, fold}
+use Rattle.std.specs.Prelude.{◌≡◌, ℕ, ◌+◌, ◌^◌, ◌<◌, ◌≤◌, nat_lt, All, Bool, cond, List, [], ◌∷◌, ◌++◌, map, drop, length, option_and_then, unwrap_or, slice_get, fold}
 use Rattle.std.specs.List.{sum_by, list_any}
 use Rattle.mv_move_types.specs.Module.{Module, own_name}
 use Rattle.mv_move_types.specs.Named.{have_one_name, module_place}
 use Rattle.mv_move_types.specs.Published.{PublishedModule}
 use Rattle.mv_machine.specs.Ledger.{scarce_structs, tally_of}
 use Rattle.mv_linker.specs.Link.{tables_in}
+use Rattle.mv_linker.specs.Stored.{with_at}
 use Rattle.mv_interpreter.specs.Runs.{is_tally_at}
 use Rattle.mv_interpreter.specs.declared.StructTally.{StructTally}
 use Rattle.mv_ledger.specs.declared.tallies.Tally.{Tally}
@@ -22,20 +23,14 @@ AddsTallies old new before after =
 abbrev pub fresh_tally : ℕ → ℕ → Tally
 fresh_tally place index = record { place = place; index = index; packs = 0; unpacks = 0 }
 
--- The tallies of a module's structs with neither copy nor drop, behind those that it had: a module that takes another's place
+-- The tallies of a module's structs with neither copy nor drop, after those that it had: a module that takes another's place
 -- has that one's structs first.
 abbrev pub tallies_at : ℕ → Module → List Tally → List Tally
 tallies_at place m had = had ++ map (fresh_tally place) (drop (length had) (scarce_indices m))
 
--- the tallies of each module, with those of the module that stands at a place from now on, be it the next one
-abbrev pub with_tallies_at : ℕ → List Tally → List (List Tally) → List (List Tally)
-with_tallies_at place tallies [] = tallies ∷ []
-with_tallies_at zero tallies (ts ∷ tss) = tallies ∷ tss
-with_tallies_at (suc place) tallies (ts ∷ tss) = ts ∷ with_tallies_at place tallies tss
-
--- the same for the modules of a bundle
+-- the tallies of each module, with those of each module of a bundle at its place, be it the next one
 abbrev pub with_placed : List (List Tally) → List Placed → List (List Tally)
-with_placed tss placed = fold (λ tss p. with_tallies_at p.place p.tallies.items tss) tss placed
+with_placed tss placed = fold (λ tss p. with_at p.place p.tallies.items tss) tss placed
 
 -- each list is that of a module that is there or of the next one, and its tallies are of that place
 abbrev pub AreWithin : ℕ → List Placed → Type 0

@@ -4,13 +4,13 @@ use Rattle.std.specs.List.{flat_map, filter, enumerate_from}
 use Rattle.std.specs.Option.{option_map_or}
 use Rattle.mv_move_types.specs.declared.token.Abilities.{Abilities}
 use Rattle.mv_move_types.specs.Module.{Module, StructDefinition, struct_abilities, name_at}
-use Rattle.mv_move_types.specs.Names.{StructName}
 use Rattle.mv_move_types.specs.Published.{PublishedModule}
 use Rattle.mv_machine.specs.Flat.{FlatEntry, storage_of}
 use Rattle.mv_machine.specs.Lines.{Tallied}
 use Rattle.mv_machine.specs.Ledger.{LedgerState}
 use Rattle.mv_linker.specs.Link.{tables_in}
 use Rattle.mv_interpreter.specs.Runs.{IsFineWords}
+use Rattle.mv_interpreter.specs.Flat.Agreement.{nameless}
 use Rattle.mv_ledger.specs.declared.tallies.Tally.{Tally}
 use Rattle.mv_ledger.specs.Accepted.SoundLedger.{IsSoundLedger}
 
@@ -34,13 +34,9 @@ state_of v = record {
   runs = v.runs;
 }
 
--- the name of no struct
-abbrev pub no_struct : StructName
-no_struct = record { home = record { address = 0; name = [] }; name = [] }
-
 -- a tally with its struct's name
 abbrev pub tallied : List Module → Tally → Tallied
-tallied modules t = record { struct = unwrap_or (name_at modules t.place t.index) no_struct; packs = t.packs; unpacks = t.unpacks }
+tallied modules t = record { struct = unwrap_or (name_at modules t.place t.index) nameless; packs = t.packs; unpacks = t.unpacks }
 
 -- the tallies of all modules, in the order of publication
 abbrev pub all_of : List (List Tally) → List Tally

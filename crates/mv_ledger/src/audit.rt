@@ -3,7 +3,8 @@ ghost use Rattle.std.specs.Prelude.{◌≡◌, ◌<◌, [], ◌∷◌, All, leng
 ghost use Rattle.mv_linker.specs.Link.{tables_in};
 ghost use Rattle.mv_ledger.specs.Auditing.{count_line, counted_in, counts_from, stored_of};
 ghost use Rattle.mv_ledger.specs.Showing.{name_in};
-ghost use Rattle.mv_ledger.specs.View.{no_struct, tallied};
+ghost use Rattle.mv_interpreter.specs.Flat.Agreement.{nameless};
+ghost use Rattle.mv_ledger.specs.View.{tallied};
 
 use crate::tallies::{Tallies, Tally};
 use crate::texts::{Named, put_name, put_number, struct_in};
@@ -22,7 +23,7 @@ pub struct Counted<'a> {
 
 /// The name of no struct.
 fn unnamed<'a>() -> Named<'a>
-    ensures { name_in result ≡ no_struct }
+    ensures { name_in result ≡ nameless }
 {
     Named {
         address: 0,

@@ -1,10 +1,6 @@
 // Runs: which are begun, and what they change.
-ghost use Rattle.std.specs.Prelude.{◌≡◌, ◌<◌, ◌≤◌, ◌+◌, ℕ, All, IsTrue, length, map, Some, None, false, option_map, IfOk, OnOk};
+ghost use Rattle.std.specs.Prelude.{◌≡◌, ◌<◌, ◌≤◌, ◌+◌, ℕ, All, IsTrue, length, map, IfOk, OnOk};
 ghost use Rattle.std.specs.List.{list_all};
-ghost use Rattle.std.specs.Option.{option_map_or};
-ghost use Rattle.std.specs.Str.{bytes_eq};
-ghost use Rattle.mv_move_types.specs.Module.{parameter_tokens, name_of_function};
-ghost use Rattle.mv_move_types.specs.Named.{function_place};
 ghost use Rattle.mv_machine.specs.Ledger.{is_argument, are_arguments, with_signer as with_sender};
 ghost use Rattle.mv_linker.specs.Link.{IsStore, tables_in};
 ghost use Rattle.mv_interpreter.specs.declared.Arg.{Arg as Argument};
@@ -19,7 +15,6 @@ ghost use Rattle.mv_ledger.specs.View.{all_of, IsNamed, IsSmall, AreScarce};
 use crate::Reply;
 use crate::payload::RunRecord;
 use crate::tallies::Tallies;
-use mv_binary_format::{FunctionDefinition, Module};
 use mv_interpreter::{Arg, RunError, run};
 use mv_linker::Store;
 use mv_machine::Ending;
@@ -60,40 +55,6 @@ impl From<AllocError> for Barred {
     fn from(_: AllocError) -> Self {
         Barred::Memory
     }
-}
-
-/// Whether a function has an identifier.
-fn is_named(m: &Module<'_>, d: &FunctionDefinition<'_>, name: &[u8]) -> bool
-    ensures { result ≡ option_map_or (bytes_eq name.now) (name_of_function m.now d.now) false }
-{
-    let Some(handle) = m.function_handles().get(d.handle() as usize) else {
-        return false;
-    };
-    match m.identifier(handle.name as usize) {
-        Some(own) => name == own,
-        None => false,
-    }
-}
-
-/// The index of a module's first function with an identifier.
-fn function_of(m: &Module<'_>, name: &[u8]) -> Option<usize>
-    ensures { result ≡ function_place m.now name.now }
-{
-    let functions = m.functions();
-    for (i, d) in functions.iter().enumerate() {
-        if is_named(m, d, name) {
-            return Some(i);
-        }
-    }
-    None
-}
-
-/// The types of a function's parameters.
-fn parameters<'m>(m: &'m Module<'_>, d: &FunctionDefinition<'_>) -> Option<&'m [Token]>
-    ensures { option_map (λ t. t.now) result ≡ parameter_tokens m.entry.now d.now }
-{
-    let handle = m.function_handles().get(d.handle() as usize)?;
-    m.signature(handle.parameters as usize)
 }
 
 /// The arguments with the sender in front, where the first parameter is a signer.
@@ -163,13 +124,13 @@ pub fn admitted(store: &Store, runs: u64, asked: RunRecord<'_>) -> Result<Call, 
     let place = store
         .find(asked.home, asked.module)
         .ok_or(Barred::Rejected(3))?;
-    let home = store.module(place)?;
-    let index = function_of(&home, asked.function).ok_or(Barred::Rejected(4))?;
-    let d = &home.functions()[index];
-    if !d.is_entry() {
+    let (index, function) = store
+        .function(place, asked.function)
+        .ok_or(Barred::Rejected(4))?;
+    if !function.is_entry {
         return Err(Barred::Rejected(5));
     }
-    let tokens = parameters(&home, d).ok_or(Barred::Rejected(6))?;
+    let tokens = function.parameters.as_slice();
     let arguments = with_signer(asked.sender, tokens, asked.arguments)?;
     if !are_passed(tokens, &arguments) {
         return Err(Barred::Rejected(6));

@@ -16,7 +16,7 @@ use mv_move_types::Key;
 use mv_storage::Storage;
 use std::alloc::{AllocError, Global};
 
-/// Puts a comma behind a text, where another object stands before.
+/// Appends a comma to a text, where another object stands before.
 fn put_comma(text: &mut Vec<u8>, later: bool) -> Result<(), AllocError>
     ensures { OnOk result (text.new.items ≡ text.old.items ++ comma_if later) }
 {
@@ -26,7 +26,7 @@ fn put_comma(text: &mut Vec<u8>, later: bool) -> Result<(), AllocError>
     Ok(())
 }
 
-/// Puts a stored value as an object behind a text.
+/// Appends a stored value as an object to a text.
 fn put_entry(
     alloc: Global,
     text: &mut Vec<u8>,
@@ -47,7 +47,7 @@ fn put_entry(
     Ok(())
 }
 
-/// Puts a struct's counts as an object behind a text.
+/// Appends a struct's counts as an object to a text.
 fn put_counts(alloc: Global, text: &mut Vec<u8>, counted: Counted<'_>) -> Result<(), AllocError>
     ensures { OnOk result (text.new.items ≡ text.old.items ++ count_object (stored_of (counted_in counted.entry)) (counted_in counted.entry)) }
 {

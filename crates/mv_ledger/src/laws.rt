@@ -9,6 +9,7 @@ ghost use Rattle.mv_ledger.specs.Accepted.Records.{EachRecordIsWell};
 pub fn each_record_is_well()
     ensures { EachRecordIsWell }
 {
+    // For the prover: bytes are read as a module exactly where they are a text of it.
     mv_binary_format::modules_are_read_by_text();
 }
 

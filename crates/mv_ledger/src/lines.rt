@@ -55,7 +55,7 @@ struct Stored<'a> {
 impl<'a> Stored<'a> {
     ghost use Rattle.mv_ledger.specs.Left.{lines_left};
 
-    // The next line, and what is left behind it.
+    // The next line, and what is left after it.
     fn next(self, alloc: Global) -> Result<(Vec<u8>, Left<'a>), AllocError>
         ensures { IfOk result (λ r. show_from (tables_in self.entry.store.now) self.entry.entries self.entry.told ≡ r.0.items ∷ lines_left r.1) }
     {
@@ -93,7 +93,7 @@ struct Counting<'a> {
 impl<'a> Counting<'a> {
     ghost use Rattle.mv_ledger.specs.Left.{lines_left};
 
-    // The next line, and what is left behind it.
+    // The next line, and what is left after it.
     fn next(self, alloc: Global) -> Result<(Vec<u8>, Left<'a>), AllocError>
         ensures { IfOk result (λ r. audit_from self.entry.counts self.entry.told ≡ r.0.items ∷ lines_left r.1) }
     {

@@ -20,6 +20,15 @@ const MALFORMED: Refusal = Refusal::Phase(2);
 // How many modules a bundle has at most.
 const MOST_OFFERS: u64 = 16;
 
+// How many bytes a module's text has at most.
+const MOST_TEXT: u64 = 65_536;
+
+// How many bytes a certificate has at most.
+const MOST_CERTIFICATE: u64 = 1_048_576;
+
+// How many arguments a run is given at most.
+const MOST_ARGUMENTS: u64 = 16;
+
 /// A module that is offered, with its certificate.
 #[derive(Clone, Copy)]
 pub struct Offered<'a> {
@@ -61,8 +70,8 @@ fn offer<'a>(reader: &mut Reader<'a>) -> Result<Offered<'a>, Refusal>
     ensures refused { result ≡ Err (Refusal.Phase 2) → offer_from reader.old ≡ None }
     ensures errors { IfErr result (λ e. e ≡ Refusal.Phase 2) }
 {
-    let text = sized(reader, 65_536)?;
-    let certificate = sized(reader, 1_048_576)?;
+    let text = sized(reader, MOST_TEXT)?;
+    let certificate = sized(reader, MOST_CERTIFICATE)?;
     Ok(Offered { text, certificate })
 }
 
@@ -160,7 +169,7 @@ fn arguments(alloc: Global, reader: &mut Reader<'_>) -> Result<Vec<Arg>, Refusal
     ensures refused { result ≡ Err (Refusal.Phase 2) → counted_from 16 argument_from reader.old ≡ None }
     ensures errors { IfErr result (λ e. (e ≡ Refusal.Phase 2) ⊎ (e ≡ Refusal.Memory)) }
 {
-    let count = reader.number(16)?;
+    let count = reader.number(MOST_ARGUMENTS)?;
     let mut all = Vec::new(alloc);
     'each: for _ in 0..count {
         let next = argument(reader)?;

@@ -32,11 +32,14 @@ fn verified<'a>(alloc: Global, offer: &Offered<'a>) -> Result<New<'a>, Refusal>
 {
     let module = mv_binary_format::decode(alloc, offer.text)?;
     let bounded = mv_bounds::check(alloc, module)?;
+    // For the prover: the module is in bounds, and its definitions are its own.
     let _defined = bounded.module();
     let typed = mv_type_states::check(alloc, bounded)?;
+    // For the prover: it is well typed.
     let _sound = typed.module();
     let stated = mv_certificate::decode(alloc, &typed, offer.certificate)?;
     let module = mv_certificate::check(alloc, typed, &stated)?;
+    // For the prover: its acquires lists are right.
     let _acquires = module.module();
     Ok(New {
         module,

@@ -2,9 +2,9 @@
 ghost use Rattle.std.specs.Prelude.{◌≡◌, ◌+◌, ◌-◌, ◌^◌, ◌<◌, ◌≤◌, [], ◌∷◌, ◌++◌, All, length, map, drop, slice_get, unwrap_or, IfOk, OnOk, OnErr};
 ghost use Rattle.std.specs.Vec.{vec_len, vec_capacity};
 ghost use Rattle.mv_move_types.specs.Published.{with_modules};
-ghost use Rattle.mv_linker.specs.Stored.{IsLinkedTo};
+ghost use Rattle.mv_linker.specs.Stored.{IsLinkedTo, with_at};
 ghost use Rattle.std.specs.List.{sum_by};
-ghost use Rattle.mv_ledger.specs.Tallying.{is_scarce_struct, scarce_indices, fresh_tally, tally_after, with_tallies_at, with_placed, AreWithin, HasRoomFor, HasRoomLeft};
+ghost use Rattle.mv_ledger.specs.Tallying.{is_scarce_struct, scarce_indices, fresh_tally, tally_after, with_placed, AreWithin, HasRoomFor, HasRoomLeft};
 ghost use Rattle.mv_ledger.specs.View.{all_of, ArePlaced};
 
 use mv_binary_format::{Module, StructDefinition};
@@ -89,7 +89,7 @@ fn add_entry(tallies: &mut [Tally], entry: &StructTally)
 /// Puts the tallies of the module at a place, or of the next one.
 fn put(modules: &mut Vec<Vec<Tally>>, one: Placed)
     requires { vec_len modules.old < vec_capacity modules.old }
-    ensures lists { map (λ v. v.items) modules.new.items ≡ with_tallies_at one.place one.tallies.items (map (λ v. v.items) modules.old.items) }
+    ensures lists { map (λ v. v.items) modules.new.items ≡ with_at one.place one.tallies.items (map (λ v. v.items) modules.old.items) }
     ensures len { vec_len modules.new ≤ vec_len modules.old + 1 }
     ensures capacity { vec_capacity modules.new ≡ vec_capacity modules.old }
 {
@@ -147,7 +147,7 @@ impl Tallies {
         }
     }
 
-    /// The tallies of the module at a place, and behind them empty ones for those of these structs, by their indices, that it
+    /// The tallies of the module at a place, and after them empty ones for those of these structs, by their indices, that it
     /// doesn't have yet.
     pub fn extended(
         &self,

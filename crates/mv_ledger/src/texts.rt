@@ -42,7 +42,7 @@ pub fn struct_in<'a>(m: &Module<'a>, index: usize) -> Option<Named<'a>>
     struct_of(m, definition.handle() as usize)
 }
 
-/// Puts a number behind a text, in decimal.
+/// Appends a number to a text, in decimal.
 pub fn put_number(alloc: Global, text: &mut Vec<u8>, n: u128) -> Result<(), AllocError>
     ensures { OnOk result (text.new.items ≡ text.old.items ++ decimal n) }
 {
@@ -50,7 +50,7 @@ pub fn put_number(alloc: Global, text: &mut Vec<u8>, n: u128) -> Result<(), Allo
     text.extend_from_slice(digits.as_bytes())
 }
 
-/// Puts an address behind a text, as 32 digits.
+/// Appends an address to a text, as 32 digits.
 pub fn put_address(alloc: Global, text: &mut Vec<u8>, address: u128) -> Result<(), AllocError>
     ensures { OnOk result (text.new.items ≡ text.old.items ++ address_text address) }
 {
@@ -58,7 +58,7 @@ pub fn put_address(alloc: Global, text: &mut Vec<u8>, address: u128) -> Result<(
     text.extend_from_slice(digits.as_bytes())
 }
 
-/// Puts a leaf of a kind behind a text.
+/// Appends a leaf of a kind to a text.
 pub fn put_leaf(
     alloc: Global,
     text: &mut Vec<u8>,
@@ -74,7 +74,7 @@ pub fn put_leaf(
     }
 }
 
-/// Puts a struct's name behind a text: its module's address, its module's name and its own.
+/// Appends a struct's name to a text: its module's address, its module's name and its own.
 pub fn put_name(alloc: Global, text: &mut Vec<u8>, name: Named<'_>) -> Result<(), AllocError>
     ensures { OnOk result (text.new.items ≡ text.old.items ++ struct_text (name_in name.entry)) }
 {
@@ -97,7 +97,7 @@ pub fn struct_at<'s>(store: &'s Store, key: Key) -> Result<Option<Named<'s>>, Al
     Ok(struct_in(&home, key.index as usize))
 }
 
-/// Puts the struct of a key behind a text.
+/// Appends the struct of a key to a text.
 pub fn put_key(alloc: Global, text: &mut Vec<u8>, name: Option<Named<'_>>) -> Result<(), AllocError>
     ensures { OnOk result (text.new.items ≡ text.old.items ++ key_name_text (option_map name_in name.entry)) }
 {

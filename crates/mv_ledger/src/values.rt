@@ -41,8 +41,8 @@ fn index_of(m: &Module<'_>, name: Named<'_>) -> Option<usize>
     None
 }
 
-/// Puts the value of a struct that begins with some words behind a text, and answers the words behind it. None where the
-/// words begin with no such value.
+/// Appends the value of a struct that some words begin with to a text, and returns the words after it. None where they
+/// begin with no such value.
 #[cycle(values)]
 fn put_struct<'w>(
     alloc: Global,
@@ -82,7 +82,7 @@ fn put_struct<'w>(
     Ok(rest)
 }
 
-/// Puts the values of fields behind a text, with a comma between each two, and answers the words behind them.
+/// Appends the values of fields to a text, with a comma between each two, and returns the words after them.
 #[cycle(values)]
 fn put_fields<'w>(
     alloc: Global,
@@ -109,7 +109,7 @@ fn put_fields<'w>(
     Ok(Some(rest))
 }
 
-/// Puts the value of a field of a type behind a text, and answers the words behind it.
+/// Appends the value of a field of a type to a text, and returns the words after it.
 #[cycle(values)]
 fn put_field<'w>(
     alloc: Global,
@@ -139,7 +139,7 @@ fn put_field<'w>(
     }
 }
 
-/// Puts a stored value behind a text.
+/// Appends a stored value to a text.
 pub fn put_value(
     alloc: Global,
     text: &mut Vec<u8>,

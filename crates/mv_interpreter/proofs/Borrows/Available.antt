@@ -1,8 +1,9 @@
 -- Availabilities: what is known of each local is as it is, and what that gives.
 use Rattle.std.proofs.Common.{◌≡◌, ℕ, zero, suc, List, [], ◌∷◌, ◌++◌, map, length, true, refl, sym, ap, subst, Option, Some, None, Ok}
-use Rattle.std.specs.Prelude.{slice_get, slice_set, replicate, ⊤}
+use Rattle.std.specs.Prelude.{slice_get, slice_set, replicate}
 use Rattle.std.specs.List.{list_all}
 use Rattle.std.proofs.lemmas.Bool.{and_parts, and_from, true≢false}
+use Rattle.std.proofs.lemmas.Option.{same_Some}
 use Rattle.mv_move_types.specs.declared.borrow.Availability.{Availability}
 use Rattle.mv_move_types.specs.declared.borrow.Availability.TheVariants.{Unavailable, Available, Maybe}
 use Rattle.mv_move_types.specs.declared.token.Token.{Token}
@@ -13,17 +14,16 @@ use Rattle.mv_interpreter.specs.Borrows.Locals.{DropFits, AsKnown}
 use Rattle.mv_interpreter.specs.Borrows.Covers.{IsAs}
 use Rattle.mv_machine.specs.StepParts.{Here, can_drop, may_drop}
 use Rattle.mv_machine.specs.StepLocals.{held}
+use Rattle.mv_linker.proofs.Found.{on_some}
 use Rattle.mv_interpreter.specs.Borrows.View.{local_of}
-use Rattle.mv_interpreter.proofs.Borrows.Operands.{some-is}
 use Rattle.mv_interpreter.proofs.Borrows.Edges.{then-some}
-use Rattle.mv_interpreter.proofs.Borrows.Certified.{some-bind2}
 
 -- the clause on locals of what covers a frame
 pub known-at : (as' : List Availability) (xs : List (Option Value)) (l : ℕ) (a : Availability) (x : Option Value) → AsKnown as' xs → slice_get as' l ≡ Some a → slice_get xs l ≡ Some x → IsAs a x
 known-at [] [] l a x k h g = absurd cc
 known-at [] (y ∷ xs) l a x k h g = absurd k
 known-at (b ∷ as') [] l a x k h g = absurd k
-known-at (b ∷ as') (y ∷ xs) zero a x k h g = subst (λ z. IsAs a z) (some-is y x g) (subst (λ z. IsAs z y) (some-is b a h) k.0)
+known-at (b ∷ as') (y ∷ xs) zero a x k h g = subst (λ z. IsAs a z) (same_Some y x g) (subst (λ z. IsAs z y) (same_Some b a h) k.0)
 known-at (b ∷ as') (y ∷ xs) (suc l) a x k h g = known-at as' xs l a x k.1 h g
 
 pub as-long : (as' : List Availability) (xs : List (Option Value)) → AsKnown as' xs → length as' ≡ length xs
@@ -36,7 +36,7 @@ as-long (b ∷ as') (y ∷ xs) k = ap suc (as-long as' xs k.1)
 available-holds : (as' : List Availability) (xs : List (Option Value)) (l : ℕ) (a : Availability) → AsKnown as' xs → slice_get as' l ≡ Some a → is_available a ≡ true → (v : Value) × (slice_get xs l ≡ Some (Some v))
 available-holds [] xs l a k h g = absurd cc
 available-holds (b ∷ as') [] l a k h g = absurd k
-available-holds (b ∷ as') (y ∷ xs) zero a k h g = there a y g (subst (λ z. IsAs z y) (some-is b a h) k.0)
+available-holds (b ∷ as') (y ∷ xs) zero a k h g = there a y g (subst (λ z. IsAs z y) (same_Some b a h) k.0)
   where
     there : (a : Availability) (y : Option Value) → is_available a ≡ true → IsAs a y → (v : Value) × (Some y ≡ Some (Some v))
     there Available (Some v) g k = (v, refl)
@@ -47,7 +47,7 @@ available-holds (b ∷ as') (y ∷ xs) (suc l) a k h g = available-holds as' xs 
 
 pub needed-holds : (l : ℕ) (as' bs : List Availability) (xs : List (Option Value)) → AsKnown as' xs → needs_available l as' ≡ Some bs → (bs ≡ as') × ((v : Value) × (slice_get xs l ≡ Some (Some v)))
 needed-holds l as' bs xs k h =
-    some-bind2 (slice_get as' l) _ bs h (λ a a_is h1.
+    on_some (slice_get as' l) _ bs h (λ a a_is h1.
     let t = then-some (is_available a) as' bs h1 in
     (t.1, available-holds as' xs l a k a_is t.0))
 

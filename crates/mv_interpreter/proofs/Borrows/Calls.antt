@@ -6,6 +6,7 @@ use Rattle.std.proofs.lemmas.Grind.{reverse_onto}
 use Rattle.std.proofs.lemmas.Bool.{eq-eqb, ne_eqb, and_parts, and_from, eqb-true, not-true}
 use Rattle.std.proofs.lemmas.Bool.Decides.{eqb_tells}
 use Rattle.std.proofs.lemmas.List.{length-drop, take-append-drop, length-append, length-map, length-reverse, map-append, reverse-reverse}
+use Rattle.std.proofs.lemmas.Option.{same_Some}
 use Rattle.mv_move_types.specs.declared.borrow.Node.{Node}
 use Rattle.mv_move_types.specs.declared.borrow.Node.TheVariants.{Slot, Own, Glob, Temp}
 use Rattle.mv_move_types.specs.declared.token.Token.{Token}
@@ -37,7 +38,7 @@ use Rattle.mv_borrow_graph.proofs.Abstract.Run.{ByRet, ByCall, chain_steps, laye
 use Rattle.mv_interpreter.proofs.Borrows.Kept.{below-from}
 use Rattle.mv_interpreter.proofs.Borrows.Lists.{place_get, place-reverse, stack-back}
 use Rattle.mv_interpreter.proofs.Borrows.Mutability.{kinds, kinds-length, kind-at, kind-mutable, kind-reference}
-use Rattle.mv_interpreter.proofs.Borrows.Operands.{some-is}
+use Rattle.mv_interpreter.proofs.Lists.{map-turned}
 
 some-bind0 : {A B P : Type 0} (r : Option A) (f : A → Option B) (y : B) → (r >>> f) ≡ Some y → ((x : A) → r ≡ Some x → f x ≡ Some y → P) → P
 some-bind0 (Some x) f y e go = go x refl e
@@ -88,7 +89,7 @@ kinds-at (x ∷ xs) (y ∷ ys) h j t e = at_place (first-two h) (λ g. kinds-at 
         → (u : Token) × (cond (eqb j (length ys)) (Some y) (place_get ys j) ≡ Some u) × (token_kind u ≡ token_kind t)
     at_place one further =
         elim (eqb_tells j (length xs)) [
-          | inl q ↦ (y, rw (long, q.0) refl, one ∙ ap token_kind (some-is x t (rw q.0 at e)))
+          | inl q ↦ (y, rw (long, q.0) refl, one ∙ ap token_kind (same_Some x t (rw q.0 at e)))
           | inr q ↦ let r = further (rw q.0 at e) in (r.0, rw (long, q.0) r.1, r.2)
         ]
 
@@ -116,7 +117,7 @@ same-kinds (x ∷ xs) (y ∷ ys) h =
 pub among-nodes : (test : Token → Bool) (base j : ℕ) (ts : List Token) (t : Token) → slice_get ts j ≡ Some t → test t ≡ true → AmongNodes (Temp (base + j)) (reference_nodes test base ts)
 among-nodes test base j [] t h k = absurd cc
 among-nodes test base zero (x ∷ ts) t h k =
-    subst (λ b. AmongNodes (Temp (base + 0)) ((if b then (Temp base ∷ []) else []) ++ reference_nodes test (base + 1) ts)) (sym (ap test (some-is x t h) ∙ k)) (inl (ap Temp (none base)))
+    subst (λ b. AmongNodes (Temp (base + 0)) ((if b then (Temp base ∷ []) else []) ++ reference_nodes test (base + 1) ts)) (sym (ap test (same_Some x t h) ∙ k)) (inl (ap Temp (none base)))
   where
     none : (n : ℕ) → n + 0 ≡ n
     none n = omega arith
@@ -177,7 +178,7 @@ pub result-in : (mutable all : List Node) (k i : ℕ) (ts : List Token) (t : Tok
     → AmongNodes n all → (is_mutable_token t ≡ true → AmongNodes n mutable) → Member e es → e.to ≡ n
     → Member (record { from = e.from; label = opened e.label; to = Temp (k + i) }) (result_edges mutable all k ts es)
 result-in mutable all k i [] t es e n at ref a b m to = absurd cc
-result-in mutable all k zero (x ∷ ts) t es e n at ref a b m to = first x (some-is x t at)
+result-in mutable all k zero (x ∷ ts) t es e n at ref a b m to = first x (same_Some x t at)
   where
     none : (n : ℕ) → n + 0 ≡ n
     none n = omega arith
@@ -213,12 +214,7 @@ first-is (x ∷ xs) rest =
     ∙ ap (λ l. l ++ rest) (sym (map-append Some (reverse xs) (x ∷ [])) ∙ ap (map Some) (sym (reverse_onto xs x [])))
 
 map-reverse : (xs : List (Option Reference)) → reverse (map held_as (reverse xs)) ≡ map held_as xs
-map-reverse xs = ap reverse (turned xs) ∙ reverse-reverse (map held_as xs)
-  where
-    turned : (xs : List (Option Reference)) → map held_as (reverse xs) ≡ reverse (map held_as xs)
-    turned [] = refl
-    turned (x ∷ xs) =
-        ap (map held_as) (reverse_onto xs x []) ∙ map-append held_as (reverse xs) (x ∷ []) ∙ ap (λ l. l ++ held_as x ∷ []) (turned xs) ∙ sym (reverse_onto (map held_as xs) (held_as x) [])
+map-reverse xs = ap reverse (map-turned held_as xs) ∙ reverse-reverse (map held_as xs)
 
 given-locals : (vs : List Value) (n : ℕ) → map local_of (map Some vs ++ replicate n None) ≡ map Some (map held_as (map reference_of vs)) ++ map local_of (replicate n None)
 given-locals [] n = refl

@@ -1,4 +1,4 @@
--- What a certificate that holds says at an instruction and behind it.
+-- What a certificate that holds says at an instruction and after it.
 use Rattle.std.proofs.Common.{◌≡◌, ℕ, List, [], ◌∷◌, ◌++◌, Bool, true, false, inl, inr, refl, sym, ◌∙◌, ap, ap₂, subst, Option, Some, None}
 use Rattle.std.specs.Prelude.{◌&&◌}
 use Rattle.std.specs.Bool.{beq}
@@ -7,9 +7,9 @@ use Rattle.std.specs.Option.{option_map_or}
 use Rattle.std.specs.List.{list_any, list_all}
 use Rattle.std.proofs.lemmas.Bool.{and_parts, or_cases}
 use Rattle.std.proofs.lemmas.Slice.Eq.{bytes_eq-Decides}
+use Rattle.std.proofs.lemmas.Option.{same_Some}
 use Rattle.mv_move_types.specs.declared.borrow.Availability.{Availability}
 use Rattle.mv_move_types.specs.declared.instruction.Instruction.{Instruction}
-use Rattle.mv_move_types.specs.Options.{◌>>=◌}
 use Rattle.mv_move_types.specs.Module.{Module, FunctionDefinition}
 use Rattle.mv_move_types.specs.Paths.{begins}
 use Rattle.mv_cfg.specs.Blocks.{BasicBlock as Block}
@@ -23,21 +23,16 @@ use Rattle.mv_machine.proofs.Laws.{begins-more}
 use Rattle.mv_interpreter.proofs.Borrows.Edges.{same_node-is}
 use Rattle.mv_borrow_graph.specs.Abstract.Places.{LabelBelow, Begins}
 use Rattle.mv_borrow_graph.proofs.Abstract.Run.{EdgesBelow}
+use Rattle.mv_linker.proofs.Found.{on_some}
 use Rattle.mv_interpreter.specs.Borrows.View.{node_of, label_of, label_from, Member, edges_of}
 use Rattle.mv_interpreter.proofs.Borrows.Kept.{label-self}
-use Rattle.mv_interpreter.proofs.Borrows.Operands.{some-is}
+use Rattle.mv_interpreter.proofs.Typing.Tests.{beq-is}
 
 -- ---- the order
 
 label-below-from : (b : Bool) (p q : List ℕ) → Begins q p → LabelBelow (label_from b p) (label_from true q)
 label-below-from true p q h = h
 label-below-from false p q h = h
-
-beq-is : (a b : Bool) → beq a b ≡ true → a ≡ b
-beq-is true true h = refl
-beq-is false false h = refl
-beq-is true false h = absurd cc
-beq-is false true h = absurd cc
 
 pub label-below : (a b : Label) → label_leq a b ≡ true → LabelBelow (label_of a) (label_of b)
 label-below a b h =
@@ -76,12 +71,8 @@ edges-below w as' bs h p x c (e, m, from, on, to) =
 
 -- ---- through a block
 
-pub some-bind2 : {A B P : Type 0} (r : Option A) (f : A → Option B) (y : B) → (r >>= f) ≡ Some y → ((x : A) → r ≡ Some x → f x ≡ Some y → P) → P
-some-bind2 (Some x) f y e go = go x refl e
-some-bind2 None f y e go = absurd cc
-
 module _ {S : Type 0} (rule : Rule S) (m : Module) (d : FunctionDefinition) where
-  -- what is known and the types at an instruction inside, that its need is met, and what is known behind it
+  -- what is known and the types at an instruction inside, that its need is met, and what is known after it
   pub record Inside (before : List Instruction) (i : Instruction) (rest : List Instruction) (at end : S × Types) : Type 0 where
     pub known : S
     pub types : Types
@@ -90,13 +81,13 @@ module _ {S : Type 0} (rule : Rule S) (m : Module) (d : FunctionDefinition) wher
     pub here : through rule m d before at ≡ Some (known, types)
     pub met : rule (record { home = m; function = d; types = types }) i known ≡ Some next
     pub typed : types_after m d i types ≡ Some next_types
-    pub behind : through rule m d (before ++ i ∷ []) at ≡ Some (next, next_types)
+    pub after : through rule m d (before ++ i ∷ []) at ≡ Some (next, next_types)
     pub onward : through rule m d rest (next, next_types) ≡ Some end
 
   pub inside : (before : List Instruction) (i : Instruction) (rest : List Instruction) (at end : S × Types) → through rule m d (before ++ i ∷ rest) at ≡ Some end → Inside before i rest at end
   inside [] i rest at end e =
-      some-bind2 (rule (record { home = m; function = d; types = at.1 }) i at.0) _ end e (λ known known_is e1.
-      some-bind2 (types_after m d i at.1) _ end e1 (λ types types_are e2.
+      on_some (rule (record { home = m; function = d; types = at.1 }) i at.0) _ end e (λ known known_is e1.
+      on_some (types_after m d i at.1) _ end e1 (λ types types_are e2.
       record {
         known = at.0;
         types = at.1;
@@ -105,12 +96,12 @@ module _ {S : Type 0} (rule : Rule S) (m : Module) (d : FunctionDefinition) wher
         here = refl;
         met = known_is;
         typed = types_are;
-        behind = rw (known_is, types_are) refl;
+        after = rw (known_is, types_are) refl;
         onward = e2;
       }))
   inside (b ∷ before) i rest at end e =
-      some-bind2 (rule (record { home = m; function = d; types = at.1 }) b at.0) _ end e (λ known known_is e1.
-      some-bind2 (types_after m d b at.1) _ end e1 (λ types types_are e2.
+      on_some (rule (record { home = m; function = d; types = at.1 }) b at.0) _ end e (λ known known_is e1.
+      on_some (types_after m d b at.1) _ end e1 (λ types types_are e2.
       let x = inside before i rest (known, types) end e2 in
       record {
         known = x.known;
@@ -120,7 +111,7 @@ module _ {S : Type 0} (rule : Rule S) (m : Module) (d : FunctionDefinition) wher
         here = rw (known_is, types_are) x.here;
         met = x.met;
         typed = x.typed;
-        behind = rw (known_is, types_are) x.behind;
+        after = rw (known_is, types_are) x.after;
         onward = x.onward;
       }))
 
@@ -149,11 +140,11 @@ module _ {S : Type 0} (rule : Rule S) (m : Module) (d : FunctionDefinition) wher
 pub both-through : (m : Module) (d : FunctionDefinition) (is : List Instruction) (k : Known) (types : Types) (ls : List Availability) (es : List Edge) (ts us : Types)
     → through locals_after m d is (k.locals, types) ≡ Some (ls, ts) → through edges_after m d is (k.edges, types) ≡ Some (es, us)
     → through known_after m d is (k, types) ≡ Some (record { locals = ls; edges = es }, ts)
-both-through m d [] k types ls es ts us a b = ap₂ (λ (x : List Availability × Types) (y : List Edge × Types). Some (record { locals = x.0; edges = y.0 }, x.1)) (some-is (k.locals, types) (ls, ts) a) (some-is (k.edges, types) (es, us) b)
+both-through m d [] k types ls es ts us a b = ap₂ (λ (x : List Availability × Types) (y : List Edge × Types). Some (record { locals = x.0; edges = y.0 }, x.1)) (same_Some (k.locals, types) (ls, ts) a) (same_Some (k.edges, types) (es, us) b)
 both-through m d (i ∷ is) k types ls es ts us a b =
-    some-bind2 (locals_after (record { home = m; function = d; types = types }) i k.locals) _ (ls, ts) a (λ l l_is a1.
-    some-bind2 (types_after m d i types) _ (ls, ts) a1 (λ t t_is a2.
-    some-bind2 (edges_after (record { home = m; function = d; types = types }) i k.edges) _ (es, us) b (λ e e_is b1.
-    some-bind2 (types_after m d i types) _ (es, us) b1 (λ u u_is b2.
+    on_some (locals_after (record { home = m; function = d; types = types }) i k.locals) _ (ls, ts) a (λ l l_is a1.
+    on_some (types_after m d i types) _ (ls, ts) a1 (λ t t_is a2.
+    on_some (edges_after (record { home = m; function = d; types = types }) i k.edges) _ (es, us) b (λ e e_is b1.
+    on_some (types_after m d i types) _ (es, us) b1 (λ u u_is b2.
     rw (l_is, e_is, t_is) (both-through m d is (record { locals = l; edges = e }) t ls es ts us a2
-    (subst (λ (z : Types). through edges_after m d is (e, z) ≡ Some (es, us)) (some-is u t (sym u_is ∙ t_is)) b2))))))
+    (subst (λ (z : Types). through edges_after m d is (e, z) ≡ Some (es, us)) (same_Some u t (sym u_is ∙ t_is)) b2))))))

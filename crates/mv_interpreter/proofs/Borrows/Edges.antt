@@ -3,7 +3,7 @@ use Rattle.std.proofs.Common.{◌≡◌, ℕ, suc, List, [], ◌∷◌, ◌++◌
 use Rattle.std.specs.Prelude.{filter, flat_map}
 use Rattle.std.specs.Bool.{then_some}
 use Rattle.std.specs.List.{list_any}
-use Rattle.std.proofs.lemmas.Bool.{eqb-true, eq-eqb, cases_Bool, not-true, true≢false}
+use Rattle.std.proofs.lemmas.Bool.{eqb-true, cases_Bool, not-true, true≢false}
 use Rattle.mv_move_types.specs.declared.borrow.Node.{Node}
 use Rattle.mv_move_types.specs.declared.borrow.Node.TheVariants.{Slot, Own, Glob, Temp}
 use Rattle.mv_edges.specs.Edges.{Edge, same_node, out_of}
@@ -12,7 +12,8 @@ use Rattle.mv_edges.specs.Equality.{same_node_decides}
 use Rattle.mv_borrow_graph.specs.BorrowRules.{is_empty, no_edge_out, no_mutable_from, is_mutable}
 use Rattle.mv_borrow_graph.specs.Abstract.Places.{Defined, Label as TheLabel}
 use Rattle.mv_borrow_graph.specs.Abstract.Covers.{Node as TheNode, Glob as AtGlob, Edges}
-use Rattle.mv_interpreter.specs.Borrows.View.{defined, node_of, label_of, Member, AmongNodes, edges_of, kind_at}
+use Rattle.mv_borrow_graph.specs.There.{node_itself}
+use Rattle.mv_interpreter.specs.Borrows.View.{defined, node_of, Member, AmongNodes, edges_of, kind_at}
 
 -- ---- nodes
 
@@ -41,14 +42,8 @@ node_of-inj w (Temp i) (Slot j) h = cc
 node_of-inj w (Temp i) (Own j) h = cc
 node_of-inj w (Temp i) (Glob j) h = cc
 
-self_node : (n : Node) → same_node n n ≡ true
-self_node (Slot a) = eq-eqb a a refl
-self_node (Own a) = eq-eqb a a refl
-self_node (Glob a) = eq-eqb a a refl
-self_node (Temp a) = eq-eqb a a refl
-
 pub node-is : (n m : Node) → n ≡ m → same_node n m ≡ true
-node-is n m h = rw h (self_node m)
+node-is n m h = rw h (node_itself m)
 
 pub node-not : (n m : Node) → (n ≡ m → ⊥) → same_node n m ≡ false
 node-not n m d =
@@ -56,9 +51,6 @@ node-not n m d =
       | inl t ↦ absurd (d (same_node-is n m t))
       | inr t ↦ t
     ]
-
-pub node-apart : (n m : Node) → same_node n m ≡ false → n ≡ m → ⊥
-node-apart n m h e = true≢false (sym (node-is n m e) ∙ h)
 
 -- ---- members
 
@@ -140,6 +132,3 @@ free_mutable p w n es h x c (e, m, from, l, to) k =
 
 abbrev pub Included : Edges → Edges → Type 0
 Included e f = (p : TheNode) (x : TheLabel) (c : TheNode) → e p x c → f p x c
-
-pub edge_in : (w : ℕ) (e : Edge) (es : List Edge) → Member e es → edges_of w es (node_of w e.from) (label_of e.label) (node_of w e.to)
-edge_in w e es m = (e, m, refl, refl, refl)

@@ -129,11 +129,6 @@ module _ (depends : ℕ → ℕ → Type 0) (through : (a b c : ℕ) → depends
         local_unborrowed depends home_of through no_cycle (layer_at x) v.0 (layers xs) v.2.0 (ref_of r) l chain v.1 v.2.1
         (λ y c e. free_out x.frame.function.place (Own l) x.edges free y c e) (root ∙ ap (λ (f : Frame). InLocal f.number l) (sym stood.0))
 
-    -- so MoveLoc and StLoc of such a local meet nothing frozen
-    pub local-unfrozen : (l : ℕ) → no_edge_out (Own l) x.edges ≡ true → is_frozen_by (live s) (record { root = Local s.top.number l; path = [] }) ≡ false
-    local-unfrozen l free = none-frozen (live s) (record { root = Local s.top.number l; path = [] }) (λ r i im o. local-free l free r i
-        (root-is r.place.root (Local s.top.number l) (and_parts (same_root r.place.root (Local s.top.number l)) _ o).0))
-
     -- no live reference of any frame leads into an acquired struct that no edge leads out of, at any address
     pub struct-free : (i : ℕ) (a : ℕ) → list_any (λ y. y == i) x.function.acquires ≡ true → no_edge_out (Glob i) x.edges ≡ true → (r : Reference) → InRefs r (live s)
         → root_of r.place.root ≡ InStore a (defined s.top.function.place i) → ⊥

@@ -18,7 +18,7 @@ use Rattle.mv_interpreter.specs.Borrows.Hypotheses.{token_kind, operand_kind, Fi
 use Rattle.mv_interpreter.specs.Borrows.View.{activation, held_as, edges_of, layer_of, alone}
 use Rattle.mv_borrow_graph.proofs.Abstract.Run.{layer, EdgesBelow}
 use Rattle.mv_interpreter.proofs.Borrows.Calls.{call-kept, return-kept}
-use Rattle.mv_interpreter.proofs.Borrows.Transfers.{turned, called, Called, callee-is, tags-long, returned, ReturnedTo}
+use Rattle.mv_interpreter.proofs.Borrows.Transfers.{called, Called, callee-is, tags-long, returned, ReturnedTo}
 use Rattle.mv_machine.specs.StepParts.{Here, Goes}
 use Rattle.mv_machine.specs.Step.{rule}
 use Rattle.mv_borrow_graph.specs.Abstract.Stack.{Layer, Chain}
@@ -26,6 +26,7 @@ use Rattle.mv_interpreter.specs.Borrows.Stood.{Stood, seen_of, point_of, layer_a
 use Rattle.mv_interpreter.proofs.Borrows.Same.{SameSeen, SameFrames, layer-same}
 use Rattle.mv_interpreter.proofs.Borrows.Kept.{falls-same, kept-falls}
 use Rattle.mv_interpreter.proofs.Borrows.Steps.{IsTransfer, step-kept, Stays}
+use Rattle.mv_interpreter.proofs.Lists.{map-turned}
 
 -- the same with these frames
 abbrev pub refit : List Stood → List Frame → List Stood
@@ -180,7 +181,7 @@ module _ (depends : ℕ → ℕ → Type 0) (through : (a b c : ℕ) → depends
             let number : t.top.number ≡ s.entered = ap (λ (f : Frame). f.number) k.top in
             let function : t.top.function ≡ k.c.function = ap (λ (f : Frame). f.function) k.top in
             let operands : reverse t.top.entered_with ++ map reference_of k.stack ≡ map reference_of s.top.stack =
-            ap (λ l. reverse l ++ map reference_of k.stack) entered ∙ ap (λ l. l ++ map reference_of k.stack) (sym (turned reference_of k.arguments))
+            ap (λ l. reverse l ++ map reference_of k.stack) entered ∙ ap (λ l. l ++ map reference_of k.stack) (sym (map-turned reference_of k.arguments))
             ∙ sym (map-append reference_of (reverse k.arguments) k.stack) ∙ ap (map reference_of) (sym k.split) in
             let later : s.top.number < t.top.number = rw number sound.next in
             let link : IsCall depends x.home x.function (record (s.top) { stack = k.stack }) t.top k.c.definition.acquires = record {
@@ -223,7 +224,7 @@ module _ (depends : ℕ → ℕ → Type 0) (through : (a b c : ℕ) → depends
             more : (n : ℕ) → n < n + 1
             more n = omega arith
 
--- a Ret: the caller goes on; what the certificate says behind the Call is above what the Call's rule leaves
+-- a Ret: the caller goes on; what the certificate says after the Call is above what the Call's rule leaves
 module _ (depends : ℕ → ℕ → Type 0) (through : (a b c : ℕ) → depends a b → depends b c → depends a c) (no_cycle : (a : ℕ) → depends a a → ⊥)
     (modules : List Module) (s : State) (x w : Stood) (ws : List Stood) (sound : Sound depends s x (w ∷ ws))
   where

@@ -36,19 +36,6 @@ get-beyond [] k h = refl
 get-beyond (x ∷ xs) zero h = absurd (omega arith)
 get-beyond (x ∷ xs) (suc k) h = get-beyond xs k (omega arith)
 
-pub get-below : {A : Type 0} (xs : List A) (k : ℕ) (x : A) → slice_get xs k ≡ Some x → k < length xs
-get-below [] k x h = absurd cc
-get-below (y ∷ xs) zero x h = omega arith
-get-below (y ∷ xs) (suc k) x h = let e : k < length xs = get-below xs k x h in omega arith
-
-pub get-map : {A B : Type 0} (f : A → B) (xs : List A) (k : ℕ) (x : A) → slice_get xs k ≡ Some x → slice_get (map f xs) k ≡ Some (f x)
-get-map f [] k x h = absurd cc
-get-map f (y ∷ xs) zero x h = same f x y h
-  where
-    same : {A B : Type 0} (f : A → B) (x y : A) → Some y ≡ Some x → Some (f y) ≡ Some (f x)
-    same f x y h = cc
-get-map f (y ∷ xs) (suc k) x h = get-map f xs k x h
-
 -- ---- locals
 
 pub set-map : (xs : List (Option Value)) (l : ℕ) (v : Option Value) → map local_of (slice_set xs l v) ≡ set_local (map local_of xs) l (local_of v)

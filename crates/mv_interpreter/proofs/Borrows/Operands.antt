@@ -49,9 +49,6 @@ some-bind None f y e go = absurd cc
 pub ok-is : {A E : Type 0} (x y : A) → (let r : Result A E = Ok x in r) ≡ Ok y → x ≡ y
 ok-is x y h = cc
 
-pub some-is : {A : Type 0} (x y : A) → Some x ≡ Some y → x ≡ y
-some-is x y h = cc
-
 pub found-is : {A E : Type 0} (o : Option A) (d : E) (x : A) → ok_or o d ≡ Ok x → o ≡ Some x
 found-is None d x h = absurd cc
 found-is (Some y) d x h = ap Some (ok-is y x h)
@@ -84,9 +81,6 @@ fields-are name (Ref r) fs h k = absurd cc
 fields-are name (Struct own vs) fs h k = on_need (same_tag (StructTag own) (StructTag name)) (Faults TypeFault) _ fs h (λ m e. subst NoneOf (ok-is (list_of vs) fs e) k)
 
 -- ---- what falls
-
-refs : List Value → List (Option Reference)
-refs s = map reference_of s
 
 pub one-off : (s : List Value) (a : Value × List Value) → operand s ≡ Ok a → Falls (map reference_of s) (map reference_of a.1)
 one-off s a h = falls-popped (map reference_of s) (map reference_of a.1) (reference_of a.0) (ap (map reference_of) (operand-is s a h))

@@ -3,6 +3,7 @@ use Rattle.std.proofs.Common.{◌≡◌, ℕ, zero, suc, ◌<◌, List, [], ◌�
 use Rattle.std.specs.Prelude.{slice_get, slice_set, option_and_then, option_map, ◌==◌, ⊤}
 use Rattle.std.proofs.lemmas.Bool.{eqb-true}
 use Rattle.std.proofs.lemmas.Bool.Decides.{eqb_tells}
+use Rattle.std.proofs.lemmas.Option.{same_Some}
 use Rattle.mv_machine.specs.Value.{Root, Local, Stored, Place, Reference, Value, Leaf, Struct, Ref, value_at, with_value_at, field_of, with_field_of}
 use Rattle.mv_machine.specs.State.{Frame, State, frames, local_in, root_value, place_value, with_local, with_root, with_place}
 use Rattle.mv_machine.specs.Live.{reference_of}
@@ -11,7 +12,7 @@ use Rattle.mv_machine.specs.Typing.{tag_of, has_tag}
 use Rattle.mv_edges.specs.Edges.{Edge}
 use Rattle.mv_interpreter.specs.Borrows.View.{local_of, layer_of}
 use Rattle.mv_interpreter.specs.Borrows.Stood.{AllUnder, Descending}
-use Rattle.mv_interpreter.proofs.Borrows.Operands.{some-is, IsPlainTag, not-plain, followed}
+use Rattle.mv_interpreter.proofs.Borrows.Operands.{IsPlainTag, not-plain, followed}
 
 -- a frame with the same references, where the first one has them
 pub record SameSeen (f g : Frame) : Type 0 where
@@ -54,7 +55,7 @@ others-same (f ∷ fs) n l w h = (same-cond (f.number == n) f (record f { locals
 set-same : (xs : List (Option Value)) (l : ℕ) (w new : Value) → slice_get xs l ≡ Some (Some w) → reference_of w ≡ None → reference_of new ≡ None
     → map local_of (slice_set xs l (Some new)) ≡ map local_of xs
 set-same [] l w new at a b = refl
-set-same (x ∷ xs) zero w new at a b = rw (some-is x (Some w) at, a, b) refl
+set-same (x ∷ xs) zero w new at a b = rw (same_Some x (Some w) at, a, b) refl
 set-same (x ∷ xs) (suc l) w new at a b = ap (λ t. local_of x ∷ t) (set-same xs l w new at a b)
 
 local-held : (xs : List (Option Value)) (l : ℕ) (w : Value) → option_and_then (λ (v : Option Value). v) (slice_get xs l) ≡ Some w → slice_get xs l ≡ Some (Some w)
@@ -86,7 +87,7 @@ local-same (f ∷ fs) n l w new d at a b =
 
 -- what holds a place that is no reference is none itself, before and after a write of none
 root-none : (w old : Value) (path : List ℕ) → value_at w path ≡ Some old → reference_of old ≡ None → reference_of w ≡ None
-root-none w old [] h k = ap reference_of (some-is w old h) ∙ k
+root-none w old [] h k = ap reference_of (same_Some w old h) ∙ k
 root-none (Leaf kind n) old (i ∷ path) h k = refl
 root-none (Struct name fs) old (i ∷ path) h k = refl
 root-none (Ref r) old (i ∷ path) h k = absurd cc
@@ -97,12 +98,12 @@ field-none (Struct name fs) new i h = refl
 field-none (Ref r) new i h = h
 
 written-none : (w v new : Value) (path : List ℕ) → with_value_at w path v ≡ Some new → reference_of w ≡ None → reference_of v ≡ None → reference_of new ≡ None
-written-none w v new [] h a b = ap reference_of (sym (some-is v new h)) ∙ b
+written-none w v new [] h a b = ap reference_of (sym (same_Some v new h)) ∙ b
 written-none w v new (i ∷ path) h a b = by_case (option_and_then (λ u. with_value_at u path v) (field_of w i)) h
   where
     by_case : (o : Option Value) → option_map (with_field_of w i) o ≡ Some new → reference_of new ≡ None
     by_case None e = absurd cc
-    by_case (Some u) e = ap reference_of (sym (some-is (with_field_of w i u) new e)) ∙ field-none w u i a
+    by_case (Some u) e = ap reference_of (sym (same_Some (with_field_of w i u) new e)) ∙ field-none w u i a
 
 -- the frames of a state after a write at a root
 abbrev WrittenAs : State → State → Type 0
@@ -124,13 +125,13 @@ write-same s q old v t d at a b e = by_root (root_value s q.root) refl at e
         by_new : (n : Option Value) → with_value_at w q.path v ≡ n → option_map (with_root s q.root) n ≡ Some t → WrittenAs s t
         by_new None z k = absurd cc
         by_new (Some new) z k =
-            subst (WrittenAs s) (some-is (with_root s q.root new) t k)
+            subst (WrittenAs s) (same_Some (with_root s q.root new) t k)
             (at-root s q.root w new d is (root-none w old q.path h a) (written-none w v new q.path z (root-none w old q.path h a) b))
 
 -- what has the tag of a value that is no reference is none
 pub plain-tagged : (s : State) (old v : Value) (tag : Tag) → reference_of old ≡ None → tag_of s old ≡ Some tag → has_tag s v tag ≡ true → reference_of v ≡ None
 plain-tagged s old (Leaf kind n) tag a h k = refl
 plain-tagged s old (Struct name fs) tag a h k = refl
-plain-tagged s (Leaf kind n) (Ref r) tag a h k = let x = followed _ r.is_mutable tag k in absurd (not-plain r.is_mutable x.0 tag (subst IsPlainTag (some-is _ tag h) tt) x.1)
-plain-tagged s (Struct name fs) (Ref r) tag a h k = let x = followed _ r.is_mutable tag k in absurd (not-plain r.is_mutable x.0 tag (subst IsPlainTag (some-is _ tag h) tt) x.1)
+plain-tagged s (Leaf kind n) (Ref r) tag a h k = let x = followed _ r.is_mutable tag k in absurd (not-plain r.is_mutable x.0 tag (subst IsPlainTag (same_Some _ tag h) tt) x.1)
+plain-tagged s (Struct name fs) (Ref r) tag a h k = let x = followed _ r.is_mutable tag k in absurd (not-plain r.is_mutable x.0 tag (subst IsPlainTag (same_Some _ tag h) tt) x.1)
 plain-tagged s (Ref q) (Ref r) tag a h k = absurd cc

@@ -1,6 +1,7 @@
 -- The first state of a run, whose arguments are no references.
 use Rattle.std.proofs.Common.{◌≡◌, ℕ, zero, suc, ◌<◌, List, [], ◌∷◌, ◌++◌, map, reverse, refl, sym, ◌∙◌, ap, subst, Some, None}
 use Rattle.std.specs.Prelude.{slice_get, replicate}
+use Rattle.std.proofs.lemmas.Option.{same_Some}
 use Rattle.mv_move_types.specs.Module.{Module, FunctionDefinition}
 use Rattle.mv_machine.specs.Value.{Reference, Value}
 use Rattle.mv_machine.specs.State.{State}
@@ -14,15 +15,15 @@ use Rattle.mv_interpreter.specs.Borrows.View.{held_as, activation, alone}
 use Rattle.mv_interpreter.specs.Borrows.Hypotheses.{NoneOf}
 use Rattle.mv_interpreter.specs.Borrows.Stood.{StoodOn, Descending, Sound}
 use Rattle.mv_interpreter.proofs.Borrows.Lists.{local-back}
-use Rattle.mv_interpreter.proofs.Borrows.Operands.{none-reverse, some-is}
+use Rattle.mv_interpreter.proofs.Borrows.Operands.{none-reverse}
 use Rattle.mv_interpreter.proofs.Borrows.Calls.{homed}
-use Rattle.mv_interpreter.proofs.Borrows.Transfers.{turned}
+use Rattle.mv_interpreter.proofs.Lists.{map-turned}
 
 none-given : (args : List Value) (n l : ℕ) (v : Value) → NoneOf args → slice_get (map Some args ++ replicate n None) l ≡ Some (Some v) → reference_of v ≡ None
 none-given [] zero l v h e = absurd cc
 none-given [] (suc n) zero v h e = absurd cc
 none-given [] (suc n) (suc l) v h e = none-given [] n l v h e
-none-given (a ∷ args) n zero v h e = ap reference_of (sym (some-is a v (some-is (Some a) (Some v) e))) ∙ h.0
+none-given (a ∷ args) n zero v h e = ap reference_of (sym (same_Some a v (same_Some (Some a) (Some v) e))) ∙ h.0
 none-given (a ∷ args) n (suc l) v h e = none-given args n l v h.1 e
 
 none-among : (args : List Value) → NoneOf args → refs_among (map held_as (map reference_of args)) ≡ []
@@ -40,7 +41,7 @@ sound-start depends s home function types edges args n below entered locals stac
     pairs = λ m k q r d h g o u. absurd (none-live m q h);
     origin = λ m r h. absurd (none-live m r h);
   }) (homed function.acquires (alone s.top))
-      (ap (λ l. refs_among (map held_as (reverse l))) entered ∙ ap (λ l. refs_among (map held_as l)) (sym (turned reference_of args)) ∙ none-among (reverse args) (none-reverse args none));
+      (ap (λ l. refs_among (map held_as (reverse l))) entered ∙ ap (λ l. refs_among (map held_as l)) (sym (map-turned reference_of args)) ∙ none-among (reverse args) (none-reverse args none));
   links = tt;
   ordered = subst (λ fs. Descending (s.top ∷ fs)) (sym below) (tt, tt);
   next = next;

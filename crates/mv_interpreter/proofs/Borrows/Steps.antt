@@ -4,6 +4,7 @@ use Rattle.std.specs.Prelude.{slice_get, slice_set, nat_le, ok_or, ◌&&◌, ◌
 use Rattle.std.specs.Bool.{beq}
 use Rattle.std.specs.List.{list_any}
 use Rattle.std.proofs.lemmas.Bool.{not-true, and_from, eq-eqb}
+use Rattle.std.proofs.lemmas.Option.{same_Some}
 use Rattle.mv_move_types.specs.declared.tables.Key.{Key}
 use Rattle.mv_move_types.specs.declared.borrow.Node.TheVariants.{Slot, Own, Glob, Temp}
 use Rattle.mv_move_types.specs.declared.token.Token.{Token}
@@ -28,7 +29,6 @@ use Rattle.mv_borrow_graph.specs.BorrowRules.{edges_after, copy_edges, move_edge
 use Rattle.mv_type_states.specs.TypeRules.{Types}
 use Rattle.mv_interpreter.specs.Borrows.View.{alone, defined, activation, acquires_of, edges_of, kind_at, label_from, layer_of, Member, held_as}
 use Rattle.mv_interpreter.specs.Borrows.Links.{Reaches}
-use Rattle.mv_interpreter.specs.Borrows.Covers.{Seen}
 use Rattle.mv_machine.specs.Numbers.{sum_of, difference_of, product_of, remainder_of, quotient_of, shifted_left, shifted_right}
 use Rattle.mv_machine.specs.StepParts.{Here, Turn, Goes, Returns, gives, pushes, goes_to, with_top, with_stack, operand, operands, can_copy, can_drop, may_drop, is_reference_tag, as_reference, as_address, as_boolean, as_fields, as_signer, as_number, follow, truth}
 use Rattle.mv_machine.specs.StepStructs.{OwnStruct, pack, unpack, own_struct, tallied}
@@ -56,7 +56,7 @@ use Rattle.mv_interpreter.proofs.Borrows.Edges.{kind_of_node, free_out, free_mut
 use Rattle.mv_interpreter.proofs.Borrows.Mutability.{kinds, kinds-length, operand-plain}
 use Rattle.mv_interpreter.proofs.Borrows.Kept.{Falls, falls-pushed, falls-popped, falls-same, below-from, kept-falls, kept-copy, kept-copy-mutable, kept-move, kept-store, kept-borrow-local, kept-borrow-field, kept-borrow-global, kept-freeze, kept-drop, act, Stand}
 use Rattle.mv_machine.proofs.Laws.{on_bind, on_need}
-use Rattle.mv_interpreter.proofs.Borrows.Operands.{bind, met, some-bind, ok-is, some-is, found-is, held-is, operand-is, operands-is, reference-is, fields-are, one-off, none-more, none-reverse, drop-falls, binary-falls, comparison-falls, shift-falls, cast-falls, logic-falls, negation-falls, equality-falls, tag-kind}
+use Rattle.mv_interpreter.proofs.Borrows.Operands.{bind, met, some-bind, ok-is, found-is, held-is, operand-is, operands-is, reference-is, fields-are, one-off, none-more, none-reverse, drop-falls, binary-falls, comparison-falls, shift-falls, cast-falls, logic-falls, negation-falls, equality-falls, tag-kind}
 
 -- a number is in a list
 abbrev pub Among : ℕ → List ℕ → Type 0
@@ -125,7 +125,7 @@ module _ (depends : ℕ → ℕ → Type 0) (through : (a b c : ℕ) → depends
       local-kind : (l : ℕ) (v : Value) (t : Token) → slice_get h.state.top.locals l ≡ Some (Some v) → local_type h.home h.function l ≡ Some t → token_kind t ≡ operand_kind (reference_of v)
       local-kind l v t at is =
           let u = fits.locals l v (ap (λ (x : Option (Option Value)). option_and_then (λ y. y) x) at) in
-          ap token_kind (some-is t u.0 (sym is ∙ u.1)) ∙ u.2
+          ap token_kind (same_Some t u.0 (sym is ∙ u.1)) ∙ u.2
 
       -- ---- how a step ends
       ends : (i : Instruction) (t : State) (y : Turn) (edges edges' : List Edge) → goes_with_result t ≡ Ok y → edges ≡ edges' → StandTop t.top edges × Stays i h.state t → Kept i edges' (Ok y)
@@ -141,18 +141,18 @@ module _ (depends : ℕ → ℕ → Type 0) (through : (a b c : ℕ) → depends
           → gives h r ≡ Ok y → Some es ≡ Some es' → ((s : List Value) → r ≡ Ok s → Falls os (map reference_of s)) → Kept i es' (Ok y)
       calm-gives i r y es' next e g falls =
           bind r _ y e (λ s s_is e1.
-          ends i (with_top h.state (record (h.state.top) { stack = s; at = h.state.top.at + 1 })) y es es' e1 (some-is es es' g) (calm s (h.state.top.at + 1) (falls s s_is), (refl, refl, refl, same-all h.state.below, refl, next)))
+          ends i (with_top h.state (record (h.state.top) { stack = s; at = h.state.top.at + 1 })) y es es' e1 (same_Some es es' g) (calm s (h.state.top.at + 1) (falls s s_is), (refl, refl, refl, same-all h.state.below, refl, next)))
 
       calm-pushes : (i : Instruction) (v : Value) (y : Turn) (es' : List Edge) → Among (h.state.top.at + 1) (successors h.state.top.at i)
           → pushes h v ≡ Ok y → Some es ≡ Some es' → reference_of v ≡ None → Kept i es' (Ok y)
       calm-pushes i v y es' next e g none =
-          ends i (with_top h.state (record (h.state.top) { stack = v ∷ h.state.top.stack; at = h.state.top.at + 1 })) y es es' e (some-is es es' g)
+          ends i (with_top h.state (record (h.state.top) { stack = v ∷ h.state.top.stack; at = h.state.top.at + 1 })) y es es' e (same_Some es es' g)
           (calm (v ∷ h.state.top.stack) (h.state.top.at + 1) (falls-pushed os os (reference_of v) none (falls-same os)), (refl, refl, refl, same-all h.state.below, refl, next))
 
       -- ---- locals
       kind-some : (o : Option Reference) (b : Bool) → Some b ≡ operand_kind o → (r : Reference) × (o ≡ Some r) × (r.is_mutable ≡ b)
       kind-some None b e = absurd cc
-      kind-some (Some r) b e = (r, refl, sym (some-is b r.is_mutable e))
+      kind-some (Some r) b e = (r, refl, sym (same_Some b r.is_mutable e))
 
       copy-by : (l : ℕ) (v : Value) (es' : List Edge) (t : Token) → slice_get h.state.top.locals l ≡ Some (Some v) → token_kind t ≡ operand_kind (reference_of v) → copy_edges p l t es ≡ Some es'
           → StandTop (record (h.state.top) { stack = v ∷ h.state.top.stack; at = h.state.top.at + 1 }) es'
@@ -161,7 +161,7 @@ module _ (depends : ℕ → ℕ → Type 0) (through : (a b c : ℕ) → depends
           (calm (v ∷ h.state.top.stack) (h.state.top.at + 1) (falls-pushed os os (reference_of v) (operand-plain (Plain t) (reference_of v) k refl) (falls-same os)))
       copy-by l v es' (ReferenceTo t) at k g =
           let r = kind-some (reference_of v) false k in
-          subst (λ u. StandTop (record (h.state.top) { stack = v ∷ h.state.top.stack; at = h.state.top.at + 1 }) u) (some-is _ es' g)
+          subst (λ u. StandTop (record (h.state.top) { stack = v ∷ h.state.top.stack; at = h.state.top.at + 1 }) u) (same_Some _ es' g)
           (at_next (λ n. es ++ inherited (λ label. label) (Slot l) (Temp n) es) h.state.top.locals (reference_of v ∷ os)
           (kept-copy depends through no_cycle h.function.acquires h.state.top rest h.state.top.locals os es stands l v r.0 (kind_at p) typed at r.1 r.2))
       copy-by l v es' (MutableReferenceTo t) at k g =
@@ -183,7 +183,7 @@ module _ (depends : ℕ → ℕ → Type 0) (through : (a b c : ℕ) → depends
       set-none : (xs : List (Option Value)) (l m : ℕ) (o : Option Value) (v : Value) (r : Reference) → ((w : Value) → o ≡ Some w → reference_of w ≡ None) → slice_get (slice_set xs l o) m ≡ Some (Some v)
           → reference_of v ≡ Some r → slice_get xs m ≡ Some (Some v)
       set-none [] l m o v r none at is = absurd cc
-      set-none (x ∷ xs) zero zero o v r none at is = absurd (not_both (sym (none v (some-is o (Some v) at)) ∙ is))
+      set-none (x ∷ xs) zero zero o v r none at is = absurd (not_both (sym (none v (same_Some o (Some v) at)) ∙ is))
         where
           not_both : None ≡ Some r → ⊥
           not_both z = cc
@@ -206,12 +206,12 @@ module _ (depends : ℕ → ℕ → Type 0) (through : (a b c : ℕ) → depends
           (falls-pushed os os (reference_of v) (operand-plain (Plain t) (reference_of v) k refl) (falls-same os)) (below-from _ _ (λ q x c e. e)))
       move-by l v es' (ReferenceTo t) at k g =
           let r = kind-some (reference_of v) false k in
-          subst (λ u. StandTop (moved_frame l v) u) (some-is _ es' g)
+          subst (λ u. StandTop (moved_frame l v) u) (same_Some _ es' g)
           (at_next (λ n. renamed (Slot l) (Temp n) es) (slice_set h.state.top.locals l None) (reference_of v ∷ os)
           (kept-move depends through no_cycle h.function.acquires h.state.top rest h.state.top.locals os es stands l v r.0 (kind_at p) typed at r.1))
       move-by l v es' (MutableReferenceTo t) at k g =
           let r = kind-some (reference_of v) true k in
-          subst (λ u. StandTop (moved_frame l v) u) (some-is _ es' g)
+          subst (λ u. StandTop (moved_frame l v) u) (same_Some _ es' g)
           (at_next (λ n. renamed (Slot l) (Temp n) es) (slice_set h.state.top.locals l None) (reference_of v ∷ os)
           (kept-move depends through no_cycle h.function.acquires h.state.top rest h.state.top.locals os es stands l v r.0 (kind_at p) typed at r.1))
 
@@ -232,17 +232,17 @@ module _ (depends : ℕ → ℕ → Type 0) (through : (a b c : ℕ) → depends
       store-by l v s es' (Plain t) top k g =
           subst (λ u. StandTop (stored_frame l v s) u) (sym (then-some (no_edge_out (Own l) es) es es' g).1)
           (kept-falls depends through no_cycle h.function.acquires h.state.top rest h.state.top.locals os es stands (slice_set h.state.top.locals l (Some v)) (map reference_of s) es
-          (λ m w r. set-none h.state.top.locals l m (Some v) w r (λ u z. ap reference_of (sym (some-is v u z)) ∙ operand-plain (Plain t) (reference_of v) k refl))
+          (λ m w r. set-none h.state.top.locals l m (Some v) w r (λ u z. ap reference_of (sym (same_Some v u z)) ∙ operand-plain (Plain t) (reference_of v) k refl))
           (falls-popped os (map reference_of s) (reference_of v) top) (below-from _ _ (λ q x c e. e)))
       store-by l v s es' (ReferenceTo t) top k g =
           let r = kind-some (reference_of v) false k in
-          subst (λ u. StandTop (stored_frame l v s) u) (some-is _ es' g)
+          subst (λ u. StandTop (stored_frame l v s) u) (same_Some _ es' g)
           (at_top (λ n. renamed (Temp n) (Slot l) (without (Slot l) es)) (slice_set h.state.top.locals l (Some v)) (map reference_of s) (map reference_of s) (reference_of v) top
           (kept-store depends through no_cycle h.function.acquires h.state.top rest h.state.top.locals os es stands l v r.0 (map reference_of s) (kind_at p) typed
           (top ∙ ap (λ (x : Option Reference). x ∷ map reference_of s) r.1) r.1))
       store-by l v s es' (MutableReferenceTo t) top k g =
           let r = kind-some (reference_of v) true k in
-          subst (λ u. StandTop (stored_frame l v s) u) (some-is _ es' g)
+          subst (λ u. StandTop (stored_frame l v s) u) (same_Some _ es' g)
           (at_top (λ n. renamed (Temp n) (Slot l) (without (Slot l) es)) (slice_set h.state.top.locals l (Some v)) (map reference_of s) (map reference_of s) (reference_of v) top
           (kept-store depends through no_cycle h.function.acquires h.state.top rest h.state.top.locals os es stands l v r.0 (map reference_of s) (kind_at p) typed
           (top ∙ ap (λ (x : Option Reference). x ∷ map reference_of s) r.1) r.1))
@@ -266,7 +266,7 @@ module _ (depends : ℕ → ℕ → Type 0) (through : (a b c : ℕ) → depends
           let u = local-tag-is l tag tag_is in
           ends (StLoc l) (with_top h.state (stored_frame l top.0 top.1)) y es' es' e6 refl (
             store-by l top.0 top.1 es' t (ap (map reference_of) (operand-is h.state.top.stack top top_is))
-                (ap token_kind (some-is t u.0 (sym t_is ∙ u.1)) ∙ tag-kind h.modules h.home h.state top.0 u.0 tag u.2 fit) g1,
+                (ap token_kind (same_Some t u.0 (sym t_is ∙ u.1)) ∙ tag-kind h.modules h.home h.state top.0 u.0 tag u.2 fit) g1,
             (refl, refl, refl, same-all h.state.below, refl, inl refl),
           ))))))))
 
@@ -370,7 +370,7 @@ module _ (depends : ℕ → ℕ → Type 0) (through : (a b c : ℕ) → depends
           met (lends m r) (Faults TypeFault) _ y e3 (λ lent e4.
           bind (follow h.state r) _ y e4 (λ v v_is e5.
           bind (as_fields field.0.name v) _ y e5 (λ fields fields_is e6.
-          let same : field.1 ≡ f = some-is field.1 f (sym (own-field-is i field field_is) ∙ position) in
+          let same : field.1 ≡ f = same_Some field.1 f (sym (own-field-is i field field_is) ∙ position) in
           ends ins (with_top h.state (field_frame m field.1 r top.1)) y es' es' e6 refl (
             subst (λ j. StandTop (field_frame m j r top.1) es') (sym same)
                 (field-by m f r top.1 es' (ref-top top r top_is r_is) (lends-is m r lent) need g),
@@ -475,7 +475,7 @@ module _ (depends : ℕ → ℕ → Type 0) (through : (a b c : ℕ) → depends
       step-pop y es' e g =
           bind (pop h h.state.top.stack) _ y e (λ s s_is e0.
           on_pop s s_is (λ top top_is same.
-          ends Pop (with_top h.state (record (h.state.top) { stack = s; at = h.state.top.at + 1 })) y (without (Temp (length types - 1)) es) es' e0 (some-is (without (Temp (length types - 1)) es) es' g) (
+          ends Pop (with_top h.state (record (h.state.top) { stack = s; at = h.state.top.at + 1 })) y (without (Temp (length types - 1)) es) es' e0 (same_Some (without (Temp (length types - 1)) es) es' g) (
             subst (λ u. StandTop (record (h.state.top) { stack = u; at = h.state.top.at + 1 }) (without (Temp (length types - 1)) es)) same
                 (dropped-calm top.0 top.1 top.1 (h.state.top.at + 1) (operand-is h.state.top.stack top top_is) (falls-same (map reference_of top.1))),
             (refl, refl, refl, same-all h.state.below, refl, inl refl),
@@ -544,7 +544,7 @@ module _ (depends : ℕ → ℕ → Type 0) (through : (a b c : ℕ) → depends
           met (not (is_some (stored_at h.state.storage (key_at h i a)))) (Aborts AlreadyThere 0) _ y e8 (λ ok e9.
           ends (MoveTo i)
           (record (h.state) { storage = with_stored h.state.storage (key_at h i a) top.0; top = record (h.state.top) { stack = lower.1; at = h.state.top.at + 1 } }) y (without (Temp (length types - 2)) es) es' e9
-          (some-is (without (Temp (length types - 2)) es) es' g)
+          (same_Some (without (Temp (length types - 2)) es) es' g)
           (taken top lower (operand-is h.state.top.stack top top_is) (operand-is top.1 lower lower_is), (refl, refl, refl, same-all h.state.below, refl, inl refl)))))))))))
         where
           taken : (top lower : Value × List Value) → h.state.top.stack ≡ top.0 ∷ top.1 → top.1 ≡ lower.0 ∷ lower.1
@@ -598,7 +598,7 @@ module _ (depends : ℕ → ℕ → Type 0) (through : (a b c : ℕ) → depends
           bind (operands (length struct.fields) h.state.top.stack) _ y e1 (λ taken taken_is e2.
           bind (for_each (λ f. tag_named h.modules h.home f.token) struct.fields) _ y e2 (λ tags tags_is e3.
           met (have_tags h.state taken.0 tags) (Faults TypeFault) _ y e3 (λ fit e4.
-          ends (Pack i) (tallied true struct (with_top h.state (record (h.state.top) { stack = Struct struct.name (fields_of taken.0) ∷ taken.1; at = h.state.top.at + 1 }))) y es es' e4 (some-is es es' g) (
+          ends (Pack i) (tallied true struct (with_top h.state (record (h.state.top) { stack = Struct struct.name (fields_of taken.0) ∷ taken.1; at = h.state.top.at + 1 }))) y es es' e4 (same_Some es es' g) (
             calm (Struct struct.name (fields_of taken.0) ∷ taken.1) (h.state.top.at + 1)
                 (falls-pushed os (map reference_of taken.1) None refl
                 (subst (λ (x : List Value × List Value). Falls os (map reference_of x.1)) (sym (operands-is (length struct.fields) h.state.top.stack taken taken_is).1) (drop-falls (length struct.fields) h.state.top.stack))),
@@ -611,7 +611,7 @@ module _ (depends : ℕ → ℕ → Type 0) (through : (a b c : ℕ) → depends
           bind (own_struct h i) _ y e (λ struct struct_is e1.
           bind (operand h.state.top.stack) _ y e1 (λ top top_is e2.
           bind (as_fields struct.name top.0) _ y e2 (λ fields fields_is e3.
-          ends (Unpack i) (tallied false struct (with_top h.state (record (h.state.top) { stack = reverse fields ++ top.1; at = h.state.top.at + 1 }))) y es es' e3 (some-is es es' g) (
+          ends (Unpack i) (tallied false struct (with_top h.state (record (h.state.top) { stack = reverse fields ++ top.1; at = h.state.top.at + 1 }))) y es es' e3 (same_Some es es' g) (
             calm (reverse fields ++ top.1) (h.state.top.at + 1)
                 (none-more (reverse fields) h.state.top.stack top.1
                 (none-reverse fields (fields-are struct.name top.0 fields fields_is (inside.fields top.0 top.1 (operand-is h.state.top.stack top top_is))))
@@ -625,7 +625,7 @@ module _ (depends : ℕ → ℕ → Type 0) (through : (a b c : ℕ) → depends
           bind (keyed_struct h i) _ y e (λ struct struct_is e1.
           bind (operand h.state.top.stack) _ y e1 (λ top top_is e2.
           bind (as_address top.0) _ y e2 (λ a a_is e3.
-          ends (Exists i) (with_top h.state (record (h.state.top) { stack = truth (is_some (stored_at h.state.storage (key_at h i a))) ∷ top.1; at = h.state.top.at + 1 })) y es es' e3 (some-is es es' g) (
+          ends (Exists i) (with_top h.state (record (h.state.top) { stack = truth (is_some (stored_at h.state.storage (key_at h i a))) ∷ top.1; at = h.state.top.at + 1 })) y es es' e3 (same_Some es es' g) (
             calm (truth (is_some (stored_at h.state.storage (key_at h i a))) ∷ top.1) (h.state.top.at + 1)
                 (falls-pushed os (map reference_of top.1) None refl (one-off h.state.top.stack top top_is)),
             (refl, refl, refl, same-all h.state.below, refl, inl refl),
@@ -647,9 +647,9 @@ module _ (depends : ℕ → ℕ → Type 0) (through : (a b c : ℕ) → depends
       branch-by : (i : Instruction) (b : Bool) (target : ℕ) (s : List Value) (y : Turn) (es' : List Edge) → Among target (successors h.state.top.at i) → Among (h.state.top.at + 1) (successors h.state.top.at i)
           → goes_to (cond b target (h.state.top.at + 1)) (with_stack h.state s) ≡ Ok y → Some es ≡ Some es' → Falls os (map reference_of s) → Kept i es' (Ok y)
       branch-by i true target s y es' there next e g falls =
-          ends i (with_top h.state (record (h.state.top) { stack = s; at = target })) y es es' e (some-is es es' g) (calm s target falls, (refl, refl, refl, same-all h.state.below, refl, there))
+          ends i (with_top h.state (record (h.state.top) { stack = s; at = target })) y es es' e (same_Some es es' g) (calm s target falls, (refl, refl, refl, same-all h.state.below, refl, there))
       branch-by i false target s y es' there next e g falls =
-          ends i (with_top h.state (record (h.state.top) { stack = s; at = h.state.top.at + 1 })) y es es' e (some-is es es' g) (calm s (h.state.top.at + 1) falls, (refl, refl, refl, same-all h.state.below, refl, next))
+          ends i (with_top h.state (record (h.state.top) { stack = s; at = h.state.top.at + 1 })) y es es' e (same_Some es es' g) (calm s (h.state.top.at + 1) falls, (refl, refl, refl, same-all h.state.below, refl, next))
 
       branch-kept : (wanted : Bool) (i : Instruction) (target : ℕ) (y : Turn) (es' : List Edge) → Among target (successors h.state.top.at i) → Among (h.state.top.at + 1) (successors h.state.top.at i)
           → branch_if wanted h target ≡ Ok y → Some es ≡ Some es' → Kept i es' (Ok y)
@@ -661,7 +661,7 @@ module _ (depends : ℕ → ℕ → Type 0) (through : (a b c : ℕ) → depends
 
       stays-here : (i : Instruction) (target : ℕ) (y : Turn) (es' : List Edge) → Among target (successors h.state.top.at i) → goes_to target h.state ≡ Ok y → Some es ≡ Some es' → Kept i es' (Ok y)
       stays-here i target y es' there e g =
-          ends i (with_top h.state (record (h.state.top) { at = target })) y es es' e (some-is es es' g) (calm h.state.top.stack target (falls-same os), (refl, refl, refl, same-all h.state.below, refl, there))
+          ends i (with_top h.state (record (h.state.top) { at = target })) y es es' e (same_Some es es' g) (calm h.state.top.stack target (falls-same os), (refl, refl, refl, same-all h.state.below, refl, there))
 
       no-abort : (y : Turn) → abort h ≡ Ok y → ⊥
       unfolding abort

@@ -2,6 +2,7 @@
 use Rattle.std.proofs.Common.{◌≡◌, ℕ, ◌≤◌, List, [], ◌∷◌, ◌++◌, map, length, refl, sym, ◌∙◌, subst, Option, Some, None, Result, Ok}
 use Rattle.std.specs.Prelude.{flat_map, replicate}
 use Rattle.std.specs.Option.{option_map_or}
+use Rattle.std.proofs.lemmas.Option.{same_Some}
 use Rattle.mv_move_types.specs.declared.token.Token.{Token}
 use Rattle.mv_move_types.specs.Module.{Module}
 use Rattle.mv_machine.specs.Value.{Value, Leaf, Struct, Ref}
@@ -10,20 +11,19 @@ use Rattle.mv_machine.specs.Flat.{flat}
 use Rattle.mv_machine.specs.Typing.{Failure}
 use Rattle.mv_move_types.specs.Tags.{Tag, LeafTag, StructTag, ReferenceTag}
 use Rattle.mv_linker.specs.TypesByName.{token_named, tokens_named}
-use Rattle.mv_machine.specs.Run.{FunctionCall, first_state, outcome_from, run}
+use Rattle.mv_machine.specs.Run.{FunctionCall, outcome_from, run}
 use Rattle.mv_interpreter.specs.Typing.HasType.{Roots, HasType, HaveTypes, fields_by_name}
 use Rattle.mv_interpreter.specs.Typing.StateTyped.{HaveTokens, StorageTyped}
 use Rattle.mv_interpreter.specs.Typing.Facts.{SoundStore}
 use Rattle.mv_interpreter.specs.Typing.Outcome.{Guides}
 use Rattle.mv_interpreter.specs.Typing.Accepted.{StoreAccepted}
-use Rattle.mv_interpreter.proofs.Typing.Within.{some_is}
-use Rattle.mv_interpreter.proofs.Typing.Operands.{on_some}
 use Rattle.mv_interpreter.proofs.Typing.Structs.{names_length}
-use Rattle.mv_interpreter.proofs.Typing.First.{Nowhere, CallTyped, begun, first_typed}
+use Rattle.mv_interpreter.proofs.Typing.First.{Nowhere, CallTyped, begun, first_typed, first_is}
 use Rattle.mv_interpreter.proofs.Typing.Addresses.{accepted_is_sound}
 use Rattle.mv_linker.specs.Operations.{Program}
 use Rattle.mv_linker.specs.Widths.{width_of_tags, width_of_tokens}
 use Rattle.mv_linker.specs.Linked.{IsLinked}
+use Rattle.mv_linker.proofs.Found.{on_some}
 use Rattle.mv_interpreter.specs.Flat.FlatRun.{FlatOutcome, FlatStuck, flat_turns, flat_first, flat_run, width_of_others}
 use Rattle.mv_interpreter.specs.Flat.Represents.{History, ValueWords, LocalsWords, Represented, flat_entry}
 use Rattle.mv_interpreter.specs.Flat.Outcomes.{SameOutcome}
@@ -37,14 +37,14 @@ use Rattle.mv_interpreter.proofs.Flat.Run.{turns_follow}
 
 -- values of types have the types' names
 types_named : (modules : List Module) (look : Roots) (home : Module) (vs : List Value) (ts : List Token) (tags : List Tag) → HaveTokens modules look home vs ts → tokens_named home ts ≡ Some tags → HaveTypes (fields_by_name modules) look vs tags
-types_named modules look home [] [] tags h e = subst (λ (x : List Tag). HaveTypes (fields_by_name modules) look [] x) (some_is [] tags e) tt
+types_named modules look home [] [] tags h e = subst (λ (x : List Tag). HaveTypes (fields_by_name modules) look [] x) (same_Some [] tags e) tt
 types_named modules look home [] (t ∷ ts) tags h e = absurd h
 types_named modules look home (v ∷ vs) [] tags h e = absurd h
 types_named modules look home (v ∷ vs) (t ∷ ts) tags h e =
     on_some (token_named home t) _ tags e (λ tag tag_is e1.
     on_some (tokens_named home ts) (λ rest. Some (tag ∷ rest)) tags e1 (λ rest rest_is e2.
-    let same : h.0.tag ≡ tag = some_is h.0.tag tag (sym h.0.names ∙ tag_is) in
-    subst (λ (x : List Tag). HaveTypes (fields_by_name modules) look (v ∷ vs) x) (some_is (tag ∷ rest) tags e2)
+    let same : h.0.tag ≡ tag = same_Some h.0.tag tag (sym h.0.names ∙ tag_is) in
+    subst (λ (x : List Tag). HaveTypes (fields_by_name modules) look (v ∷ vs) x) (same_Some (tag ∷ rest) tags e2)
     (subst (λ (x : Tag). HasType (fields_by_name modules) look v x) same h.0.typed, types_named modules look home vs ts rest h.1 rest_is)))
 
 module _ (modules : List Module) (history : History) where
@@ -111,9 +111,6 @@ first_represented modules storage call c store sized stored =
         on_some (tokens_named m (ts ++ us)) (λ rest. Some (tag ∷ rest)) all e1 (λ rest rest_is e2.
         let inner = named_first m ts us rest rest_is in
         (tag ∷ inner.0, rw (tag_is, inner.1) refl)))
-
-first_is : (modules : List Module) (storage : Storage) (call : FunctionCall) (c : CallTyped modules call) → first_state modules storage call ≡ Ok (begun storage call (length c.others))
-first_is modules storage call c = rw (c.is_home, c.is_function, c.are_others) refl
 
 pub others_are : (modules : List Module) (call : FunctionCall) (c : CallTyped modules call) → width_of_others modules call.function ≡ Some (width_of_tokens modules c.home c.others)
 others_are modules call c = rw (c.is_home, c.is_function, c.are_others) refl

@@ -4,6 +4,7 @@ use Rattle.std.specs.Prelude.{slice_get, ◌&&◌, ◌||◌, ◌==◌, ⊤}
 use Rattle.std.specs.Option.{option_map_or}
 use Rattle.std.proofs.lemmas.Bool.{and_parts}
 use Rattle.std.proofs.lemmas.List.{length-append}
+use Rattle.std.proofs.lemmas.Option.{same_Some}
 use Rattle.mv_move_types.specs.declared.tables.FunctionHandle.{FunctionHandle}
 use Rattle.mv_move_types.specs.declared.token.Token.{Token}
 use Rattle.mv_move_types.specs.declared.borrow.Availability.TheVariants.{Available, Unavailable}
@@ -20,8 +21,8 @@ use Rattle.mv_borrow_graph.specs.BorrowRules.{edges_after}
 use Rattle.mv_machine.specs.StepParts.{Here, Turn, Goes, Returns, operands}
 use Rattle.mv_machine.specs.StepControl.{Callee, callee, signature_tags, entered_frame, call}
 use Rattle.mv_machine.proofs.Laws.{on_bind, on_need}
-use Rattle.mv_interpreter.proofs.Borrows.Operands.{some-is, ok-is, found-is}
-use Rattle.mv_interpreter.proofs.Borrows.Certified.{some-bind2}
+use Rattle.mv_linker.proofs.Found.{on_some}
+use Rattle.mv_interpreter.proofs.Borrows.Operands.{ok-is, found-is}
 use Rattle.mv_interpreter.proofs.Borrows.Transfers.{tags-long}
 use Rattle.mv_interpreter.proofs.Borrows.Available.{known-start}
 use Rattle.mv_interpreter.specs.Borrows.Locals.{AsKnown}
@@ -38,7 +39,7 @@ each-at : (test : FunctionDefinition → Stated → Bool) (ds : List FunctionDef
     → (c : Stated) × (slice_get cs k ≡ Some c) × (test d c ≡ true)
 each-at test [] cs k d h e = absurd cc
 each-at test (x ∷ ds) [] k d h e = absurd cc
-each-at test (x ∷ ds) (c ∷ cs) zero d h e = (c, refl, subst (λ y. test y c ≡ true) (some-is x d e) (and_parts (test x c) (each_function test ds cs) h).0)
+each-at test (x ∷ ds) (c ∷ cs) zero d h e = (c, refl, subst (λ y. test y c ≡ true) (same_Some x d e) (and_parts (test x c) (each_function test ds cs) h).0)
 each-at test (x ∷ ds) (c ∷ cs) (suc k) d h e = each-at test ds cs k d (and_parts (test x c) (each_function test ds cs) h).1 e
 
 module _ (depends : ℕ → ℕ → Type 0) (modules : List Module) (certificates : List Certificate) (store : StoreFacts depends modules certificates) where
@@ -49,7 +50,7 @@ module _ (depends : ℕ → ℕ → Type 0) (modules : List Module) (certificate
       let c = store.certified place m m_at in
       let l = each-at (locals_hold m) m.functions c.0 index d c.2 d_at in
       let e = each-at (edges_hold m) m.functions c.0 index d c.3 d_at in
-      (c.0, l.0, c.1, l.1, by_start l.0 (known_at_start m d) refl l.2 (subst (λ z. edges_hold m d z ≡ true) (some-is e.0 l.0 (sym e.1 ∙ l.1)) e.2))
+      (c.0, l.0, c.1, l.1, by_start l.0 (known_at_start m d) refl l.2 (subst (λ z. edges_hold m d z ≡ true) (same_Some e.0 l.0 (sym e.1 ∙ l.1)) e.2))
     where
       by_start : (stated : Stated) (o : Option Known) → known_at_start m d ≡ o
           → option_map_or (λ start. flow_holds locals_after locals_leq m d start.locals (map (option_map (λ (k : Known). k.locals)) stated)) o false ≡ true
@@ -62,8 +63,8 @@ module _ (depends : ℕ → ℕ → Type 0) (modules : List Module) (certificate
       → slice_get certificates place ≡ Some c → slice_get c index ≡ Some stated → Flows m d stated
   flows-at place index m d c stated m_at d_at c_at s_at =
       let t = function-flows place index m d m_at d_at in
-      let same : t.0 ≡ c = some-is t.0 c (sym t.2 ∙ c_at) in
-      let one : t.1 ≡ stated = some-is t.1 stated (sym (subst (λ (z : Certificate). slice_get z index ≡ Some t.1) same t.3) ∙ s_at) in
+      let same : t.0 ≡ c = same_Some t.0 c (sym t.2 ∙ c_at) in
+      let one : t.1 ≡ stated = same_Some t.1 stated (sym (subst (λ (z : Certificate). slice_get z index ≡ Some t.1) same t.3) ∙ s_at) in
       subst (Flows m d) one t.4
 
 -- ---- a callee
@@ -154,13 +155,13 @@ enters h i t e =
 pub entered-known : (m : Module) (d : FunctionDefinition) (start : Known) (handle : FunctionHandle) (parameters others : List Token) (args : List Value) → slice_get m.function_handles d.handle ≡ Some handle → slice_get m.signatures handle.parameters ≡ Some parameters
     → slice_get m.signatures d.locals ≡ Some others → length args ≡ length parameters → known_at_start m d ≡ Some start → AsKnown start.locals (map Some args ++ replicate (length others) None)
 entered-known m d start handle parameters others args handle_is parameters_are others_are long e =
-    some-bind2 (parameter_tokens m d) _ start e (λ ps ps_are e1.
-    some-bind2 (local_tokens m d) _ start e1 (λ ts ts_are e2.
-    let p : ps ≡ parameters = some-is ps parameters (sym ps_are ∙ found_parameters) in
-    let t : ts ≡ parameters ++ others = some-is ts (parameters ++ others) (sym ts_are ∙ found_locals) in
+    on_some (parameter_tokens m d) _ start e (λ ps ps_are e1.
+    on_some (local_tokens m d) _ start e1 (λ ts ts_are e2.
+    let p : ps ≡ parameters = same_Some ps parameters (sym ps_are ∙ found_parameters) in
+    let t : ts ≡ parameters ++ others = same_Some ts (parameters ++ others) (sym ts_are ∙ found_locals) in
     let n : length ps ≡ length args = ap length p ∙ sym long in
     let k : length ts - length ps ≡ length others = lengths ps ts p t in
-    subst (λ (z : Known). AsKnown z.locals (map Some args ++ replicate (length others) None)) (some-is _ start e2)
+    subst (λ (z : Known). AsKnown z.locals (map Some args ++ replicate (length others) None)) (same_Some _ start e2)
     (subst (λ (z : ℕ). AsKnown (replicate z Available ++ replicate (length ts - length ps) Unavailable) (map Some args ++ replicate (length others) None)) (sym n)
     (subst (λ (z : ℕ). AsKnown (replicate (length args) Available ++ replicate z Unavailable) (map Some args ++ replicate (length others) None)) (sym k) (known-start args (length others))))))
   where

@@ -1,33 +1,30 @@
 -- What an accepted certificate says before an instruction, and that it goes on to what it says before each that may come next.
 use Rattle.std.proofs.Common.{◌≡◌, ℕ, ◌+◌, ◌-◌, ◌<◌, ◌≤◌, Bool, true, false, List, [], ◌∷◌, ◌++◌, map, length, take, drop, refl, sym, ap, ◌∙◌, subst, Option, Some, None, option_map, arith, ◌⊎◌, inl, inr}
-use Rattle.std.specs.Prelude.{slice_get, slice_range, nat_le, ◌&&◌, zip}
-use Rattle.std.specs.List.{list_all, list_any}
-use Rattle.std.specs.Bool.{beq}
+use Rattle.std.specs.Prelude.{slice_get, slice_range, nat_le, zip}
+use Rattle.std.specs.List.{list_all}
 use Rattle.std.specs.Option.{option_map_or}
-use Rattle.std.specs.Str.{bytes_eq}
-use Rattle.std.proofs.lemmas.Bool.{true≢false, and_parts, and_from, leb-true, le-leb, or_left, or_right, cases_Bool, false_from_ne_true, eq-eqb}
-use Rattle.std.proofs.lemmas.Slice.Eq.{bytes_eq-Decides}
+use Rattle.std.proofs.lemmas.Bool.{true≢false, and_parts, and_from, leb-true, le-leb, cases_Bool, false_from_ne_true}
+use Rattle.std.proofs.lemmas.Option.{same_Some}
 use Rattle.mv_move_types.specs.declared.borrow.Availability.{Availability}
 use Rattle.mv_move_types.specs.declared.borrow.Availability.TheVariants.{Unavailable, Available, Maybe}
-use Rattle.mv_move_types.specs.declared.borrow.Node.{Node}
-use Rattle.mv_move_types.specs.declared.borrow.Node.TheVariants.{Slot, Own, Glob, Temp}
 use Rattle.mv_move_types.specs.declared.instruction.Instruction.{Instruction}
-use Rattle.mv_move_types.specs.declared.instruction.Instruction.TheVariants.{Ret, BrTrue, BrFalse, Branch, Abort}
 use Rattle.mv_move_types.specs.Module.{Module, FunctionDefinition}
 use Rattle.mv_cfg.specs.Blocks.{BasicBlock as Block, blocks, starts_from, leads_to}
 use Rattle.mv_move_types.specs.Flow.{ends_block, successors}
-use Rattle.mv_edges.specs.Edges.{Edge, Label, same_node, label_leq, edge_leq, edges_leq}
+use Rattle.mv_edges.specs.Edges.{Edge, edges_leq}
+use Rattle.mv_edges.proofs.Order.{edges_leq_itself}
 use Rattle.mv_certificate.specs.Certificate.{Known, Stated, through, instructions_of, stated_at, flows_into, block_holds, flow_holds}
 use Rattle.mv_locals_safety.specs.LocalsRules.{availability_leq, locals_leq, locals_after}
 use Rattle.mv_certificate.specs.Known.{known_leq, known_after, block_of, known_before}
 use Rattle.mv_type_states.specs.TypesHold.{Point}
 use Rattle.mv_borrow_graph.specs.BorrowRules.{edges_after}
 use Rattle.mv_type_states.specs.TypeRules.{Types, types_after}
-use Rattle.mv_interpreter.proofs.Typing.FlowFacts.{range_split, each, BlockFacts, block_facts, starts_rise, ended_begin}
-use Rattle.mv_interpreter.proofs.Borrows.Operands.{some-is}
+use Rattle.mv_linker.proofs.Found.{each, on_some}
+use Rattle.mv_interpreter.proofs.Typing.FlowFacts.{range_split, BlockFacts, block_facts, starts_rise, ended_begin}
 use Rattle.mv_interpreter.proofs.Borrows.Steps.{Among}
-use Rattle.mv_interpreter.proofs.Borrows.Certified.{some-bind2, Inside, inside, held, flows, both-through}
+use Rattle.mv_interpreter.proofs.Borrows.Certified.{Inside, inside, held, flows, both-through}
 use Rattle.mv_interpreter.proofs.Guided.Tiles.{Tiles, tiles-blocks, starts-rise, holds_place, tile-found, tile-ordered, find-has, zip-parts, zip-maps, stated-maps, stated-has, next-is}
+use Rattle.mv_interpreter.proofs.Typing.Advances.{one_successor}
 
 -- ---- each is below itself
 
@@ -40,35 +37,6 @@ pub locals-self : (ls : List Availability) → locals_leq ls ls ≡ true
 locals-self [] = refl
 locals-self (l ∷ ls) = and_from (availability_leq l l) (locals_leq ls ls) (availability-self l) (locals-self ls)
 
-beq-self : (b : Bool) → beq b b ≡ true
-beq-self true = refl
-beq-self false = refl
-
-node-self : (n : Node) → same_node n n ≡ true
-node-self (Slot i) = eq-eqb i i refl
-node-self (Own i) = eq-eqb i i refl
-node-self (Glob i) = eq-eqb i i refl
-node-self (Temp i) = eq-eqb i i refl
-
-label-self : (l : Label) → label_leq l l ≡ true
-label-self l = or_left _ _ (and_from (bytes_eq l.path l.path) (beq l.is_open l.is_open) ((bytes_eq-Decides l.path l.path).1 refl) (beq-self l.is_open))
-
-edge-self : (e : Edge) → edge_leq e e ≡ true
-edge-self e = and_from (same_node e.from e.from && same_node e.to e.to) (label_leq e.label e.label) (and_from (same_node e.from e.from) (same_node e.to e.to) (node-self e.from) (node-self e.to)) (label-self e.label)
-
-abbrev all_below : List Edge → List Edge → Bool
-all_below xs ys = list_all (λ a. list_any (edge_leq a) ys) xs
-
-more-above : (xs ys : List Edge) (y : Edge) → all_below xs ys ≡ true → all_below xs (y ∷ ys) ≡ true
-more-above [] ys y h = refl
-more-above (x ∷ xs) ys y h =
-    let t = and_parts (list_any (edge_leq x) ys) (all_below xs ys) h in
-    and_from (list_any (edge_leq x) (y ∷ ys)) (all_below xs (y ∷ ys)) (or_right (edge_leq x y) (list_any (edge_leq x) ys) t.0) (more-above xs ys y t.1)
-
-pub edges-self : (es : List Edge) → edges_leq es es ≡ true
-edges-self [] = refl
-edges-self (e ∷ es) = and_from (list_any (edge_leq e) (e ∷ es)) (all_below es (e ∷ es)) (or_left (edge_leq e e) (list_any (edge_leq e) es) (edge-self e)) (more-above es es e (edges-self es))
-
 -- ---- lists
 
 pub all-among : (p : ℕ → Bool) (xs : List ℕ) (x : ℕ) → list_all p xs ≡ true → Among x xs → p x ≡ true
@@ -76,21 +44,12 @@ all-among p [] x h a = absurd a
 all-among p (y ∷ ys) x h (inl e) = ap p e ∙ (and_parts (p y) (list_all p ys) h).0
 all-among p (y ∷ ys) x h (inr a) = all-among p ys x (and_parts (p y) (list_all p ys) h).1 a
 
--- where control goes on at the next instruction
-one-successor : (at : ℕ) (c : Instruction) → ends_block c ≡ false → successors at c ≡ (at + 1) ∷ []
-one-successor at (BrTrue t) e = absurd cc
-one-successor at (BrFalse t) e = absurd cc
-one-successor at (Branch t) e = absurd cc
-one-successor at Ret e = absurd cc
-one-successor at Abort e = absurd cc
-one-successor at _ e = refl
-
 -- what is known and the types, alike or apart
 pub known-parts : (p : Point) (i : Instruction) (k next : Known) → known_after p i k ≡ Some next → (locals_after p i k.locals ≡ Some next.locals) × (edges_after p i k.edges ≡ Some next.edges)
 known-parts p i k next e =
-    some-bind2 (locals_after p i k.locals) _ next e (λ l l_is e1.
-    some-bind2 (edges_after p i k.edges) _ next e1 (λ es es_are e2.
-    let same = some-is (record { locals = l; edges = es }) next e2 in
+    on_some (locals_after p i k.locals) _ next e (λ l l_is e1.
+    on_some (edges_after p i k.edges) _ next e1 (λ es es_are e2.
+    let same = same_Some (record { locals = l; edges = es }) next e2 in
     (l_is ∙ ap (λ (x : Known). Some x.locals) same, es_are ∙ ap (λ (x : Known). Some x.edges) same)))
 
 module _ (m : Module) (d : FunctionDefinition) (stated : Stated) where
@@ -119,8 +78,8 @@ module _ (m : Module) (d : FunctionDefinition) (stated : Stated) where
 
   pub known-here : (at : ℕ) (k : Known) (ts : Types) → known_before m d stated at ≡ Some (k, ts) → Before at k ts
   known-here at k ts e =
-      some-bind2 (block_of at with_blocks) _ (k, ts) e (λ b b_is e1.
-      some-bind2 b.1 _ (k, ts) e1 (λ known known_is e2.
+      on_some (block_of at with_blocks) _ (k, ts) e (λ b b_is e1.
+      on_some b.1 _ (k, ts) e1 (λ known known_is e2.
       let t = find-has (holds_place at) with_blocks b b_is in
       let bounds = and_parts (nat_le b.0.first at) (nat_le at b.0.last) t.2 in
       record {
@@ -156,7 +115,7 @@ module _ (m : Module) (d : FunctionDefinition) (stated : Stated) where
   abbrev point : Types → Point
   point ts = record { home = m; function = d; types = ts }
 
-  -- what the certificate gives of an instruction: its needs are met, and what is known behind it is below what is known before each that may come next
+  -- what the certificate gives of an instruction: its needs are met, and what is known after it is below what is known before each that may come next
   pub record Onward (at : ℕ) (i : Instruction) (k : Known) (ts : Types) : Type 0 where
     pub next : Known
     pub after : Types
@@ -183,7 +142,7 @@ module _ (m : Module) (d : FunctionDefinition) (stated : Stated) where
 
       mapped : {S : Type 0} (f : Known → S) (o : Option Known) (s : S) → option_map f o ≡ Some s → (k : Known) × (o ≡ Some k) × (f k ≡ s)
       mapped f None s e = absurd cc
-      mapped f (Some k) s e = (k, refl, some-is (f k) s e)
+      mapped f (Some k) s e = (k, refl, same_Some (f k) s e)
 
       -- both parts of what is known flow to one place
       both-flow : (j : ℕ) (ls : List Availability) (es : List Edge) → flows_into locals_leq stated_locals ls j ≡ true → flows_into edges_leq stated_edges es j ≡ true
@@ -193,7 +152,7 @@ module _ (m : Module) (d : FunctionDefinition) (stated : Stated) where
           let b = flows edges_after m d edges_leq stated_edges es j g in
           let u = mapped (λ (k : Known). k.locals) (stated_at with_blocks j) a.0 (sym (stated-maps (λ (k : Known). k.locals) (blocks d.code) stated j) ∙ a.1) in
           let v = mapped (λ (k : Known). k.edges) (stated_at with_blocks j) b.0 (sym (stated-maps (λ (k : Known). k.edges) (blocks d.code) stated j) ∙ b.1) in
-          let one : v.0 ≡ u.0 = some-is v.0 u.0 (sym v.1 ∙ u.1) in
+          let one : v.0 ≡ u.0 = same_Some v.0 u.0 (sym v.1 ∙ u.1) in
           (u.0, begins-known j u.0 u.1, subst (λ x. locals_leq ls x ≡ true) (sym u.2) a.2, subst (λ x. edges_leq es x ≡ true) (sym v.2 ∙ ap (λ (k : Known). k.edges) one) b.2)
 
       -- what is known where the function begins
@@ -238,7 +197,7 @@ module _ (m : Module) (d : FunctionDefinition) (stated : Stated) where
               → (rest : List Instruction) → (b.block.last + 1 ≡ at + 1 → rest ≡ []) → slice_range d.code b.block.first (at + 1) ≡ slice_range d.code b.block.first at ++ i ∷ []
               → Inside known_after m d (slice_range d.code b.block.first at) i rest (b.known, []) (record { locals = le.0; edges = ge.0 }, le.1) → Onward at i k ts
           from_inside b facts i is le ge exits_l exits_g rest rest_is front_is x =
-              let same : (x.known, x.types) ≡ (k, ts) = some-is (x.known, x.types) (k, ts) (sym x.here ∙ b.carried) in
+              let same : (x.known, x.types) ≡ (k, ts) = same_Some (x.known, x.types) (k, ts) (sym x.here ∙ b.carried) in
               let met : known_after (point ts) i k ≡ Some x.next = subst (λ (z : Known × Types). known_after (point z.1) i z.0 ≡ Some x.next) same x.met in
               let parts = known-parts (point ts) i k x.next met in
               let places = at_last_or at b.block.last b.not_behind in
@@ -258,7 +217,7 @@ module _ (m : Module) (d : FunctionDefinition) (stated : Stated) where
               inner j a p =
                   let shut : ends_block i ≡ false = false_from_ne_true (ends_block i) (λ h. facts.alone (at + 1) (let low : b.block.first ≤ at = b.not_before in omega (arith, low)) (omega (arith, p))
                   (ended_begin d.code 0 at (at + 1) true i d.code is h (let short : b.block.last < length d.code = facts.inside in omega (arith, p, short)) (omega arith))) in
-                  let there : Among j ((at + 1) ∷ []) = subst (λ xs. Among j xs) (one-successor at i shut) a in (
+                  let there : Among j ((at + 1) ∷ []) = subst (λ xs. Among j xs) (one_successor at i shut) a in (
                     x.next,
                     x.next_types,
                     elim there [
@@ -270,18 +229,18 @@ module _ (m : Module) (d : FunctionDefinition) (stated : Stated) where
                         is_here = b.is_here;
                         not_before = (let low : b.block.first ≤ at = b.not_before in omega (arith, low));
                         not_behind = omega (arith, p);
-                        carried = subst (λ (xs : List Instruction). through known_after m d xs (b.known, []) ≡ Some (x.next, x.next_types)) (sym front_is) x.behind;
+                        carried = subst (λ (xs : List Instruction). through known_after m d xs (b.known, []) ≡ Some (x.next, x.next_types)) (sym front_is) x.after;
                       }))
                       | inr e ↦ absurd e
                     ],
-                    and_from (locals_leq x.next.locals x.next.locals) (edges_leq x.next.edges x.next.edges) (locals-self x.next.locals) (edges-self x.next.edges),
+                    and_from (locals_leq x.next.locals x.next.locals) (edges_leq x.next.edges x.next.edges) (locals-self x.next.locals) (edges_leq_itself x.next.edges),
                   )
 
               last : (j : ℕ) → Among j (successors at i) → at ≡ b.block.last → (l : Known) × (us : Types) × (known_before m d stated j ≡ Some (l, us)) × (known_leq x.next l ≡ true)
               last j a p =
                   let none : rest ≡ [] = rest_is (ap (λ n. n + 1) (sym p)) in
                   let ended : (x.next, x.next_types) ≡ (record { locals = le.0; edges = ge.0 }, le.1) =
-                  some-is (x.next, x.next_types) (record { locals = le.0; edges = ge.0 }, le.1)
+                  same_Some (x.next, x.next_types) (record { locals = le.0; edges = ge.0 }, le.1)
                   (subst (λ (is : List Instruction). through known_after m d is (x.next, x.next_types) ≡ Some (record { locals = le.0; edges = ge.0 }, le.1)) none x.onward) in
                   let next_is : b.block.next ≡ successors at i =
                   next-is d.code (starts_from d.code 0 true d.code) b.place b.block b.is_block ∙ ap (leads_to d.code) (sym p) ∙ ap (λ (o : Option Instruction). option_map_or (successors at) o []) is in

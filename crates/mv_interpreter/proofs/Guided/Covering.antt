@@ -6,6 +6,7 @@ use Rattle.std.proofs.lemmas.Bool.{and_parts, and_from, eq-eqb, eqb-true, or_lef
 use Rattle.std.proofs.lemmas.Grind.{reverse_onto}
 use Rattle.std.proofs.lemmas.List.{append-nil, reverse-append, reverse-reverse}
 use Rattle.std.proofs.lemmas.List.Elements.{All-nil, All-cons}
+use Rattle.std.proofs.lemmas.Option.{same_Some}
 use Rattle.mv_move_types.specs.declared.tables.Key.{Key}
 use Rattle.mv_move_types.specs.declared.borrow.Node.{Node}
 use Rattle.mv_move_types.specs.declared.borrow.Node.TheVariants.{Slot, Own, Glob, Temp}
@@ -24,8 +25,6 @@ use Rattle.mv_interpreter.specs.Borrows.View.{root_of, ref_of, node_of, label_fr
 use Rattle.mv_interpreter.specs.Borrows.Stood.{Stood, seen_of, layer_at, StoodOn}
 use Rattle.mv_interpreter.proofs.Borrows.Edges.{node_of-inj}
 use Rattle.mv_interpreter.proofs.Borrows.Lists.{place-reverse, local-seen, stack-seen}
-use Rattle.mv_interpreter.proofs.Borrows.Operands.{some-is}
-use Rattle.mv_interpreter.proofs.Borrows.Transfers.{turned}
 use Rattle.mv_interpreter.proofs.Borrows.Free.{overlap-is}
 use Rattle.mv_interpreter.specs.Borrows.Hypotheses.{InRefs}
 use Rattle.mv_interpreter.proofs.Borrows.Available.{known-at}
@@ -34,6 +33,7 @@ use Rattle.mv_interpreter.proofs.Borrows.Apart.{InStood, OutOf, ApartFrom, EachB
 use Rattle.mv_interpreter.specs.Guided.Guided.{Placed, AllPlaced, AllCovered, Guided}
 use Rattle.mv_interpreter.specs.Guided.Facts.{StoreFacts}
 use Rattle.mv_interpreter.proofs.Guided.Chains.{sound-from}
+use Rattle.mv_interpreter.proofs.Lists.{map-turned}
 
 -- ---- lists by index
 
@@ -133,7 +133,7 @@ module _ (x : Stood) (known : Known) (are_locals : AsKnown known.locals x.frame.
 
   references-turned : reverse (operands_of v) ≡ stack_references v
   references-turned =
-      reverse-append (reverse x.lent) (map reference_of x.frame.stack) ∙ ap₂ (λ (a b : List (Option Reference)). a ++ b) (sym (turned reference_of x.frame.stack)) (reverse-reverse x.lent)
+      reverse-append (reverse x.lent) (map reference_of x.frame.stack) ∙ ap₂ (λ (a b : List (Option Reference)). a ++ b) (sym (map-turned reference_of x.frame.stack)) (reverse-reverse x.lent)
 
   -- a reference at a node is live there
   live-node : (n : Node) (r : Reference) → reference_at v n ≡ Some r → Live (layer_at x).frame (node_of place n) (ref_of r)
@@ -313,7 +313,7 @@ stood-at lent (f ∷ fs) (x ∷ xs) (suc k) d st h = let t = stood-at f.entered_
 stood-get : (lent : List (Option Reference)) (fs : List Frame) (xs : List Stood) (k : ℕ) (f : Frame) → StoodOn lent fs xs → slice_get fs k ≡ Some f → (w : Stood) × InStood w xs × (w.frame ≡ f)
 stood-get lent [] xs k g st h = absurd cc
 stood-get lent (f ∷ fs) [] k g st h = absurd st
-stood-get lent (f ∷ fs) (x ∷ xs) zero g st h = (x, inl refl, st.0 ∙ some-is f g h)
+stood-get lent (f ∷ fs) (x ∷ xs) zero g st h = (x, inl refl, st.0 ∙ same_Some f g h)
 stood-get lent (f ∷ fs) (x ∷ xs) (suc k) g st h = let t = stood-get f.entered_with fs xs k g st.2 h in (t.0, inr t.1, t.2)
 
 -- frames of one module stand together
@@ -324,7 +324,7 @@ from-frames x lent (y ∷ fs) [] j k f g st r l e h same = absurd st
 from-frames x lent (y ∷ fs) (w ∷ ws) j zero f g st r l e h same = absurd (omega (arith, l))
 from-frames x lent (y ∷ fs) (w ∷ ws) zero (suc k) f g st r l e h same =
     let z = stood-get y.entered_with fs ws k g st.2 h in
-    let here : w.frame ≡ f = st.0 ∙ some-is y f e in
+    let here : w.frame ≡ f = st.0 ∙ same_Some y f e in
     ap (λ (u : Frame). u.function.place) (sym here) ∙ r.0 z.0 z.1 (same ∙ ap (λ (u : Frame). u.function.place) (sym z.2))
 from-frames x lent (y ∷ fs) (w ∷ ws) (suc j) (suc k) f g st r l e h same = from-frames x y.entered_with fs ws j k f g st.2 r.1 (omega (arith, l)) e h same
 
@@ -334,7 +334,7 @@ frames-together lent (y ∷ fs) [] st t i j k e f g a b p q r same = absurd st
 frames-together lent (y ∷ fs) (x ∷ xs) st t i zero k e f g a b p q r same = absurd (omega (arith, a))
 frames-together lent (y ∷ fs) (x ∷ xs) st t i (suc j) zero e f g a b p q r same = absurd (omega (arith, b))
 frames-together lent (y ∷ fs) (x ∷ xs) st t zero (suc j) (suc k) e f g a b p q r same =
-    let here : x.frame ≡ e = st.0 ∙ some-is y e p in
+    let here : x.frame ≡ e = st.0 ∙ same_Some y e p in
     let place : x.frame.function.place ≡ e.function.place = ap (λ (u : Frame). u.function.place) here in
     from-frames x y.entered_with fs xs j k f g st.2 t.0 (omega (arith, b)) q r (place ∙ same) ∙ place
 frames-together lent (y ∷ fs) (x ∷ xs) st t (suc i) (suc j) (suc k) e f g a b p q r same = frames-together y.entered_with fs xs st.2 t.1 i j k e f g (omega (arith, a)) (omega (arith, b)) p q r same

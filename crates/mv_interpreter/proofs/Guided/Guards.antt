@@ -1,6 +1,7 @@
 -- The invariant gives what the rules of types need of borrows at each step.
 use Rattle.std.proofs.Common.{◌≡◌, ℕ, List, sym, ◌∙◌, ap, subst, Option, Some, None}
 use Rattle.std.specs.Prelude.{slice_get, option_and_then}
+use Rattle.std.proofs.lemmas.Option.{same_Some}
 use Rattle.mv_move_types.specs.declared.borrow.Node.TheVariants.{Glob}
 use Rattle.mv_move_types.specs.declared.token.Token.{Token}
 use Rattle.mv_move_types.specs.declared.instruction.Instruction.{Instruction}
@@ -12,11 +13,10 @@ use Rattle.mv_machine.specs.Live.{reference_of}
 use Rattle.mv_type_states.specs.TypesHold.{Point}
 use Rattle.mv_borrow_graph.specs.BorrowRules.{edges_after, no_edge_out}
 use Rattle.mv_certificate.specs.Certificate.{Certificate}
+use Rattle.mv_linker.proofs.Found.{on_some}
 use Rattle.mv_interpreter.specs.Borrows.Hypotheses.{token_kind, operand_kind}
 use Rattle.mv_interpreter.specs.Borrows.Stood.{Stood}
 use Rattle.mv_interpreter.proofs.Borrows.Edges.{then-some}
-use Rattle.mv_interpreter.proofs.Borrows.Operands.{some-is}
-use Rattle.mv_interpreter.proofs.Borrows.Certified.{some-bind2}
 use Rattle.mv_interpreter.specs.Borrows.Links.{Reaches}
 use Rattle.mv_interpreter.specs.Typing.Unreached.{Guarded, StepGuarded}
 use Rattle.mv_interpreter.specs.Guided.Guided.{Guided}
@@ -38,16 +38,16 @@ module _ (depends : ℕ → ℕ → Type 0) (modules : List Module) (certificate
   plain-at : (l : ℕ) (t : Token) (v : Value) → local_type w.home w.function l ≡ Some t → slice_get s.top.locals l ≡ Some (Some v) → reference_of v ≡ None → token_kind t ≡ None
   plain-at l t v t_is at none =
       let u = w.fits.locals l v (ap (λ (o : Option (Option Value)). option_and_then (λ y. y) o) at) in
-      ap token_kind (some-is t u.0 (sym t_is ∙ u.1)) ∙ u.2 ∙ ap operand_kind none
+      ap token_kind (same_Some t u.0 (sym t_is ∙ u.1)) ∙ u.2 ∙ ap operand_kind none
 
   guarded : (i : Instruction) → Reaches w.function.acquires i → Onward w.home w.function w.stated s.top.at i w.known w.types → Guarded i s
   unfolding edges_after
   guarded (MoveLoc l) q o = λ v at none.
-      some-bind2 (local_type w.home w.function l) _ o.next.edges o.edges (λ t t_is g.
+      on_some (local_type w.home w.function l) _ o.next.edges o.edges (λ t t_is g.
       local-unreached depends store.through store.no_cycle s x w.waiting w.sound.stood w.sound.chain l
       (moved-free depends store.through store.no_cycle modules s w.home w.function w.known w.types w.waiting w.sound w.fits w.are_locals facts.inside facts.rooted l t o.next.edges g (plain-at l t v t_is at none)))
   guarded (StLoc l) q o = λ v at none.
-      some-bind2 (local_type w.home w.function l) _ o.next.edges o.edges (λ t t_is g.
+      on_some (local_type w.home w.function l) _ o.next.edges o.edges (λ t t_is g.
       local-unreached depends store.through store.no_cycle s x w.waiting w.sound.stood w.sound.chain l
       (stored-free depends store.through store.no_cycle modules s w.home w.function w.known w.types w.waiting w.sound w.fits w.are_locals facts.inside facts.rooted l t o.next.edges g (plain-at l t v t_is at none)))
   guarded (MoveFrom k) q o = λ a rest e.
@@ -59,8 +59,8 @@ module _ (depends : ℕ → ℕ → Type 0) (modules : List Module) (certificate
 pub guards : (depends : ℕ → ℕ → Type 0) (modules : List Module) (certificates : List Certificate) → StoreFacts depends modules certificates → (s : State) → Guided depends modules certificates s → TypeFacts modules s → StepGuarded modules s
 guards depends modules certificates store s g facts home function i is_home is_function is_next =
     let w = working depends modules certificates s g facts.fit in
-    let one : home ≡ w.home = some-is home w.home (sym is_home ∙ w.is_home) in
-    let same : function ≡ w.function = some-is function w.function (sym (subst (λ (m : Module). slice_get m.functions s.top.function.index ≡ Some function) one is_function) ∙ w.is_function) in
+    let one : home ≡ w.home = same_Some home w.home (sym is_home ∙ w.is_home) in
+    let same : function ≡ w.function = same_Some function w.function (sym (subst (λ (m : Module). slice_get m.functions s.top.function.index ≡ Some function) one is_function) ∙ w.is_function) in
     let at : slice_get w.function.code s.top.at ≡ Some i = subst (λ (d : FunctionDefinition). slice_get d.code s.top.at ≡ Some i) same is_next in
     let fl = flows-at depends modules certificates store s.top.function.place s.top.function.index w.home w.function w.certificate w.stated w.is_home w.is_function w.is_certificate w.is_stated in
     guarded depends modules certificates store s w facts i (store.reaches s.top.function.place s.top.function.index s.top.at w.home w.function i w.is_home w.is_function at)

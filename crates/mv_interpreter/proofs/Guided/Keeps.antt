@@ -3,6 +3,7 @@ use Rattle.std.proofs.Common.{◌≡◌, ℕ, ◌+◌, List, [], ◌∷◌, ◌+
 use Rattle.std.specs.Prelude.{slice_get, ok_or, nat_lt, not, ◌==◌, flat_map, ⊤}
 use Rattle.std.specs.List.{list_all, list_any}
 use Rattle.std.proofs.lemmas.Bool.{and_parts}
+use Rattle.std.proofs.lemmas.Option.{same_Some}
 use Rattle.mv_move_types.specs.declared.instruction.Instruction.{Instruction}
 use Rattle.mv_move_types.specs.declared.instruction.Instruction.TheVariants.{Ret, Call}
 use Rattle.mv_move_types.specs.declared.tables.Definition.{Definition}
@@ -27,12 +28,12 @@ use Rattle.mv_machine.proofs.Laws.{on_bind, on_need}
 use Rattle.mv_interpreter.specs.Borrows.Hypotheses.{Fits, token_kind, operand_kind}
 use Rattle.mv_interpreter.specs.Borrows.Stood.{Stood, seen_of, point_of, layers, StoodOn, Sound}
 use Rattle.mv_interpreter.proofs.Borrows.Edges.{then-some}
-use Rattle.mv_interpreter.proofs.Borrows.Operands.{some-is, ok-is, found-is}
+use Rattle.mv_interpreter.proofs.Borrows.Operands.{ok-is, found-is}
 use Rattle.mv_interpreter.proofs.Borrows.Same.{SameFrames}
 use Rattle.mv_interpreter.proofs.Borrows.Certified.{edges-below}
 use Rattle.mv_interpreter.proofs.Borrows.Steps.{IsTransfer, Stays, step-kept}
 use Rattle.mv_interpreter.specs.Borrows.Links.{Reaches}
-use Rattle.mv_interpreter.proofs.Borrows.Transfers.{callee-is, ReturnedTo, returned, Called, called, turned}
+use Rattle.mv_interpreter.proofs.Borrows.Transfers.{callee-is, ReturnedTo, returned, Called, called}
 use Rattle.mv_interpreter.proofs.Borrows.Invariant.{refit, sound-row, sound-call, sound-return}
 use Rattle.mv_interpreter.proofs.Borrows.Available.{known-above, known-same}
 use Rattle.mv_interpreter.specs.Borrows.Locals.{AsKnown}
@@ -45,7 +46,8 @@ use Rattle.mv_interpreter.proofs.Guided.Results.{callee-agrees, returns-as, fit-
 use Rattle.std.proofs.lemmas.List.{map-append}
 use Rattle.mv_interpreter.proofs.Guided.Working.{Working, worked, working}
 use Rattle.mv_interpreter.proofs.Guided.Rows.{LocalsKnown, RowEnds, rule-ends}
-use Rattle.mv_interpreter.proofs.Guided.Accepted.{Flows, flows-at, function-flows, own-parameters, Enters, enters, entered-known}
+use Rattle.mv_interpreter.proofs.Guided.Accepted.{flows-at, function-flows, own-parameters, Enters, enters, entered-known}
+use Rattle.mv_interpreter.proofs.Lists.{map-turned}
 
 -- what a turn leads to is as the certificates say
 abbrev pub TurnGuided : (ℕ → ℕ → Type 0) → List Module → List Certificate → Turn → Type 0
@@ -132,12 +134,6 @@ module _ (depends : ℕ → ℕ → Type 0) (modules : List Module) (certificate
     are_locals = w.are_locals;
   }
 
-  flows-here : Flows w.home w.function w.stated
-  flows-here = flows-at depends modules certificates store s.top.function.place s.top.function.index w.home w.function w.certificate w.stated w.is_home w.is_function w.is_certificate w.is_stated
-
-  onward-here : (i : Instruction) → slice_get w.function.code s.top.at ≡ Some i → Onward w.home w.function w.stated s.top.at i w.known w.types
-  onward-here i is = goes-on w.home w.function w.stated flows-here.start flows-here.locals flows-here.edges s.top.at w.known w.types i w.is_known is
-
   -- any instruction but Call and Ret
   row-keeps : (i : Instruction) → (IsTransfer i → ⊥) → Reaches w.function.acquires i → (o : Onward w.home w.function w.stated s.top.at i w.known w.types) → Ends (LocalsKnown o.next.locals) (rule i h)
       → Ends (TurnGuided depends modules certificates) (rule i h)
@@ -174,7 +170,7 @@ module _ (depends : ℕ → ℕ → Type 0) (modules : List Module) (certificate
           let below = subst (λ fs. StoodOn t.top.entered_with fs (record { home = w.home; function = w.function; frame = record (s.top) { stack = stack }; lent = t.top.entered_with; types = w.types; edges = w.known.edges } ∷ ws)) k.below st in
           let same : stack ≡ k.stack = ap (λ (f : Frame). f.stack) below.0 in
           let entered : t.top.entered_with ≡ map reference_of k.arguments = ap (λ (f : Frame). f.entered_with) k.top in
-          ap (map reference_of) k.split ∙ map-append reference_of (reverse k.arguments) k.stack ∙ ap (λ l. l ++ map reference_of k.stack) (turned reference_of k.arguments)
+          ap (map reference_of) k.split ∙ map-append reference_of (reverse k.arguments) k.stack ∙ ap (λ l. l ++ map reference_of k.stack) (map-turned reference_of k.arguments)
           ∙ ap₂ (λ (a : List (Option Reference)) (b : List Value). reverse a ++ map reference_of b) (sym entered) (sym same)
 
       waits-fit : (t : State) (stack : List Value) → map reference_of s.top.stack ≡ reverse t.top.entered_with ++ map reference_of stack
@@ -231,7 +227,7 @@ module _ (depends : ℕ → ℕ → Type 0) (modules : List Module) (certificate
           )
           (waits-fit t u.2.0 (called-stack t u.2.0 w.waiting (u.2.1).stood.2 (called h j (Goes t) is)), w.waiting_fit) (
             λ i handle results i_at handle_at results_at own own_results own_at own_results_at.
-                callee-agrees h j n.c n.is_callee handle results (subst (λ k. slice_get w.home.function_handles k ≡ Some handle) (call-is i j (some-is (Call i) (Call j) (sym i_at ∙ at))) handle_at) results_at
+                callee-agrees h j n.c n.is_callee handle results (subst (λ k. slice_get w.home.function_handles k ≡ Some handle) (call-is i j (same_Some (Call i) (Call j) (sym i_at ∙ at))) handle_at) results_at
                 own own_results own_at own_results_at,
             w.agree,
           )
@@ -246,14 +242,14 @@ return-goes depends modules certificates store s t x v vs sound fits fits_v p ps
     let link = sound.links.0 in
     let ra = returns-as (record { modules = modules; home = x.home; function = x.function; state = s }) t e in
     let results : map token_kind (reverse link.link.results) ≡ map operand_kind (map reference_of s.top.stack) =
-    turned token_kind link.link.results ∙ ap reverse (agree.0 link.link.index link.link.handle link.link.results link.link.is_call link.link.is_handle link.link.is_results ra.own ra.results ra.is_own ra.are_results)
-    ∙ sym (turned token_kind ra.results) ∙ ra.kinds in
+    map-turned token_kind link.link.results ∙ ap reverse (agree.0 link.link.index link.link.handle link.link.results link.link.is_call link.link.is_handle link.link.is_results ra.own ra.results ra.is_own ra.are_results)
+    ∙ sym (map-turned token_kind ra.results) ∙ ra.kinds in
     let fl = flows-at depends modules certificates store v.frame.function.place v.frame.function.index v.home v.function p.certificate p.stated p.is_home p.is_function p.is_certificate p.is_stated in
     let o = goes-on v.home v.function p.stated fl.start fl.locals fl.edges v.frame.at p.known v.types (Call link.link.index) p.is_known link.link.is_call in
     let l = o.leads (v.frame.at + 1) (inl refl) in
     let below = and_parts (locals_leq o.next.locals l.0.locals) (edges_leq o.next.edges l.0.edges) l.3 in
-    let same : o.next.edges ≡ link.edges = some-is o.next.edges link.edges (sym o.edges ∙ ap (call_edges (point_of v) link.link.index) p.are_edges ∙ link.need) in
-    let locals : p.known.locals ≡ o.next.locals = some-is p.known.locals o.next.locals o.locals in
+    let same : o.next.edges ≡ link.edges = same_Some o.next.edges link.edges (sym o.edges ∙ ap (call_edges (point_of v) link.link.index) p.are_edges ∙ link.need) in
+    let locals : p.known.locals ≡ o.next.locals = same_Some p.known.locals o.next.locals o.locals in
     let top = returned-top s.below sound.stood.2 (returned (record { modules = modules; home = x.home; function = x.function; state = s }) (Goes t) e) in
     guided-from depends store.through store.no_cycle modules certificates t (record { home = v.home; function = v.function; frame = t.top; lent = []; types = l.1; edges = l.0.edges }) vs
     (sound-return depends store.through store.no_cycle modules s x v vs sound t l.0.edges l.1 e fits fits_v free results

@@ -1,8 +1,8 @@
 -- Over published modules no run meets a fault, and each state that it comes to is as the certificates say.
-use Rattle.std.proofs.Common.{◌≡◌, ℕ, zero, suc, ◌<◌, List, [], ◌∷◌, length, refl, sym, ◌∙◌, ap, subst, Option, Some, None, Ok}
-use Rattle.std.specs.Prelude.{slice_get, option_map, IsTrue, All}
+use Rattle.std.proofs.Common.{◌≡◌, ℕ, zero, suc, List, [], ◌∷◌, length, refl, sym, ◌∙◌, ap, subst, Option, Some, None}
+use Rattle.std.specs.Prelude.{slice_get, option_map, IsTrue}
 use Rattle.std.proofs.lemmas.Bool.{and_parts}
-use Rattle.std.proofs.lemmas.Option.{slice_get-map, slice_get_within, get_or_from_slice_get}
+use Rattle.std.proofs.lemmas.Option.{slice_get-map, same_Some}
 use Rattle.mv_move_types.specs.Module.{Module}
 use Rattle.mv_move_types.specs.Published.{PublishedModule}
 use Rattle.mv_acquires.specs.Acquires.{AcquiresHold}
@@ -15,13 +15,10 @@ use Rattle.mv_interpreter.specs.Typing.Accepted.{ModuleAccepted, StoreAccepted}
 use Rattle.mv_interpreter.specs.Guided.Store.{StoreCertified}
 use Rattle.mv_interpreter.specs.Guided.Outcome.{ComesTo}
 use Rattle.mv_interpreter.specs.Guided.Published.{AreCertificates, RunsAreFaultless, StatesHold}
-use Rattle.mv_interpreter.proofs.Borrows.Operands.{some-is, ok-is}
+use Rattle.mv_interpreter.proofs.Borrows.Operands.{ok-is}
 use Rattle.mv_interpreter.proofs.Typing.First.{begun, first_is}
 use Rattle.mv_interpreter.proofs.Guided.Whole.{run_faultless, run_holds}
-
--- what holds of all holds of each
-pub of-all : {A : Type 0} (P : A → Type 0) (xs : List A) (k : ℕ) (x : A) → All P xs → slice_get xs k ≡ Some x → P x
-of-all P xs k x all e = subst P (get_or_from_slice_get xs k x x e) (all k x (slice_get_within xs k x e))
+use Rattle.mv_interpreter.proofs.Lists.{All-at}
 
 -- a module's tables are those of a published module
 of-tables : (store : List PublishedModule) (place : ℕ) (m : Module) → slice_get (tables_in store) place ≡ Some m → (p : PublishedModule) × (slice_get store place ≡ Some p) × (p.tables ≡ m)
@@ -29,7 +26,7 @@ of-tables store place m e = by_case (slice_get store place) (sym (slice_get-map 
   where
     by_case : (o : Option PublishedModule) → option_map (λ (p : PublishedModule). p.tables) o ≡ Some m → (p : PublishedModule) × (o ≡ Some p) × (p.tables ≡ m)
     by_case None g = absurd cc
-    by_case (Some p) g = (p, refl, some-is p.tables m g)
+    by_case (Some p) g = (p, refl, same_Some p.tables m g)
 
 -- the certificates that the modules of a store were published with
 pub certificates_from : (store : List PublishedModule) → ((k : ℕ) (p : PublishedModule) → slice_get store k ≡ Some p → IsPublishable p) → (cs : List Certificate) × AreCertificates store cs
@@ -41,7 +38,7 @@ certificates_from (p ∷ ps) each =
   where
     at_place : (c : Certificate) → IsCertificateText p.tables p.certificate c → (cs : List Certificate) → AreCertificates ps cs
         → (place : ℕ) (q : PublishedModule) → slice_get (p ∷ ps) place ≡ Some q → (d : Certificate) × (slice_get (c ∷ cs) place ≡ Some d) × IsCertificateText q.tables q.certificate d
-    at_place c text cs are zero q at = (c, refl, subst (λ (z : PublishedModule). IsCertificateText z.tables z.certificate c) (some-is p q at) text)
+    at_place c text cs are zero q at = (c, refl, subst (λ (z : PublishedModule). IsCertificateText z.tables z.certificate c) (same_Some p q at) text)
     at_place c text cs are (suc k) q at = are.each k q at
 
 module _ (store : List PublishedModule) (is : IsStore store) where
@@ -55,7 +52,7 @@ module _ (store : List PublishedModule) (is : IsStore store) where
     where
       each : (place : ℕ) (m : Module) → (p : PublishedModule) × (slice_get store place ≡ Some p) × (p.tables ≡ m) → ModuleAccepted m
       each place m (p, at, same) =
-          let passed = of-all IsPublishable store place p is.passed at in
+          let passed = All-at IsPublishable store place p is.passed at in
           subst ModuleAccepted same (record {
             bounds = passed.sound.bounds;
             defined = passed.sound.defined;
@@ -63,7 +60,7 @@ module _ (store : List PublishedModule) (is : IsStore store) where
             abilities = passed.sound.abilities;
             flow = passed.sound.flow;
             types = passed.sound.types;
-            text = (of-all IsPublishable store place p is.passed at).spelled;
+            text = (All-at IsPublishable store place p is.passed at).spelled;
           })
 
   -- and certified by the certificates that its modules were published with
@@ -71,21 +68,21 @@ module _ (store : List PublishedModule) (is : IsStore store) where
   published_certified certificates are = record {
     accepted = accepted;
     certified = λ place m at. certified place m (of-tables store place m at);
-    acquires = λ place m at. let p = of-tables store place m at in subst AcquiresHold p.2 (of-all IsPublishable store place p.0 is.passed p.1).acquires;
+    acquires = λ place m at. let p = of-tables store place m at in subst AcquiresHold p.2 (All-at IsPublishable store place p.0 is.passed p.1).acquires;
   }
     where
       certified : (place : ℕ) (m : Module) → (p : PublishedModule) × (slice_get store place ≡ Some p) × (p.tables ≡ m) → (c : Certificate) × (slice_get certificates place ≡ Some c) × IsTrue (all_locals_hold m c) × IsTrue (all_edges_hold m c)
       certified place m (p, at, same) =
-          let own = (of-all IsPublishable store place p is.passed at).certificate in
+          let own = (All-at IsPublishable store place p is.passed at).certificate in
           let stated = are.each place p at in
-          let one : own.0 ≡ stated.0 = one-certificate p.tables p.certificate own.0 stated.0 ((of-all IsPublishable store place p is.passed at).spelled) own.1.0 stated.2 in
+          let one : own.0 ≡ stated.0 = one-certificate p.tables p.certificate own.0 stated.0 ((All-at IsPublishable store place p is.passed at).spelled) own.1.0 stated.2 in
           let parts = and_parts (all_locals_hold p.tables own.0) (all_edges_hold p.tables own.0) own.1.1 in
           subst (λ (z : Module). (c : Certificate) × (slice_get certificates place ≡ Some c) × IsTrue (all_locals_hold z c) × IsTrue (all_edges_hold z c)) same
           (stated.0, stated.1, subst (λ (c : Certificate). IsTrue (all_locals_hold p.tables c)) one parts.0, subst (λ (c : Certificate). IsTrue (all_edges_hold p.tables c)) one parts.1)
 
 pub runs_faultless : RunsAreFaultless
 runs_faultless store storage call budget is stored typed =
-    let cs = certificates_from store (λ k p at. of-all IsPublishable store k p is.passed at) in
+    let cs = certificates_from store (λ k p at. All-at IsPublishable store k p is.passed at) in
     run_faultless (tables_in store) cs.0 (published_certified store is cs.0 cs.1) storage call budget typed stored
 
 pub states_hold : StatesHold

@@ -4,6 +4,7 @@ use Rattle.std.specs.Prelude.{slice_get, ◌&&◌, ◌||◌, ◌==◌, option_an
 use Rattle.std.specs.Bool.{beq}
 use Rattle.std.proofs.lemmas.Bool.{and_parts, eqb-true}
 use Rattle.std.proofs.lemmas.List.{append-nil, reverse-reverse, take-append-drop}
+use Rattle.std.proofs.lemmas.Option.{same_Some}
 use Rattle.mv_move_types.specs.declared.tables.FunctionHandle.{FunctionHandle}
 use Rattle.mv_move_types.specs.declared.token.ValueType.{ValueType}
 use Rattle.mv_move_types.specs.declared.instruction.Instruction.TheVariants.{Call}
@@ -27,10 +28,11 @@ use Rattle.mv_interpreter.specs.Borrows.View.{local_of, held_as}
 use Rattle.mv_interpreter.specs.Borrows.Hypotheses.{Fits, token_kind, operand_kind}
 use Rattle.mv_interpreter.specs.Borrows.Stood.{Stood, seen_of, point_of, StoodOn}
 use Rattle.mv_interpreter.proofs.Borrows.Same.{SameSeen, SameFrames}
-use Rattle.mv_interpreter.proofs.Borrows.Operands.{some-is, ok-is, found-is, operands-is, tags-kinds}
-use Rattle.mv_interpreter.proofs.Borrows.Transfers.{turned}
+use Rattle.mv_interpreter.proofs.Borrows.Operands.{ok-is, found-is, operands-is, tags-kinds}
 use Rattle.mv_interpreter.proofs.Borrows.Invariant.{refit}
 use Rattle.mv_interpreter.specs.Guided.Guided.{StoodFit, AllAgree}
+use Rattle.mv_interpreter.proofs.Lists.{map-turned}
+use Rattle.mv_interpreter.proofs.Typing.Tests.{beq-is}
 
 -- ---- tags
 
@@ -60,12 +62,6 @@ named-kinds modules m (t ∷ ts) tags e =
     on_bind (for_each (tag_named modules m) ts) _ tags e1 (λ more more_is e2.
     ap₂ (λ (x : Option Bool) (xs : List (Option Bool)). x ∷ xs) (named-kind modules m t tag tag_is) (named-kinds modules m ts more more_is) ∙ ap (map tag_kind) (ok-is (tag ∷ more) tags e2)))
 
-beq-is : (a b : Bool) → beq a b ≡ true → a ≡ b
-beq-is true true h = refl
-beq-is false false h = refl
-beq-is true false h = absurd cc
-beq-is false true h = absurd cc
-
 same-kind-tags : (a b : Tag) → same_tag a b ≡ true → tag_kind a ≡ tag_kind b
 same-kind-tags (LeafTag j) (LeafTag k) h = refl
 same-kind-tags (StructTag a) (StructTag b) h = refl
@@ -91,7 +87,7 @@ signature-kinds : (modules : List Module) (m : Module) (i : ℕ) (tags : List Ta
 unfolding signature_tags
 signature-kinds modules m i tags ts e at =
     on_bind (entry m.signatures i) _ tags e (λ us us_are e1.
-    ap (map token_kind) (some-is ts us (sym at ∙ found-is (slice_get m.signatures i) _ us us_are)) ∙ named-kinds modules m us tags e1)
+    ap (map token_kind) (same_Some ts us (sym at ∙ found-is (slice_get m.signatures i) _ us us_are)) ∙ named-kinds modules m us tags e1)
 
 -- a callee's results are references where its handle says so
 pub callee-agrees : (h : Here) (j : ℕ) (c : Callee) → callee h j ≡ Ok c → (handle : FunctionHandle) (results : List Token) → slice_get h.home.function_handles j ≡ Some handle → slice_get h.home.signatures handle.results ≡ Some results
@@ -112,13 +108,13 @@ callee-agrees h j c e handle results handle_at results_at own own_results =
     on_bind (signature_tags h.modules home own_handle.results) _ c e11 (λ own_tags own_tags_are e12.
     on_need (same_tags parameters own_parameters && same_tags tags own_tags) (Faults LinkageFault) _ c e12 (λ same e13.
     on_need ((place == h.state.top.function.place) || is_public d) (Faults LinkageFault) _ c e13 (λ allowed e14.
-    let one : handle ≡ handle1 = some-is handle handle1 (sym handle_at ∙ found-is (slice_get h.home.function_handles j) _ handle1 handle_is) in
+    let one : handle ≡ handle1 = same_Some handle handle1 (sym handle_at ∙ found-is (slice_get h.home.function_handles j) _ handle1 handle_is) in
     let left : map token_kind results ≡ map tag_kind tags = signature-kinds h.modules h.home handle1.results tags results tags_are (subst (λ (z : FunctionHandle). slice_get h.home.signatures z.results ≡ Some results) one results_at) in
     let middle : map tag_kind tags ≡ map tag_kind own_tags = same-kinds-tags tags own_tags (and_parts (same_tags parameters own_parameters) (same_tags tags own_tags) same).1 in
     subst (λ (z : Callee). slice_get z.home.function_handles z.definition.handle ≡ Some own → slice_get z.home.signatures own.results ≡ Some own_results → map token_kind results ≡ map token_kind own_results)
     (ok-is (record { function = record { place = place; index = index }; home = home; definition = d; parameters = parameters; results = tags }) c e14)
     (λ own_at own_results_at.
-    let two : own ≡ own_handle = some-is own own_handle (sym own_at ∙ found-is (slice_get home.function_handles d.handle) _ own_handle own_handle_is) in
+    let two : own ≡ own_handle = same_Some own own_handle (sym own_at ∙ found-is (slice_get home.function_handles d.handle) _ own_handle own_handle_is) in
     left ∙ middle ∙ sym (signature-kinds h.modules home own_handle.results own_tags own_results own_tags_are (subst (λ (z : FunctionHandle). slice_get home.signatures z.results ≡ Some own_results) two own_results_at)))))))))))))))))
 
 -- the results of a function that returns are references where its own handle says so
@@ -146,8 +142,8 @@ returns-as h t e =
       results = ts;
       is_own = found-is (slice_get h.home.function_handles h.function.handle) _ handle handle_is;
       are_results = found-is (slice_get h.home.signatures handle.results) _ ts ts_are;
-      kinds = turned token_kind ts ∙ ap reverse (tags-kinds h.modules h.home h.state taken.0 ts tags named fit) ∙ sym (turned operand_kind (map reference_of taken.0))
-          ∙ ap (map operand_kind) (sym (turned reference_of taken.0)) ∙ ap (λ (l : List Value). map operand_kind (map reference_of l)) all;
+      kinds = map-turned token_kind ts ∙ ap reverse (tags-kinds h.modules h.home h.state taken.0 ts tags named fit) ∙ sym (map-turned operand_kind (map reference_of taken.0))
+          ∙ ap (map operand_kind) (sym (map-turned reference_of taken.0)) ∙ ap (λ (l : List Value). map operand_kind (map reference_of l)) all;
     }))))))
   where
     whole : (n : ℕ) (rest : List Value) → length rest ≡ 0 → rest ≡ drop n h.state.top.stack → take n h.state.top.stack ≡ h.state.top.stack
@@ -178,7 +174,7 @@ local-held (x ∷ xs) (y ∷ ys) zero v h e = first x (heads h ∙ ap local_of e
 
     first : (x : Option Value) → local_of x ≡ Some (held_as (reference_of v)) → (u : Value) × (x ≡ Some u) × (operand_kind (reference_of u) ≡ operand_kind (reference_of v))
     first None g = absurd cc
-    first (Some u) g = (u, refl, sym (held-kind (reference_of u)) ∙ ap kind_held (some-is (held_as (reference_of u)) (held_as (reference_of v)) g) ∙ held-kind (reference_of v))
+    first (Some u) g = (u, refl, sym (held-kind (reference_of u)) ∙ ap kind_held (same_Some (held_as (reference_of u)) (held_as (reference_of v)) g) ∙ held-kind (reference_of v))
 local-held (x ∷ xs) (y ∷ ys) (suc l) v h e = local-held xs ys l v (tails h) e
   where
     tails : (local_of x ∷ map local_of xs) ≡ (local_of y ∷ map local_of ys) → map local_of xs ≡ map local_of ys

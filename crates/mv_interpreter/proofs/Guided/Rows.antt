@@ -4,6 +4,7 @@ use Rattle.std.specs.Prelude.{slice_get, slice_set, ok_or, ◌&&◌, ◌||◌, �
 use Rattle.std.specs.List.{list_any, list_all, cons_option}
 use Rattle.std.proofs.lemmas.Bool.{and_parts, eq-eqb, eqb-true}
 use Rattle.std.proofs.lemmas.Grind.{reverse_onto}
+use Rattle.std.proofs.lemmas.Option.{same_Some}
 use Rattle.mv_move_types.specs.declared.borrow.Availability.{Availability}
 use Rattle.mv_move_types.specs.declared.borrow.Availability.TheVariants.{Unavailable, Available}
 use Rattle.mv_move_types.specs.declared.borrow.Node.TheVariants.{Own, Glob, Temp}
@@ -43,14 +44,14 @@ use Rattle.mv_machine.specs.StepGlobals.{borrow_global, move_from, move_to, exis
 use Rattle.mv_machine.specs.StepStructs.{pack, unpack, own_struct}
 use Rattle.mv_machine.specs.StepNumbers.{constant, constant_value, binary, comparison, shift, cast, logic, negation, equality}
 use Rattle.mv_machine.specs.StepControl.{branch_if, abort, callee, call, signature_tags, return_results, leaves, holds_frame}
+use Rattle.mv_linker.proofs.Found.{on_some}
 use Rattle.mv_interpreter.specs.Borrows.View.{root_of, alone}
 use Rattle.mv_interpreter.specs.Borrows.Stood.{Stood, Sound}
 use Rattle.mv_interpreter.specs.Borrows.Hypotheses.{Fits, NoneInside, token_kind, operand_kind, InRefs}
 use Rattle.mv_interpreter.proofs.Borrows.Edges.{then-some}
 use Rattle.mv_interpreter.proofs.Borrows.Mutability.{kinds-length}
 use Rattle.mv_interpreter.proofs.Borrows.Same.{write-same, plain-tagged}
-use Rattle.mv_interpreter.proofs.Borrows.Operands.{some-is, found-is, held-is, operand-is, operands-is, reference-is}
-use Rattle.mv_interpreter.proofs.Borrows.Certified.{some-bind2}
+use Rattle.mv_interpreter.proofs.Borrows.Operands.{found-is, held-is, operand-is, operands-is, reference-is}
 use Rattle.mv_interpreter.specs.Borrows.Links.{Reaches}
 use Rattle.mv_interpreter.proofs.Borrows.Free.{in-either, none-frozen, local-free, struct-unfrozen, write-unfrozen, return-unfrozen}
 use Rattle.mv_interpreter.proofs.Borrows.Available.{known-at, known-set, known-same, held-found, needed-holds, overwritten-drops, left-drops}
@@ -110,9 +111,6 @@ unfolding signature_tags
 signature-well modules m i = after _ (entry m.signatures i) _ (found-well _ _ tt) (λ ts e1. each-well (tag_named modules m) ts (tag-well modules m))
 
 -- ---- numbers
-
-Operates : Operator → Type 0
-Operates f = (w : Width) (x y : ℕ) → Goes_well (f w x y)
 
 choice-well : (b : Bool) (n : ℕ) (e : Failure) → Goes_well {A = ℕ} (Err e) → Goes_well {A = ℕ} (cond b (Ok n) (Err e))
 choice-well true n e h = tt
@@ -261,7 +259,7 @@ module _ (depends : ℕ → ℕ → Type 0) (through : (a b c : ℕ) → depends
         none-frozen rs (local_place h l) (λ r i im o.
         let e = local-root r.place.root s.top.number l (and_parts (same_root r.place.root (Local s.top.number l)) _ o).0 in
         let q = plain-local r l (among r i) e in
-        local-free depends through no_cycle s x xs sound.stood sound.chain l (free (ap token_kind (some-is t q.0 (sym is ∙ q.1)) ∙ q.2)) r (among r i) (ap root_of e))
+        local-free depends through no_cycle s x xs sound.stood sound.chain l (free (ap token_kind (same_Some t q.0 (sym is ∙ q.1)) ∙ q.2)) r (among r i) (ap root_of e))
 
     pub moved-free : (l : ℕ) (t : Token) (es : List Edge) → move_edges p l t known.edges ≡ Some es → token_kind t ≡ None → no_edge_out (Own l) known.edges ≡ true
     moved-free l (Plain t) es e k = (then-some (no_edge_out (Own l) known.edges) known.edges es e).0
@@ -279,7 +277,7 @@ module _ (depends : ℕ → ℕ → Type 0) (through : (a b c : ℕ) → depends
     -- ---- rows that leave the locals
     module _ (ls : List Availability) (same : Some known.locals ≡ Some ls) where
       stay : AsKnown ls s.top.locals
-      stay = subst (λ z. AsKnown z s.top.locals) (some-is known.locals ls same) as_known
+      stay = subst (λ z. AsKnown z s.top.locals) (same_Some known.locals ls same) as_known
 
       gives-ends : (r : Result (List Value) Failure) → Goes_well r → Ends (LocalsKnown ls) (gives h r)
       gives-ends r ok = after (LocalsKnown ls) r _ ok (λ stack e. stay)
@@ -446,21 +444,21 @@ module _ (depends : ℕ → ℕ → Type 0) (through : (a b c : ℕ) → depends
     move-ends : (l : ℕ) (ls : List Availability) (es : List Edge) → locals_after p (MoveLoc l) known.locals ≡ Some ls → edges_after p (MoveLoc l) known.edges ≡ Some es → Ends (LocalsKnown ls) (move_local h l)
     unfolding move_local locals_after edges_after
     move-ends l ls es e g =
-        some-bind2 (needs_available l known.locals) _ ls e (λ before before_is e1.
-        some-bind2 (local_type home function l) _ es g (λ t t_is g1.
+        on_some (needs_available l known.locals) _ ls e (λ before before_is e1.
+        on_some (local_type home function l) _ es g (λ t t_is g1.
         let v = held-found h l known.locals before as_known before_is in
         let same = (needed-holds l known.locals before s.top.locals as_known before_is).0 in
         given _ (held h l) _ v.0 v.1
         (passes _ (not (is_frozen_by (live s) (local_place h l))) (Faults FrozenFault) _
         (turned (local-not-frozen l t t_is (moved-free l t es g1) (live s) (λ r i. i)))
-        (subst (λ z. AsKnown z (slice_set s.top.locals l None)) (ap (λ z. slice_set z l Unavailable) (sym same) ∙ some-is _ ls e1) (known-set known.locals s.top.locals l Unavailable None as_known refl)))))
+        (subst (λ z. AsKnown z (slice_set s.top.locals l None)) (ap (λ z. slice_set z l Unavailable) (sym same) ∙ same_Some _ ls e1) (known-set known.locals s.top.locals l Unavailable None as_known refl)))))
 
     store-ends : (l : ℕ) (ls : List Availability) (es : List Edge) → Able h types (StLoc l) → locals_after p (StLoc l) known.locals ≡ Some ls → edges_after p (StLoc l) known.edges ≡ Some es → Ends (LocalsKnown ls) (store_local h l)
     unfolding store_local locals_after edges_after
     store-ends l ls es able e g =
-        some-bind2 (local_type home function l) _ ls e (λ t t_is e1.
-        some-bind2 (slice_get known.locals l) _ ls e1 (λ a a_is e2.
-        some-bind2 (local_type home function l) _ es g (λ u u_is g1.
+        on_some (local_type home function l) _ ls e (λ t t_is e1.
+        on_some (slice_get known.locals l) _ ls e1 (λ a a_is e2.
+        on_some (local_type home function l) _ es g (λ u u_is g1.
         let drops = then-some (may_overwrite p t a) (slice_set known.locals l Available) ls e2 in
         after _ (operand s.top.stack) _ (operand-well s.top.stack) (λ top top_is.
         after _ (entry s.top.locals l) _ (found-well _ _ tt) (λ old old_is.
@@ -477,7 +475,7 @@ module _ (depends : ℕ → ℕ → Type 0) (through : (a b c : ℕ) → depends
     return-ends : (ls : List Availability) (es : List Edge) → Able h types Ret → locals_after p Ret known.locals ≡ Some ls → edges_after p Ret known.edges ≡ Some es → Goes_well (return_results h)
     unfolding return_results locals_after edges_after
     return-ends ls es able e g =
-        some-bind2 (local_tokens home function) _ ls e (λ ts ts_are e1.
+        on_some (local_tokens home function) _ ls e (λ ts ts_are e1.
         let leave = (then-some (may_leave p ts known.locals) known.locals ls e1).0 in
         let stays = (then-some _ known.edges es g).1 in
         after _ (entry home.function_handles function.handle) _ (found-well _ _ tt) (λ handle handle_is.

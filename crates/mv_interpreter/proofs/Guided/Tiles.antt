@@ -2,11 +2,11 @@
 use Rattle.std.proofs.Common.{◌≡◌, ℕ, zero, suc, ◌+◌, ◌-◌, ◌<◌, ◌≤◌, Bool, true, false, cond, List, [], ◌∷◌, ◌++◌, map, length, refl, sym, ap, ◌∙◌, subst, Option, Some, None, option_map, arith}
 use Rattle.std.specs.Prelude.{slice_get, nat_le, ◌&&◌, ◌||◌, ◌==◌, find, zip, option_and_then, ⊤}
 use Rattle.std.proofs.lemmas.Bool.{eqb-true, leb-true, le-leb, and_from, and_right, false_from_ne_true}
+use Rattle.std.proofs.lemmas.Option.{same_Some}
 use Rattle.mv_move_types.specs.declared.instruction.Instruction.{Instruction}
 use Rattle.mv_cfg.specs.Blocks.{BasicBlock as Block, blocks_at, block_between, starts_from, is_target, leads_to}
 use Rattle.mv_move_types.specs.Flow.{ends_block}
 use Rattle.mv_certificate.specs.Certificate.{stated_at}
-use Rattle.mv_interpreter.proofs.Borrows.Operands.{some-is}
 
 -- numbers that rise from one bound to another
 abbrev pub Rises : ℕ → ℕ → List ℕ → Type 0
@@ -50,7 +50,7 @@ find-has p [] z e = absurd cc
 find-has p (x ∷ xs) z e = by_case (p x) refl e (λ g. find-has p xs z g)
   where
     by_case : (b : Bool) → p x ≡ b → cond b (Some x) (find p xs) ≡ Some z → (find p xs ≡ Some z → (k : ℕ) × (slice_get xs k ≡ Some z) × (p z ≡ true)) → (k : ℕ) × (slice_get (x ∷ xs) k ≡ Some z) × (p z ≡ true)
-    by_case true h g further = (0, g, ap p (sym (some-is x z g)) ∙ h)
+    by_case true h g further = (0, g, ap p (sym (same_Some x z g)) ∙ h)
     by_case false h g further = let t = further g in (suc t.0, t.1, t.2)
 
 abbrev pub holds_place : {S : Type 0} → ℕ → Block × S → Bool
@@ -60,7 +60,7 @@ holds_place i b = nat_le b.0.first i && nat_le i b.0.last
 pub tile-found : {S : Type 0} (low : ℕ) (zs : List (Block × S)) (k i : ℕ) (z : Block × S) → Tiles low zs → slice_get zs k ≡ Some z → z.0.first ≤ i → i ≤ z.0.last → (find (holds_place i) zs ≡ Some z) × (low ≤ z.0.first)
 tile-found low [] k i z t e a b = absurd cc
 tile-found {S = S} low (y ∷ zs) zero i z t e a b =
-    let same = some-is y z e in
+    let same = same_Some y z e in
     let test : holds_place i y ≡ true = subst (λ x. holds_place i x ≡ true) (sym same) (and_from (nat_le z.0.first i) (nat_le i z.0.last) (le-leb z.0.first i a) (le-leb i z.0.last b)) in
     (ap (λ c. cond c (Some y) (find (holds_place i) zs)) test ∙ e, subst (λ (x : Block × S). low ≤ x.0.first) same t.0)
 tile-found {S = S} low (y ∷ zs) (suc k) i z t e a b =
@@ -73,7 +73,7 @@ tile-found {S = S} low (y ∷ zs) (suc k) i z t e a b =
 
 pub tile-ordered : {S : Type 0} (low : ℕ) (zs : List (Block × S)) (k : ℕ) (z : Block × S) → Tiles low zs → slice_get zs k ≡ Some z → z.0.first ≤ z.0.last
 tile-ordered low [] k z t e = absurd cc
-tile-ordered {S = S} low (y ∷ zs) zero z t e = subst (λ (x : Block × S). x.0.first ≤ x.0.last) (some-is y z e) t.1
+tile-ordered {S = S} low (y ∷ zs) zero z t e = subst (λ (x : Block × S). x.0.first ≤ x.0.last) (same_Some y z e) t.1
 tile-ordered {S = S} low (y ∷ zs) (suc k) z t e = tile-ordered (y.0.last + 1) zs k z t.2 e
 
 -- ---- what is stated
@@ -81,13 +81,13 @@ tile-ordered {S = S} low (y ∷ zs) (suc k) z t e = tile-ordered (y.0.last + 1) 
 pub zip-parts : {A B : Type 0} (xs : List A) (ys : List B) (k : ℕ) (z : A × B) → slice_get (zip xs ys) k ≡ Some z → (slice_get xs k ≡ Some z.0) × (slice_get ys k ≡ Some z.1)
 zip-parts {A = A} {B = B} [] ys k z e = absurd cc
 zip-parts {A = A} {B = B} (x ∷ xs) [] k z e = absurd cc
-zip-parts {A = A} {B = B} (x ∷ xs) (y ∷ ys) zero z e = let same = some-is (x, y) z e in (ap (λ (u : A × B). Some u.0) same, ap (λ (u : A × B). Some u.1) same)
+zip-parts {A = A} {B = B} (x ∷ xs) (y ∷ ys) zero z e = let same = same_Some (x, y) z e in (ap (λ (u : A × B). Some u.0) same, ap (λ (u : A × B). Some u.1) same)
 zip-parts {A = A} {B = B} (x ∷ xs) (y ∷ ys) (suc k) z e = zip-parts xs ys k z e
 
 pub zip-maps : {A B C : Type 0} (g : B → C) (xs : List A) (ys : List B) (k : ℕ) (z : A × B) → slice_get (zip xs ys) k ≡ Some z → slice_get (zip xs (map g ys)) k ≡ Some (z.0, g z.1)
 zip-maps {A = A} {B = B} {C = C} g [] ys k z e = absurd cc
 zip-maps {A = A} {B = B} {C = C} g (x ∷ xs) [] k z e = absurd cc
-zip-maps {A = A} {B = B} {C = C} g (x ∷ xs) (y ∷ ys) zero z e = ap (λ (u : A × B). Some (u.0, g u.1)) (some-is (x, y) z e)
+zip-maps {A = A} {B = B} {C = C} g (x ∷ xs) (y ∷ ys) zero z e = ap (λ (u : A × B). Some (u.0, g u.1)) (same_Some (x, y) z e)
 zip-maps {A = A} {B = B} {C = C} g (x ∷ xs) (y ∷ ys) (suc k) z e = zip-maps g xs ys k z e
 
 pub stated-maps : {S U : Type 0} (f : S → U) (bs : List Block) (st : List (Option S)) (i : ℕ) → stated_at (zip bs (map (option_map f) st)) i ≡ option_map f (stated_at (zip bs st) i)
@@ -111,7 +111,7 @@ stated-has {S = S} zs i s e = by_case (find (λ b. b.0.first == i) zs) refl e
 
 pub next-is : (code : List Instruction) (starts : List ℕ) (k : ℕ) (b : Block) → slice_get (blocks_at code starts) k ≡ Some b → b.next ≡ leads_to code b.last
 next-is code [] k b e = absurd cc
-next-is code (i ∷ []) zero b e = subst (λ (x : Block). x.next ≡ leads_to code x.last) (some-is (block_between code i (length code)) b e) refl
+next-is code (i ∷ []) zero b e = subst (λ (x : Block). x.next ≡ leads_to code x.last) (same_Some (block_between code i (length code)) b e) refl
 next-is code (i ∷ []) (suc k) b e = absurd cc
-next-is code (i ∷ j ∷ starts) zero b e = subst (λ (x : Block). x.next ≡ leads_to code x.last) (some-is (block_between code i j) b e) refl
+next-is code (i ∷ j ∷ starts) zero b e = subst (λ (x : Block). x.next ≡ leads_to code x.last) (same_Some (block_between code i j) b e) refl
 next-is code (i ∷ j ∷ starts) (suc k) b e = next-is code (j ∷ starts) k b e

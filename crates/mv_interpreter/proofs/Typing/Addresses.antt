@@ -11,11 +11,11 @@ use Rattle.mv_move_types.specs.declared.token.LeafKind.TheVariants.{Address}
 use Rattle.mv_move_types.specs.Module.{Module}
 use Rattle.mv_move_types.specs.Numbers.{big_endian}
 use Rattle.mv_module_text.specs.Fits.{is_byte, is_index, constant_fits, token_fits}
+use Rattle.mv_linker.proofs.Found.{each}
 use Rattle.mv_interpreter.specs.Typing.HasType.{in_range}
 use Rattle.mv_interpreter.specs.Typing.Facts.{SoundStore}
 use Rattle.mv_interpreter.specs.Typing.Accepted.{StoreAccepted}
 use Rattle.mv_interpreter.proofs.Typing.Operands.{on_test}
-use Rattle.mv_interpreter.proofs.Typing.FlowFacts.{each}
 use Rattle.mv_interpreter.proofs.Typing.Store.{AddressesFit, sound_store}
 
 worth : (i b : ℕ) → byte_worth i b ≡ b * 256 ^ i

@@ -21,15 +21,14 @@ use Rattle.mv_bounds.specs.Bounds.{below, function_handle_in, function_in, instr
 use Rattle.mv_type_states.specs.TypesHold.{function_is_typed}
 use Rattle.mv_cfg.specs.Blocks.{ends_well}
 use Rattle.mv_machine.proofs.Laws.{on_need}
+use Rattle.mv_linker.proofs.Found.{on_some, each, there_below, then_found}
 use Rattle.mv_interpreter.specs.Typing.HasType.{in_range}
 use Rattle.mv_interpreter.specs.Typing.StateTyped.{HasToken, HaveTokens}
 use Rattle.mv_interpreter.specs.Typing.Accepted.{ModuleAccepted, StoreAccepted}
 use Rattle.mv_interpreter.proofs.Typing.Tests.{same_kind-is}
-use Rattle.mv_interpreter.proofs.Typing.Operands.{on_some, of_leaf}
-use Rattle.mv_interpreter.proofs.Typing.FlowFacts.{each}
+use Rattle.mv_interpreter.proofs.Typing.Operands.{of_leaf}
 use Rattle.mv_interpreter.proofs.Typing.Advances.{start_typed}
-use Rattle.mv_interpreter.proofs.Typing.Names.{there_at, tokens_there}
-use Rattle.mv_interpreter.proofs.Typing.OwnDefinitions.{then_found}
+use Rattle.mv_interpreter.proofs.Typing.Names.{tokens_there}
 use Rattle.mv_interpreter.proofs.Typing.First.{Nowhere, CallTyped}
 
 -- what is found or is a reason against it
@@ -77,11 +76,11 @@ call_typed modules store place index home d tokens arguments home_at d_at tokens
     let inside = each (function_in home) home.functions index d a.bounds.functions d_at in
     let inside3 = first_so (below d.handle home.function_handles && below d.locals home.signatures && list_all (λ i. below i home.structs) d.acquires) (list_all (instruction_in home (local_count home d) (length d.code)) d.code) inside in
     let inside2 = first_so (below d.handle home.function_handles && below d.locals home.signatures) (list_all (λ i. below i home.structs) d.acquires) inside3 in
-    let others = there_at home.signatures d.locals (second_so (below d.handle home.function_handles) (below d.locals home.signatures) inside2) in
+    let others = there_below home.signatures d.locals (second_so (below d.handle home.function_handles) (below d.locals home.signatures) inside2) in
     let code_inside = second_so (below d.handle home.function_handles && below d.locals home.signatures && list_all (λ i. below i home.structs) d.acquires) (list_all (instruction_in home (local_count home d) (length d.code)) d.code) inside in
     let written = each (function_definition_fits home.version) home.functions index d a.text.functions d_at in
     let handle_in = each (function_handle_in home) home.function_handles d.handle handle a.bounds.function_handles handle_is in
-    let results = there_at home.signatures handle.results (second_so (below handle.module home.module_handles && below handle.name home.identifiers && below handle.parameters home.signatures) (below handle.results home.signatures) handle_in) in
+    let results = there_below home.signatures handle.results (second_so (below handle.module home.module_handles && below handle.name home.identifiers && below handle.parameters home.signatures) (below handle.results home.signatures) handle_in) in
     let result_names = tokens_there home a.bounds results.0 (each (list_all (token_in home)) home.signatures handle.results results.0 a.bounds.signatures results.1) in
     record {
       home = home;
@@ -92,8 +91,8 @@ call_typed modules store place index home d tokens arguments home_at d_at tokens
       is_home = home_at;
       is_function = d_at;
       are_others = others.1;
-      are_tokens = then_found (slice_get home.function_handles d.handle) _ handle (tokens ++ others.0) handle_is (then_found (slice_get home.signatures handle.parameters) _ tokens (tokens ++ others.0) e1 (then_found (slice_get home.signatures d.locals) _ others.0 (tokens ++ others.0) others.1 refl));
-      are_results = then_found (slice_get home.function_handles d.handle) _ handle result_names.0 handle_is (then_found (slice_get home.signatures handle.results) _ results.0 result_names.0 results.1 result_names.1);
+      are_tokens = then_found (slice_get home.function_handles d.handle) _ handle (Some (tokens ++ others.0)) handle_is (then_found (slice_get home.signatures handle.parameters) _ tokens (Some (tokens ++ others.0)) e1 (then_found (slice_get home.signatures d.locals) _ others.0 (Some (tokens ++ others.0)) others.1 refl));
+      are_results = then_found (slice_get home.function_handles d.handle) _ handle (Some result_names.0) handle_is (then_found (slice_get home.signatures handle.results) _ results.0 (Some result_names.0) results.1 result_names.1);
       arguments = typed;
       starts = start_typed home d (each (function_is_typed home) home.functions index d a.types d_at) (each (λ (d : FunctionDefinition). ends_well d.code) home.functions index d a.flow d_at) code_inside (second_so _ (list_all (instruction_fits home.version) d.code) written);
     })

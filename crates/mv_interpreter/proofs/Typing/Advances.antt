@@ -3,7 +3,8 @@ use Rattle.std.proofs.Common.{◌≡◌, ℕ, zero, suc, ◌+◌, ◌-◌, ◌<�
 use Rattle.std.specs.Prelude.{slice_get, slice_range, IsTrue, nat_lt, nat_le, ◌||◌, ◌==◌}
 use Rattle.std.specs.List.{list_all, list_any}
 use Rattle.std.specs.Option.{option_map_or}
-use Rattle.std.proofs.lemmas.Bool.{ltb-true, ltb-false, lt-ltb, eqb-true}
+use Rattle.std.proofs.lemmas.Bool.{ltb-true, ltb-false, lt-ltb, eqb-true, and_from, eq-eqb}
+use Rattle.std.proofs.lemmas.Option.{same_Some}
 use Rattle.mv_move_types.specs.declared.instruction.Instruction.{Instruction}
 use Rattle.mv_move_types.specs.declared.instruction.Instruction.TheVariants.{Ret, BrTrue, BrFalse, Branch, Abort}
 use Rattle.mv_move_types.specs.Module.{Module, FunctionDefinition}
@@ -15,13 +16,12 @@ use Rattle.mv_cfg.specs.Blocks.{ends_well, may_be_last}
 use Rattle.mv_bounds.specs.Bounds.{instruction_in, local_count}
 use Rattle.mv_module_text.specs.Fits.{instruction_fits}
 use Rattle.mv_type_states.specs.TypesAt.{TypesAt}
+use Rattle.mv_linker.proofs.Found.{each, some_passes, there_at}
 use Rattle.mv_interpreter.specs.Typing.Facts.{AllAt, Advance}
-use Rattle.mv_interpreter.proofs.Typing.Within.{some_is}
-use Rattle.mv_interpreter.proofs.Typing.Tests.{eqb-same, both}
-use Rattle.mv_interpreter.proofs.Typing.FlowFacts.{each, some_passes, range_split, through_step, through_apart, through_join, through_one, Among, Rising, rising_bounds, starts_rise, targets_begin, ended_begin, BlockFacts, block_facts, begins_block}
+use Rattle.mv_interpreter.proofs.Typing.FlowFacts.{range_split, through_step, through_apart, through_join, through_one, Among, Rising, rising_bounds, starts_rise, targets_begin, ended_begin, BlockFacts, block_facts, begins_block}
 
 -- where control goes on at the next instruction
-one_successor : (at : ℕ) (c : Instruction) → ends_block c ≡ false → successors at c ≡ (at + 1) ∷ []
+pub one_successor : (at : ℕ) (c : Instruction) → ends_block c ≡ false → successors at c ≡ (at + 1) ∷ []
 one_successor at (BrTrue t) e = absurd cc
 one_successor at (BrFalse t) e = absurd cc
 one_successor at (Branch t) e = absurd cc
@@ -32,15 +32,10 @@ one_successor at _ e = refl
 -- the last instruction
 last_is : (code : List Instruction) (k : ℕ) (c : Instruction) → ends_well code ≡ true → slice_get code k ≡ Some c → k + 1 ≡ length code → may_be_last c ≡ true
 last_is [] k c h e l = absurd cc
-last_is (x ∷ []) zero c h e l = subst (λ (z : Instruction). may_be_last z ≡ true) (some_is x c e) h
+last_is (x ∷ []) zero c h e l = subst (λ (z : Instruction). may_be_last z ≡ true) (same_Some x c e) h
 last_is (x ∷ []) (suc k) c h e l = absurd cc
 last_is (x ∷ y ∷ code) zero c h e l = absurd (omega (arith, l))
 last_is (x ∷ y ∷ code) (suc k) c h e l = last_is (y ∷ code) k c h e (omega (arith, l))
-
-there : {A : Type 0} (xs : List A) (k : ℕ) → k < length xs → (x : A) × (slice_get xs k ≡ Some x)
-there [] k h = absurd (omega (arith, h))
-there (x ∷ xs) zero h = (x, refl)
-there (x ∷ xs) (suc k) h = there xs k (omega (arith, h))
 
 -- types that end with no operand
 through_all : (r : Option Types) → option_map_or (λ stack. length stack == 0) r false ≡ true → r ≡ Some []
@@ -82,7 +77,7 @@ module _ (m : Module) (d : FunctionDefinition) (typed : IsTrue (function_is_type
   all_begin (t ∷ ts) a =
       let rest = all_begin ts a.1 in
       let bounds = rising_bounds 0 (length d.code) t starts rising a.0 in
-      ((begin_typed t a.0, rest.0), both _ _ (lt-ltb t (length d.code) bounds.1) rest.1)
+      ((begin_typed t a.0, rest.0), and_from _ _ (lt-ltb t (length d.code) bounds.1) rest.1)
 
   -- where a block's last instruction leads
   last_leads : (at : ℕ) (c : Instruction) → slice_get d.code at ≡ Some c → (at + 1 ≡ length d.code) ⊎ Among (at + 1) starts → AllBegin (successors at c)
@@ -105,15 +100,15 @@ module _ (m : Module) (d : FunctionDefinition) (typed : IsTrue (function_is_type
       by_case (BrTrue t) i to_target ended beyond = (to_target t (first_or_rest t) (ltb-true t (length d.code) i), (beyond refl, tt))
         where
           first_or_rest : (t : ℕ) → ((t == t) || false) ≡ true
-          first_or_rest t = ap (λ b. b || false) (eqb-same t)
+          first_or_rest t = ap (λ b. b || false) (eq-eqb t t refl)
       by_case (BrFalse t) i to_target ended beyond = (to_target t (first_or_rest t) (ltb-true t (length d.code) i), (beyond refl, tt))
         where
           first_or_rest : (t : ℕ) → ((t == t) || false) ≡ true
-          first_or_rest t = ap (λ b. b || false) (eqb-same t)
+          first_or_rest t = ap (λ b. b || false) (eq-eqb t t refl)
       by_case (Branch t) i to_target ended beyond = (to_target t (first_or_rest t) (ltb-true t (length d.code) i), tt)
         where
           first_or_rest : (t : ℕ) → ((t == t) || false) ≡ true
-          first_or_rest t = ap (λ b. b || false) (eqb-same t)
+          first_or_rest t = ap (λ b. b || false) (eq-eqb t t refl)
       by_case Ret i to_target ended beyond = tt
       by_case Abort i to_target ended beyond = tt
       by_case _ i to_target ended beyond = (beyond refl, tt)
@@ -127,7 +122,7 @@ module _ (m : Module) (d : FunctionDefinition) (typed : IsTrue (function_is_type
       first_start [] h = absurd cc
       first_start (c ∷ code) h = inl refl
 
-  -- a typed instruction and what comes behind it
+  -- a typed instruction and what comes after it
   pub advances : (at : ℕ) (types : Types) → TypesAt m d at types → Advance m d at types
   advances at types t =
       let b : BasicBlock = t.block in
@@ -135,7 +130,7 @@ module _ (m : Module) (d : FunctionDefinition) (typed : IsTrue (function_is_type
       let low : b.first ≤ at = t.not_before in
       let high : at ≤ b.last = t.not_behind in
       let short : b.last < length d.code = f.inside in
-      let c = there d.code at (omega (arith, high, short)) in
+      let c = there_at d.code at (omega (arith, high, short)) in
       let whole = range_split d.code b.first at (b.last + 1) c.0 low (omega (arith, high)) c.1 in
       let front = range_split d.code b.first at (at + 1) c.0 low (omega arith) c.1 in
       let front_is : slice_range d.code b.first (at + 1) ≡ slice_range d.code b.first at ++ c.0 ∷ [] = front.1 ∙ ap (λ (xs : List Instruction). slice_range d.code b.first at ++ c.0 ∷ xs) (front.2 refl) in
@@ -143,7 +138,7 @@ module _ (m : Module) (d : FunctionDefinition) (typed : IsTrue (function_is_type
       let all = through_all (types_through m d (slice_range d.code b.first (b.last + 1)) []) block_typed in
       let all_parts : types_through m d (slice_range d.code b.first at ++ c.0 ∷ whole.0) [] ≡ Some [] = subst (λ (xs : List Instruction). types_through m d xs [] ≡ Some []) whole.1 all in
       let parts = through_apart m d (slice_range d.code b.first at) (c.0 ∷ whole.0) [] [] all_parts in
-      let same : parts.0 ≡ types = some_is parts.0 types (sym parts.1 ∙ t.carried) in
+      let same : parts.0 ≡ types = same_Some parts.0 types (sym parts.1 ∙ t.carried) in
       let step = through_step m d c.0 whole.0 types [] (subst (λ (x : Types). types_through m d (c.0 ∷ whole.0) x ≡ Some []) same parts.2) in
       let fit : instruction_fits m.version c.0 ≡ true = each (instruction_fits m.version) d.code at c.0 fits c.1 in
       by_place b f c.0 step.0 c.1 step.1 step.2 fit
@@ -156,7 +151,7 @@ module _ (m : Module) (d : FunctionDefinition) (typed : IsTrue (function_is_type
         carried = subst (λ (xs : List Instruction). types_through m d xs [] ≡ Some step.0) (sym front_is) (through_join m d (slice_range d.code b.first at) (c.0 ∷ []) [] types step.0 t.carried (through_one m d c.0 types step.0 step.1 step.2));
       })
       (λ last. let none : whole.0 ≡ [] = whole.2 (omega (arith, last)) in
-      some_is step.0 [] (subst (λ (xs : List Instruction). types_through m d xs step.0 ≡ Some []) none step.3))
+      same_Some step.0 [] (subst (λ (xs : List Instruction). types_through m d xs step.0 ≡ Some []) none step.3))
       (λ inner h. f.alone (at + 1) (omega (arith, low)) (omega (arith, inner)) (ended_begin d.code 0 at (at + 1) true c.0 d.code c.1 h (omega (arith, inner, short)) (omega arith)))
       (at_last_or at b.last high)
     where
@@ -179,7 +174,7 @@ module _ (m : Module) (d : FunctionDefinition) (typed : IsTrue (function_is_type
             is_there = e;
             rule = rule;
             leads = subst (λ (ts : List ℕ). AllAt m d after ts) (sym one) (inner p, tt);
-            inside = subst (λ (ts : List ℕ). list_all (λ t. nat_lt t (length d.code)) ts ≡ true) (sym one) (both _ _ (lt-ltb (at + 1) (length d.code) short) refl);
+            inside = subst (λ (ts : List ℕ). list_all (λ t. nat_lt t (length d.code)) ts ≡ true) (sym one) (and_from _ _ (lt-ltb (at + 1) (length d.code) short) refl);
             fits = fit;
           }
         where

@@ -4,6 +4,8 @@ use Rattle.std.specs.Prelude.{slice_get, ok_or, ◌&&◌, ◌||◌, ◌==◌, op
 use Rattle.std.specs.List.{list_all}
 use Rattle.std.specs.Option.{option_map_or}
 use Rattle.std.specs.Cmp.{first_so, second_so}
+use Rattle.std.proofs.lemmas.Option.{same_Some}
+use Rattle.std.proofs.lemmas.Bool.{and_from, eq-eqb}
 use Rattle.mv_move_types.specs.declared.tables.FunctionHandle.{FunctionHandle}
 use Rattle.mv_move_types.specs.declared.token.Token.{Token}
 use Rattle.mv_move_types.specs.Options.{◌>>=◌}
@@ -23,16 +25,14 @@ use Rattle.mv_linker.specs.Links.{function_named, function_fits, function_is_the
 use Rattle.mv_machine.specs.Step.{Here, signature_tags}
 use Rattle.mv_machine.specs.StepControl.{Callee, callee}
 use Rattle.mv_move_types.specs.Named.{function_place, is_public}
+use Rattle.mv_linker.proofs.NameLemmas.{same_module-is, same_module-same}
+use Rattle.mv_linker.proofs.TagTests.{same_tags-is, same_tags-same}
+use Rattle.mv_linker.proofs.Found.{on_some, each, there_below, one_place, then_found}
 use Rattle.mv_interpreter.specs.Typing.Facts.{CallFacts}
 use Rattle.mv_interpreter.specs.Typing.Accepted.{ModuleAccepted, StoreAccepted}
-use Rattle.mv_interpreter.proofs.Typing.Within.{some_is}
-use Rattle.mv_interpreter.proofs.Typing.Tests.{eqb-same, same_module-is, same_module-same, same_tags-is, same_tags-same, both}
-use Rattle.mv_interpreter.proofs.Typing.Operands.{on_some}
-use Rattle.mv_interpreter.proofs.Typing.FlowFacts.{each}
 use Rattle.mv_interpreter.proofs.Typing.Advances.{start_typed}
-use Rattle.mv_interpreter.proofs.Typing.Names.{there_at, tag_is_found}
-use Rattle.mv_interpreter.proofs.Typing.Owns.{one_place}
-use Rattle.mv_interpreter.proofs.Typing.OwnDefinitions.{then_ok, then_found}
+use Rattle.mv_interpreter.proofs.Typing.Names.{tag_is_found}
+use Rattle.mv_interpreter.proofs.Typing.OwnDefinitions.{then_ok}
 
 -- what a test that passed has found
 pub on_found : {A P : Type 0} (p : A → Bool) (r : Option A) → option_map_or p r false ≡ true → ((x : A) → r ≡ Some x → p x ≡ true → P) → P
@@ -48,13 +48,13 @@ on_and_then f (Some x) y e go = go x refl e
 
 -- the tags of a signature's types are found
 tags_of_module : (modules : List Module) (m : Module) → structs_are_there modules m 0 m.struct_handles ≡ true → (ts : List Token) (tags : List Tag) → tokens_named m ts ≡ Some tags → for_each (tag_named modules m) ts ≡ Ok tags
-tags_of_module modules m links [] tags e = ap Ok (some_is [] tags e)
+tags_of_module modules m links [] tags e = ap Ok (same_Some [] tags e)
 tags_of_module modules m links (t ∷ ts) tags e =
     on_some (token_named m t) _ tags e (λ tag tag_is e1.
     on_some (tokens_named m ts) (λ rest. Some (tag ∷ rest)) tags e1 (λ rest rest_is e2.
     let first : tag_named modules m t ≡ Ok tag = tag_is_found modules m links t tag tag_is in
     let others : for_each (tag_named modules m) ts ≡ Ok rest = tags_of_module modules m links ts rest rest_is in
-    rw (first, others) (ap Ok (some_is (tag ∷ rest) tags e2))))
+    rw (first, others) (ap Ok (same_Some (tag ∷ rest) tags e2))))
 
 signature_found : (modules : List Module) (m : Module) → structs_are_there modules m 0 m.struct_handles ≡ true → (i : ℕ) (tags : List Tag) → signature_named m i ≡ Some tags → signature_tags modules m i ≡ Ok tags
 unfolding signature_tags
@@ -92,7 +92,7 @@ call_facts h store home_at i handle parameters results handle_at parameters_at r
     let inside = each (function_in n) n.functions index d a.bounds.functions d_at in
     let inside3 = first_so (below d.handle n.function_handles && below d.locals n.signatures && list_all (λ i. below i n.structs) d.acquires) (list_all (instruction_in n (local_count n d) (length d.code)) d.code) inside in
     let inside2 = first_so (below d.handle n.function_handles && below d.locals n.signatures) (list_all (λ i. below i n.structs) d.acquires) inside3 in
-    let others = there_at n.signatures d.locals (second_so (below d.handle n.function_handles) (below d.locals n.signatures) inside2) in
+    let others = there_below n.signatures d.locals (second_so (below d.handle n.function_handles) (below d.locals n.signatures) inside2) in
     let code_inside = second_so (below d.handle n.function_handles && below d.locals n.signatures && list_all (λ i. below i n.structs) d.acquires) (list_all (instruction_in n (local_count n d) (length d.code)) d.code) inside in
     let written = each (function_definition_fits n.version) n.functions index d a.text.functions d_at in
     let c : Callee = record { function = record { place = place; index = index }; home = n; definition = d; parameters = ptags; results = rtags } in
@@ -116,15 +116,15 @@ call_facts h store home_at i handle parameters results handle_at parameters_at r
           (then_ok (entry n.function_handles d.handle) _ own c (ap (λ (x : Option FunctionHandle). ok_or x (Faults LinkageFault)) own_is)
           (then_ok (signature_tags h.modules n own.parameters) _ ptags c (signature_found h.modules n links own.parameters ptags q_is)
           (then_ok (signature_tags h.modules n own.results) _ rtags c (signature_found h.modules n links own.results rtags s_is)
-          (passes (same_tags ptags ptags && same_tags rtags rtags) ((place == h.state.top.function.place) || is_public d) c (both _ _ (same_tags-same ptags) (same_tags-same rtags)) allowed))))))))))));
+          (passes (same_tags ptags ptags && same_tags rtags rtags) ((place == h.state.top.function.place) || is_public d) c (and_from _ _ (same_tags-same ptags) (same_tags-same rtags)) allowed))))))))))));
       parameter_tags = own_parameters_are;
       result_names = own_results_are;
       is_home = n_at;
       is_function = d_at;
       are_others = others.1;
-      are_tokens = then_found (slice_get n.function_handles d.handle) _ own (own_parameters ++ others.0) own_is (then_found (slice_get n.signatures own.parameters) _ own_parameters (own_parameters ++ others.0) own_parameters_at (then_found (slice_get n.signatures d.locals) _ others.0 (own_parameters ++ others.0) others.1 refl));
+      are_tokens = then_found (slice_get n.function_handles d.handle) _ own (Some (own_parameters ++ others.0)) own_is (then_found (slice_get n.signatures own.parameters) _ own_parameters (Some (own_parameters ++ others.0)) own_parameters_at (then_found (slice_get n.signatures d.locals) _ others.0 (Some (own_parameters ++ others.0)) others.1 refl));
       own_parameter_tags = own_parameters_named;
-      own_results = then_found (slice_get n.function_handles d.handle) _ own rtags own_is s_is;
+      own_results = then_found (slice_get n.function_handles d.handle) _ own (Some rtags) own_is s_is;
       starts = start_typed n d (each (function_is_typed n) n.functions index d a.types d_at) (each (λ (d : FunctionDefinition). ends_well d.code) n.functions index d a.flow d_at) code_inside (second_so _ (list_all (instruction_fits n.version) d.code) written);
     }))))))))))
   where
@@ -146,7 +146,7 @@ call_facts h store home_at i handle parameters results handle_at parameters_at r
             on_found (λ own. same_module own name) (own_name n) one (λ own own_is same.
             let turned : have_one_name n h.home ≡ true = back name own name_is own_is (same_module-is own name same) in
             let places : place ≡ h.state.top.function.place = one_place have_one_name h.modules place h.state.top.function.place n h.home store.once n_at home_at turned p in
-            subst (λ (x : ℕ). ((place == x) || false) ≡ true) places (ap (λ (b : Bool). b || false) (eqb-same place))))
+            subst (λ (x : ℕ). ((place == x) || false) ≡ true) places (ap (λ (b : Bool). b || false) (eq-eqb place place refl))))
           where
             back : (name own : ModuleName) → own_name h.home ≡ Some name → own_name n ≡ Some own → own ≡ name → have_one_name n h.home ≡ true
             back name own p q same =

@@ -2,8 +2,9 @@
 use Rattle.std.proofs.Common.{◌≡◌, ℕ, ◌+◌, ◌<◌, ◌≤◌, Bool, true, false, cond, List, [], ◌∷◌, ◌++◌, map, replicate, length, reverse, refl, sym, ap, subst, ◌∙◌, Option, Some, None, Result, Ok, Err, eqb, arith}
 use Rattle.std.specs.Prelude.{slice_get, not, ok_or, flat_map}
 use Rattle.std.specs.List.{list_all, list_any}
-use Rattle.std.proofs.lemmas.Bool.{eqb-true}
+use Rattle.std.proofs.lemmas.Bool.{eqb-true, ne_eqb}
 use Rattle.std.proofs.lemmas.List.{append-nil}
+use Rattle.std.proofs.lemmas.Option.{same_Some}
 use Rattle.mv_move_types.specs.declared.tables.FunctionHandle.{FunctionHandle}
 use Rattle.mv_move_types.specs.declared.token.Token.{Token}
 use Rattle.mv_move_types.specs.declared.instruction.Instruction.TheVariants.{Call, Ret}
@@ -21,13 +22,13 @@ use Rattle.mv_machine.specs.Step.{Here, return_results, signature_tags, leaves, 
 use Rattle.mv_machine.specs.StepControl.{Callee, callee, call}
 use Rattle.mv_interpreter.specs.Typing.HasType.{Roots, Rooted, HaveTypes, LentHaveTypes, fields_by_name}
 use Rattle.mv_type_states.specs.TypesAt.{TypesAt}
+use Rattle.mv_type_states.proofs.Tokens.{lists_equal}
+use Rattle.mv_linker.proofs.Found.{on_some}
 use Rattle.mv_interpreter.specs.Typing.StateTyped.{HaveTokens, LocalsHaveTokens, Numbered, IsWaiting, AreWaiting, StateTyped, TurnTyped}
 use Rattle.mv_interpreter.specs.Typing.Facts.{Row, CallFacts}
 use Rattle.mv_interpreter.specs.Typing.Unreached.{Avoid, BelowAvoid, Leaving}
-use Rattle.mv_interpreter.proofs.Typing.Within.{some_is}
-use Rattle.mv_interpreter.proofs.Typing.Tests.{apart-eqb}
 use Rattle.mv_interpreter.proofs.Typing.Parts.{Part, known, met, tested, lost}
-use Rattle.mv_interpreter.proofs.Typing.Operands.{on_some, on_test, takes_gives-is, same_tokens-is, joined, turned, take_operands}
+use Rattle.mv_interpreter.proofs.Typing.Operands.{on_test, takes_gives-is, joined, turned, take_operands}
 use Rattle.mv_interpreter.proofs.Typing.Keep.{Kept, ValueAvoids, Nothing, avoid_nothing, below_avoids_nothing, keep_value, keep_stack, keep_locals, keep_below}
 use Rattle.mv_interpreter.proofs.Typing.Roots.{tokens_have_tags, typed_have_tags}
 use Rattle.mv_interpreter.proofs.Typing.Frames.{pick_second}
@@ -38,7 +39,7 @@ above_all : (bound : ℕ) (fs : List Frame) (m k : ℕ) → Numbered bound fs �
 above_all bound [] m k h e = refl
 above_all bound (f ∷ fs) m k h e =
     let lower : f.number < m = omega (arith, h.0, e) in
-    let far : eqb f.number m ≡ false = apart-eqb f.number m (λ p. absurd (omega (arith, p, lower))) in
+    let far : eqb f.number m ≡ false = ne_eqb f.number m (λ p. absurd (omega (arith, p, lower))) in
     rw far (above_all f.number fs m k h.1 (omega (arith, lower)))
 
 module _ (modules : List Module) (look look' : Roots) (kept : Kept modules look look' Nothing) where
@@ -102,7 +103,7 @@ module _ (h : Here) (k : ℕ) (types after : Types) (row : Row h (Call k) types 
 
   enters : (handle : FunctionHandle) (parameters results : List Token) → slice_get h.home.function_handles k ≡ Some handle → slice_get h.home.signatures handle.parameters ≡ Some parameters → slice_get h.home.signatures handle.results ≡ Some results → (f : CallFacts h k handle parameters results) (under : Types) (arguments rest : List Value) → types ≡ reverse parameters ++ under → after ≡ reverse results ++ under →
       HaveTokens h.modules (root_value h.state) h.home arguments parameters → HaveTokens h.modules (root_value h.state) h.home rest under → StateTyped h.modules (called h.state f.callee_is arguments rest (length f.others))
-  enters handle parameters results handle_is parameters_are results_are f under arguments rest before behind arguments_typed rest_typed =
+  enters handle parameters results handle_is parameters_are results_are f under arguments rest before following arguments_typed rest_typed =
       let c : Callee = f.callee_is in
       let look' : Roots = root_value (called h.state c arguments rest (length f.others)) in
       let kept = kept_called c arguments rest (length f.others) in
@@ -128,7 +129,7 @@ module _ (h : Here) (k : ℕ) (types after : Types) (row : Row h (Call k) types 
         called_parameters = parameters_are;
         called_results = results_are;
         before = subst (λ (ts : Types). TypesAt h.home h.function h.state.top.at ts) before row.before;
-        behind = subst (λ (ts : Types). TypesAt h.home h.function (h.state.top.at + 1) ts) behind next;
+        after = subst (λ (ts : Types). TypesAt h.home h.function (h.state.top.at + 1) ts) following next;
         are_parameters = f.parameter_tags;
         are_results = f.result_names;
         locals = keep_locals h.modules (root_value h.state) look' Nothing kept h.home h.state.top.locals row.stands.tokens (avoid_nothing (local_references h.state.top.locals)) row.stands.locals;
@@ -227,7 +228,7 @@ module _ (h : Here) (types after : Types) (row : Row h Ret types after) where
         types = reverse c.results ++ c.under;
         is_home = c.is_home;
         is_function = c.is_function;
-        are_types = c.behind;
+        are_types = c.after;
         stands = record {
           tokens = c.tokens;
           results = c.own_results;
@@ -247,7 +248,7 @@ module _ (h : Here) (types after : Types) (row : Row h Ret types after) where
       on_some (slice_get h.home.function_handles h.function.handle) _ after e (λ handle handle_is e1.
       on_some (slice_get h.home.signatures handle.results) _ after e1 (λ results results_are e2.
       on_test (same_tokens types (reverse results)) [] after e2 (λ same given.
-      let types_are : types ≡ reverse results ++ [] = same_tokens-is types (reverse results) same ∙ sym (append-nil (reverse results)) in
+      let types_are : types ≡ reverse results ++ [] = lists_equal types (reverse results) same ∙ sym (append-nil (reverse results)) in
       let look : Roots = root_value h.state in
       let named : tokens_named h.home results ≡ Some row.stands.results = names handle results handle_is results_are in
       let taken = take_operands h.modules look h.home h.state.top.stack results [] (subst (λ (ts : Types). HaveTokens h.modules look h.home h.state.top.stack ts) types_are row.stands.stack) in
@@ -269,9 +270,9 @@ module _ (h : Here) (types after : Types) (row : Row h Ret types after) where
       names : (handle : FunctionHandle) (results : List Token) → slice_get h.home.function_handles h.function.handle ≡ Some handle → slice_get h.home.signatures handle.results ≡ Some results → tokens_named h.home results ≡ Some row.stands.results
       names handle results e g =
           on_some (slice_get h.home.function_handles h.function.handle) _ row.stands.results row.stands.are_results (λ other other_is e1.
-          let one : other ≡ handle = some_is other handle (sym other_is ∙ e) in
+          let one : other ≡ handle = same_Some other handle (sym other_is ∙ e) in
           on_some (slice_get h.home.signatures other.results) (tokens_named h.home) row.stands.results e1 (λ ts ts_are e2.
-          let two : ts ≡ results = some_is ts results (sym ts_are ∙ ap (λ (x : FunctionHandle). slice_get h.home.signatures x.results) one ∙ g) in
+          let two : ts ≡ results = same_Some ts results (sym ts_are ∙ ap (λ (x : FunctionHandle). slice_get h.home.signatures x.results) one ∙ g) in
           subst (λ (x : List Token). tokens_named h.home x ≡ Some row.stands.results) two e2))
 
       tags_are : (handle : FunctionHandle) (results : List Token) → slice_get h.home.signatures handle.results ≡ Some results → tokens_named h.home results ≡ Some row.stands.results → (entry h.home.signatures handle.results >>=ᵣ for_each (tag_named h.modules h.home)) ≡ Ok row.stands.results

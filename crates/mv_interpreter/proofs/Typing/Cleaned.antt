@@ -1,7 +1,9 @@
 -- Rules that lose nothing and touch nothing frozen by their types, the guards and what is watched: every rule, a step, and a run without any fault.
 use Rattle.std.proofs.Common.{◌≡◌, ℕ, zero, suc, ◌+◌, Bool, true, false, cond, List, [], ◌∷◌, ◌++◌, refl, sym, ap, subst, ◌∙◌, Option, Some, None, Result, Ok, Err, length, take, drop, reverse}
-use Rattle.std.specs.Prelude.{slice_get, not, ok_or, nat_lt, nat_le, ◌||◌, ◌&&◌, ◌==◌, bit_and, bit_or, bit_xor, flat_map}
+use Rattle.std.specs.Prelude.{slice_get, not, ok_or, nat_lt, nat_le, ◌&&◌, ◌==◌, bit_and, bit_or, bit_xor, flat_map, ◌||◌}
 use Rattle.std.specs.List.{list_all, list_any}
+use Rattle.std.proofs.lemmas.Option.{same_Some}
+use Rattle.std.proofs.lemmas.Bool.{and_from}
 use Rattle.mv_move_types.specs.declared.token.Width.TheVariants.{U8, U16, U32, U64, U128}
 use Rattle.mv_move_types.specs.declared.token.LeafKind.TheVariants.{Boolean, Number, Address, Signer}
 use Rattle.mv_move_types.specs.declared.token.Token.{Token}
@@ -30,23 +32,22 @@ use Rattle.mv_machine.specs.StepGlobals.{move_from}
 use Rattle.mv_machine.specs.Run.{turns, follows, goes_with}
 use Rattle.mv_interpreter.specs.Typing.HasType.{fields_by_name}
 use Rattle.mv_type_states.specs.TypesAt.{TypesAt}
+use Rattle.mv_linker.proofs.Found.{on_some}
 use Rattle.mv_interpreter.specs.Typing.StateTyped.{HasToken, HaveTokens, LocalHasToken, StateTyped, TurnTyped}
 use Rattle.mv_interpreter.specs.Typing.Facts.{Row, Advance, SoundStore}
 use Rattle.mv_interpreter.specs.Typing.Unreached.{Avoid, Unreached, Unborrowed, Unlent, Leaving, Guarded, StepGuarded}
-use Rattle.mv_interpreter.specs.Typing.Outcome.{Guides}
 use Rattle.mv_interpreter.specs.Typing.Watched.{IsHeld, Watched, StepWatched, Clean, Watches, Faultless}
-use Rattle.mv_interpreter.proofs.Typing.Within.{some_is}
-use Rattle.mv_interpreter.proofs.Typing.Tests.{both}
 use Rattle.mv_interpreter.proofs.Typing.Parts.{Part}
-use Rattle.mv_interpreter.proofs.Typing.Operands.{on_some, on_test, taken-is, top_type-is, one}
+use Rattle.mv_interpreter.proofs.Typing.Operands.{on_test, taken-is, top_type-is, one}
 use Rattle.mv_interpreter.proofs.Typing.Keep.{first_avoids}
 use Rattle.mv_interpreter.proofs.Typing.Roots.{place_of}
 use Rattle.mv_interpreter.proofs.Typing.Locals.{declared}
 use Rattle.mv_interpreter.proofs.Typing.References.{either, mutable_one, mutable_target-is}
-use Rattle.mv_interpreter.proofs.Typing.Rule.{step_typed, counted}
+use Rattle.mv_interpreter.proofs.Typing.Rule.{step_typed, counted_typed}
 use Rattle.mv_interpreter.proofs.Typing.Abilities.{token_abilities-are, plain_abilities}
 use Rattle.mv_interpreter.proofs.Typing.Untouched.{none_frozen, live_avoid, below_avoid, avoid_append, taken_avoid, none_held, local_unreached}
 use Rattle.mv_interpreter.proofs.Typing.Clean.{after, given, tried, met, found, of_operand, of_operands, of_address, giving, of_keyed, of_token, of_signature, of_binary, of_comparison, of_shift, of_cast, of_logic, of_negation, of_freeze, of_constant, of_pack, of_unpack, of_borrow_field, of_exists, of_borrow_global, of_move_to, of_call, of_branch, of_abort, clean_sum, clean_difference, clean_product, clean_remainder, clean_quotient, clean_left, clean_right}
+use Rattle.mv_interpreter.proofs.Typing.Stays.{here_of, advance_of, row_of}
 
 -- what a part that gave something says
 found-is : {A : Type 0} (o : Option A) (d : Failure) (x : A) → ok_or o d ≡ Ok x → o ≡ Some x
@@ -107,7 +108,7 @@ module _ (h : Here) (i : Instruction) (types left : Types) (row : Row h i types 
       (after (ok_or (tag_of h.state under.0) (Faults TypeFault)) _ (found (tag_of h.state under.0) _ tt) (λ tag tag_is.
       tried (has_tag h.state top.0 tag) _ _ tt
       (tried (not (is_reference_tag tag)) _ _ tt
-      (met (can_drop h under.0 && can_drop h top.0) _ _ (both _ _ (drops under.0 t.0 a under.3 a_is able) (drops top.0 t.0 a top.3 a_is able)) tt))))))))))
+      (met (can_drop h under.0 && can_drop h top.0) _ _ (and_from _ _ (drops under.0 t.0 a under.3 a_is able) (drops top.0 t.0 a top.3 a_is able)) tt))))))))))
 
   reads_clean : of_read h.home types ≡ Some left → Clean (read_reference h h.state.top.stack)
   unfolding read_reference
@@ -235,7 +236,7 @@ module _ (h : Here) (i : Instruction) (types left : Types) (row : Row h i types 
         on_some (token_abilities h.home t) _ left e1 (λ a a_is e2.
         on_test a.copy (t ∷ types) left e2 (λ able same.
         let d = declared h i types left row next l t t_is in
-        let value : d.value ≡ Some x.0 = some_is d.value (Some x.0) (sym d.holds ∙ x.1) in
+        let value : d.value ≡ Some x.0 = same_Some d.value (Some x.0) (sym d.holds ∙ x.1) in
         let typed : HasToken h.modules (root_value h.state) h.home x.0 t = subst (λ (o : Option Value). LocalHasToken h.modules (root_value h.state) h.home o t) value d.typed in
         given (held h l) _ x.0 (held_is l x.0 x.1)
         (met (can_copy h x.0) _ _ (ap (λ (y : Abilities). y.copy) (token_abilities-are h.modules h.home links (root_value h.state) x.0 t a typed a_is) ∙ able) tt))))
@@ -325,29 +326,15 @@ HandlesThere modules = (place : ℕ) (m : Module) → slice_get modules place �
 pub step_clean : (modules : List Module) (s : State) → SoundStore modules → HandlesThere modules → StateTyped modules s → StepGuarded modules s → StepWatched modules s → Clean (step modules s)
 unfolding step
 step_clean modules s store links typed guarded watched =
-    let h : Here = record { modules = modules; home = typed.home; function = typed.function; state = s } in
-    let a : Advance typed.home typed.function s.top.at typed.types = store.advance s.top.function.place s.top.function.index s.top.at typed.home typed.function typed.types typed.is_home typed.is_function typed.are_types in
-    let row : Row h a.instruction typed.types a.after = record {
-      facts = store.facts typed.home typed.function s typed.is_home typed.is_function;
-      is_home = typed.is_home;
-      is_function = typed.is_function;
-      is_next = a.is_there;
-      before = typed.are_types;
-      stands = typed.stands;
-      rule = a.rule;
-      fits = a.fits;
-      leads = a.leads;
-    } in
+    let h : Here = here_of modules s typed in
+    let a : Advance typed.home typed.function s.top.at typed.types = advance_of modules s store typed in
+    let row : Row h a.instruction typed.types a.after = row_of modules s store typed in
     given (entry modules s.top.function.place) _ typed.home (ap (λ (x : Option Module). ok_or x (Faults LinkageFault)) typed.is_home)
     (given (entry typed.home.functions s.top.function.index) _ typed.function (ap (λ (x : Option FunctionDefinition). ok_or x (Faults LinkageFault)) typed.is_function)
     (given (ok_or (slice_get typed.function.code s.top.at) (Faults TypeFault)) _ a.instruction (ap (λ (x : Option Instruction). ok_or x (Faults TypeFault)) a.is_there)
     (met (list_all (λ t. nat_lt t (length typed.function.code)) (successors s.top.at a.instruction)) _ _ a.inside
     (rule_clean h a.instruction typed.types a.after row (links s.top.function.place typed.home typed.is_home) (guarded typed.home typed.function a.instruction typed.is_home typed.is_function a.is_there)
     (watched typed.home typed.function a.instruction typed.is_home typed.is_function a.is_there)))))
-
--- where a predicate gives the guards and what is to be watched, nothing is lost or frozen
-pub watched_is_clean : (modules : List Module) (P : State → Type 0) → SoundStore modules → HandlesThere modules → Guides modules P → ((s : State) → P s → StateTyped modules s → StepWatched modules s) → Watches modules P
-watched_is_clean modules P store links guides watched = record { guides = guides; clean = λ s p typed. step_clean modules s store links typed (guides.guards s p typed) (watched s p typed) }
 
 -- a step of a typed state meets no fault, and leads to a typed state
 pub step_safe : (modules : List Module) (P : State → Type 0) (s : State) → SoundStore modules → Watches modules P → StateTyped modules s → P s → Safe (TurnTyped modules) (step modules s)
@@ -365,7 +352,7 @@ run_safe modules P (suc n) s store watches typed p = by_step (step modules s) re
 
     by_step : (r : Result Turn Failure) → step modules s ≡ r → Safe (TurnTyped modules) r → ((s : State) → SoundStore modules → Watches modules P → StateTyped modules s → P s → Faultless modules (turns modules n s)) →
         Faultless modules (follows (turns modules n) (s.steps + 1) r)
-    by_step (Ok (Goes t)) e h ih = by_bool (nat_lt 256 (length (frames t))) t (ih (record t { steps = s.steps + 1 }) store watches (counted modules t (s.steps + 1) h) (watches.guides.goes_on s t (s.steps + 1) p typed e))
+    by_step (Ok (Goes t)) e h ih = by_bool (nat_lt 256 (length (frames t))) t (ih (record t { steps = s.steps + 1 }) store watches (counted_typed modules t (s.steps + 1) h) (watches.guides.goes_on s t (s.steps + 1) p typed e))
     by_step (Ok (Returns t)) e h ih = h
     by_step (Err (Aborts kind k)) e h ih = tt
     by_step (Err (Faults fault)) e h ih = absurd h

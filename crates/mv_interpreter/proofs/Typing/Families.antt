@@ -5,6 +5,7 @@ use Rattle.std.proofs.lemmas.Bool.{lt-ltb, ltb-true}
 use Rattle.std.proofs.Math.Nat.{div-le_self}
 use Rattle.std.proofs.Math.Pow.{pow_pos}
 use Rattle.std.proofs.lemmas.Nat.{or_lt, xor_lt, and_le_l}
+use Rattle.std.proofs.lemmas.Option.{same_Some}
 use Rattle.mv_move_types.specs.declared.token.Width.{Width}
 use Rattle.mv_move_types.specs.declared.token.Width.TheVariants.{U8}
 use Rattle.mv_move_types.specs.declared.token.LeafKind.TheVariants.{Boolean, Number, Address, Signer}
@@ -18,12 +19,12 @@ use Rattle.mv_type_states.specs.TypeRules.{Types, number, boolean, top_width, ta
 use Rattle.mv_machine.specs.Numbers.{Operator, fitting, sum_of, difference_of, product_of, remainder_of, quotient_of, shifted_left, shifted_right}
 use Rattle.mv_machine.specs.StepNumbers.{binary, comparison, shift, cast, logic, negation}
 use Rattle.mv_machine.specs.StepParts.{truth}
+use Rattle.mv_linker.proofs.Found.{on_some}
 use Rattle.mv_interpreter.specs.Typing.HasType.{Roots}
 use Rattle.mv_interpreter.specs.Typing.StateTyped.{HasToken, HaveTokens}
-use Rattle.mv_interpreter.proofs.Typing.Within.{some_is}
 use Rattle.mv_interpreter.proofs.Typing.Tests.{same_width-same}
 use Rattle.mv_interpreter.proofs.Typing.Parts.{Part, some, met}
-use Rattle.mv_interpreter.proofs.Typing.Operands.{on_some, takes_gives-is, taken-is, top_type-is, leaf, of_leaf}
+use Rattle.mv_interpreter.proofs.Typing.Operands.{takes_gives-is, taken-is, top_type-is, leaf, of_leaf}
 
 -- ---- operators keep their width
 
@@ -181,7 +182,7 @@ module _ (modules : List Module) (look : Roots) (home : Module) where
       (subst (λ (ts : Types). HaveTokens modules look home (truth (test n.left n.right) ∷ n.rest) ts) (sym parts.3) (of_truth (test n.left n.right), n.typed)))
 
   top_width-is : (types : Types) (w : Width) → top_width types ≡ Some w → (below : Types) × (types ≡ number w ∷ below)
-  top_width-is (Plain (OfLeaf (Number v)) ∷ below) w e = (below, ap (λ (u : Width). number u ∷ below) (some_is v w e))
+  top_width-is (Plain (OfLeaf (Number v)) ∷ below) w e = (below, ap (λ (u : Width). number u ∷ below) (same_Some v w e))
   top_width-is [] w e = absurd cc
   top_width-is (Plain (OfLeaf Boolean) ∷ below) w e = absurd cc
   top_width-is (Plain (OfLeaf Address) ∷ below) w e = absurd cc
@@ -198,7 +199,7 @@ module _ (modules : List Module) (look : Roots) (home : Module) where
       on_some (top_width below) _ after e1 (λ w w_is e2.
       let wide = top_width-is below w w_is in
       let all : types ≡ number U8 ∷ number w ∷ wide.0 = taken-is (number U8 ∷ []) types below below_is ∙ ap (λ (ts : Types). number U8 ∷ ts) wide.1 in
-      let same : after ≡ number w ∷ wide.0 = sym (some_is below after e2) ∙ wide.1 in
+      let same : after ≡ number w ∷ wide.0 = sym (same_Some below after e2) ∙ wide.1 in
       at w wide.0 same stack (subst (λ (ts : Types). HaveTokens modules look home stack ts) all h)))
     where
       at : (w : Width) (below : Types) → after ≡ number w ∷ below → (stack : List Value) → HaveTokens modules look home stack (number U8 ∷ number w ∷ below) → Part (Typed after) (shift operator stack)
@@ -213,7 +214,7 @@ module _ (modules : List Module) (look : Roots) (home : Module) where
           subst (λ (ts : Types). HaveTokens modules look home (Leaf (Number w) m ∷ rest) ts) (sym same) (of_leaf modules look home (Number w) m fits, k.1.1))))
 
   width_of-is : (t : Token) (w : Width) → width_of t ≡ Some w → t ≡ number w
-  width_of-is (Plain (OfLeaf (Number v))) w e = ap number (some_is v w e)
+  width_of-is (Plain (OfLeaf (Number v))) w e = ap number (same_Some v w e)
   width_of-is (Plain (OfLeaf Boolean)) w e = absurd cc
   width_of-is (Plain (OfLeaf Address)) w e = absurd cc
   width_of-is (Plain (OfLeaf Signer)) w e = absurd cc
@@ -228,7 +229,7 @@ module _ (modules : List Module) (look : Roots) (home : Module) where
       on_some (top_type types) _ after e (λ top top_is e1.
       on_some (width_of top.0) _ after e1 (λ v v_is e2.
       let all : types ≡ number v ∷ top.1 = top_type-is types top top_is ∙ ap (λ (t : Token). t ∷ top.1) (width_of-is top.0 v v_is) in
-      at v top.1 (sym (some_is (number w ∷ top.1) after e2)) stack (subst (λ (ts : Types). HaveTokens modules look home stack ts) all h)))
+      at v top.1 (sym (same_Some (number w ∷ top.1) after e2)) stack (subst (λ (ts : Types). HaveTokens modules look home stack ts) all h)))
     where
       at : (v : Width) (below : Types) → after ≡ number w ∷ below → (stack : List Value) → HaveTokens modules look home stack (number v ∷ below) → Part (Typed after) (cast w stack)
       at v below same [] k = absurd k

@@ -4,6 +4,8 @@ use Rattle.std.specs.Prelude.{slice_get, IsTrue, ◌&&◌}
 use Rattle.std.specs.List.{list_all}
 use Rattle.std.specs.Option.{option_map_or}
 use Rattle.std.specs.Cmp.{first_so, second_so}
+use Rattle.std.proofs.lemmas.Option.{same_Some}
+use Rattle.std.proofs.lemmas.Bool.{and_from}
 use Rattle.mv_move_types.specs.declared.token.LeafKind.{LeafKind}
 use Rattle.mv_move_types.specs.declared.token.LeafKind.TheVariants.{Boolean, Number, Address, Signer}
 use Rattle.mv_move_types.specs.declared.token.ValueType.TheVariants.{OfLeaf, OfStruct}
@@ -26,15 +28,14 @@ use Rattle.mv_signatures.specs.Signatures.{may_be_field}
 use Rattle.mv_linker.specs.TypesByName.{token_named, tokens_named}
 use Rattle.mv_move_types.specs.Named.{definition_of}
 use Rattle.mv_machine.specs.Typed.{is_of_type, are_of_types, is_of_struct, abilities_at, is_fine_entry, is_fine_storage}
+use Rattle.mv_linker.proofs.NameLemmas.{same_struct-is, same_struct-same}
+use Rattle.mv_linker.proofs.Found.{on_some, each, then_found}
 use Rattle.mv_interpreter.specs.Typing.HasType.{in_range, fields_by_name, IsOf, AreOf}
 use Rattle.mv_interpreter.specs.Typing.StateTyped.{EntryTyped, StorageTyped}
 use Rattle.mv_interpreter.specs.Typing.Accepted.{ModuleAccepted, StoreAccepted}
-use Rattle.mv_interpreter.proofs.Typing.Within.{some_is}
-use Rattle.mv_interpreter.proofs.Typing.Tests.{same_kind-is, same_kind-same, same_struct-is, same_struct-same, both}
-use Rattle.mv_interpreter.proofs.Typing.Operands.{on_some}
-use Rattle.mv_interpreter.proofs.Typing.FlowFacts.{each}
+use Rattle.mv_interpreter.proofs.Typing.Tests.{same_kind-is, same_kind-same}
 use Rattle.mv_interpreter.proofs.Typing.Names.{tokens_there}
-use Rattle.mv_interpreter.proofs.Typing.OwnDefinitions.{field_tokens, then_found}
+use Rattle.mv_interpreter.proofs.Typing.OwnDefinitions.{field_tokens}
 use Rattle.mv_interpreter.proofs.Typing.Callees.{on_found, on_and_then}
 
 -- what the phases say of a struct's definition: its fields' types have names, and none is a reference or a signer
@@ -57,7 +58,7 @@ definition_defined modules store name d e =
       are_tags = tags.1;
       may_be = each (λ (d : StructDefinition). list_all (λ f. may_be_field f.token) d.fields) m.structs i s a.signed.fields s_at;
     } in
-    subst (λ (x : Module × List Field). Defined modules x.0 x.1) (some_is (m, s.fields) d e3) here))))
+    subst (λ (x : Module × List Field). Defined modules x.0 x.1) (same_Some (m, s.fields) d e3) here))))
 
 pub leaf_ranges : (k : LeafKind) (n : ℕ) → leaf_fits k n ≡ true → IsTrue (in_range k n)
 leaf_ranges Boolean n h = h
@@ -72,7 +73,7 @@ module _ (modules : List Module) (store : StoreAccepted modules) where
   -- the table's entry of a defined struct
   by_name : (name : StructName) (d : Module × List Field) → definition_of modules name ≡ Some d → (tags : List Tag) → tokens_named d.0 (map (λ (f : Field). f.token) d.1) ≡ Some tags → fields_by_name modules name ≡ Some tags
   unfolding fields_by_name
-  by_name name d e tags named = then_found (definition_of modules name) _ d tags e named
+  by_name name d e tags named = then_found (definition_of modules name) _ d (Some tags) e named
 
   found_definition : (name : StructName) (fields : Values) → option_map_or (λ (d : Module × List Field). are_of_types modules d.0 d.1 fields) (definition_of modules name) false ≡ true →
       (d : Module × List Field) × (x : Defined modules d.0 d.1) × (definition_of modules name ≡ Some d) × (are_of_types modules d.0 d.1 fields ≡ true)
@@ -83,7 +84,7 @@ module _ (modules : List Module) (store : StoreAccepted modules) where
   mutual
     of_type : (m : Module) (t : Token) (v : Value) (tag : Tag) → is_of_type modules m t v ≡ true → token_named m t ≡ Some tag → IsOf (fields_by_name modules) v tag
     of_type m (Plain (OfLeaf k)) (Leaf j n) tag h e =
-        subst (λ (x : Tag). IsOf (fields_by_name modules) (Leaf j n) x) (some_is (LeafTag k) tag e)
+        subst (λ (x : Tag). IsOf (fields_by_name modules) (Leaf j n) x) (same_Some (LeafTag k) tag e)
         (same_kind-is j k (first_so (same_kind j k) (leaf_fits k n) h), subst (λ (x : LeafKind). IsTrue (in_range x n)) (sym (same_kind-is j k (first_so (same_kind j k) (leaf_fits k n) h))) (leaf_ranges k n (second_so (same_kind j k) (leaf_fits k n) h)))
     of_type m (Plain (OfStruct i)) (Struct name fields) tag h e =
         let same : option_map_or (λ own. same_struct own name) (struct_name m i) false ≡ true =
@@ -94,7 +95,7 @@ module _ (modules : List Module) (store : StoreAccepted modules) where
         let all : AreOf (fields_by_name modules) fields parts.1.tags = of_types parts.0.0 parts.0.1 fields parts.1.tags parts.3 parts.1.are_tags in
         on_found (λ own. same_struct own name) (struct_name m i) same (λ own own_is is_name.
         on_some (struct_name m i) (λ n. Some (StructTag n)) tag e (λ n n_is e1.
-        let tag_is : StructTag name ≡ tag = ap StructTag (sym (same_struct-is own name is_name) ∙ some_is own n (sym own_is ∙ n_is)) ∙ some_is (StructTag n) tag e1 in
+        let tag_is : StructTag name ≡ tag = ap StructTag (sym (same_struct-is own name is_name) ∙ same_Some own n (sym own_is ∙ n_is)) ∙ same_Some (StructTag n) tag e1 in
         subst (λ (x : Tag). IsOf (fields_by_name modules) (Struct name fields) x) tag_is (refl, parts.1.tags, by_name name parts.0 parts.2 parts.1.tags parts.1.are_tags, all)))
     of_type m (Plain (OfLeaf k)) (Struct name fields) tag h e = absurd cc
     of_type m (Plain (OfLeaf k)) (Ref r) tag h e = absurd cc
@@ -108,13 +109,13 @@ module _ (modules : List Module) (store : StoreAccepted modules) where
     of_type m (MutableReferenceTo t) (Ref r) tag h e = absurd cc
 
     of_types : (m : Module) (fs : List Field) (vs : Values) (tags : List Tag) → are_of_types modules m fs vs ≡ true → tokens_named m (map (λ (f : Field). f.token) fs) ≡ Some tags → AreOf (fields_by_name modules) vs tags
-    of_types m [] NoMore tags h e = subst (AreOf (fields_by_name modules) NoMore) (some_is [] tags e) tt
+    of_types m [] NoMore tags h e = subst (AreOf (fields_by_name modules) NoMore) (same_Some [] tags e) tt
     of_types m [] (More v vs) tags h e = absurd cc
     of_types m (f ∷ fs) NoMore tags h e = absurd cc
     of_types m (f ∷ fs) (More v vs) tags h e =
         on_some (token_named m f.token) _ tags e (λ tag tag_is e1.
         on_some (tokens_named m (map (λ (f : Field). f.token) fs)) (λ rest. Some (tag ∷ rest)) tags e1 (λ rest rest_is e2.
-        subst (AreOf (fields_by_name modules) (More v vs)) (some_is (tag ∷ rest) tags e2)
+        subst (AreOf (fields_by_name modules) (More v vs)) (same_Some (tag ∷ rest) tags e2)
         (of_type m f.token v tag (first_so (is_of_type modules m f.token v) (are_of_types modules m fs vs) h) tag_is, of_types m fs vs rest (second_so (is_of_type modules m f.token v) (are_of_types modules m fs vs) h) rest_is)))
 
   fine_entry : (e : Entry) → is_fine_entry modules e ≡ true → EntryTyped modules e
@@ -166,52 +167,52 @@ module _ (modules : List Module) (store : StoreAccepted modules) where
   mutual
     to_type : (m : Module) (t : Token) (v : Value) (tag : Tag) → may_be_field t ≡ true → token_named m t ≡ Some tag → IsOf (fields_by_name modules) v tag → is_of_type modules m t v ≡ true
     to_type m (Plain (OfLeaf k)) (Leaf j n) tag b e h =
-        let is : IsOf (fields_by_name modules) (Leaf j n) (LeafTag k) = subst (λ (x : Tag). IsOf (fields_by_name modules) (Leaf j n) x) (sym (some_is (LeafTag k) tag e)) h in
-        both (same_kind j k) (leaf_fits k n) (subst (λ (x : LeafKind). same_kind x k ≡ true) (sym is.0) (same_kind-same k)) (leaf_fits_back k n b (subst (λ (x : LeafKind). IsTrue (in_range x n)) is.0 is.1))
+        let is : IsOf (fields_by_name modules) (Leaf j n) (LeafTag k) = subst (λ (x : Tag). IsOf (fields_by_name modules) (Leaf j n) x) (sym (same_Some (LeafTag k) tag e)) h in
+        and_from (same_kind j k) (leaf_fits k n) (subst (λ (x : LeafKind). same_kind x k ≡ true) (sym is.0) (same_kind-same k)) (leaf_fits_back k n b (subst (λ (x : LeafKind). IsTrue (in_range x n)) is.0 is.1))
     to_type m (Plain (OfStruct i)) (Struct name fields) tag b e h =
         on_some (struct_name m i) (λ n. Some (StructTag n)) tag e (λ own own_is e1.
-        let is : IsOf (fields_by_name modules) (Struct name fields) (StructTag own) = subst (λ (x : Tag). IsOf (fields_by_name modules) (Struct name fields) x) (sym (some_is (StructTag own) tag e1)) h in
+        let is : IsOf (fields_by_name modules) (Struct name fields) (StructTag own) = subst (λ (x : Tag). IsOf (fields_by_name modules) (Struct name fields) x) (sym (same_Some (StructTag own) tag e1)) h in
         let d = defined_by_name name is.1 is.2 in
         let all : are_of_types modules d.0.0 d.0.1 fields ≡ true = to_types d.0.0 d.0.1 fields is.1 (definition_defined modules store name d.0 d.1).may_be d.2 is.3 in
-        both _ _ (subst (λ (x : Option StructName). option_map_or (λ own. same_struct own name) x false ≡ true) (sym own_is) (subst (λ (x : StructName). same_struct own x ≡ true) (sym is.0) (same_struct-same own)))
+        and_from _ _ (subst (λ (x : Option StructName). option_map_or (λ own. same_struct own name) x false ≡ true) (sym own_is) (subst (λ (x : StructName). same_struct own x ≡ true) (sym is.0) (same_struct-same own)))
         (tested_by name fields d.0 d.1 all))
-    to_type m (Plain (OfLeaf k)) (Struct name fields) tag b e h = absurd (subst (λ (x : Tag). IsOf (fields_by_name modules) (Struct name fields) x) (sym (some_is (LeafTag k) tag e)) h)
+    to_type m (Plain (OfLeaf k)) (Struct name fields) tag b e h = absurd (subst (λ (x : Tag). IsOf (fields_by_name modules) (Struct name fields) x) (sym (same_Some (LeafTag k) tag e)) h)
     to_type m (Plain t) (Ref r) tag b e h = absurd h
     to_type m (Plain (OfStruct i)) (Leaf j n) tag b e h =
         on_some (struct_name m i) (λ n. Some (StructTag n)) tag e (λ own own_is e1.
-        absurd (subst (λ (x : Tag). IsOf (fields_by_name modules) (Leaf j n) x) (sym (some_is (StructTag own) tag e1)) h))
+        absurd (subst (λ (x : Tag). IsOf (fields_by_name modules) (Leaf j n) x) (sym (same_Some (StructTag own) tag e1)) h))
     to_type m (ReferenceTo t) v tag b e h = absurd cc
     to_type m (MutableReferenceTo t) v tag b e h = absurd cc
 
     to_types : (m : Module) (fs : List Field) (vs : Values) (tags : List Tag) → list_all (λ (f : Field). may_be_field f.token) fs ≡ true → tokens_named m (map (λ (f : Field). f.token) fs) ≡ Some tags → AreOf (fields_by_name modules) vs tags →
         are_of_types modules m fs vs ≡ true
     to_types m [] NoMore tags b e h = refl
-    to_types m [] (More v vs) tags b e h = absurd (subst (AreOf (fields_by_name modules) (More v vs)) (sym (some_is [] tags e)) h)
+    to_types m [] (More v vs) tags b e h = absurd (subst (AreOf (fields_by_name modules) (More v vs)) (sym (same_Some [] tags e)) h)
     to_types m (f ∷ fs) NoMore tags b e h =
         on_some (token_named m f.token) _ tags e (λ tag tag_is e1.
         on_some (tokens_named m (map (λ (f : Field). f.token) fs)) (λ rest. Some (tag ∷ rest)) tags e1 (λ rest rest_is e2.
-        absurd (subst (AreOf (fields_by_name modules) NoMore) (sym (some_is (tag ∷ rest) tags e2)) h)))
+        absurd (subst (AreOf (fields_by_name modules) NoMore) (sym (same_Some (tag ∷ rest) tags e2)) h)))
     to_types m (f ∷ fs) (More v vs) tags b e h =
         on_some (token_named m f.token) _ tags e (λ tag tag_is e1.
         on_some (tokens_named m (map (λ (f : Field). f.token) fs)) (λ rest. Some (tag ∷ rest)) tags e1 (λ rest rest_is e2.
-        let here : AreOf (fields_by_name modules) (More v vs) (tag ∷ rest) = subst (AreOf (fields_by_name modules) (More v vs)) (sym (some_is (tag ∷ rest) tags e2)) h in
-        both (is_of_type modules m f.token v) (are_of_types modules m fs vs)
+        let here : AreOf (fields_by_name modules) (More v vs) (tag ∷ rest) = subst (AreOf (fields_by_name modules) (More v vs)) (sym (same_Some (tag ∷ rest) tags e2)) h in
+        and_from (is_of_type modules m f.token v) (are_of_types modules m fs vs)
         (to_type m f.token v tag (first_so (may_be_field f.token) (list_all (λ (f : Field). may_be_field f.token) fs) b) tag_is here.0)
         (to_types m fs vs rest (second_so (may_be_field f.token) (list_all (λ (f : Field). may_be_field f.token) fs) b) rest_is here.1)))
 
   typed_entry : (e : Entry) → EntryTyped modules e → is_fine_entry modules e ≡ true
   typed_entry e t =
-      both _ _ (both _ _ t.fits (subst (λ (x : Option StructName). option_map_or (λ name. is_of_struct modules name e.value) x false ≡ true) (sym t.is_named) (is_own t.name e.value t.typed))) t.has_key
+      and_from _ _ (and_from _ _ t.fits (subst (λ (x : Option StructName). option_map_or (λ name. is_of_struct modules name e.value) x false ≡ true) (sym t.is_named) (is_own t.name e.value t.typed))) t.has_key
     where
       is_own : (name : StructName) (v : Value) → IsOf (fields_by_name modules) v (StructTag name) → is_of_struct modules name v ≡ true
       is_own name (Leaf j n) h = absurd h
       is_own name (Ref r) h = absurd h
       is_own name (Struct own fields) h =
           let d = defined_by_name own h.1 h.2 in
-          both _ _ (subst (λ (x : StructName). same_struct name x ≡ true) (sym h.0) (same_struct-same name))
+          and_from _ _ (subst (λ (x : StructName). same_struct name x ≡ true) (sym h.0) (same_struct-same name))
           (tested_by own fields d.0 d.1 (to_types d.0.0 d.0.1 fields h.1 (definition_defined modules store own d.0 d.1).may_be d.2 h.3))
 
   -- a typed storage is one that the ledger calls fine
   pub typed_is_fine : (es : Storage) → StorageTyped modules es → IsTrue (is_fine_storage modules es)
   typed_is_fine [] h = refl
-  typed_is_fine (e ∷ es) h = both _ _ (typed_entry e h.0) (typed_is_fine es h.1)
+  typed_is_fine (e ∷ es) h = and_from _ _ (typed_entry e h.0) (typed_is_fine es h.1)

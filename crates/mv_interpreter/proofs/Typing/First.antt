@@ -1,19 +1,15 @@
 -- The first state of a run is typed, and so the whole run meets no fault of types, links or dangling references.
-use Rattle.std.proofs.Common.{◌≡◌, ℕ, List, [], ◌++◌, length, refl, sym, subst, Some, None, Result, Ok, arith}
+use Rattle.std.proofs.Common.{◌≡◌, ℕ, List, [], ◌++◌, length, refl, Some, None, Ok, arith}
 use Rattle.mv_move_types.specs.Module.{Module}
 use Rattle.mv_machine.specs.State.{Storage, State, root_value}
 use Rattle.mv_machine.specs.Live.{references}
-use Rattle.mv_machine.specs.Typing.{Failure}
 use Rattle.mv_machine.specs.Step.{entered_frame}
-use Rattle.mv_machine.specs.Run.{FunctionCall, first_state, outcome_from, run}
+use Rattle.mv_machine.specs.Run.{FunctionCall, first_state, run}
 use Rattle.mv_interpreter.specs.Typing.HasType.{Roots}
 use Rattle.mv_interpreter.specs.Typing.StateTyped.{StateTyped, StorageTyped}
 pub use Rattle.mv_interpreter.specs.Typing.CallTyped.{Nowhere, CallTyped}
-use Rattle.mv_interpreter.specs.Typing.Facts.{SoundStore}
-use Rattle.mv_interpreter.specs.Typing.Outcome.{Guides, OutcomeTyped}
 use Rattle.mv_interpreter.proofs.Typing.Keep.{Kept, Nothing, avoid_nothing, keep_stack}
 use Rattle.mv_interpreter.proofs.Typing.Calls.{entered_locals}
-use Rattle.mv_interpreter.proofs.Typing.Rule.{run_typed}
 
 -- the state that a call begins with
 abbrev pub begun : Storage → FunctionCall → ℕ → State
@@ -51,11 +47,3 @@ first_typed modules storage call c stored =
 
 pub first_is : (modules : List Module) (storage : Storage) (call : FunctionCall) (c : CallTyped modules call) → first_state modules storage call ≡ Ok (begun storage call (length c.others))
 first_is modules storage call c = rw (c.is_home, c.is_function, c.are_others) refl
-
--- a run of a typed call over a typed storage
-pub whole_run_typed : (modules : List Module) (P : State → Type 0) (storage : Storage) (call : FunctionCall) (budget : ℕ) → SoundStore modules → Guides modules P → (c : CallTyped modules call) → StorageTyped modules storage →
-    P (begun storage call (length c.others)) → OutcomeTyped modules (run modules storage call budget)
-unfolding run
-whole_run_typed modules P storage call budget store guides c stored p =
-    subst (λ (r : Result State Failure). OutcomeTyped modules (outcome_from modules budget r)) (sym (first_is modules storage call c))
-    (run_typed modules P budget (begun storage call (length c.others)) store guides (first_typed modules storage call c stored) p)

@@ -1,44 +1,23 @@
 -- Blocks: where they begin and end, and how types are carried through them.
 use Rattle.std.proofs.Common.{◌≡◌, ℕ, zero, suc, ◌+◌, ◌-◌, ◌<◌, ◌≤◌, Bool, true, false, cond, List, [], ◌∷◌, ◌++◌, length, take, drop, refl, sym, ap, subst, Some, None, eqb, arith, ◌⊎◌, inl, inr}
 use Rattle.std.specs.Prelude.{slice_get, slice_range, nat_le, ◌||◌}
-use Rattle.std.specs.List.{list_all, list_any}
-use Rattle.std.specs.Cmp.{first_so, second_so}
-use Rattle.std.proofs.lemmas.Bool.{eqb-true}
+use Rattle.std.proofs.lemmas.Bool.{eqb-true, eqb-false}
+use Rattle.std.proofs.lemmas.Option.{same_Some}
 use Rattle.mv_move_types.specs.declared.instruction.Instruction.{Instruction}
 use Rattle.mv_move_types.specs.Module.{Module, FunctionDefinition}
 use Rattle.mv_cfg.specs.Blocks.{BasicBlock, blocks_at, block_between, starts_from, is_target}
 use Rattle.mv_move_types.specs.Flow.{ends_block}
 use Rattle.mv_type_states.specs.TypeRules.{Types, types_after}
 use Rattle.mv_type_states.specs.TypesHold.{types_through}
-use Rattle.mv_interpreter.proofs.Typing.Within.{some_is}
-use Rattle.mv_interpreter.proofs.Typing.Tests.{eqb-apart}
-use Rattle.mv_interpreter.proofs.Typing.Operands.{on_some}
+use Rattle.mv_linker.proofs.Found.{on_some}
 
 -- ---- lists
-
-pub each : {A : Type 0} (p : A → Bool) (xs : List A) (k : ℕ) (x : A) → list_all p xs ≡ true → slice_get xs k ≡ Some x → p x ≡ true
-each p [] k x h e = absurd cc
-each p (y ∷ ys) zero x h e = subst (λ z. p z ≡ true) (some_is y x e) (first_so (p y) (list_all p ys) h)
-each p (y ∷ ys) (suc k) x h e = each p ys k x (second_so (p y) (list_all p ys) h) e
-
-pub some_passes : {A : Type 0} (p : A → Bool) (xs : List A) (k : ℕ) (x : A) → slice_get xs k ≡ Some x → p x ≡ true → list_any p xs ≡ true
-some_passes p [] k x e h = absurd cc
-some_passes p (y ∷ ys) zero x e h = either_one (p y) (list_any p ys) (subst (λ z. p z ≡ true) (sym (some_is y x e)) h)
-  where
-    either_one : (a b : Bool) → a ≡ true → (a || b) ≡ true
-    either_one true b h = refl
-    either_one false b h = absurd cc
-some_passes p (y ∷ ys) (suc k) x e h = either_two (p y) (list_any p ys) (some_passes p ys k x e h)
-  where
-    either_two : (a b : Bool) → b ≡ true → (a || b) ≡ true
-    either_two true b h = refl
-    either_two false b h = h
 
 -- a list up to an element, the element, and the rest
 take_split : {A : Type 0} (ys : List A) (n r k : ℕ) (c : A) → k ≡ n + suc r → slice_get ys n ≡ Some c → (rest : List A) × (take k ys ≡ take n ys ++ c ∷ rest) × (r ≡ 0 → rest ≡ [])
 take_split [] n r k c e g = absurd cc
 take_split (y ∷ ys) n r zero c e g = absurd (omega (arith, e))
-take_split (y ∷ ys) zero r (suc k) c e g = (take k ys, ap (λ z. z ∷ take k ys) (some_is y c g), λ z. let none : k ≡ 0 = omega (arith, e, z) in ap (λ n. take n ys) none)
+take_split (y ∷ ys) zero r (suc k) c e g = (take k ys, ap (λ z. z ∷ take k ys) (same_Some y c g), λ z. let none : k ≡ 0 = omega (arith, e, z) in ap (λ n. take n ys) none)
 take_split (y ∷ ys) (suc n) r (suc k) c e g =
     let lower : k ≡ n + suc r = omega (arith, e) in
     let rest = take_split ys n r k c lower g in
@@ -83,7 +62,7 @@ through_apart m d (x ∷ xs) ys ts r e =
     joined after mid p q k = rw (p, q) k
 
 pub through_join : (m : Module) (d : FunctionDefinition) (xs ys : List Instruction) (ts mid r : Types) → types_through m d xs ts ≡ Some mid → types_through m d ys mid ≡ Some r → types_through m d (xs ++ ys) ts ≡ Some r
-through_join m d [] ys ts mid r e g = subst (λ (x : Types). types_through m d ys x ≡ Some r) (sym (some_is ts mid e)) g
+through_join m d [] ys ts mid r e g = subst (λ (x : Types). types_through m d ys x ≡ Some r) (sym (same_Some ts mid e)) g
 through_join m d (x ∷ xs) ys ts mid r e g =
     let s = through_step m d x xs ts mid e in
     let rest = through_join m d xs ys s.0 mid r s.3 g in
@@ -151,7 +130,7 @@ targets_begin code i j b (c ∷ cs) h low high = by_case (eqb i j) refl (λ l g.
         let flag : (b || is_target code i) ≡ true = or_true b (is_target code i) (subst (λ (x : ℕ). is_target code x ≡ true) (sym same) h) in
         rw flag (inl same)
     by_case false e ih =
-        let far : i ≡ j → ⊥ = eqb-apart i j e in
+        let far : i ≡ j → ⊥ = eqb-false i j e in
         later (b || is_target code i) i j (starts_from code (i + 1) (ends_block c) cs) (ih (omega (arith, low, far)) (omega (arith, high)))
 
 pub ended_begin : (code : List Instruction) (i k j : ℕ) (b : Bool) (c : Instruction) (cs : List Instruction) → slice_get cs k ≡ Some c → ends_block c ≡ true → suc k < length cs → j ≡ i + suc k → Among j (starts_from code i b cs)
@@ -159,7 +138,7 @@ unfolding Among
 ended_begin code i k j b c [] e h l at = absurd cc
 ended_begin code i zero j b c (x ∷ []) e h l at = absurd (omega (arith, l))
 ended_begin code i zero j b c (x ∷ y ∷ cs) e h l at =
-    let ends : ends_block x ≡ true = subst (λ (z : Instruction). ends_block z ≡ true) (sym (some_is x c e)) h in
+    let ends : ends_block x ≡ true = subst (λ (z : Instruction). ends_block z ≡ true) (sym (same_Some x c e)) h in
     let here : i + 1 ≡ j = omega (arith, at) in
     let found : Among j (starts_from code (i + 1) (ends_block x) (y ∷ cs)) = rw ends (inl here) in
     later (b || is_target code i) i j (starts_from code (i + 1) (ends_block x) (y ∷ cs)) found
@@ -181,7 +160,7 @@ unfolding Rising Among
 block_facts code [] low k b r e = absurd cc
 block_facts code (i ∷ []) low (suc k) b r e = absurd cc
 block_facts code (i ∷ []) low zero b r e =
-    subst (λ (x : BasicBlock). BlockFacts code (i ∷ []) low x) (some_is (block_between code i (length code)) b e) (record {
+    subst (λ (x : BasicBlock). BlockFacts code (i ∷ []) low x) (same_Some (block_between code i (length code)) b e) (record {
       at_least = r.0;
       in_order = omega (arith, r.1);
       inside = omega (arith, r.1);
@@ -189,7 +168,7 @@ block_facts code (i ∷ []) low zero b r e =
       ends = inl (omega (arith, r.1));
     })
 block_facts code (i ∷ j ∷ starts) low zero b r e =
-    subst (λ (x : BasicBlock). BlockFacts code (i ∷ j ∷ starts) low x) (some_is (block_between code i j) b e) (record {
+    subst (λ (x : BasicBlock). BlockFacts code (i ∷ j ∷ starts) low x) (same_Some (block_between code i j) b e) (record {
       at_least = r.0;
       in_order = omega (arith, r.2.0);
       inside = omega (arith, r.2.0, r.2.1);

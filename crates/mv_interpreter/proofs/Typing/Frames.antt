@@ -1,24 +1,25 @@
 -- A write to a local of some frame: what the locals of all frames hold then.
 use Rattle.std.proofs.Common.{◌≡◌, ℕ, zero, suc, ◌<◌, ◌≤◌, Bool, true, false, cond, List, [], ◌∷◌, map, refl, sym, ap, ap₂, subst, ◌∙◌, Option, Some, None, eqb, arith}
 use Rattle.std.specs.Prelude.{slice_get, slice_set, option_and_then}
-use Rattle.std.proofs.lemmas.Bool.{eqb-true}
+use Rattle.std.proofs.lemmas.Bool.{eqb-true, ne_eqb}
+use Rattle.std.proofs.lemmas.Option.{same_Some}
 use Rattle.mv_move_types.specs.declared.token.Token.{Token}
 use Rattle.mv_move_types.specs.Module.{Module}
 use Rattle.mv_machine.specs.Value.{Reference, Value, Leaf, Struct, Ref}
 use Rattle.mv_machine.specs.State.{Frame, local_value, local_in, with_local}
 use Rattle.mv_move_types.specs.Tags.{Tag, LeafTag, StructTag, ReferenceTag}
 use Rattle.mv_interpreter.specs.Typing.HasType.{Table, Roots, IsOf, HasType, fields_by_name}
-use Rattle.mv_interpreter.specs.Typing.StateTyped.{HasToken, LocalHasToken, LocalsHaveTokens, Numbered, IsWaiting, AreWaiting}
-use Rattle.mv_interpreter.proofs.Typing.Within.{some_is, one_type}
-use Rattle.mv_interpreter.proofs.Typing.Tests.{apart-eqb}
+use Rattle.mv_interpreter.specs.Typing.StateTyped.{HasToken, LocalHasToken, LocalsHaveTokens, Numbered, AreWaiting}
+use Rattle.mv_interpreter.proofs.Typing.Within.{one_type}
 use Rattle.mv_interpreter.proofs.Typing.Roots.{set_same, set_other, is_plain}
+use Rattle.mv_interpreter.proofs.Typing.Keep.{waits_with}
 
 -- frames with smaller numbers don't change
 pub written_below : (n l : ℕ) (v : Value) (k : ℕ) (fs : List Frame) → Numbered k fs → k ≤ n → map (with_local n l v) fs ≡ fs
 written_below n l v k [] h e = refl
 written_below n l v k (f ∷ fs) h e =
     let lower : f.number < n = omega (arith, h.0, e) in
-    let far : eqb f.number n ≡ false = apart-eqb f.number n (λ p. absurd (omega (arith, p, lower))) in
+    let far : eqb f.number n ≡ false = ne_eqb f.number n (λ p. absurd (omega (arith, p, lower))) in
     let same : with_local n l v f ≡ f = rw far refl in
     ap₂ (λ (x : Frame) (xs : List Frame). x ∷ xs) same (written_below n l v f.number fs h.1 (omega (arith, lower)))
 
@@ -44,7 +45,7 @@ held_entry f l v e = by_case (slice_get f.locals l) e
     by_case : (x : Option (Option Value)) → option_and_then (λ v. v) x ≡ Some v → x ≡ Some (Some v)
     by_case None e = absurd cc
     by_case (Some None) e = absurd cc
-    by_case (Some (Some w)) e = ap (λ (x : Value). Some (Some x)) (some_is w v e)
+    by_case (Some (Some w)) e = ap (λ (x : Value). Some (Some x)) (same_Some w v e)
 
 module _ (table : Table) (n l : ℕ) (old new : Value) (base : Tag) (old_typed : IsOf table old base) (new_typed : IsOf table new base) where
   -- in the frame itself
@@ -57,7 +58,7 @@ module _ (table : Table) (n l : ℕ) (old new : Value) (base : Tag) (old_typed :
       by_case true near =
           let same : l ≡ k = eqb-true l k near in
           let at_l : local_value f l ≡ Some v = subst (λ (x : ℕ). local_value f x ≡ Some v) (sym same) e in
-          let value : v ≡ old = some_is v old (sym at_l ∙ there) in
+          let value : v ≡ old = same_Some v old (sym at_l ∙ there) in
           let tag : base ≡ t = one_type table old base t old_typed (subst (λ (x : Value). IsOf table x t) value typed) in
           let set_at : slice_get (slice_set f.locals l (Some new)) k ≡ Some (Some new) = subst (λ (x : ℕ). slice_get (slice_set f.locals l (Some new)) x ≡ Some (Some new)) same (set_same f.locals l (Some old) (Some new) (held_entry f l old there)) in
           (new, rw set_at refl, subst (λ (x : Tag). IsOf table new x) tag new_typed)
@@ -107,7 +108,7 @@ module _ (modules : List Module) (n l : ℕ) (old new : Value) (base : Tag) (old
   locals_written : (home : Module) (vs : List (Option Value)) (ts : List Token) (k : ℕ) → slice_get vs k ≡ Some (Some old) → LocalsHaveTokens modules look home vs ts → LocalsHaveTokens modules look home (slice_set vs k (Some new)) ts
   locals_written home [] ts k e h = absurd cc
   locals_written home (v ∷ vs) [] k e h = absurd h
-  locals_written home (v ∷ vs) (t ∷ ts) zero e h = (replaced_typed home t (subst (λ (x : Option Value). LocalHasToken modules look home x t) (some_is v (Some old) e) h.0), h.1)
+  locals_written home (v ∷ vs) (t ∷ ts) zero e h = (replaced_typed home t (subst (λ (x : Option Value). LocalHasToken modules look home x t) (same_Some v (Some old) e) h.0), h.1)
   locals_written home (v ∷ vs) (t ∷ ts) (suc k) e h = (h.0, locals_written home vs ts k e h.1)
 
   -- a frame after the write is the frame with such locals
@@ -125,38 +126,8 @@ module _ (modules : List Module) (n l : ℕ) (old new : Value) (base : Tag) (old
           record { locals = slice_set f.locals l (Some new); is_frame = written_frame n l new f p; typed = locals_written home f.locals ts l (held_entry f l old here) h }
       by_case false p = record { locals = f.locals; is_frame = written_other n l new f p; typed = h }
 
-  waiting_with : (lent : List (Option Reference)) (given : List Tag) (f : Frame) (w : IsWaiting modules look lent given f) (locals : List (Option Value)) → LocalsHaveTokens modules look w.home locals w.tokens → IsWaiting modules look lent given (record f { locals = locals })
-  waiting_with lent given f w locals typed = record {
-    home = w.home;
-    function = w.function;
-    tokens = w.tokens;
-    handle = w.handle;
-    parameters = w.parameters;
-    results = w.results;
-    under = w.under;
-    parameter_tags = w.parameter_tags;
-    own_results = w.own_results;
-    is_home = w.is_home;
-    is_function = w.is_function;
-    are_tokens = w.are_tokens;
-    are_own_results = w.are_own_results;
-    is_call = w.is_call;
-    called = w.called;
-    is_called = w.is_called;
-    called_parameters = w.called_parameters;
-    called_results = w.called_results;
-    before = w.before;
-    behind = w.behind;
-    are_parameters = w.are_parameters;
-    are_results = w.are_results;
-    locals = typed;
-    stack = w.stack;
-    arguments = w.arguments;
-  }
-
   -- waiting frames after the write, which finds its local there or above
   pub below_written : (bound : ℕ) (lent : List (Option Reference)) (given : List Tag) (fs : List Frame) → Numbered bound fs → local_in fs n l ≡ Some old → AreWaiting modules look lent given fs → AreWaiting modules look lent given (map (with_local n l new) fs)
-  unfolding waiting_with
   below_written bound lent given [] h there w = tt
   below_written bound lent given (f ∷ fs) h there w = by_case (λ there. below_written f.number f.entered_with w.0.own_results fs h.1 there w.1) (eqb f.number n) refl
     where
@@ -167,7 +138,7 @@ module _ (modules : List Module) (n l : ℕ) (old new : Value) (base : Tag) (old
           let rest : map (with_local n l new) fs ≡ fs = written_below n l new f.number fs h.1 (omega (arith, frame)) in
           let locals = locals_written w.0.home f.locals w.0.tokens l (held_entry f l old here) w.0.locals in
           subst (λ (x : Frame). AreWaiting modules look lent given (x ∷ map (with_local n l new) fs)) (sym (written_frame n l new f p))
-          (waiting_with lent given f w.0 (slice_set f.locals l (Some new)) locals, subst (λ (xs : List Frame). AreWaiting modules look f.entered_with w.0.own_results xs) (sym rest) w.1)
+          (waits_with modules look look lent given f w.0 (slice_set f.locals l (Some new)) locals w.0.stack w.0.arguments, subst (λ (xs : List Frame). AreWaiting modules look f.entered_with w.0.own_results xs) (sym rest) w.1)
       by_case ih false p =
           let below : local_in fs n l ≡ Some old = subst (λ (x : Bool). cond x (local_value f l) (local_in fs n l) ≡ Some old) p there in
           subst (λ (x : Frame). AreWaiting modules look lent given (x ∷ map (with_local n l new) fs)) (sym (written_other n l new f p)) (w.0, ih below)

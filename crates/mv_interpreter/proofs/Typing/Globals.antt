@@ -2,6 +2,7 @@
 use Rattle.std.proofs.Common.{◌≡◌, ℕ, ◌+◌, Bool, true, false, List, [], ◌∷◌, refl, sym, ap, subst, ◌∙◌, Option, Some, None, Ok}
 use Rattle.std.specs.Prelude.{slice_get, ok_or, is_some, not, IsTrue}
 use Rattle.std.specs.Option.{option_map_or}
+use Rattle.std.proofs.lemmas.Option.{same_Some}
 use Rattle.mv_move_types.specs.declared.tables.Key.{Key}
 use Rattle.mv_move_types.specs.declared.token.LeafKind.TheVariants.{Address, Signer}
 use Rattle.mv_move_types.specs.declared.token.ValueType.{ValueType}
@@ -28,17 +29,16 @@ use Rattle.mv_machine.specs.StepGlobals.{exists, borrow_global, move_from}
 use Rattle.mv_machine.specs.StepParts.{untouched, truth, gives}
 use Rattle.mv_interpreter.specs.Typing.HasType.{in_range, Table, Roots, IsOf, Rooted, AtOnce, HasType, fields_by_name}
 use Rattle.mv_type_states.specs.TypesAt.{TypesAt}
+use Rattle.mv_linker.proofs.Found.{on_some, then_found}
+use Rattle.mv_storage.proofs.Keys.{same_key-to}
 use Rattle.mv_interpreter.specs.Typing.StateTyped.{HasToken, HaveTokens, TurnTyped, StorageTyped}
 use Rattle.mv_interpreter.specs.Typing.Facts.{Row, Facts}
 use Rattle.mv_interpreter.specs.Typing.Unreached.{Avoid, Unreached, Unlent}
-use Rattle.mv_interpreter.proofs.Typing.Within.{some_is}
-use Rattle.mv_interpreter.proofs.Typing.Tests.{same_key-is}
 use Rattle.mv_interpreter.proofs.Typing.Parts.{Part, known, met, tried, tested, frozen}
-use Rattle.mv_interpreter.proofs.Typing.Operands.{on_some, on_test, takes_gives-is, one, leaf}
+use Rattle.mv_interpreter.proofs.Typing.Operands.{on_test, takes_gives-is, one, leaf}
 use Rattle.mv_interpreter.proofs.Typing.Keep.{Kept, Nothing, avoid_nothing, none_to_nothing, keep_stack, keep_locals, keep_below}
 use Rattle.mv_interpreter.proofs.Typing.Roots.{place_of, typed_has_tag}
-use Rattle.mv_interpreter.proofs.Typing.OwnDefinitions.{then_found}
-use Rattle.mv_interpreter.proofs.Typing.Stays.{gives_typed}
+use Rattle.mv_interpreter.proofs.Typing.Stays.{gives_typed, moved}
 use Rattle.mv_interpreter.proofs.Typing.Families.{of_truth}
 use Rattle.mv_interpreter.proofs.Typing.Storage.{stored_other, unstored_other, stored_typed, typed_with, typed_without}
 use Rattle.mv_interpreter.proofs.Typing.References.{immutable}
@@ -58,10 +58,10 @@ keyed_facts h facts home_at k u e =
     on_some (struct_abilities h.home d) _ u e1 (λ a a_is e2.
     on_test a.key (OfStruct d.handle) u e2 (λ able same.
     let own = facts.own k d d_is in
-    let abilities : a ≡ own.struct.abilities = some_is a own.struct.abilities (sym a_is ∙ own.abilities) in
+    let abilities : a ≡ own.struct.abilities = same_Some a own.struct.abilities (sym a_is ∙ own.abilities) in
     let key : own.struct.abilities.key ≡ true = subst (λ (x : Abilities). x.key ≡ true) abilities able in
     let name : value_type_named h.home (OfStruct d.handle) ≡ Some (StructTag own.struct.name) = rw own.is_named refl in
-    let abilities_are : abilities_at h.modules h.state.top.function.place k ≡ Some a = then_found (slice_get h.modules h.state.top.function.place) _ h.home a home_at (then_found (slice_get h.home.structs k) _ d a d_is a_is) in
+    let abilities_are : abilities_at h.modules h.state.top.function.place k ≡ Some a = then_found (slice_get h.modules h.state.top.function.place) _ h.home (Some a) home_at (then_found (slice_get h.home.structs k) _ d (Some a) d_is a_is) in
     record { struct = own.struct; is_found = rw (own.is_found, key) refl; names = subst (λ (x : ValueType). value_type_named h.home x ≡ Some (StructTag own.struct.name)) same name; key = own.key; has_key = subst (λ (x : Option Abilities). IsTrue (option_map_or (λ a. a.key) x false)) (sym abilities_are) able })))
 
 module _ (h : Here) (i : Instruction) (types after : Types) (row : Row h i types after) (next : TypesAt h.home h.function (h.state.top.at + 1) after) where
@@ -98,7 +98,7 @@ module _ (h : Here) (i : Instruction) (types after : Types) (row : Row h i types
   stored_struct : (k : ℕ) (u : ValueType) (f : KeyedFacts h k u) (a : ℕ) (v : Value) → stored_at h.state.storage (key_at h k a) ≡ Some v → IsOf (fields_by_name h.modules) v (StructTag f.struct.name)
   stored_struct k u f a v there =
       let entry = stored_typed h.modules h.state.storage (key_at h k a) v row.stands.storage there in
-      subst (λ (n : StructName). IsOf (fields_by_name h.modules) v (StructTag n)) (some_is entry.name f.struct.name (sym entry.is_named ∙ f.key)) entry.typed
+      subst (λ (n : StructName). IsOf (fields_by_name h.modules) v (StructTag n)) (same_Some entry.name f.struct.name (sym entry.is_named ∙ f.key)) entry.typed
 
   pub borrows_global : (m : Bool) (given : ValueType → Token) → ((t : ValueType) (tag : Tag) → value_type_named h.home t ≡ Some tag → token_named h.home (given t) ≡ Some (ReferenceTag m tag)) →
       (k : ℕ) → of_global given h.home k types ≡ Some after → Part (TurnTyped h.modules) (borrow_global m h k)
@@ -131,25 +131,12 @@ module _ (h : Here) (i : Instruction) (types after : Types) (row : Row h i types
   -- the state with another storage and these operands
   restored : (gone : Root → Type 0) (storage : Storage) (stack : List Value) → Kept h.modules (root_value h.state) (root_value (with_storage h.state storage)) gone → Unreached gone h.state →
       StorageTyped h.modules storage → HaveTokens h.modules (root_value (with_storage h.state storage)) h.home stack after → Part (TurnTyped h.modules) (goes_on (with_stack (with_storage h.state storage) stack))
-  restored gone storage stack kept free stored typed = record {
-    home = h.home;
-    function = h.function;
-    types = after;
-    is_home = row.is_home;
-    is_function = row.is_function;
-    are_types = next;
-    stands = record {
-      tokens = row.stands.tokens;
-      results = row.stands.results;
-      numbered = row.stands.numbered;
-      are_tokens = row.stands.are_tokens;
-      are_results = row.stands.are_results;
-      locals = keep_locals h.modules (root_value h.state) (root_value (with_storage h.state storage)) gone kept h.home h.state.top.locals row.stands.tokens free.0.0 row.stands.locals;
-      stack = typed;
-      below = keep_below h.modules (root_value h.state) (root_value (with_storage h.state storage)) gone kept h.state.top.entered_with row.stands.results h.state.below free.1 row.stands.below;
-      storage = stored;
-    };
-  }
+  restored gone storage stack kept free stored typed =
+      moved h i types after row (h.state.top.at + 1) h.state.top.locals stack h.state.below storage h.state.tally next row.stands.numbered.1
+      (keep_locals h.modules (root_value h.state) (root_value (with_storage h.state storage)) gone kept h.home h.state.top.locals row.stands.tokens free.0.0 row.stands.locals)
+      typed
+      (keep_below h.modules (root_value h.state) (root_value (with_storage h.state storage)) gone kept h.state.top.entered_with row.stands.results h.state.below free.1 row.stands.below)
+      stored
 
   kept_without : (key : Key) → Kept h.modules (root_value h.state) (root_value (with_storage h.state (without_stored h.state.storage key))) (λ root. root ≡ Stored key)
   kept_without key (Local m l) t far r = record { value = r.value; is_there = r.is_there; is_of = r.is_of }
@@ -157,7 +144,7 @@ module _ (h : Here) (i : Instruction) (types after : Types) (row : Row h i types
     where
       by_case : (a : Bool) → same_key key other ≡ a → Rooted (fields_by_name h.modules) (root_value (with_storage h.state (without_stored h.state.storage key))) (Stored other) t
       by_case false p = record { value = r.value; is_there = unstored_other h.state.storage key other p ∙ r.is_there; is_of = r.is_of }
-      by_case true p = absurd (far (ap Stored (sym (same_key-is key other p))))
+      by_case true p = absurd (far (ap Stored (sym (same_key-to key other p))))
 
   pub takes_out : (k : ℕ) → of_global Plain h.home k types ≡ Some after → Unlent h.state k → Part (TurnTyped h.modules) (move_from h k)
   unfolding move_from
@@ -192,7 +179,7 @@ module _ (h : Here) (i : Instruction) (types after : Types) (row : Row h i types
       by_case : (a : Bool) → same_key key other ≡ a → Rooted (fields_by_name h.modules) (root_value (with_storage h.state (with_stored h.state.storage key v))) (Stored other) t
       by_case false p = record { value = r.value; is_there = stored_other h.state.storage key other v p ∙ r.is_there; is_of = r.is_of }
       by_case true p =
-          let there : stored_at h.state.storage key ≡ Some r.value = subst (λ (x : Key). stored_at h.state.storage x ≡ Some r.value) (sym (same_key-is key other p)) r.is_there in
+          let there : stored_at h.state.storage key ≡ Some r.value = subst (λ (x : Key). stored_at h.state.storage x ≡ Some r.value) (sym (same_key-to key other p)) r.is_there in
           absurd (none_some (sym none ∙ there))
         where
           none_some : None ≡ Some r.value → ⊥
@@ -215,10 +202,10 @@ module _ (h : Here) (i : Instruction) (types after : Types) (row : Row h i types
       let under = one h.modules look h.home top.1 (ReferenceTo (OfLeaf Signer)) parts.0 top.4 in
       let ref = immutable h.modules look h.home under.0 (OfLeaf Signer) under.3 in
       let r : Reference = ref.reference in
-      let signer_tag : ref.tag ≡ LeafTag Signer = some_is ref.tag (LeafTag Signer) (sym ref.names) in
+      let signer_tag : ref.tag ≡ LeafTag Signer = same_Some ref.tag (LeafTag Signer) (sym ref.names) in
       let there = place_of table h.state r ref.tag ref.points in
       let signer = signer_leaf table there.0 (subst (λ (t : Tag). IsOf table there.0 t) signer_tag there.2) in
-      let value_tag : top.3.tag ≡ StructTag f.struct.name = some_is top.3.tag (StructTag f.struct.name) (sym top.3.names ∙ f.names) in
+      let value_tag : top.3.tag ≡ StructTag f.struct.name = same_Some top.3.tag (StructTag f.struct.name) (sym top.3.names ∙ f.names) in
       let value_is : IsOf table top.0 (StructTag f.struct.name) = subst (λ (t : Tag). HasType table look top.0 t) value_tag top.3.typed in
       known (TurnTyped h.modules) (keyed_struct h k) _ f.struct f.is_found
       (known (TurnTyped h.modules) (operand h.state.top.stack) _ (top.0, top.1) (ap operand top.2)

@@ -37,6 +37,37 @@ first_avoids gone (Leaf k n) vs h = (tt, h)
 first_avoids gone (Struct name fields) vs h = (tt, h)
 first_avoids gone (Ref r) vs h = (h.0, h.1)
 
+-- a waiting frame with other locals, where its values have their types at other roots
+abbrev pub waits_with : (modules : List Module) (look look' : Roots) (lent : List (Option Reference)) (given : List Tag) (f : Frame) (w : IsWaiting modules look lent given f) (locals : List (Option Value)) → LocalsHaveTokens modules look' w.home locals w.tokens → HaveTokens modules look' w.home f.stack w.under
+    → LentHaveTypes (fields_by_name modules) look' lent w.parameter_tags → IsWaiting modules look' lent given (record f { locals = locals })
+waits_with modules look look' lent given f w locals held stack arguments = record {
+  home = w.home;
+  function = w.function;
+  tokens = w.tokens;
+  handle = w.handle;
+  parameters = w.parameters;
+  results = w.results;
+  under = w.under;
+  parameter_tags = w.parameter_tags;
+  own_results = w.own_results;
+  is_home = w.is_home;
+  is_function = w.is_function;
+  are_tokens = w.are_tokens;
+  are_own_results = w.are_own_results;
+  is_call = w.is_call;
+  called = w.called;
+  is_called = w.is_called;
+  called_parameters = w.called_parameters;
+  called_results = w.called_results;
+  before = w.before;
+  after = w.after;
+  are_parameters = w.are_parameters;
+  are_results = w.are_results;
+  locals = held;
+  stack = stack;
+  arguments = arguments;
+}
+
 module _ (modules : List Module) (look look' : Roots) (gone : Root → Type 0) where
   -- what isn't gone is there as before, with its type
   abbrev pub Kept : Type 0
@@ -87,33 +118,8 @@ module _ (modules : List Module) (look look' : Roots) (gone : Root → Type 0) (
   keep_lent (Some r ∷ rs) (t ∷ ts) a h = (keep_value (Ref r) t a.0 h.0, keep_lent rs ts a.1 h.1)
 
   pub keep_waiting : (lent : List (Option Reference)) (given : List Tag) (f : Frame) → Avoid gone (filter_map (λ r. r) lent) → FrameAvoids gone f → IsWaiting modules look lent given f → IsWaiting modules look' lent given f
-  keep_waiting lent given f a b w = record {
-    home = w.home;
-    function = w.function;
-    tokens = w.tokens;
-    handle = w.handle;
-    parameters = w.parameters;
-    results = w.results;
-    under = w.under;
-    parameter_tags = w.parameter_tags;
-    own_results = w.own_results;
-    is_home = w.is_home;
-    is_function = w.is_function;
-    are_tokens = w.are_tokens;
-    are_own_results = w.are_own_results;
-    is_call = w.is_call;
-    called = w.called;
-    is_called = w.is_called;
-    called_parameters = w.called_parameters;
-    called_results = w.called_results;
-    before = w.before;
-    behind = w.behind;
-    are_parameters = w.are_parameters;
-    are_results = w.are_results;
-    locals = keep_locals w.home f.locals w.tokens b.0 w.locals;
-    stack = keep_stack w.home f.stack w.under b.1 w.stack;
-    arguments = keep_lent lent w.parameter_tags a w.arguments;
-  }
+  keep_waiting lent given f a b w =
+      waits_with modules look look' lent given f w f.locals (keep_locals w.home f.locals w.tokens b.0 w.locals) (keep_stack w.home f.stack w.under b.1 w.stack) (keep_lent lent w.parameter_tags a w.arguments)
 
   pub keep_below : (lent : List (Option Reference)) (given : List Tag) (fs : List Frame) → BelowAvoid gone lent fs → AreWaiting modules look lent given fs → AreWaiting modules look' lent given fs
   unfolding keep_waiting

@@ -1,7 +1,8 @@
 -- Rows of locals.
 use Rattle.std.proofs.Common.{◌≡◌, ℕ, ◌+◌, Bool, true, false, List, [], ◌∷◌, refl, sym, ap, subst, ◌∙◌, Option, Some, None, Ok, eqb, ◌⊎◌, inl, inr}
 use Rattle.std.specs.Prelude.{slice_get, not, ok_or}
-use Rattle.std.proofs.lemmas.Bool.{eqb-true}
+use Rattle.std.proofs.lemmas.Bool.{eqb-true, eqb-false}
+use Rattle.std.proofs.lemmas.Option.{same_Some}
 use Rattle.mv_move_types.specs.declared.token.ValueType.{ValueType}
 use Rattle.mv_move_types.specs.declared.token.Token.{Token}
 use Rattle.mv_move_types.specs.declared.token.Token.TheVariants.{Plain, Reference as ReferenceTo, MutableReference as MutableReferenceTo}
@@ -23,16 +24,15 @@ use Rattle.mv_machine.specs.StepLocals.{copy_local, store_local, with_own_local}
 use Rattle.mv_machine.specs.StepParts.{can_copy, untouched}
 use Rattle.mv_interpreter.specs.Typing.HasType.{Roots, IsOf, Rooted, AtOnce, HasType, fields_by_name}
 use Rattle.mv_type_states.specs.TypesAt.{TypesAt}
+use Rattle.mv_linker.proofs.Found.{on_some}
 use Rattle.mv_interpreter.specs.Typing.StateTyped.{HasToken, HaveTokens, LocalHasToken, TurnTyped}
 use Rattle.mv_interpreter.specs.Typing.Facts.{Row}
 use Rattle.mv_interpreter.specs.Typing.Unreached.{Avoid, Unreached, Unborrowed}
-use Rattle.mv_interpreter.proofs.Typing.Within.{some_is}
-use Rattle.mv_interpreter.proofs.Typing.Tests.{eqb-apart}
 use Rattle.mv_interpreter.proofs.Typing.Parts.{Part, known, some, met, tried, tested, lost, frozen}
-use Rattle.mv_interpreter.proofs.Typing.Operands.{on_some, on_test, taken-is, one}
+use Rattle.mv_interpreter.proofs.Typing.Operands.{on_test, taken-is, one}
 use Rattle.mv_interpreter.proofs.Typing.Keep.{Kept, Nothing, none_to_nothing, keep_stack, keep_locals, keep_below}
 use Rattle.mv_interpreter.proofs.Typing.Roots.{named_plain, plain_is, typed_has_tag, local_at, local_set, other_roots, own_root}
-use Rattle.mv_interpreter.proofs.Typing.Stays.{stays_at}
+use Rattle.mv_interpreter.proofs.Typing.Stays.{stays_at, moved}
 
 -- two roots are one or not
 pub root_is : (root : Root) (n l : ℕ) → (root ≡ Local n l) ⊎ (root ≡ Local n l → ⊥)
@@ -41,8 +41,8 @@ root_is (Local m k) n l = by_case (eqb m n) (eqb k l) refl refl
   where
     by_case : (a b : Bool) → eqb m n ≡ a → eqb k l ≡ b → (Local m k ≡ Local n l) ⊎ (Local m k ≡ Local n l → ⊥)
     by_case true true e g = inl (subst (λ (x : ℕ). Local m k ≡ Local x l) (eqb-true m n e) (ap (Local m) (eqb-true k l g)))
-    by_case false b e g = inr (λ p. let q : m ≡ n = cc in eqb-apart m n e q)
-    by_case true false e g = inr (λ p. let q : k ≡ l = cc in eqb-apart k l g q)
+    by_case false b e g = inr (λ p. let q : m ≡ n = cc in eqb-false m n e q)
+    by_case true false e g = inr (λ p. let q : k ≡ l = cc in eqb-false k l g q)
 
 -- what stays where a local is changed
 pub record StaysBut (modules : List Module) (s : State) (look' : Roots) : Type 1 where
@@ -66,7 +66,7 @@ module _ (modules : List Module) (s : State) (l : ℕ) (new : Option Value) wher
 
   pub stays_but : (old : Option Value) → slice_get s.top.locals l ≡ Some old → Unborrowed s l → StaysBut modules s (root_value (with_own_local s l new))
   stays_but None there free = record { gone = Nothing; kept = kept_all None there (λ v t e k. absurd cc); avoids = none_to_nothing s }
-  stays_but (Some (Ref r)) there free = record { gone = Nothing; kept = kept_all (Some (Ref r)) there (λ v t e k. no_reference v t (some_is (Ref r) v e) k); avoids = none_to_nothing s }
+  stays_but (Some (Ref r)) there free = record { gone = Nothing; kept = kept_all (Some (Ref r)) there (λ v t e k. no_reference v t (same_Some (Ref r) v e) k); avoids = none_to_nothing s }
     where
       no_reference : (v : Value) (t : Tag) → Ref r ≡ v → IsOf (fields_by_name modules) v t → ⊥
       no_reference v t e k = subst (λ (x : Value). IsOf (fields_by_name modules) x t) (sym e) k
@@ -74,7 +74,7 @@ module _ (modules : List Module) (s : State) (l : ℕ) (new : Option Value) wher
   stays_but (Some (Struct name fields)) there free = record { gone = (λ root. root ≡ Local s.top.number l); kept = kept_others; avoids = free (Struct name fields) there refl }
 
 pub plain_of-is : (t : Token) (u : ValueType) → plain_of t ≡ Some u → t ≡ Plain u
-plain_of-is (Plain t) u e = ap Plain (some_is t u e)
+plain_of-is (Plain t) u e = ap Plain (same_Some t u e)
 plain_of-is (ReferenceTo t) u e = absurd cc
 plain_of-is (MutableReferenceTo t) u e = absurd cc
 
@@ -89,7 +89,7 @@ module _ (h : Here) (i : Instruction) (types after : Types) (row : Row h i types
   pub declared : (l : ℕ) (t : Token) → local_type h.home h.function l ≡ Some t → Declared l t
   declared l t e =
       on_some (local_tokens h.home h.function) (λ tokens. slice_get tokens l) t e (λ tokens tokens_are e1.
-      let same : tokens ≡ row.stands.tokens = some_is tokens row.stands.tokens (sym tokens_are ∙ row.stands.are_tokens) in
+      let same : tokens ≡ row.stands.tokens = same_Some tokens row.stands.tokens (sym tokens_are ∙ row.stands.are_tokens) in
       let at : slice_get row.stands.tokens l ≡ Some t = subst (λ (x : List Token). slice_get x l ≡ Some t) same e1 in
       let found = local_at h.modules (root_value h.state) h.home h.state.top.locals row.stands.tokens l t row.stands.locals at in
       record { is_type = at; value = found.0; holds = found.1; typed = found.2 })
@@ -117,33 +117,20 @@ module _ (h : Here) (i : Instruction) (types after : Types) (row : Row h i types
   pub changed : (l : ℕ) (t : Token) (new : Option Value) (stack : List Value) → (b : StaysBut h.modules h.state (root_value (with_own_local h.state l new))) → Declared l t →
       LocalHasToken h.modules (root_value (with_own_local h.state l new)) h.home new t → HaveTokens h.modules (root_value (with_own_local h.state l new)) h.home stack after →
       Part (TurnTyped h.modules) (goes_on (with_stack (with_own_local h.state l new) stack))
-  changed l t new stack b d typed stacked = record {
-    home = h.home;
-    function = h.function;
-    types = after;
-    is_home = row.is_home;
-    is_function = row.is_function;
-    are_types = next;
-    stands = record {
-      tokens = row.stands.tokens;
-      results = row.stands.results;
-      numbered = row.stands.numbered;
-      are_tokens = row.stands.are_tokens;
-      are_results = row.stands.are_results;
-      locals = local_set h.modules (root_value (with_own_local h.state l new)) h.home h.state.top.locals row.stands.tokens l t new
-          (keep_locals h.modules (root_value h.state) (root_value (with_own_local h.state l new)) b.gone b.kept h.home h.state.top.locals row.stands.tokens b.avoids.0.0 row.stands.locals) d.is_type typed;
-      stack = stacked;
-      below = keep_below h.modules (root_value h.state) (root_value (with_own_local h.state l new)) b.gone b.kept h.state.top.entered_with row.stands.results h.state.below b.avoids.1 row.stands.below;
-      storage = row.stands.storage;
-    };
-  }
+  changed l t new stack b d typed stacked =
+      moved h i types after row (h.state.top.at + 1) (with_own_local h.state l new).top.locals stack h.state.below h.state.storage h.state.tally next row.stands.numbered.1
+      (local_set h.modules (root_value (with_own_local h.state l new)) h.home h.state.top.locals row.stands.tokens l t new
+      (keep_locals h.modules (root_value h.state) (root_value (with_own_local h.state l new)) b.gone b.kept h.home h.state.top.locals row.stands.tokens b.avoids.0.0 row.stands.locals) d.is_type typed)
+      stacked
+      (keep_below h.modules (root_value h.state) (root_value (with_own_local h.state l new)) b.gone b.kept h.state.top.entered_with row.stands.results h.state.below b.avoids.1 row.stands.below)
+      row.stands.storage
 
   -- what the local holds stays typed where the local is changed
   kept_local : (l : ℕ) (t : Token) (v : Value) (look' : Roots) → (b : StaysBut h.modules h.state look') → Declared l t → slice_get h.state.top.locals l ≡ Some (Some v) → HasToken h.modules look' h.home v t
   kept_local l t v look' b d there =
       let all = keep_locals h.modules (root_value h.state) look' b.gone b.kept h.home h.state.top.locals row.stands.tokens b.avoids.0.0 row.stands.locals in
       let found = local_at h.modules look' h.home h.state.top.locals row.stands.tokens l t all d.is_type in
-      let same : found.0 ≡ Some v = some_is found.0 (Some v) (sym found.1 ∙ there) in
+      let same : found.0 ≡ Some v = same_Some found.0 (Some v) (sym found.1 ∙ there) in
       subst (λ (x : Option Value). LocalHasToken h.modules look' h.home x t) same found.2
 
   pub moves : (l : ℕ) → (local_type h.home h.function l >>= λ t. Some (t ∷ types)) ≡ Some after → Unborrowed h.state l → Part (TurnTyped h.modules) (move_local h l)
@@ -156,7 +143,7 @@ module _ (h : Here) (i : Instruction) (types after : Types) (row : Row h i types
       let look' : Roots = root_value (with_own_local h.state l None) in
       let b = stays_but h.modules h.state l None (Some v) typed.1 free in
       changed l t None (v ∷ h.state.top.stack) b d tt
-      (subst (λ (ts : Types). HaveTokens h.modules look' h.home (v ∷ h.state.top.stack) ts) (some_is (t ∷ types) after e1)
+      (subst (λ (ts : Types). HaveTokens h.modules look' h.home (v ∷ h.state.top.stack) ts) (same_Some (t ∷ types) after e1)
       (kept_local l t v look' b d typed.1, keep_stack h.modules (root_value h.state) look' b.gone b.kept h.home h.state.top.stack types b.avoids.0.1 row.stands.stack)))))
 
   local_tag-is : (l : ℕ) (t : Token) (tag : Tag) → Declared l t → token_named h.home t ≡ Some tag → local_tag h l ≡ Ok tag
@@ -210,5 +197,5 @@ module _ (h : Here) (i : Instruction) (types after : Types) (row : Row h i types
       known (TurnTyped h.modules) (local_tag h l) _ typed.0.tag (local_tag-is l (Plain u) typed.0.tag d typed.0.names)
       (met (TurnTyped h.modules) _ _ _ (ap not (named_plain h.home u typed.0.tag typed.0.names))
       (stays_at h i types after (Ref (record { is_mutable = is_mutable; place = local_place h l }) ∷ h.state.top.stack) (h.state.top.at + 1) row
-      (subst (λ (ts : Types). HaveTokens h.modules (root_value h.state) h.home (Ref (record { is_mutable = is_mutable; place = local_place h l }) ∷ h.state.top.stack) ts) (some_is (given u ∷ types) after e2)
+      (subst (λ (ts : Types). HaveTokens h.modules (root_value h.state) h.home (Ref (record { is_mutable = is_mutable; place = local_place h l }) ∷ h.state.top.stack) ts) (same_Some (given u ∷ types) after e2)
       (record { tag = ReferenceTag is_mutable typed.0.tag; names = names u typed.0.tag typed.0.names; typed = to_local is_mutable l v u typed.1 typed.0 }, row.stands.stack)) next)))))

@@ -1,11 +1,12 @@
 -- Types that an accepted module names are there in the store.
-use Rattle.std.proofs.Common.{◌≡◌, ℕ, zero, suc, ◌+◌, ◌<◌, Bool, true, false, List, [], ◌∷◌, length, refl, sym, ap, subst, ◌∙◌, Option, Some, None, Result, Ok, arith}
+use Rattle.std.proofs.Common.{◌≡◌, ℕ, zero, suc, ◌+◌, Bool, true, false, List, [], ◌∷◌, refl, sym, ap, subst, ◌∙◌, Option, Some, None, Result, Ok, arith}
 use Rattle.std.specs.Prelude.{slice_get, ok_or, ◌&&◌}
 use Rattle.std.specs.Bool.{beq}
 use Rattle.std.specs.List.{list_all}
 use Rattle.std.specs.Option.{option_map_or}
-use Rattle.std.specs.Cmp.{first_so, second_so}
-use Rattle.std.proofs.lemmas.Bool.{ltb-true}
+use Rattle.std.specs.Cmp.{first_so, second_so, booleans_Decides}
+use Rattle.std.proofs.lemmas.Bool.{and_from}
+use Rattle.std.proofs.lemmas.Option.{same_Some}
 use Rattle.mv_move_types.specs.declared.tables.StructHandle.{StructHandle}
 use Rattle.mv_move_types.specs.declared.token.ValueType.{ValueType}
 use Rattle.mv_move_types.specs.declared.token.ValueType.TheVariants.{OfLeaf, OfStruct}
@@ -14,57 +15,27 @@ use Rattle.mv_move_types.specs.declared.token.Token.TheVariants.{Plain, Referenc
 use Rattle.mv_move_types.specs.declared.token.Abilities.{Abilities}
 use Rattle.mv_move_types.specs.Options.{◌>>=◌}
 use Rattle.mv_move_types.specs.Results.{◌>>=◌ as ◌>>=ᵣ◌, ◌>>◌, need}
-use Rattle.mv_move_types.specs.Names.{ModuleName, StructName}
-use Rattle.mv_move_types.specs.Module.{Module, module_name, struct_name}
+use Rattle.mv_move_types.specs.Names.{StructName}
+use Rattle.mv_move_types.specs.Module.{Module, struct_name}
 use Rattle.mv_machine.specs.Typing.{Failure, Faults, LinkageFault, struct_tag, value_type_tag, tag_named}
 use Rattle.mv_move_types.specs.Tags.{Tag, LeafTag, StructTag, ReferenceTag}
 use Rattle.mv_move_types.specs.Named.{declared}
 use Rattle.mv_move_types.specs.AbilitySets.{same_abilities}
-use Rattle.mv_bounds.specs.Bounds.{InBounds, below, token_in, value_type_in, struct_handle_in, module_handle_in}
+use Rattle.mv_bounds.specs.Bounds.{InBounds, below, token_in, value_type_in, struct_handle_in}
 use Rattle.mv_linker.specs.Links.{struct_is_there, structs_are_there}
 use Rattle.mv_linker.specs.TypesByName.{value_type_named, token_named, tokens_named}
+use Rattle.mv_linker.proofs.Found.{on_some, each, there_below}
+use Rattle.mv_linker.proofs.OwnDefinitions.{module_there, struct_name_by}
 use Rattle.mv_interpreter.specs.Typing.Facts.{Named}
-use Rattle.mv_interpreter.proofs.Typing.Within.{some_is}
-use Rattle.mv_interpreter.proofs.Typing.Tests.{beq-is, beq-same, both}
-use Rattle.mv_interpreter.proofs.Typing.Operands.{on_some}
-use Rattle.mv_interpreter.proofs.Typing.FlowFacts.{each}
-
--- an index below the length
-pub there_at : {A : Type 0} (xs : List A) (k : ℕ) → below k xs ≡ true → (x : A) × (slice_get xs k ≡ Some x)
-there_at xs k h = found xs k (ltb-true k (length xs) h)
-  where
-    found : {A : Type 0} (xs : List A) (k : ℕ) → k < length xs → (x : A) × (slice_get xs k ≡ Some x)
-    found [] k h = absurd (omega (arith, h))
-    found (x ∷ xs) zero h = (x, refl)
-    found (x ∷ xs) (suc k) h = found xs k (omega (arith, h))
-
--- a struct's name by its parts
-abbrev pub named_in : ModuleName → List ℕ → StructName
-named_in home name = record { home = home; name = name }
 
 module _ (m : Module) (bounds : InBounds m) where
-  pub module_there : (h : ℕ) → below h m.module_handles ≡ true → (name : ModuleName) × (module_name m h ≡ Some name)
-  module_there h e =
-      let handle = there_at m.module_handles h e in
-      let fine = each (module_handle_in m) m.module_handles h handle.0 bounds.module_handles handle.1 in
-      let address = there_at m.addresses handle.0.address (first_so (below handle.0.address m.addresses) (below handle.0.name m.identifiers) fine) in
-      let name = there_at m.identifiers handle.0.name (second_so (below handle.0.address m.addresses) (below handle.0.name m.identifiers) fine) in
-      (record { address = address.0; name = name.0 }, rw (handle.1, address.1, name.1) refl)
-
-  -- a struct's name by its parts
-  pub struct_name_by : (h : ℕ) (handle : StructHandle) (home : ModuleName) (name : List ℕ) → slice_get m.struct_handles h ≡ Some handle → module_name m handle.module ≡ Some home → slice_get m.identifiers handle.name ≡ Some name → struct_name m h ≡ Some (named_in home name)
-  struct_name_by h handle home name p q r =
-      subst (λ (x : Option StructHandle). (x >>= λ handle. module_name m handle.module >>= λ home. slice_get m.identifiers handle.name >>= λ name. Some (named_in home name)) ≡ Some (named_in home name)) (sym p)
-      (subst (λ (x : Option ModuleName). (x >>= λ home. slice_get m.identifiers handle.name >>= λ name. Some (named_in home name)) ≡ Some (named_in home name)) (sym q)
-      (subst (λ (x : Option (List ℕ)). (x >>= λ name. Some (named_in home name)) ≡ Some (named_in home name)) (sym r) refl))
-
   pub struct_there : (h : ℕ) → below h m.struct_handles ≡ true → (name : StructName) × (struct_name m h ≡ Some name)
   struct_there h e =
-      let handle = there_at m.struct_handles h e in
+      let handle = there_below m.struct_handles h e in
       let fine = each (struct_handle_in m) m.struct_handles h handle.0 bounds.struct_handles handle.1 in
-      let home = module_there handle.0.module (first_so (below handle.0.module m.module_handles) (below handle.0.name m.identifiers) fine) in
-      let name = there_at m.identifiers handle.0.name (second_so (below handle.0.module m.module_handles) (below handle.0.name m.identifiers) fine) in
-      (named_in home.0 name.0, struct_name_by h handle.0 home.0 name.0 handle.1 home.1 name.1)
+      let home = module_there m bounds handle.0.module (first_so (below handle.0.module m.module_handles) (below handle.0.name m.identifiers) fine) in
+      let name = there_below m.identifiers handle.0.name (second_so (below handle.0.module m.module_handles) (below handle.0.name m.identifiers) fine) in
+      (record { home = home.0; name = name.0 }, struct_name_by m bounds h handle.0 home.0 name.0 handle.1 home.1 name.1)
 
   -- a type whose handle is there has a tag
   pub value_type_there : (t : ValueType) → value_type_in m t ≡ true → (tag : Tag) × (value_type_named m t ≡ Some tag)
@@ -90,18 +61,18 @@ same_abilities-turned : (a b : Abilities) → same_abilities a b ≡ true → sa
 same_abilities-turned a b h =
     let h3 : (beq a.copy b.copy && beq a.drop b.drop && beq a.store b.store) ≡ true = first_so (beq a.copy b.copy && beq a.drop b.drop && beq a.store b.store) (beq a.key b.key) h in
     let h2 : (beq a.copy b.copy && beq a.drop b.drop) ≡ true = first_so (beq a.copy b.copy && beq a.drop b.drop) (beq a.store b.store) h3 in
-    both _ _ (both _ _ (both _ _ (turn a.copy b.copy (first_so (beq a.copy b.copy) (beq a.drop b.drop) h2)) (turn a.drop b.drop (second_so (beq a.copy b.copy) (beq a.drop b.drop) h2)))
+    and_from _ _ (and_from _ _ (and_from _ _ (turn a.copy b.copy (first_so (beq a.copy b.copy) (beq a.drop b.drop) h2)) (turn a.drop b.drop (second_so (beq a.copy b.copy) (beq a.drop b.drop) h2)))
     (turn a.store b.store (second_so (beq a.copy b.copy && beq a.drop b.drop) (beq a.store b.store) h3))) (turn a.key b.key (second_so (beq a.copy b.copy && beq a.drop b.drop && beq a.store b.store) (beq a.key b.key) h))
   where
     turn : (x y : Bool) → beq x y ≡ true → beq y x ≡ true
-    turn x y e = subst (λ (z : Bool). beq z x ≡ true) (beq-is x y e) (beq-same x)
+    turn x y e = (booleans_Decides y x).1 (sym ((booleans_Decides x y).0 e))
 
 module _ (modules : List Module) (m : Module) (links : structs_are_there modules m 0 m.struct_handles ≡ true) where
   pub handle_there : (base k : ℕ) (ss : List StructHandle) (s : StructHandle) (h : ℕ) → structs_are_there modules m base ss ≡ true → slice_get ss k ≡ Some s → h ≡ base + k → struct_is_there modules m h s ≡ true
   handle_there base k [] s h e g at = absurd cc
   handle_there base zero (x ∷ ss) s h e g at =
       let same : base ≡ h = omega (arith, at) in
-      subst (λ (n : ℕ). struct_is_there modules m n s ≡ true) same (subst (λ (y : StructHandle). struct_is_there modules m base y ≡ true) (some_is x s g) (first_so (struct_is_there modules m base x) (structs_are_there modules m (base + 1) ss) e))
+      subst (λ (n : ℕ). struct_is_there modules m n s ≡ true) same (subst (λ (y : StructHandle). struct_is_there modules m base y ≡ true) (same_Some x s g) (first_so (struct_is_there modules m base x) (structs_are_there modules m (base + 1) ss) e))
   handle_there base (suc k) (x ∷ ss) s h e g at =
       handle_there (base + 1) k ss s h (second_so (struct_is_there modules m base x) (structs_are_there modules m (base + 1) ss) e) g (omega (arith, at))
 
@@ -126,16 +97,16 @@ module _ (modules : List Module) (m : Module) (links : structs_are_there modules
           (subst (λ (b : Bool). (need b (Faults LinkageFault) >> Ok (StructTag name)) ≡ Ok (StructTag name)) (sym turned) refl)))
 
   value_tag_is : (t : ValueType) (tag : Tag) → value_type_named m t ≡ Some tag → value_type_tag modules m t ≡ Ok tag
-  value_tag_is (OfLeaf k) tag e = ap Ok (some_is (LeafTag k) tag e)
+  value_tag_is (OfLeaf k) tag e = ap Ok (same_Some (LeafTag k) tag e)
   value_tag_is (OfStruct h) tag e =
       on_some (struct_name m h) (λ name. Some (StructTag name)) tag e (λ name name_is e1.
-      struct_tag_is h name name_is ∙ ap Ok (some_is (StructTag name) tag e1))
+      struct_tag_is h name name_is ∙ ap Ok (same_Some (StructTag name) tag e1))
 
   pub tag_is_found : (t : Token) (tag : Tag) → token_named m t ≡ Some tag → tag_named modules m t ≡ Ok tag
   tag_is_found (Plain t) tag e = value_tag_is t tag e
   tag_is_found (ReferenceTo t) tag e =
       on_some (value_type_named m t) (λ to. Some (ReferenceTag false to)) tag e (λ to to_is e1.
-      ap (λ (r : Result Tag Failure). r >>=ᵣ λ to. Ok (ReferenceTag false to)) (value_tag_is t to to_is) ∙ ap Ok (some_is (ReferenceTag false to) tag e1))
+      ap (λ (r : Result Tag Failure). r >>=ᵣ λ to. Ok (ReferenceTag false to)) (value_tag_is t to to_is) ∙ ap Ok (same_Some (ReferenceTag false to) tag e1))
   tag_is_found (MutableReferenceTo t) tag e =
       on_some (value_type_named m t) (λ to. Some (ReferenceTag true to)) tag e (λ to to_is e1.
-      ap (λ (r : Result Tag Failure). r >>=ᵣ λ to. Ok (ReferenceTag true to)) (value_tag_is t to to_is) ∙ ap Ok (some_is (ReferenceTag true to) tag e1))
+      ap (λ (r : Result Tag Failure). r >>=ᵣ λ to. Ok (ReferenceTag true to)) (value_tag_is t to to_is) ∙ ap Ok (same_Some (ReferenceTag true to) tag e1))

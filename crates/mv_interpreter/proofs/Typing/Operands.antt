@@ -1,79 +1,57 @@
 -- Operands by their types: what the rules of types say of the stack, and what the stack then is.
-use Rattle.std.proofs.Common.{◌≡◌, ℕ, suc, Bool, true, false, List, [], ◌∷◌, ◌++◌, length, take, drop, reverse, refl, sym, ap, ap₂, ◌∙◌, subst, Option, Some, None, Ok, leb, arith, length-append}
+use Rattle.std.proofs.Common.{◌≡◌, ℕ, suc, Bool, true, false, List, [], ◌∷◌, ◌++◌, length, take, drop, reverse, refl, sym, ap, ap₂, ◌∙◌, subst, Some, Ok, leb, arith, length-append}
 use Rattle.std.specs.Prelude.{IsTrue}
 use Rattle.std.proofs.lemmas.List.{length-reverse, reverse-append, reverse-reverse, take-append-drop}
 use Rattle.std.proofs.Math.Seq.{take-append_seam, drop-append_seam}
 use Rattle.std.proofs.lemmas.Bool.{le-leb}
+use Rattle.std.proofs.lemmas.Option.{same_Some}
 use Rattle.mv_move_types.specs.declared.token.LeafKind.{LeafKind}
 use Rattle.mv_move_types.specs.declared.token.ValueType.{ValueType}
-use Rattle.mv_move_types.specs.declared.token.ValueType.TheVariants.{OfLeaf, OfStruct}
+use Rattle.mv_move_types.specs.declared.token.ValueType.TheVariants.{OfLeaf}
 use Rattle.mv_move_types.specs.declared.token.Token.{Token}
-use Rattle.mv_move_types.specs.declared.token.Token.TheVariants.{Plain, Reference as ReferenceTo, MutableReference as MutableReferenceTo}
-use Rattle.mv_move_types.specs.Options.{◌>>=◌}
+use Rattle.mv_move_types.specs.declared.token.Token.TheVariants.{Plain}
 use Rattle.mv_move_types.specs.Module.{Module}
 use Rattle.mv_machine.specs.Value.{Value, Leaf, Struct, Ref}
 use Rattle.mv_move_types.specs.Tags.{LeafTag}
-use Rattle.mv_move_types.specs.Tokens.{same_value_type, same_token, same_tokens}
+use Rattle.mv_move_types.specs.Tokens.{same_value_type, same_tokens}
 use Rattle.mv_type_states.specs.TypeRules.{taken, takes_gives, top_type}
 use Rattle.mv_machine.specs.Step.{operands}
 use Rattle.mv_interpreter.specs.Typing.HasType.{Roots, in_range, fields_by_name, HasType}
 use Rattle.mv_interpreter.specs.Typing.StateTyped.{HasToken, HaveTokens}
-use Rattle.mv_interpreter.proofs.Typing.Within.{some_is}
-use Rattle.mv_interpreter.proofs.Typing.Tests.{same_kind-is}
 use Rattle.std.specs.Bool.{then_some}
-use Rattle.std.specs.Cmp.{first_so, second_so}
-use Rattle.std.proofs.lemmas.Bool.{eqb-true}
+use Rattle.mv_type_states.proofs.Tokens.{tokens_equal, lists_equal}
+use Rattle.mv_linker.proofs.Found.{on_some}
 
 -- ---- tests of types
 
 pub same_value_type-is : (a b : ValueType) → same_value_type a b ≡ true → a ≡ b
-same_value_type-is (OfLeaf j) (OfLeaf k) h = ap OfLeaf (same_kind-is j k h)
-same_value_type-is (OfStruct i) (OfStruct j) h = ap OfStruct (eqb-true i j h)
-same_value_type-is _ _ h = absurd cc
-
-pub same_token-is : (a b : Token) → same_token a b ≡ true → a ≡ b
-same_token-is (Plain a) (Plain b) h = ap Plain (same_value_type-is a b h)
-same_token-is (ReferenceTo a) (ReferenceTo b) h = ap ReferenceTo (same_value_type-is a b h)
-same_token-is (MutableReferenceTo a) (MutableReferenceTo b) h = ap MutableReferenceTo (same_value_type-is a b h)
-same_token-is _ _ h = absurd cc
-
-pub same_tokens-is : (as' bs : List Token) → same_tokens as' bs ≡ true → as' ≡ bs
-same_tokens-is [] [] h = refl
-same_tokens-is (a ∷ as') (b ∷ bs) h =
-    let first : a ≡ b = same_token-is a b (first_so (same_token a b) (same_tokens as' bs) h) in
-    let rest : as' ≡ bs = same_tokens-is as' bs (second_so (same_token a b) (same_tokens as' bs) h) in
-    cc
-same_tokens-is _ _ h = absurd cc
+same_value_type-is a b h =
+    let same : Plain a ≡ Plain b = tokens_equal (Plain a) (Plain b) h in cc
 
 -- ---- taking the rules of types apart
 
--- a part that gave something gave it to the next part
-pub on_some : {A B P : Type 0} (r : Option A) (f : A → Option B) (y : B) → (r >>= f) ≡ Some y → ((x : A) → r ≡ Some x → f x ≡ Some y → P) → P
-on_some (Some x) f y e go = go x refl e
-on_some None f y e go = absurd cc
-
 -- a test that passed
 pub on_test : {A P : Type 0} (b : Bool) (x y : A) → then_some b x ≡ Some y → (b ≡ true → x ≡ y → P) → P
-on_test true x y e go = go refl (some_is x y e)
+on_test true x y e go = go refl (same_Some x y e)
 on_test false x y e go = absurd cc
 
 -- what is taken is on top, the last uppermost
 pub taken-is : (wanted stack below : List Token) → taken wanted stack ≡ Some below → stack ≡ reverse wanted ++ below
 taken-is wanted stack below e =
     on_test (same_tokens (take (length wanted) stack) (reverse wanted)) (drop (length wanted) stack) below e (λ same rest.
-    let front : take (length wanted) stack ≡ reverse wanted = same_tokens-is (take (length wanted) stack) (reverse wanted) same in
+    let front : take (length wanted) stack ≡ reverse wanted = lists_equal (take (length wanted) stack) (reverse wanted) same in
     sym (take-append-drop (length wanted) stack) ∙ ap₂ (λ (x y : List Token). x ++ y) front rest)
 
 -- the same, with what is given
 pub takes_gives-is : (wanted given stack after : List Token) → takes_gives wanted given stack ≡ Some after → (below : List Token) × (stack ≡ reverse wanted ++ below) × (after ≡ reverse given ++ below)
 takes_gives-is wanted given stack after e =
     on_some (taken wanted stack) (λ below. Some (reverse given ++ below)) after e (λ below below_is e1.
-    (below, taken-is wanted stack below below_is, sym (some_is (reverse given ++ below) after e1)))
+    (below, taken-is wanted stack below below_is, sym (same_Some (reverse given ++ below) after e1)))
 
 -- a type that was on top
 pub top_type-is : (stack : List Token) (x : Token × List Token) → top_type stack ≡ Some x → stack ≡ x.0 ∷ x.1
 top_type-is [] x e = absurd cc
-top_type-is (t ∷ ts) x e = let p : (t, ts) ≡ x = some_is (t, ts) x e in ap (λ (y : Token × List Token). y.0 ∷ y.1) p
+top_type-is (t ∷ ts) x e = let p : (t, ts) ≡ x = same_Some (t, ts) x e in ap (λ (y : Token × List Token). y.0 ∷ y.1) p
 
 -- ---- values by their types
 
@@ -91,7 +69,7 @@ module _ (modules : List Module) (look : Roots) (home : Module) where
 
   -- a value of a leaf's type
   pub leaf : (v : Value) (k : LeafKind) → HasToken modules look home v (Plain (OfLeaf k)) → IsLeaf v k
-  leaf v k h = leaf_by_tag v k (subst (λ t. HasType (fields_by_name modules) look v t) (sym (some_is (LeafTag k) h.tag h.names)) h.typed)
+  leaf v k h = leaf_by_tag v k (subst (λ t. HasType (fields_by_name modules) look v t) (sym (same_Some (LeafTag k) h.tag h.names)) h.typed)
 
   -- a leaf in its range is of its type
   pub of_leaf : (k : LeafKind) (n : ℕ) → IsTrue (in_range k n) → HasToken modules look home (Leaf k n) (Plain (OfLeaf k))

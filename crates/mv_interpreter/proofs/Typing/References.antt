@@ -1,7 +1,7 @@
 -- Rows of references that change nothing: fields, reads, freezing.
 use Rattle.std.proofs.Common.{◌≡◌, ℕ, zero, suc, ◌+◌, Bool, true, false, List, [], ◌∷◌, map, refl, sym, ap, subst, ◌∙◌, Option, Some, Ok}
 use Rattle.std.specs.Prelude.{slice_get, ok_or, option_map}
-use Rattle.std.proofs.lemmas.Option.{slice_get-map}
+use Rattle.std.proofs.lemmas.Option.{slice_get-map, same_Some}
 use Rattle.mv_move_types.specs.declared.token.ValueType.{ValueType}
 use Rattle.mv_move_types.specs.declared.token.ValueType.TheVariants.{OfStruct}
 use Rattle.mv_move_types.specs.declared.token.Token.{Token}
@@ -25,12 +25,13 @@ use Rattle.mv_machine.specs.StepReferences.{extended, own_field, borrow_field, r
 use Rattle.mv_machine.specs.StepParts.{as_fields, can_copy}
 use Rattle.mv_interpreter.specs.Typing.HasType.{Table, Roots, IsOf, AreOf, PointsTo, HasType, fields_by_name}
 use Rattle.mv_type_states.specs.TypesAt.{TypesAt}
+use Rattle.mv_linker.proofs.NameLemmas.{same_struct-same}
+use Rattle.mv_linker.proofs.Found.{on_some}
 use Rattle.mv_interpreter.specs.Typing.StateTyped.{HasToken, HaveTokens, TurnTyped}
 use Rattle.mv_interpreter.specs.Typing.Facts.{Row, Facts}
-use Rattle.mv_interpreter.proofs.Typing.Within.{some_is, leads_on}
-use Rattle.mv_interpreter.proofs.Typing.Tests.{same_struct-same}
+use Rattle.mv_interpreter.proofs.Typing.Within.{leads_on}
 use Rattle.mv_interpreter.proofs.Typing.Parts.{Part, known, met, tested, lost}
-use Rattle.mv_interpreter.proofs.Typing.Operands.{on_some, on_test, takes_gives-is, top_type-is, same_value_type-is, one}
+use Rattle.mv_interpreter.proofs.Typing.Operands.{on_test, takes_gives-is, top_type-is, same_value_type-is, one}
 use Rattle.mv_interpreter.proofs.Typing.Roots.{place_of, is_plain}
 use Rattle.mv_interpreter.proofs.Typing.Stays.{gives_typed}
 use Rattle.mv_interpreter.proofs.Typing.Locals.{plain_of-is}
@@ -53,7 +54,7 @@ module _ (modules : List Module) (look : Roots) (home : Module) where
   named_reference : (v : Value) (m : Bool) (u : ValueType) (whole : Tag) → (value_type_named home u >>= λ tag. Some (ReferenceTag m tag)) ≡ Some whole → HasType (fields_by_name modules) look v whole → IsReference modules look home v m u
   named_reference v m u whole e h =
       on_some (value_type_named home u) (λ tag. Some (ReferenceTag m tag)) whole e (λ tag tag_is e1.
-      by_tag v m u tag tag_is (subst (λ (x : Tag). HasType (fields_by_name modules) look v x) (sym (some_is (ReferenceTag m tag) whole e1)) h))
+      by_tag v m u tag tag_is (subst (λ (x : Tag). HasType (fields_by_name modules) look v x) (sym (same_Some (ReferenceTag m tag) whole e1)) h))
 
   pub immutable : (v : Value) (u : ValueType) → HasToken modules look home v (ReferenceTo u) → IsReference modules look home v false u
   immutable v u h = named_reference v false u h.tag h.names h.typed
@@ -64,13 +65,13 @@ module _ (modules : List Module) (look : Roots) (home : Module) where
   -- either of them
   pub either : (v : Value) (t : Token) (u : ValueType) → target_of t ≡ Some u → HasToken modules look home v t → (m : Bool) × IsReference modules look home v m u
   either v (Plain t) u e h = absurd cc
-  either v (ReferenceTo t) u e h = (false, subst (λ (x : ValueType). IsReference modules look home v false x) (some_is t u e) (immutable v t h))
-  either v (MutableReferenceTo t) u e h = (true, subst (λ (x : ValueType). IsReference modules look home v true x) (some_is t u e) (mutable_one v t h))
+  either v (ReferenceTo t) u e h = (false, subst (λ (x : ValueType). IsReference modules look home v false x) (same_Some t u e) (immutable v t h))
+  either v (MutableReferenceTo t) u e h = (true, subst (λ (x : ValueType). IsReference modules look home v true x) (same_Some t u e) (mutable_one v t h))
 
   pub mutable_target-is : (t : Token) (u : ValueType) → mutable_target_of t ≡ Some u → t ≡ MutableReferenceTo u
   mutable_target-is (Plain t) u e = absurd cc
   mutable_target-is (ReferenceTo t) u e = absurd cc
-  mutable_target-is (MutableReferenceTo t) u e = ap MutableReferenceTo (some_is t u e)
+  mutable_target-is (MutableReferenceTo t) u e = ap MutableReferenceTo (same_Some t u e)
 
   -- references by their types
   pub of_reference : (m : Bool) (given : ValueType → Token) → ((t : ValueType) (tag : Tag) → value_type_named home t ≡ Some tag → token_named home (given t) ≡ Some (ReferenceTag m tag)) →
@@ -104,12 +105,12 @@ tokens_at m [] tags k t e g = absurd cc
 tokens_at m (u ∷ ts) tags zero t e g =
     on_some (token_named m u) _ tags e (λ tag tag_is e1.
     on_some (tokens_named m ts) (λ rest. Some (tag ∷ rest)) tags e1 (λ rest rest_is e2.
-    (tag, subst (λ (x : Token). token_named m x ≡ Some tag) (some_is u t g) tag_is, subst (λ (x : List Tag). slice_get x 0 ≡ Some tag) (some_is (tag ∷ rest) tags e2) refl)))
+    (tag, subst (λ (x : Token). token_named m x ≡ Some tag) (same_Some u t g) tag_is, subst (λ (x : List Tag). slice_get x 0 ≡ Some tag) (same_Some (tag ∷ rest) tags e2) refl)))
 tokens_at m (u ∷ ts) tags (suc k) t e g =
     on_some (token_named m u) _ tags e (λ tag tag_is e1.
     on_some (tokens_named m ts) (λ rest. Some (tag ∷ rest)) tags e1 (λ rest rest_is e2.
     let found = tokens_at m ts rest k t rest_is g in
-    (found.0, found.1, subst (λ (x : List Tag). slice_get x (suc k) ≡ Some found.0) (some_is (tag ∷ rest) tags e2) found.2)))
+    (found.0, found.1, subst (λ (x : List Tag). slice_get x (suc k) ≡ Some found.0) (same_Some (tag ∷ rest) tags e2) found.2)))
 
 -- what a field handle stands for
 pub record FieldFacts (h : Here) (i : ℕ) (struct plain : ValueType) : Type 0 where
@@ -131,7 +132,7 @@ field_facts h facts i x e =
     on_some (slice_get d.fields handle.position) _ x e2 (λ field field_is e3.
     on_some (plain_of field.token) _ x e3 (λ plain plain_is e4.
     let own = facts.own handle.definition d d_is in
-    let whole : (OfStruct d.handle, plain) ≡ x = some_is (OfStruct d.handle, plain) x e4 in
+    let whole : (OfStruct d.handle, plain) ≡ x = same_Some (OfStruct d.handle, plain) x e4 in
     let fields_at : slice_get own.struct.fields handle.position ≡ Some field = subst (λ (fs : List Field). slice_get fs handle.position ≡ Some field) (sym own.fields) field_is in
     let mapped : slice_get (map (λ (f : Field). f.token) d.fields) handle.position ≡ Some field.token = slice_get-map (λ (f : Field). f.token) d.fields handle.position ∙ ap (option_map (λ (f : Field). f.token)) field_is in
     let at = tokens_at h.home (map (λ (f : Field). f.token) d.fields) own.tags handle.position field.token own.are_tags mapped in
@@ -156,7 +157,7 @@ module _ (h : Here) (i : Instruction) (types after : Types) (row : Row h i types
   unfolding borrow_field
   lent_field wants k u plain f given names stack v rest below m are ref lent typed same =
       let r : Reference = ref.reference in
-      let tag_same : ref.tag ≡ StructTag f.found.name = some_is ref.tag (StructTag f.found.name) (sym ref.names ∙ f.struct_names) in
+      let tag_same : ref.tag ≡ StructTag f.found.name = same_Some ref.tag (StructTag f.found.name) (sym ref.names ∙ f.struct_names) in
       let points : PointsTo (fields_by_name h.modules) (root_value h.state) r (StructTag f.found.name) = subst (λ (t : Tag). PointsTo (fields_by_name h.modules) (root_value h.state) r t) tag_same ref.points in
       let there = place_of (fields_by_name h.modules) h.state r (StructTag f.found.name) points in
       let fields = struct_fields (fields_by_name h.modules) there.0 f.found.name there.2 in
@@ -230,5 +231,5 @@ module _ (h : Here) (i : Instruction) (types after : Types) (row : Row h i types
       known P (operand h.state.top.stack) _ (top.0, top.1) (ap operand top.2)
       (known P (as_reference top.0) _ r (ap as_reference ref.is_reference)
       (met P r.is_mutable _ _ ref.mutable
-      (subst (λ (ts : Types). HaveTokens h.modules (root_value h.state) h.home (Ref new ∷ top.1) ts) (some_is (ReferenceTo u ∷ t.1) after e2)
+      (subst (λ (ts : Types). HaveTokens h.modules (root_value h.state) h.home (Ref new ∷ top.1) ts) (same_Some (ReferenceTo u ∷ t.1) after e2)
       (of_reference h.modules (root_value h.state) h.home false ReferenceTo (immutable_names h.home) new u ref.tag refl ref.names new_points, top.4))))))

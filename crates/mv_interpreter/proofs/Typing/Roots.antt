@@ -2,7 +2,8 @@
 use Rattle.std.proofs.Common.{◌≡◌, ℕ, zero, suc, Bool, true, false, List, [], ◌∷◌, refl, sym, ap, subst, ◌∙◌, Option, Some, eqb}
 use Rattle.std.specs.Prelude.{slice_get, slice_set, option_map, option_and_then}
 use Rattle.std.specs.Option.{option_map_or}
-use Rattle.std.proofs.lemmas.Bool.{eqb-true}
+use Rattle.std.proofs.lemmas.Bool.{eqb-true, eqb-false, ne_eqb, and_from, eq-eqb}
+use Rattle.std.proofs.lemmas.Option.{same_Some}
 use Rattle.mv_move_types.specs.declared.token.ValueType.{ValueType}
 use Rattle.mv_move_types.specs.declared.token.ValueType.TheVariants.{OfLeaf, OfStruct}
 use Rattle.mv_move_types.specs.declared.token.Token.{Token}
@@ -14,11 +15,11 @@ use Rattle.mv_machine.specs.Typing.{tag_of, has_tag, have_tags, plain_tag}
 use Rattle.mv_linker.specs.TypesByName.{value_type_named, token_named, tokens_named}
 use Rattle.mv_machine.specs.Step.{is_reference_tag}
 use Rattle.mv_machine.specs.StepLocals.{with_own_local}
+use Rattle.mv_linker.proofs.TagTests.{same_tag-same}
+use Rattle.mv_linker.proofs.Found.{on_some}
 use Rattle.mv_interpreter.specs.Typing.HasType.{Table, Roots, IsOf, PointsTo, HasType, HaveTypes, fields_by_name}
 use Rattle.mv_interpreter.specs.Typing.StateTyped.{HaveTokens, LocalHasToken, LocalsHaveTokens}
-use Rattle.mv_interpreter.proofs.Typing.Within.{some_is, tag_is, read_within}
-use Rattle.mv_interpreter.proofs.Typing.Tests.{same_tag-same, eqb-same, eqb-apart, apart-eqb, both}
-use Rattle.mv_interpreter.proofs.Typing.Operands.{on_some}
+use Rattle.mv_interpreter.proofs.Typing.Within.{tag_is, read_within}
 
 -- ---- tags
 
@@ -62,28 +63,28 @@ module _ (table : Table) where
 
 -- a type that is no reference has no reference's tag
 pub named_plain : (m : Module) (t : ValueType) (tag : Tag) → value_type_named m t ≡ Some tag → is_reference_tag tag ≡ false
-named_plain m (OfLeaf k) tag e = subst (λ (x : Tag). is_reference_tag x ≡ false) (some_is (LeafTag k) tag e) refl
+named_plain m (OfLeaf k) tag e = subst (λ (x : Tag). is_reference_tag x ≡ false) (same_Some (LeafTag k) tag e) refl
 named_plain m (OfStruct h) tag e =
     on_some (struct_name m h) (λ name. Some (StructTag name)) tag e (λ name name_is e1.
-    subst (λ (x : Tag). is_reference_tag x ≡ false) (some_is (StructTag name) tag e1) refl)
+    subst (λ (x : Tag). is_reference_tag x ≡ false) (same_Some (StructTag name) tag e1) refl)
 
 -- values of types have their types' tags
 pub tokens_have_tags : (modules : List Module) (s : State) (home : Module) (vs : List Value) (ts : List Token) (tags : List Tag) → HaveTokens modules (root_value s) home vs ts → tokens_named home ts ≡ Some tags → HaveTypes (fields_by_name modules) (root_value s) vs tags
-tokens_have_tags modules s home [] [] tags h e = subst (λ (x : List Tag). HaveTypes (fields_by_name modules) (root_value s) [] x) (some_is [] tags e) tt
+tokens_have_tags modules s home [] [] tags h e = subst (λ (x : List Tag). HaveTypes (fields_by_name modules) (root_value s) [] x) (same_Some [] tags e) tt
 tokens_have_tags modules s home [] (t ∷ ts) tags h e = absurd h
 tokens_have_tags modules s home (v ∷ vs) [] tags h e = absurd h
 tokens_have_tags modules s home (v ∷ vs) (t ∷ ts) tags h e =
     on_some (token_named home t) _ tags e (λ tag tag_is e1.
     on_some (tokens_named home ts) (λ rest. Some (tag ∷ rest)) tags e1 (λ rest rest_is e2.
-    let same : h.0.tag ≡ tag = some_is h.0.tag tag (sym h.0.names ∙ tag_is) in
-    subst (λ (x : List Tag). HaveTypes (fields_by_name modules) (root_value s) (v ∷ vs) x) (some_is (tag ∷ rest) tags e2)
+    let same : h.0.tag ≡ tag = same_Some h.0.tag tag (sym h.0.names ∙ tag_is) in
+    subst (λ (x : List Tag). HaveTypes (fields_by_name modules) (root_value s) (v ∷ vs) x) (same_Some (tag ∷ rest) tags e2)
     (subst (λ (x : Tag). HasType (fields_by_name modules) (root_value s) v x) same h.0.typed, tokens_have_tags modules s home vs ts rest h.1 rest_is)))
 
 pub typed_have_tags : (table : Table) (s : State) (vs : List Value) (ts : List Tag) → HaveTypes table (root_value s) vs ts → have_tags s vs ts ≡ true
 typed_have_tags table s [] [] h = refl
 typed_have_tags table s [] (t ∷ ts) h = absurd h
 typed_have_tags table s (v ∷ vs) [] h = absurd h
-typed_have_tags table s (v ∷ vs) (t ∷ ts) h = both _ _ (typed_has_tag table s v t h.0) (typed_have_tags table s vs ts h.1)
+typed_have_tags table s (v ∷ vs) (t ∷ ts) h = and_from _ _ (typed_has_tag table s v t h.0) (typed_have_tags table s vs ts h.1)
 
 -- ---- locals
 
@@ -94,7 +95,7 @@ module _ (modules : List Module) (look : Roots) (home : Module) where
   local_at [] [] l t h e = absurd cc
   local_at [] (u ∷ ts) l t h e = absurd h
   local_at (v ∷ vs) [] l t h e = absurd h
-  local_at (v ∷ vs) (u ∷ ts) zero t h e = (v, refl, subst (λ (x : Token). LocalHasToken modules look home v x) (some_is u t e) h.0)
+  local_at (v ∷ vs) (u ∷ ts) zero t h e = (v, refl, subst (λ (x : Token). LocalHasToken modules look home v x) (same_Some u t e) h.0)
   local_at (v ∷ vs) (u ∷ ts) (suc l) t h e = local_at vs ts l t h.1 e
 
   pub local_set : (vs : List (Option Value)) (ts : List Token) (l : ℕ) (t : Token) (new : Option Value) → LocalsHaveTokens modules look home vs ts → slice_get ts l ≡ Some t → LocalHasToken modules look home new t →
@@ -102,7 +103,7 @@ module _ (modules : List Module) (look : Roots) (home : Module) where
   local_set [] [] l t new h e k = h
   local_set [] (u ∷ ts) l t new h e k = absurd h
   local_set (v ∷ vs) [] l t new h e k = absurd h
-  local_set (v ∷ vs) (u ∷ ts) zero t new h e k = (subst (λ (x : Token). LocalHasToken modules look home new x) (sym (some_is u t e)) k, h.1)
+  local_set (v ∷ vs) (u ∷ ts) zero t new h e k = (subst (λ (x : Token). LocalHasToken modules look home new x) (sym (same_Some u t e)) k, h.1)
   local_set (v ∷ vs) (u ∷ ts) (suc l) t new h e k = (h.0, local_set vs ts l t new h.1 e k)
 
 pub set_same : {A : Type 0} (xs : List A) (l : ℕ) (old new : A) → slice_get xs l ≡ Some old → slice_get (slice_set xs l new) l ≡ Some new
@@ -112,10 +113,10 @@ set_same (x ∷ xs) (suc l) old new e = set_same xs l old new e
 
 pub set_other : {A : Type 0} (xs : List A) (l k : ℕ) (new : A) → eqb l k ≡ false → slice_get (slice_set xs l new) k ≡ slice_get xs k
 set_other [] l k new e = refl
-set_other (x ∷ xs) zero zero new e = absurd (eqb-apart 0 0 e refl)
+set_other (x ∷ xs) zero zero new e = absurd (eqb-false 0 0 e refl)
 set_other (x ∷ xs) zero (suc k) new e = refl
 set_other (x ∷ xs) (suc l) zero new e = refl
-set_other (x ∷ xs) (suc l) (suc k) new e = set_other xs l k new (apart-eqb l k (λ p. eqb-apart (suc l) (suc k) e (ap suc p)))
+set_other (x ∷ xs) (suc l) (suc k) new e = set_other xs l k new (ne_eqb l k (λ p. eqb-false (suc l) (suc k) e (ap suc p)))
 
 -- the other roots hold what they held
 pub other_roots : (s : State) (l : ℕ) (new : Option Value) (root : Root) → (root ≡ Local s.top.number l → ⊥) → root_value (with_own_local s l new) root ≡ root_value s root
@@ -132,4 +133,4 @@ other_roots s l new (Local m k) far = by_case (eqb s.top.number m) (eqb l k) ref
 
 -- the local's own root
 pub own_root : (s : State) (l : ℕ) (old : Option Value) → slice_get s.top.locals l ≡ Some old → root_value s (Local s.top.number l) ≡ old
-own_root s l old e = rw (eqb-same s.top.number, e) refl
+own_root s l old e = rw (eq-eqb s.top.number s.top.number refl, e) refl

@@ -1,6 +1,6 @@
 -- Each instruction by its row, a step, and a whole run.
-use Rattle.std.proofs.Common.{◌≡◌, ℕ, zero, suc, ◌+◌, Bool, true, false, List, length, refl, ap, Option, Result, Ok, Err}
-use Rattle.std.specs.Prelude.{slice_get, not, ok_or, nat_lt, nat_le, ◌||◌, ◌&&◌, ◌==◌, bit_and, bit_or, bit_xor, ◌^◌}
+use Rattle.std.proofs.Common.{ℕ, ◌+◌, true, false, List, length, refl, ap, Option, Result, Ok}
+use Rattle.std.specs.Prelude.{slice_get, not, ok_or, nat_lt, nat_le, ◌==◌, bit_and, bit_or, bit_xor, ◌^◌, ◌||◌, ◌&&◌}
 use Rattle.std.specs.List.{list_all}
 use Rattle.std.specs.Cmp.{second_so}
 use Rattle.mv_move_types.specs.declared.token.Width.TheVariants.{U8, U16, U32, U64, U128}
@@ -10,23 +10,21 @@ use Rattle.mv_move_types.specs.declared.instruction.Instruction.{Instruction}
 use Rattle.mv_move_types.specs.declared.instruction.Instruction.TheVariants.{Pop, Ret, BrTrue, BrFalse, Branch, LdU64, LdConst, LdTrue, LdFalse, CopyLoc, MoveLoc, StLoc, MutBorrowLoc, ImmBorrowLoc, MutBorrowField, ImmBorrowField, Call, Pack, Unpack, ReadRef, WriteRef, Add, Sub, Mul, Mod, Div, BitOr, BitAnd, Xor, Or, And, Not, Eq, Neq, Lt, Gt, Le, Ge, Abort, Nop, Exists, MutBorrowGlobal, ImmBorrowGlobal, MoveFrom, MoveTo, FreezeRef, Shl, Shr, LdU8, LdU128, CastU8, CastU64, CastU128, LdU16, LdU32, CastU16, CastU32}
 use Rattle.mv_move_types.specs.Module.{Module, FunctionDefinition}
 use Rattle.mv_machine.specs.Value.{Value}
-use Rattle.mv_machine.specs.State.{State, frames, root_value}
-use Rattle.mv_machine.specs.Typing.{Failure, Faults, Aborts, TypeFault, LinkageFault, entry}
+use Rattle.mv_machine.specs.State.{State, root_value}
+use Rattle.mv_machine.specs.Typing.{Failure, Faults, TypeFault, LinkageFault, entry}
 use Rattle.mv_machine.specs.Numbers.{sum_of, difference_of, product_of, remainder_of, quotient_of, shifted_left, shifted_right}
 use Rattle.mv_move_types.specs.Flow.{successors}
 use Rattle.mv_type_states.specs.TypeRules.{Types, types_after}
-use Rattle.mv_machine.specs.Step.{Here, Turn, Goes, Returns, rule, step}
+use Rattle.mv_machine.specs.Step.{Here, rule, step}
 use Rattle.mv_machine.specs.StepParts.{gives}
 use Rattle.mv_machine.specs.StepLocals.{pop}
 use Rattle.mv_machine.specs.StepReferences.{read_reference}
-use Rattle.mv_machine.specs.Run.{goes_with, follows, turns}
 use Rattle.mv_type_states.specs.TypesAt.{TypesAt}
 use Rattle.mv_interpreter.specs.Typing.StateTyped.{HaveTokens, StateTyped, TurnTyped}
 use Rattle.mv_interpreter.specs.Typing.Facts.{Row, Advance, SoundStore}
 use Rattle.mv_interpreter.specs.Typing.Unreached.{Guarded, StepGuarded}
-use Rattle.mv_interpreter.specs.Typing.Outcome.{Guides, OutcomeTyped}
 use Rattle.mv_interpreter.proofs.Typing.Parts.{Part, known, met}
-use Rattle.mv_interpreter.proofs.Typing.Stays.{gives_typed}
+use Rattle.mv_interpreter.proofs.Typing.Stays.{gives_typed, here_of, advance_of, row_of}
 use Rattle.mv_interpreter.proofs.Typing.Families.{binary_typed, comparison_typed, shift_typed, cast_typed, logic_typed, negation_typed, sum_keeps, difference_keeps, product_keeps, remainder_keeps, quotient_keeps, or_keeps, and_keeps, xor_keeps, left_keeps, right_keeps}
 use Rattle.mv_interpreter.proofs.Typing.Locals.{copies, moves, stores, borrows}
 use Rattle.mv_interpreter.proofs.Typing.References.{mutable_field, immutable_field, reads, freezes, immutable_names, mutable_names}
@@ -106,19 +104,9 @@ rule_typed h CastU32 ts after row g = stack_row h CastU32 ts after row row.leads
 pub step_typed : (modules : List Module) (s : State) → SoundStore modules → StateTyped modules s → StepGuarded modules s → Part (TurnTyped modules) (step modules s)
 unfolding step
 step_typed modules s store typed guarded =
-    let h : Here = record { modules = modules; home = typed.home; function = typed.function; state = s } in
-    let a : Advance typed.home typed.function s.top.at typed.types = store.advance s.top.function.place s.top.function.index s.top.at typed.home typed.function typed.types typed.is_home typed.is_function typed.are_types in
-    let row : Row h a.instruction typed.types a.after = record {
-      facts = store.facts typed.home typed.function s typed.is_home typed.is_function;
-      is_home = typed.is_home;
-      is_function = typed.is_function;
-      is_next = a.is_there;
-      before = typed.are_types;
-      stands = typed.stands;
-      rule = a.rule;
-      fits = a.fits;
-      leads = a.leads;
-    } in
+    let h : Here = here_of modules s typed in
+    let a : Advance typed.home typed.function s.top.at typed.types = advance_of modules s store typed in
+    let row : Row h a.instruction typed.types a.after = row_of modules s store typed in
     known (TurnTyped modules) (entry modules s.top.function.place) _ typed.home (ap (λ (x : Option Module). ok_or x (Faults LinkageFault)) typed.is_home)
     (known (TurnTyped modules) (entry typed.home.functions s.top.function.index) _ typed.function (ap (λ (x : Option FunctionDefinition). ok_or x (Faults LinkageFault)) typed.is_function)
     (known (TurnTyped modules) (ok_or (slice_get typed.function.code s.top.at) (Faults TypeFault)) _ a.instruction (ap (λ (x : Option Instruction). ok_or x (Faults TypeFault)) a.is_there)
@@ -126,8 +114,8 @@ step_typed modules s store typed guarded =
     (rule_typed h a.instruction typed.types a.after row (guarded typed.home typed.function a.instruction typed.is_home typed.is_function a.is_there)))))
 
 -- the count of steps is no matter of types
-pub counted : (modules : List Module) (s : State) (steps : ℕ) → StateTyped modules s → StateTyped modules (record s { steps = steps })
-counted modules s steps typed = record {
+pub counted_typed : (modules : List Module) (s : State) (steps : ℕ) → StateTyped modules s → StateTyped modules (record s { steps = steps })
+counted_typed modules s steps typed = record {
   home = typed.home;
   function = typed.function;
   types = typed.types;
@@ -146,21 +134,3 @@ counted modules s steps typed = record {
     storage = typed.stands.storage;
   };
 }
-
--- a run from a typed state, where a predicate gives the guards all along, meets none of these faults
-pub run_typed : (modules : List Module) (P : State → Type 0) (n : ℕ) (s : State) → SoundStore modules → Guides modules P → StateTyped modules s → P s → OutcomeTyped modules (turns modules n s)
-unfolding turns
-run_typed modules P zero s store guides typed p = tt
-run_typed modules P (suc n) s store guides typed p =
-    after (step modules s) refl (step_typed modules s store typed (guides.guards s p typed)) (λ next typed p. run_typed modules P n next store guides typed p)
-  where
-    goes_further : (full : Bool) (next : State) → StateTyped modules next → P (record next { steps = s.steps + 1 }) → ((next : State) → StateTyped modules next → P next → OutcomeTyped modules (turns modules n next)) →
-        OutcomeTyped modules (goes_with full (turns modules n) next (s.steps + 1))
-    goes_further true next typed p go = tt
-    goes_further false next typed p go = go (record next { steps = s.steps + 1 }) (counted modules next (s.steps + 1) typed) p
-
-    after : (r : Result Turn Failure) → step modules s ≡ r → Part (TurnTyped modules) r → ((next : State) → StateTyped modules next → P next → OutcomeTyped modules (turns modules n next)) → OutcomeTyped modules (follows (turns modules n) (s.steps + 1) r)
-    after (Ok (Goes next)) is part go = goes_further (nat_lt 256 (length (frames next))) next part (guides.goes_on s next (s.steps + 1) p typed is) go
-    after (Ok (Returns last)) is part go = part
-    after (Err (Aborts kind number)) is part go = tt
-    after (Err (Faults fault)) is part go = part

@@ -2,6 +2,7 @@
 use Rattle.std.proofs.Common.{◌≡◌, ℕ, ◌+◌, Bool, true, false, cond, List, [], ◌∷◌, refl, sym, ap, subst, ◌∙◌, Option, Some, Ok, eqb}
 use Rattle.std.specs.Prelude.{slice_get, not, ok_or, IsTrue, ◌&&◌}
 use Rattle.std.specs.Bool.{beq}
+use Rattle.std.proofs.lemmas.Option.{same_Some}
 use Rattle.mv_move_types.specs.declared.token.Width.TheVariants.{U64}
 use Rattle.mv_move_types.specs.declared.token.LeafKind.{LeafKind}
 use Rattle.mv_move_types.specs.declared.token.LeafKind.TheVariants.{Boolean, Number}
@@ -26,17 +27,17 @@ use Rattle.mv_machine.specs.StepControl.{branch_if, abort}
 use Rattle.mv_machine.specs.StepParts.{pushes, can_drop, truth, goes_to}
 use Rattle.mv_interpreter.specs.Typing.HasType.{HasType, in_range, fields_by_name}
 use Rattle.mv_type_states.specs.TypesAt.{TypesAt}
+use Rattle.mv_linker.proofs.Found.{on_some}
 use Rattle.mv_interpreter.specs.Typing.StateTyped.{HasToken, HaveTokens, TurnTyped}
 use Rattle.mv_interpreter.specs.Typing.Facts.{Row, ConstantFacts}
-use Rattle.mv_interpreter.proofs.Typing.Within.{some_is}
 use Rattle.mv_interpreter.proofs.Typing.Parts.{Part, known, met, tested, lost}
-use Rattle.mv_interpreter.proofs.Typing.Operands.{on_some, on_test, taken-is, top_type-is, one, leaf, of_leaf}
+use Rattle.mv_interpreter.proofs.Typing.Operands.{on_test, taken-is, top_type-is, one, leaf, of_leaf}
 use Rattle.mv_interpreter.proofs.Typing.Roots.{named_plain, typed_tag, typed_has_tag}
 use Rattle.mv_interpreter.proofs.Typing.Stays.{stays_at}
 use Rattle.mv_interpreter.proofs.Typing.Locals.{plain_of-is}
 use Rattle.mv_interpreter.proofs.Typing.Families.{of_truth}
 
-constant_is : (t : Token) (kind : LeafKind) (bytes : List ℕ) (n : ℕ) → t ≡ Plain (OfLeaf kind) → leaf_number kind bytes ≡ Some n → constant_value t bytes ≡ Ok (Leaf kind n)
+pub constant_is : (t : Token) (kind : LeafKind) (bytes : List ℕ) (n : ℕ) → t ≡ Plain (OfLeaf kind) → leaf_number kind bytes ≡ Some n → constant_value t bytes ≡ Ok (Leaf kind n)
 constant_is t kind bytes n e g = subst (λ (x : Token). constant_value x bytes ≡ Ok (Leaf kind n)) (sym e) (rw g refl)
 
 module _ (h : Here) (i : Instruction) (types after : Types) (row : Row h i types after) where
@@ -47,7 +48,7 @@ module _ (h : Here) (i : Instruction) (types after : Types) (row : Row h i types
   pub pushes_typed : (v : Value) (t : Token) → TypesAt h.home h.function (h.state.top.at + 1) after → Some (t ∷ types) ≡ Some after → HasToken h.modules (root_value h.state) h.home v t → Part (TurnTyped h.modules) (pushes h v)
   pushes_typed v t next e typed =
       stays_at h i types after (v ∷ h.state.top.stack) (h.state.top.at + 1) row
-      (subst (λ (ts : Types). HaveTokens h.modules (root_value h.state) h.home (v ∷ h.state.top.stack) ts) (some_is (t ∷ types) after e) (typed, row.stands.stack)) next
+      (subst (λ (ts : Types). HaveTokens h.modules (root_value h.state) h.home (v ∷ h.state.top.stack) ts) (same_Some (t ∷ types) after e) (typed, row.stands.stack)) next
 
   pub loads : (k : LeafKind) (n : ℕ) → TypesAt h.home h.function (h.state.top.at + 1) after → Some (Plain (OfLeaf k) ∷ types) ≡ Some after → IsTrue (in_range k n) → Part (TurnTyped h.modules) (pushes h (Leaf k n))
   loads k n next e fits = pushes_typed (Leaf k n) (Plain (OfLeaf k)) next e (of_leaf h.modules (root_value h.state) h.home k n fits)
@@ -87,7 +88,7 @@ module _ (h : Here) (i : Instruction) (types after : Types) (row : Row h i types
       let top = top_of t.0 t.1 (top_type-is types t t_is) in
       let under = one h.modules (root_value h.state) h.home top.1 t.0 below (subst (λ (ts : Types). HaveTokens h.modules (root_value h.state) h.home top.1 ts) (taken-is (t.0 ∷ []) t.1 below below_is) top.4) in
       let tag : Tag = under.3.tag in
-      let same : top.3.tag ≡ tag = some_is top.3.tag tag (sym top.3.names ∙ under.3.names) in
+      let same : top.3.tag ≡ tag = same_Some top.3.tag tag (sym top.3.names ∙ under.3.names) in
       let right : HasType table (root_value h.state) top.0 tag = subst (λ (x : Tag). HasType table (root_value h.state) top.0 x) same top.3.typed in
       let plain : is_reference_tag tag ≡ false = named_plain h.home u tag (subst (λ (x : Token). token_named h.home x ≡ Some tag) (plain_of-is t.0 u u_is) under.3.names) in
       known P (operand h.state.top.stack) _ (top.0, top.1) (ap operand top.2)
@@ -111,7 +112,7 @@ module _ (h : Here) (i : Instruction) (types after : Types) (row : Row h i types
       by_case false = next
 
   pub goes : (target : ℕ) → Some types ≡ Some after → TypesAt h.home h.function target after → Part (TurnTyped h.modules) (goes_to target h.state)
-  goes target e there = stays_at h i types after h.state.top.stack target row (subst (λ (ts : Types). HaveTokens h.modules (root_value h.state) h.home h.state.top.stack ts) (some_is types after e) row.stands.stack) there
+  goes target e there = stays_at h i types after h.state.top.stack target row (subst (λ (ts : Types). HaveTokens h.modules (root_value h.state) h.home h.state.top.stack ts) (same_Some types after e) row.stands.stack) there
 
   pub aborts : taken (number U64 ∷ []) types ≡ Some after → Part (TurnTyped h.modules) (abort h)
   unfolding abort

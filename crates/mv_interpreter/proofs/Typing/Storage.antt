@@ -1,12 +1,12 @@
 -- Look-ups in a storage that was changed.
 use Rattle.std.proofs.Common.{◌≡◌, Bool, true, false, cond, List, [], ◌∷◌, refl, sym, subst, Some}
+use Rattle.std.proofs.lemmas.Option.{same_Some}
 use Rattle.mv_move_types.specs.declared.tables.Key.{Key}
 use Rattle.mv_move_types.specs.Module.{Module}
 use Rattle.mv_machine.specs.Value.{Value}
 use Rattle.mv_machine.specs.State.{Entry, Storage, same_key, key_before, stored_at, with_stored, without_stored}
+use Rattle.mv_storage.proofs.Keys.{same_key-to, same_key-refl}
 use Rattle.mv_interpreter.specs.Typing.StateTyped.{EntryTyped, StorageTyped}
-use Rattle.mv_interpreter.proofs.Typing.Within.{some_is}
-use Rattle.mv_interpreter.proofs.Typing.Tests.{same_key-is, same_key-same}
 
 -- an entry of this key and value
 abbrev pub entry_of : Key → Value → Entry
@@ -17,12 +17,12 @@ apart p q = cc
 
 -- at the key itself
 pub stored_same : (es : Storage) (key : Key) (v : Value) → stored_at (with_stored es key v) key ≡ Some v
-stored_same [] key v = rw (same_key-same key) refl
+stored_same [] key v = rw (same_key-refl key) refl
 stored_same (e ∷ es) key v = by_case (stored_same es key v) (same_key e.key key) (key_before key e.key) refl refl
   where
     by_case : stored_at (with_stored es key v) key ≡ Some v → (a b : Bool) → same_key e.key key ≡ a → key_before key e.key ≡ b → stored_at (with_stored (e ∷ es) key v) key ≡ Some v
-    by_case ih true b p q = rw (p, same_key-same key) refl
-    by_case ih false true p q = rw (p, q, same_key-same key) refl
+    by_case ih true b p q = rw (p, same_key-refl key) refl
+    by_case ih false true p q = rw (p, q, same_key-refl key) refl
     by_case ih false false p q = rw (p, q, p) ih
 
 -- at another key
@@ -31,7 +31,7 @@ stored_other [] key other v far = rw far refl
 stored_other (e ∷ es) key other v far = by_case (stored_other es key other v far) (same_key e.key key) (key_before key e.key) refl refl
   where
     at_entry : same_key e.key key ≡ true → same_key e.key other ≡ false
-    at_entry p = subst (λ (k : Key). same_key k other ≡ false) (sym (same_key-is e.key key p)) far
+    at_entry p = subst (λ (k : Key). same_key k other ≡ false) (sym (same_key-to e.key key p)) far
 
     by_case : stored_at (with_stored es key v) other ≡ stored_at es other → (a b : Bool) → same_key e.key key ≡ a → key_before key e.key ≡ b → stored_at (with_stored (e ∷ es) key v) other ≡ stored_at (e ∷ es) other
     by_case ih true b p q = rw (p, far, at_entry p) refl
@@ -43,7 +43,7 @@ unstored_other [] key other far = refl
 unstored_other (e ∷ es) key other far = by_case (unstored_other es key other far) (same_key e.key key) refl
   where
     at_entry : same_key e.key key ≡ true → same_key e.key other ≡ false
-    at_entry p = subst (λ (k : Key). same_key k other ≡ false) (sym (same_key-is e.key key p)) far
+    at_entry p = subst (λ (k : Key). same_key k other ≡ false) (sym (same_key-to e.key key p)) far
 
     by_case : stored_at (without_stored es key) other ≡ stored_at es other → (a : Bool) → same_key e.key key ≡ a → stored_at (without_stored (e ∷ es) key) other ≡ stored_at (e ∷ es) other
     by_case ih true p = rw (p, at_entry p) refl
@@ -57,8 +57,8 @@ module _ (modules : List Module) where
     where
       by_case : (stored_at es key ≡ Some v → EntryTyped modules (entry_of key v)) → (a : Bool) → same_key x.key key ≡ a → EntryTyped modules (entry_of key v)
       by_case ih true p =
-          let value : x.value ≡ v = some_is x.value v (subst (λ (a : Bool). cond a (Some x.value) (stored_at es key) ≡ Some v) p e) in
-          subst (λ (k : Key). EntryTyped modules (entry_of k v)) (same_key-is x.key key p) (subst (λ (w : Value). EntryTyped modules (entry_of x.key w)) value h.0)
+          let value : x.value ≡ v = same_Some x.value v (subst (λ (a : Bool). cond a (Some x.value) (stored_at es key) ≡ Some v) p e) in
+          subst (λ (k : Key). EntryTyped modules (entry_of k v)) (same_key-to x.key key p) (subst (λ (w : Value). EntryTyped modules (entry_of x.key w)) value h.0)
       by_case ih false p = ih (subst (λ (a : Bool). cond a (Some x.value) (stored_at es key) ≡ Some v) p e)
 
   pub typed_with : (es : Storage) (key : Key) (v : Value) → StorageTyped modules es → EntryTyped modules (entry_of key v) → StorageTyped modules (with_stored es key v)

@@ -3,8 +3,9 @@ use Rattle.std.proofs.Common.{◌≡◌, ℕ, suc, ◌+◌, ◌*◌, ◌^◌, �
 use Rattle.std.specs.Prelude.{slice_get, IsTrue, ◌&&◌, ◌==◌, is_some, nat_lt, slice_index}
 use Rattle.std.specs.List.{list_all}
 use Rattle.std.specs.Cmp.{first_so, second_so}
-use Rattle.std.proofs.lemmas.Bool.{ltb-true, lt-ltb, eqb-true}
+use Rattle.std.proofs.lemmas.Bool.{ltb-true, lt-ltb, eqb-true, and_from}
 use Rattle.std.proofs.lemmas.Nat.{pow-add}
+use Rattle.std.proofs.lemmas.Option.{same_Some}
 use Rattle.mv_move_types.specs.declared.token.LeafKind.{LeafKind}
 use Rattle.mv_move_types.specs.declared.token.LeafKind.TheVariants.{Boolean, Number, Address, Signer}
 use Rattle.mv_move_types.specs.declared.token.ValueType.TheVariants.{OfLeaf, OfStruct}
@@ -20,13 +21,11 @@ use Rattle.mv_cfg.specs.Blocks.{ends_well}
 use Rattle.mv_module_text.specs.Fits.{constant_fits, is_byte, token_fits, is_index, function_definition_fits, instruction_fits}
 use Rattle.mv_linker.specs.Links.{structs_are_there}
 use Rattle.mv_machine.specs.Step.{Here}
+use Rattle.mv_linker.proofs.Found.{on_some, each}
 use Rattle.mv_interpreter.specs.Typing.HasType.{in_range}
 use Rattle.mv_interpreter.specs.Typing.Facts.{Named, ConstantFacts, SoundStore}
 use Rattle.mv_interpreter.specs.Typing.Accepted.{ModuleAccepted, StoreAccepted}
-use Rattle.mv_interpreter.proofs.Typing.Within.{some_is}
-use Rattle.mv_interpreter.proofs.Typing.Tests.{both}
-use Rattle.mv_interpreter.proofs.Typing.Operands.{on_some, on_test}
-use Rattle.mv_interpreter.proofs.Typing.FlowFacts.{each}
+use Rattle.mv_interpreter.proofs.Typing.Operands.{on_test}
 use Rattle.mv_interpreter.proofs.Typing.Advances.{advances}
 use Rattle.mv_interpreter.proofs.Typing.Names.{token_there, tag_is_found}
 use Rattle.mv_interpreter.proofs.Typing.OwnDefinitions.{own_facts}
@@ -34,7 +33,7 @@ use Rattle.mv_interpreter.proofs.Typing.Callees.{call_facts}
 
 all_append : {A : Type 0} (p : A → Bool) (xs ys : List A) → list_all p xs ≡ true → list_all p ys ≡ true → list_all p (xs ++ ys) ≡ true
 all_append p [] ys h k = k
-all_append p (x ∷ xs) ys h k = both _ _ (first_so (p x) (list_all p xs) h) (all_append p xs ys (second_so (p x) (list_all p xs) h) k)
+all_append p (x ∷ xs) ys h k = and_from _ _ (first_so (p x) (list_all p xs) h) (all_append p xs ys (second_so (p x) (list_all p xs) h) k)
 
 -- a local's type has a tag
 local_named : (m : Module) (d : FunctionDefinition) → ModuleAccepted m → (tokens : List Token) (l : ℕ) (t : Token) → local_tokens m d ≡ Some tokens → slice_get tokens l ≡ Some t → Named m t
@@ -44,7 +43,7 @@ local_named m d a tokens l t e g =
     on_some (slice_get m.signatures d.locals) _ tokens e2 (λ os os_is e3.
     let first = each (list_all (token_in m)) m.signatures handle.parameters ps a.bounds.signatures ps_is in
     let second = each (list_all (token_in m)) m.signatures d.locals os a.bounds.signatures os_is in
-    let all : list_all (token_in m) tokens ≡ true = subst (λ (ts : List Token). list_all (token_in m) ts ≡ true) (some_is (ps ++ os) tokens e3) (all_append (token_in m) ps os first second) in
+    let all : list_all (token_in m) tokens ≡ true = subst (λ (ts : List Token). list_all (token_in m) ts ≡ true) (same_Some (ps ++ os) tokens e3) (all_append (token_in m) ps os first second) in
     token_there m a.bounds t (each (token_in m) tokens l t all g))))
 
 -- constants of bytes

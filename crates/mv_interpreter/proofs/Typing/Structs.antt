@@ -3,6 +3,7 @@ use Rattle.std.proofs.Common.{◌≡◌, ℕ, suc, ◌+◌, Bool, true, false, L
 use Rattle.std.specs.Prelude.{slice_get, not}
 use Rattle.std.proofs.lemmas.List.{length-map}
 use Rattle.std.specs.Cmp.{first_so, second_so}
+use Rattle.std.proofs.lemmas.Option.{same_Some}
 use Rattle.mv_move_types.specs.declared.token.ValueType.TheVariants.{OfStruct}
 use Rattle.mv_move_types.specs.declared.token.Token.{Token}
 use Rattle.mv_move_types.specs.declared.token.Token.TheVariants.{Plain}
@@ -21,45 +22,46 @@ use Rattle.mv_machine.specs.StepStructs.{unpack, tallied}
 use Rattle.mv_machine.specs.StepParts.{as_fields}
 use Rattle.mv_interpreter.specs.Typing.HasType.{Roots, IsOf, AreOf, HasType, HaveTypes, fields_by_name}
 use Rattle.mv_type_states.specs.TypesAt.{TypesAt}
+use Rattle.mv_linker.proofs.Found.{on_some}
 use Rattle.mv_interpreter.specs.Typing.StateTyped.{HasToken, HaveTokens, TurnTyped}
 use Rattle.mv_interpreter.specs.Typing.Facts.{Row, Facts, are_plain}
-use Rattle.mv_interpreter.proofs.Typing.Within.{some_is}
 use Rattle.mv_interpreter.proofs.Typing.Parts.{Part, known, met}
-use Rattle.mv_interpreter.proofs.Typing.Operands.{on_some, takes_gives-is, one, joined, turned, take_operands}
+use Rattle.mv_interpreter.proofs.Typing.Operands.{takes_gives-is, one, joined, turned, take_operands}
 use Rattle.mv_interpreter.proofs.Typing.Roots.{is_plain, plain_is, tokens_have_tags, typed_have_tags}
 use Rattle.mv_interpreter.proofs.Typing.References.{struct_fields}
+use Rattle.mv_interpreter.proofs.Typing.Stays.{moved}
 
 -- the tags of a list of types are found
 pub tags_found : (h : Here) → Facts h → (ts : List Token) (tags : List Tag) → tokens_named h.home ts ≡ Some tags → for_each (tag_named h.modules h.home) ts ≡ Ok tags
-tags_found h facts [] tags e = ap Ok (some_is [] tags e)
+tags_found h facts [] tags e = ap Ok (same_Some [] tags e)
 tags_found h facts (t ∷ ts) tags e =
     on_some (token_named h.home t) _ tags e (λ tag tag_is e1.
     on_some (tokens_named h.home ts) (λ rest. Some (tag ∷ rest)) tags e1 (λ rest rest_is e2.
     let first : tag_named h.modules h.home t ≡ Ok tag = facts.tag t tag tag_is in
     let others : for_each (tag_named h.modules h.home) ts ≡ Ok rest = tags_found h facts ts rest rest_is in
-    rw (first, others) (ap Ok (some_is (tag ∷ rest) tags e2))))
+    rw (first, others) (ap Ok (same_Some (tag ∷ rest) tags e2))))
 
 -- and those of fields
 pub field_tags_found : (h : Here) → Facts h → (fs : List Field) (tags : List Tag) → tokens_named h.home (map (λ (f : Field). f.token) fs) ≡ Some tags → for_each (λ (f : Field). tag_named h.modules h.home f.token) fs ≡ Ok tags
-field_tags_found h facts [] tags e = ap Ok (some_is [] tags e)
+field_tags_found h facts [] tags e = ap Ok (same_Some [] tags e)
 field_tags_found h facts (f ∷ fs) tags e =
     on_some (token_named h.home f.token) _ tags e (λ tag tag_is e1.
     on_some (tokens_named h.home (map (λ (f : Field). f.token) fs)) (λ rest. Some (tag ∷ rest)) tags e1 (λ rest rest_is e2.
     let first : tag_named h.modules h.home f.token ≡ Ok tag = facts.tag f.token tag tag_is in
     let others : for_each (λ (f : Field). tag_named h.modules h.home f.token) fs ≡ Ok rest = field_tags_found h facts fs rest rest_is in
-    rw (first, others) (ap Ok (some_is (tag ∷ rest) tags e2))))
+    rw (first, others) (ap Ok (same_Some (tag ∷ rest) tags e2))))
 
 pub names_length : (m : Module) (ts : List Token) (tags : List Tag) → tokens_named m ts ≡ Some tags → length tags ≡ length ts
-names_length m [] tags e = ap length (sym (some_is [] tags e))
+names_length m [] tags e = ap length (sym (same_Some [] tags e))
 names_length m (t ∷ ts) tags e =
     on_some (token_named m t) _ tags e (λ tag tag_is e1.
     on_some (tokens_named m ts) (λ rest. Some (tag ∷ rest)) tags e1 (λ rest rest_is e2.
-    ap length (sym (some_is (tag ∷ rest) tags e2)) ∙ ap suc (names_length m ts rest rest_is)))
+    ap length (sym (same_Some (tag ∷ rest) tags e2)) ∙ ap suc (names_length m ts rest rest_is)))
 
 module _ (modules : List Module) (look : Roots) where
   -- values of tags are of the types that a module names so
   pub have_tokens : (home : Module) (vs : List Value) (ts : List Token) (tags : List Tag) → HaveTypes (fields_by_name modules) look vs tags → tokens_named home ts ≡ Some tags → HaveTokens modules look home vs ts
-  have_tokens home vs [] tags h e = nothing vs (subst (λ (x : List Tag). HaveTypes (fields_by_name modules) look vs x) (sym (some_is [] tags e)) h)
+  have_tokens home vs [] tags h e = nothing vs (subst (λ (x : List Tag). HaveTypes (fields_by_name modules) look vs x) (sym (same_Some [] tags e)) h)
     where
       nothing : (vs : List Value) → HaveTypes (fields_by_name modules) look vs [] → HaveTokens modules look home vs []
       nothing [] h = tt
@@ -67,11 +69,11 @@ module _ (modules : List Module) (look : Roots) where
   have_tokens home [] (t ∷ ts) tags h e =
       on_some (token_named home t) _ tags e (λ tag tag_is e1.
       on_some (tokens_named home ts) (λ rest. Some (tag ∷ rest)) tags e1 (λ rest rest_is e2.
-      subst (λ (x : List Tag). HaveTypes (fields_by_name modules) look [] x) (sym (some_is (tag ∷ rest) tags e2)) h))
+      subst (λ (x : List Tag). HaveTypes (fields_by_name modules) look [] x) (sym (same_Some (tag ∷ rest) tags e2)) h))
   have_tokens home (v ∷ vs) (t ∷ ts) tags h e =
       on_some (token_named home t) _ tags e (λ tag tag_is e1.
       on_some (tokens_named home ts) (λ rest. Some (tag ∷ rest)) tags e1 (λ rest rest_is e2.
-      let both : HaveTypes (fields_by_name modules) look (v ∷ vs) (tag ∷ rest) = subst (λ (x : List Tag). HaveTypes (fields_by_name modules) look (v ∷ vs) x) (sym (some_is (tag ∷ rest) tags e2)) h in
+      let both : HaveTypes (fields_by_name modules) look (v ∷ vs) (tag ∷ rest) = subst (λ (x : List Tag). HaveTypes (fields_by_name modules) look (v ∷ vs) x) (sym (same_Some (tag ∷ rest) tags e2)) h in
       (record { tag = tag; names = tag_is; typed = both.0 }, have_tokens home vs ts rest both.1 rest_is)))
 
   -- the values of fields
@@ -95,25 +97,8 @@ module _ (modules : List Module) (look : Roots) where
 module _ (h : Here) (i : Instruction) (types after : Types) (row : Row h i types after) (next : TypesAt h.home h.function (h.state.top.at + 1) after) where
   -- one more in the tally, and these operands
   tallies : (is_pack : Bool) (struct : OwnStruct) (stack : List Value) → HaveTokens h.modules (root_value h.state) h.home stack after → Part (TurnTyped h.modules) (goes_on (tallied is_pack struct (with_stack h.state stack)))
-  tallies is_pack struct stack typed = record {
-    home = h.home;
-    function = h.function;
-    types = after;
-    is_home = row.is_home;
-    is_function = row.is_function;
-    are_types = next;
-    stands = record {
-      tokens = row.stands.tokens;
-      results = row.stands.results;
-      numbered = row.stands.numbered;
-      are_tokens = row.stands.are_tokens;
-      are_results = row.stands.are_results;
-      locals = row.stands.locals;
-      stack = typed;
-      below = row.stands.below;
-      storage = row.stands.storage;
-    };
-  }
+  tallies is_pack struct stack typed =
+      moved h i types after row (h.state.top.at + 1) h.state.top.locals stack h.state.below h.state.storage (tallied is_pack struct h.state).tally next row.stands.numbered.1 row.stands.locals typed row.stands.below row.stands.storage
 
   pub packs : (k : ℕ) → of_pack h.home k types ≡ Some after → Part (TurnTyped h.modules) (pack h k)
   unfolding pack
@@ -150,10 +135,10 @@ module _ (h : Here) (i : Instruction) (types after : Types) (row : Row h i types
       let table = fields_by_name h.modules in
       let top = one h.modules look h.home h.state.top.stack (Plain (OfStruct d.handle)) parts.0 (subst (λ (ts : Types). HaveTokens h.modules look h.home h.state.top.stack ts) parts.1 row.stands.stack) in
       let names : value_type_named h.home (OfStruct d.handle) ≡ Some (StructTag own.struct.name) = rw own.is_named refl in
-      let tag : top.3.tag ≡ StructTag own.struct.name = some_is top.3.tag (StructTag own.struct.name) (sym top.3.names ∙ names) in
+      let tag : top.3.tag ≡ StructTag own.struct.name = same_Some top.3.tag (StructTag own.struct.name) (sym top.3.names ∙ names) in
       let value_is : IsOf table top.0 (StructTag own.struct.name) = subst (λ (t : Tag). HasType table look top.0 t) tag top.3.typed in
       let fields = struct_fields table top.0 own.struct.name value_is in
-      let tags : fields.1 ≡ own.tags = some_is fields.1 own.tags (sym fields.3 ∙ own.by_name) in
+      let tags : fields.1 ≡ own.tags = same_Some fields.1 own.tags (sym fields.3 ∙ own.by_name) in
       let fields_are : AreOf table fields.0 own.tags = subst (λ (ts : List Tag). AreOf table fields.0 ts) tags fields.4 in
       let values = have_tokens h.modules look h.home (list_of fields.0) wanted own.tags (typed_fields h.modules look fields.0 own.tags fields_are) own.are_tags in
       let stack = joined h.modules look h.home (reverse (list_of fields.0)) top.1 (reverse wanted) parts.0 (turned h.modules look h.home (list_of fields.0) wanted values) top.4 in

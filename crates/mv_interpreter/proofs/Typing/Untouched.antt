@@ -5,6 +5,7 @@ use Rattle.std.specs.List.{list_any}
 use Rattle.std.specs.Cmp.{first_so, second_so}
 use Rattle.std.proofs.lemmas.Bool.{eqb-true}
 use Rattle.std.proofs.lemmas.List.{reverse-append}
+use Rattle.std.proofs.lemmas.Option.{same_Some}
 use Rattle.mv_move_types.specs.declared.token.Token.{Token}
 use Rattle.mv_move_types.specs.Module.{Module}
 use Rattle.mv_machine.specs.Value.{Root, Local, Stored, Place, Reference, Value, Leaf, Struct, Ref}
@@ -14,17 +15,16 @@ use Rattle.mv_move_types.specs.Paths.{begins}
 use Rattle.mv_move_types.specs.Tags.{Tag, LeafTag, StructTag, ReferenceTag}
 use Rattle.mv_machine.specs.Step.{Here, holds_frame}
 use Rattle.mv_machine.specs.StepControl.{is_local_of}
+use Rattle.mv_storage.proofs.Keys.{same_key-to}
 use Rattle.mv_interpreter.specs.Typing.HasType.{Roots, IsOf, Rooted, HasType, LentHaveTypes, fields_by_name}
 use Rattle.mv_interpreter.specs.Typing.StateTyped.{HaveTokens, LocalsHaveTokens, AreWaiting, Stands}
 use Rattle.mv_interpreter.specs.Typing.Unreached.{Avoid, BelowAvoid, Unreached, Unborrowed}
-use Rattle.mv_interpreter.proofs.Typing.Tests.{same_key-is}
-use Rattle.mv_interpreter.proofs.Typing.Within.{some_is}
 use Rattle.mv_interpreter.proofs.Typing.Roots.{own_root}
 use Rattle.mv_interpreter.proofs.Typing.Keep.{ValueAvoids, first_avoids}
 
 pub same_root-is : (a b : Root) → same_root a b ≡ true → a ≡ b
 same_root-is (Local m k) (Local n l) h = ap₂ Local (eqb-true m n (first_so (m == n) (k == l) h)) (eqb-true k l (second_so (m == n) (k == l) h))
-same_root-is (Stored j) (Stored k) h = ap Stored (same_key-is j k h)
+same_root-is (Stored j) (Stored k) h = ap Stored (same_key-to j k h)
 same_root-is (Local m k) (Stored j) h = absurd cc
 same_root-is (Stored j) (Local m k) h = absurd cc
 
@@ -160,6 +160,6 @@ local_unreached h types st l old there free = by_old old there
         nothing : (v : Value) → None ≡ Some v → ⊥
         nothing v z = cc
     by_old (Some (Ref q)) there =
-        unreached h types st (λ root. root ≡ Local h.state.top.number l) (λ root t e r. subst (λ (v : Value). IsOf (fields_by_name h.modules) v t) (sym (some_is (Ref q) r.value (at_root (Some (Ref q)) there root t e r))) r.is_of)
+        unreached h types st (λ root. root ≡ Local h.state.top.number l) (λ root t e r. subst (λ (v : Value). IsOf (fields_by_name h.modules) v t) (sym (same_Some (Ref q) r.value (at_root (Some (Ref q)) there root t e r))) r.is_of)
     by_old (Some (Leaf k n)) there = free (Leaf k n) there refl
     by_old (Some (Struct name fields)) there = free (Struct name fields) there refl

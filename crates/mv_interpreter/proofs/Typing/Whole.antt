@@ -7,21 +7,16 @@ use Rattle.mv_machine.specs.Typing.{Failure}
 use Rattle.mv_linker.specs.Links.{structs_are_there}
 use Rattle.mv_machine.specs.Step.{Turn, step}
 use Rattle.mv_machine.specs.Run.{FunctionCall, run, outcome_from}
+use Rattle.mv_linker.proofs.Found.{each}
 use Rattle.mv_interpreter.specs.Typing.StateTyped.{StorageTyped, TurnTyped}
 use Rattle.mv_interpreter.specs.Typing.Accepted.{StoreAccepted}
-use Rattle.mv_interpreter.specs.Typing.Outcome.{Guides, OutcomeTyped}
 use Rattle.mv_interpreter.specs.Typing.Watched.{Watches, Faultless}
 use Rattle.mv_interpreter.specs.Typing.Laws.{StepTyped, EveryStepIsTyped, EveryStepIsClean}
-use Rattle.mv_interpreter.proofs.Typing.FlowFacts.{each}
 use Rattle.mv_interpreter.proofs.Typing.Parts.{Part}
 use Rattle.mv_interpreter.proofs.Typing.Rule.{step_typed}
-use Rattle.mv_interpreter.proofs.Typing.First.{CallTyped, begun, first_typed, first_is, whole_run_typed}
+use Rattle.mv_interpreter.proofs.Typing.First.{CallTyped, begun, first_typed, first_is}
 use Rattle.mv_interpreter.proofs.Typing.Cleaned.{HandlesThere, step_clean, run_safe}
 use Rattle.mv_interpreter.proofs.Typing.Addresses.{accepted_is_sound}
-
-pub accepted_run_typed : (modules : List Module) (P : State → Type 0) (storage : Storage) (call : FunctionCall) (budget : ℕ) → StoreAccepted modules → Guides modules P → (c : CallTyped modules call) → StorageTyped modules storage →
-    P (begun storage call (length c.others)) → OutcomeTyped modules (run modules storage call budget)
-accepted_run_typed modules P storage call budget store guides c stored p = whole_run_typed modules P storage call budget (accepted_is_sound modules store) guides c stored p
 
 -- each module of an accepted store has its handles there
 pub handles_there : (modules : List Module) → StoreAccepted modules → HandlesThere modules

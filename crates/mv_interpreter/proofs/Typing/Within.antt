@@ -1,14 +1,12 @@
 -- Places within values: what is of a type is there along each path that its type has, and stays of its type after a write.
 use Rattle.std.proofs.Common.{◌≡◌, ℕ, zero, suc, List, [], ◌∷◌, ◌++◌, refl, sym, ap, subst, Some}
 use Rattle.std.specs.Prelude.{slice_get, option_map, option_and_then}
+use Rattle.std.proofs.lemmas.Option.{same_Some}
 use Rattle.mv_move_types.specs.Names.{StructName}
 use Rattle.mv_machine.specs.Value.{Value, Leaf, Struct, Ref, Values, NoMore, More, field, with_field, with_field_of, value_at, with_value_at}
 use Rattle.mv_move_types.specs.Tags.{Tag, LeafTag, StructTag, ReferenceTag}
 use Rattle.mv_machine.specs.Typing.{plain_tag}
 use Rattle.mv_interpreter.specs.Typing.HasType.{Table, IsOf, AreOf, Leads, AtOnce, Through}
-
-pub some_is : {A : Type 0} (x y : A) → Some x ≡ Some y → x ≡ y
-some_is x y e = cc
 
 module _ (table : Table) where
   -- a value of a type has that tag
@@ -26,14 +24,14 @@ module _ (table : Table) where
   one_type v t u h k =
       let a : plain_tag v ≡ Some t = tag_is v t h in
       let b : plain_tag v ≡ Some u = tag_is v u k in
-      some_is t u (subst (λ x. x ≡ Some u) a b)
+      same_Some t u (subst (λ x. x ≡ Some u) a b)
 
   field_typed : (vs : Values) (ts : List Tag) (f : ℕ) (t : Tag) → AreOf table vs ts → slice_get ts f ≡ Some t
       → (v : Value) × (field vs f ≡ Some v) × IsOf table v t
   field_typed NoMore [] f t h e = absurd cc
   field_typed NoMore (u ∷ ts) f t h e = absurd h
   field_typed (More v vs) [] f t h e = absurd h
-  field_typed (More v vs) (u ∷ ts) zero t h e = (v, refl, subst (λ x. IsOf table v x) (some_is u t e) h.0)
+  field_typed (More v vs) (u ∷ ts) zero t h e = (v, refl, subst (λ x. IsOf table v x) (same_Some u t e) h.0)
   field_typed (More v vs) (u ∷ ts) (suc f) t h e = field_typed vs ts f t h.1 e
 
   set_typed : (vs : Values) (ts : List Tag) (f : ℕ) (t : Tag) (w : Value) → AreOf table vs ts → slice_get ts f ≡ Some t → IsOf table w t
@@ -41,7 +39,7 @@ module _ (table : Table) where
   set_typed NoMore [] f t w h e k = h
   set_typed NoMore (u ∷ ts) f t w h e k = h
   set_typed (More v vs) [] f t w h e k = absurd h
-  set_typed (More v vs) (u ∷ ts) zero t w h e k = (subst (λ x. IsOf table w x) (sym (some_is u t e)) k, h.1)
+  set_typed (More v vs) (u ∷ ts) zero t w h e k = (subst (λ x. IsOf table w x) (sym (same_Some u t e)) k, h.1)
   set_typed (More v vs) (u ∷ ts) (suc f) t w h e k = (h.0, set_typed vs ts f t w h.1 e k)
 
   -- a place that its type leads to is there, and holds a value of that type
@@ -51,7 +49,7 @@ module _ (table : Table) where
   read_within (Ref r) t u path h (Through e d l) = absurd h
   read_within (Struct name vs) t u path h (Through {s = s} {f = f} {path = rest} {ts = ts} {t = m} e d l) =
       let same : table name ≡ Some ts = subst (λ x. table x ≡ Some ts) (sym h.0) e in
-      let tags : h.1 ≡ ts = some_is h.1 ts (subst (λ x. x ≡ Some ts) h.2 same) in
+      let tags : h.1 ≡ ts = same_Some h.1 ts (subst (λ x. x ≡ Some ts) h.2 same) in
       let x = field_typed vs ts f m (subst (λ us. AreOf table vs us) tags h.3) d in
       let y = read_within x.0 m u rest x.2 l in
       (y.0, subst (λ found. option_and_then (λ w. value_at w rest) found ≡ Some y.0) (sym x.1) y.1, y.2)
@@ -64,7 +62,7 @@ module _ (table : Table) where
   write_within (Ref r) t u path new h (Through e d l) k = absurd h
   write_within (Struct name vs) t u path new h (Through {s = s} {f = f} {path = rest} {ts = ts} {t = m} e d l) k =
       let same : table name ≡ Some ts = subst (λ x. table x ≡ Some ts) (sym h.0) e in
-      let tags : h.1 ≡ ts = some_is h.1 ts (subst (λ x. x ≡ Some ts) h.2 same) in
+      let tags : h.1 ≡ ts = same_Some h.1 ts (subst (λ x. x ≡ Some ts) h.2 same) in
       let fields : AreOf table vs ts = subst (λ us. AreOf table vs us) tags h.3 in
       let x = field_typed vs ts f m fields d in
       let y = write_within x.0 m u rest new x.2 l k in (

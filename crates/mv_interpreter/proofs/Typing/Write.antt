@@ -2,6 +2,7 @@
 use Rattle.std.proofs.Common.{◌≡◌, ℕ, ◌+◌, Bool, true, false, cond, List, [], ◌∷◌, map, refl, sym, ap, subst, ◌∙◌, Option, Some, eqb, arith}
 use Rattle.std.specs.Prelude.{ok_or, option_map, option_and_then}
 use Rattle.std.proofs.lemmas.Bool.{eqb-true}
+use Rattle.std.proofs.lemmas.Option.{same_Some}
 use Rattle.mv_move_types.specs.declared.tables.Key.{Key}
 use Rattle.mv_move_types.specs.declared.token.Token.{Token}
 use Rattle.mv_move_types.specs.declared.token.Token.TheVariants.{Plain, MutableReference as MutableReferenceTo}
@@ -20,19 +21,21 @@ use Rattle.mv_interpreter.specs.Typing.HasType.{Roots, IsOf, Rooted, HasType, fi
 use Rattle.mv_type_states.specs.TypesAt.{TypesAt}
 use Rattle.mv_interpreter.specs.Typing.StateTyped.{HaveTokens, LocalsHaveTokens, TurnTyped, Numbered, AreWaiting, EntryTyped}
 use Rattle.mv_interpreter.specs.Typing.Facts.{Row}
-use Rattle.mv_interpreter.proofs.Typing.Within.{some_is, one_type, write_within}
-use Rattle.mv_interpreter.proofs.Typing.Tests.{same_key-is}
+use Rattle.mv_interpreter.proofs.Typing.Within.{one_type, write_within}
 use Rattle.mv_interpreter.proofs.Typing.Parts.{Part, known, met, tested, lost, frozen}
-use Rattle.mv_interpreter.proofs.Typing.Operands.{on_some, on_test, taken-is, top_type-is, one}
+use Rattle.mv_interpreter.proofs.Typing.Operands.{on_test, taken-is, top_type-is, one}
 use Rattle.mv_interpreter.proofs.Typing.Keep.{Kept, Nothing, avoid_nothing, below_avoids_nothing, keep_stack, keep_locals, keep_below}
 use Rattle.mv_interpreter.proofs.Typing.Roots.{place_of, typed_tag, typed_has_tag, is_plain, plain_is, named_plain}
 use Rattle.mv_interpreter.proofs.Typing.Frames.{written_below, written_in, frame_written, below_written}
 use Rattle.mv_interpreter.proofs.Typing.Storage.{entry_of, stored_same, stored_other, stored_typed, typed_with}
 use Rattle.mv_interpreter.proofs.Typing.References.{mutable_one, mutable_target-is}
 use Rattle.mv_machine.specs.Live.{references, local_references}
+use Rattle.mv_linker.proofs.Found.{on_some}
+use Rattle.mv_storage.proofs.Keys.{same_key-to}
+use Rattle.mv_interpreter.proofs.Typing.Stays.{moved}
 
 -- the numbers stay
-numbers_stay : (n l : ℕ) (v : Value) (bound : ℕ) (fs : List Frame) → Numbered bound fs → Numbered bound (map (with_local n l v) fs)
+pub numbers_stay : (n l : ℕ) (v : Value) (bound : ℕ) (fs : List Frame) → Numbered bound fs → Numbered bound (map (with_local n l v) fs)
 numbers_stay n l v bound [] h = tt
 numbers_stay n l v bound (f ∷ fs) h = by_case (eqb f.number n) refl (numbers_stay n l v f.number fs h.1)
   where
@@ -83,25 +86,8 @@ module _ (h : Here) (i : Instruction) (types after : Types) (row : Row h i types
 
       built : (locals : List (Option Value)) → LocalsHaveTokens h.modules (root_value (over n l (record lower_top { locals = locals }))) h.home locals row.stands.tokens → HaveTokens h.modules (root_value (over n l (record lower_top { locals = locals }))) h.home rest after →
           AreWaiting h.modules (root_value (over n l (record lower_top { locals = locals }))) h.state.top.entered_with row.stands.results (map (with_local n l new) h.state.below) → Part (TurnTyped h.modules) (goes_on (over n l (record lower_top { locals = locals })))
-      built locals a b c = record {
-        home = h.home;
-        function = h.function;
-        types = after;
-        is_home = row.is_home;
-        is_function = row.is_function;
-        are_types = next;
-        stands = record {
-          tokens = row.stands.tokens;
-          results = row.stands.results;
-          numbered = (row.stands.numbered.0, numbers_stay n l new h.state.top.number h.state.below row.stands.numbered.1);
-          are_tokens = row.stands.are_tokens;
-          are_results = row.stands.are_results;
-          locals = a;
-          stack = b;
-          below = c;
-          storage = row.stands.storage;
-        };
-      }
+      built locals a b c =
+          moved h i types after row (h.state.top.at + 1) locals rest (map (with_local n l new) h.state.below) h.state.storage h.state.tally next (numbers_stay n l new h.state.top.number h.state.below row.stands.numbered.1) a b c row.stands.storage
 
   write_stored : (key : Key) → stored_at h.state.storage key ≡ Some old → Part (TurnTyped h.modules) (goes_on (with_root (with_stack h.state rest) (Stored key) new))
   write_stored key there =
@@ -109,25 +95,11 @@ module _ (h : Here) (i : Instruction) (types after : Types) (row : Row h i types
       let entry = stored_typed h.modules h.state.storage key old row.stands.storage there in
       let same : base ≡ StructTag entry.name = one_type (fields_by_name h.modules) old base (StructTag entry.name) old_typed entry.typed in
       let new_entry : EntryTyped h.modules (entry_of key new) = record { name = entry.name; fits = entry.fits; is_named = entry.is_named; has_key = entry.has_key; typed = subst (λ (t : Tag). IsOf (fields_by_name h.modules) new t) same new_typed } in
-      record {
-        home = h.home;
-        function = h.function;
-        types = after;
-        is_home = row.is_home;
-        is_function = row.is_function;
-        are_types = next;
-        stands = record {
-          tokens = row.stands.tokens;
-          results = row.stands.results;
-          numbered = row.stands.numbered;
-          are_tokens = row.stands.are_tokens;
-          are_results = row.stands.are_results;
-          locals = keep_locals h.modules (root_value h.state) (root_value s') Nothing kept h.home h.state.top.locals row.stands.tokens (avoid_nothing (local_references h.state.top.locals)) row.stands.locals;
-          stack = keep_stack h.modules (root_value h.state) (root_value s') Nothing kept h.home rest after (avoid_nothing (references rest)) rest_typed;
-          below = keep_below h.modules (root_value h.state) (root_value s') Nothing kept h.state.top.entered_with row.stands.results h.state.below (below_avoids_nothing h.state.top.entered_with h.state.below) row.stands.below;
-          storage = typed_with h.modules h.state.storage key new row.stands.storage new_entry;
-        };
-      }
+      moved h i types after row (h.state.top.at + 1) h.state.top.locals rest h.state.below s'.storage h.state.tally next row.stands.numbered.1
+      (keep_locals h.modules (root_value h.state) (root_value s') Nothing kept h.home h.state.top.locals row.stands.tokens (avoid_nothing (local_references h.state.top.locals)) row.stands.locals)
+      (keep_stack h.modules (root_value h.state) (root_value s') Nothing kept h.home rest after (avoid_nothing (references rest)) rest_typed)
+      (keep_below h.modules (root_value h.state) (root_value s') Nothing kept h.state.top.entered_with row.stands.results h.state.below (below_avoids_nothing h.state.top.entered_with h.state.below) row.stands.below)
+      (typed_with h.modules h.state.storage key new row.stands.storage new_entry)
     where
       kept : Kept h.modules (root_value h.state) (root_value (with_root (with_stack h.state rest) (Stored key) new)) Nothing
       kept (Local m k) t far r = record { value = r.value; is_there = r.is_there; is_of = r.is_of }
@@ -136,9 +108,9 @@ module _ (h : Here) (i : Instruction) (types after : Types) (row : Row h i types
           by_case : (a : Bool) → same_key key other ≡ a → Rooted (fields_by_name h.modules) (root_value (with_root (with_stack h.state rest) (Stored key) new)) (Stored other) t
           by_case false p = record { value = r.value; is_there = stored_other h.state.storage key other new p ∙ r.is_there; is_of = r.is_of }
           by_case true p =
-              let same : key ≡ other = same_key-is key other p in
+              let same : key ≡ other = same_key-to key other p in
               let at_key : stored_at h.state.storage key ≡ Some r.value = subst (λ (k : Key). stored_at h.state.storage k ≡ Some r.value) (sym same) r.is_there in
-              let value : r.value ≡ old = some_is r.value old (sym at_key ∙ there) in
+              let value : r.value ≡ old = same_Some r.value old (sym at_key ∙ there) in
               let tag : base ≡ t = one_type (fields_by_name h.modules) old base t old_typed (subst (λ (v : Value). IsOf (fields_by_name h.modules) v t) value r.is_of) in
               record { value = new; is_there = subst (λ (k : Key). stored_at (with_stored h.state.storage key new) k ≡ Some new) same (stored_same h.state.storage key new); is_of = subst (λ (x : Tag). IsOf (fields_by_name h.modules) new x) tag new_typed }
 
@@ -165,7 +137,7 @@ module _ (h : Here) (i : Instruction) (types after : Types) (row : Row h i types
       let r : Reference = ref.reference in
       let there = place_of table h.state r ref.tag ref.points in
       let old : Value = there.0 in
-      let same_tags : under.3.tag ≡ ref.tag = some_is under.3.tag ref.tag (sym under.3.names ∙ ref.names) in
+      let same_tags : under.3.tag ≡ ref.tag = same_Some under.3.tag ref.tag (sym under.3.names ∙ ref.names) in
       let new_has : HasType table look under.0 ref.tag = subst (λ (x : Tag). HasType table look under.0 x) same_tags under.3.typed in
       let new_is : IsOf table under.0 ref.tag = plain_is table look under.0 ref.tag (named_plain h.home u ref.tag ref.names) new_has in
       let whole = write_within table ref.points.root.value ref.points.base ref.tag r.place.path under.0 ref.points.root.is_of ref.points.leads new_is in

@@ -74,9 +74,9 @@ pub record IsWaiting (modules : List Module) (look : Roots) (lent : List (Option
   pub is_called : slice_get home.function_handles handle ≡ Some called
   pub called_parameters : slice_get home.signatures called.parameters ≡ Some parameters
   pub called_results : slice_get home.signatures called.results ≡ Some results
-  -- before the Call the arguments are on the stack, and behind it the results
+  -- before the Call the arguments are on the stack, and after it the results
   pub before : TypesAt home function f.at (reverse parameters ++ under)
-  pub behind : TypesAt home function (f.at + 1) (reverse results ++ under)
+  pub after : TypesAt home function (f.at + 1) (reverse results ++ under)
   pub are_parameters : tokens_named home parameters ≡ Some parameter_tags
   pub are_results : tokens_named home results ≡ Some given
   pub locals : LocalsHaveTokens modules look home f.locals tokens

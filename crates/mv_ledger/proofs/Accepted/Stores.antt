@@ -16,14 +16,15 @@ use Rattle.mv_machine.specs.Ledger.{Offer, LedgerState}
 use Rattle.mv_linker.specs.Link.{IsPublishable, IsStore, tables_in}
 use Rattle.mv_linker.proofs.Joined.{joined-store}
 use Rattle.mv_interpreter.specs.Typing.Accepted.{StoreAccepted}
-use Rattle.mv_interpreter.proofs.Guided.Published.{of-all, certificates_from, published_certified}
+use Rattle.mv_interpreter.proofs.Guided.Published.{certificates_from, published_certified}
+use Rattle.mv_interpreter.proofs.Lists.{All-at}
 use Rattle.mv_ledger.specs.Publishing.{Passes, AllPass, IsPublished}
 use Rattle.mv_ledger.specs.Counting.Fine.{IsAbleStore}
 
 -- the tables of a store are accepted
 pub accepted_store : (store : List PublishedModule) → IsStore store → StoreAccepted (tables_in store)
 accepted_store store is =
-    let cs = certificates_from store (λ k p at. of-all IsPublishable store k p is.passed at) in
+    let cs = certificates_from store (λ k p at. All-at IsPublishable store k p is.passed at) in
     (published_certified store is cs.0 cs.1).accepted
 
 all_tables : (P : Module → Type 0) (ps : List PublishedModule) → ((p : PublishedModule) → IsPublishable p → P p.tables) → All IsPublishable ps → AllByRecursion P (tables_in ps)

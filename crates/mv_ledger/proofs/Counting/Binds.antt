@@ -13,16 +13,7 @@ use Rattle.mv_machine.specs.Typing.{Failure, Faults, TypeFault, entry}
 use Rattle.mv_machine.specs.Step.{operand, operands, as_reference}
 use Rattle.mv_machine.specs.StepParts.{as_number}
 use Rattle.mv_machine.specs.StepParts.{as_boolean, as_address, as_fields}
-
--- a part that did not fail gave its value to the next part
-pub on_bind : {A B E P : Type 0} (r : Result A E) (f : A → Result B E) (y : B) → (r >>= f) ≡ Ok y → ((x : A) → r ≡ Ok x → f x ≡ Ok y → P) → P
-on_bind (Ok x) f y e go = go x refl e
-on_bind (Err d) f y e go = absurd cc
-
--- a need that did not fail was met
-pub on_need : {B E P : Type 0} (b : Bool) (d : E) (r : Result B E) (y : B) → (need b d >> r) ≡ Ok y → (b ≡ true → r ≡ Ok y → P) → P
-on_need true d r y e go = go refl e
-on_need false d r y e go = absurd cc
+use Rattle.mv_interpreter.proofs.Borrows.Operands.{found-is}
 
 -- an option that is there
 pub on_some : {A B E P : Type 0} (o : Option A) (d : E) (f : A → Result B E) (y : B) → (ok_or o d >>= f) ≡ Ok y → ((x : A) → o ≡ Some x → f x ≡ Ok y → P) → P
@@ -93,14 +84,9 @@ abbrev pub WhereOk : {A E : Type 0} → (A → Type 0) → Result A E → Type 0
 WhereOk P (Ok x) = P x
 WhereOk P (Err e) = Unit {0}
 
--- an option that is there as a result
-pub ok_or-is : {A E : Type 0} (o : Option A) (d : E) (x : A) → ok_or o d ≡ Ok x → o ≡ Some x
-ok_or-is (Some y) d x e = subst (WhereOk (λ z. Some y ≡ Some z)) e refl
-ok_or-is None d x e = absurd cc
-
 -- an entry that is there
 pub entry-is : {A : Type 0} (xs : List A) (i : ℕ) (x : A) → entry xs i ≡ Ok x → slice_get xs i ≡ Some x
-entry-is xs i x e = ok_or-is (slice_get xs i) _ x e
+entry-is xs i x e = found-is (slice_get xs i) _ x e
 
 -- what isn't there is none
 pub none-is : {A : Type 0} (o : Option A) → not (is_some o) ≡ true → o ≡ None

@@ -4,6 +4,7 @@ use Rattle.std.specs.Prelude.{map, reverse, replicate, slice_get, slice_set, ◌
 use Rattle.std.specs.List.{AllByRecursion, list_all}
 use Rattle.std.proofs.lemmas.Bool.{eqb-true}
 use Rattle.std.proofs.lemmas.List.Sums.{sum_by-cons}
+use Rattle.std.proofs.lemmas.Option.{same_Some}
 use Rattle.mv_move_types.specs.declared.tables.Definition.{Definition}
 use Rattle.mv_move_types.specs.declared.tables.FunctionHandle.{FunctionHandle}
 use Rattle.mv_move_types.specs.declared.token.Token.{Token}
@@ -20,8 +21,7 @@ use Rattle.mv_signatures.specs.Signatures.{entry_fits, has_no_results, are_entry
 use Rattle.mv_machine.specs.Step.{Here, Turn, Goes, Returns, with_stack, may_drop}
 use Rattle.mv_machine.specs.StepControl.{signature_tags}
 use Rattle.mv_machine.specs.Run.{FunctionCall, run, packs, unpacks}
-use Rattle.mv_interpreter.proofs.Names.{some_is}
-use Rattle.mv_interpreter.proofs.Lists.{each}
+use Rattle.mv_linker.proofs.Found.{each}
 use Rattle.mv_ledger.specs.Counting.Held.{held_in_stack, held_in_locals, held_in_frames, held, made, unmade}
 use Rattle.mv_ledger.specs.Counting.Kept.{IsScarce, StackIsKept}
 use Rattle.mv_ledger.specs.Counting.Effects.{Effect, Restacked, MovedLocal, StoredLocal, Packed, Unpacked, Written, MovedFrom, MovedTo, Called, Resumed, Ends, Went, Left, arrived}
@@ -164,10 +164,10 @@ no_results-tags : (modules : List Module) (m : Module) (d : FunctionDefinition) 
 unfolding signature_tags
 no_results-tags modules m d handle tags none handle_is tags_are =
     let named = tested (λ (h : FunctionHandle). option_map_or (λ ts. length ts == 0) (slice_get m.signatures h.results) false) (slice_get m.function_handles d.handle) none in
-    let same : named.0 ≡ handle = some_is named.0 handle (sym named.1 ∙ entry-is m.function_handles d.handle handle handle_is) in
+    let same : named.0 ≡ handle = same_Some named.0 handle (sym named.1 ∙ entry-is m.function_handles d.handle handle handle_is) in
     let listed = tested (λ (ts : List Token). length ts == 0) (slice_get m.signatures (named.0).results) named.2 in
     on_some (slice_get m.signatures handle.results) _ _ tags tags_are (λ ts ts_are e1.
-    let one : listed.0 ≡ ts = some_is listed.0 ts (sym listed.1 ∙ (ap (λ (h : FunctionHandle). slice_get m.signatures h.results) same ∙ ts_are)) in
+    let one : listed.0 ≡ ts = same_Some listed.0 ts (sym listed.1 ∙ (ap (λ (h : FunctionHandle). slice_get m.signatures h.results) same ∙ ts_are)) in
     for_each-none modules m ts tags (subst (λ (x : List Token). length x ≡ 0) one (eqb-true (length listed.0) 0 listed.2)) e1)
 
 held-empty : (name : StructName) (vs : List Value) → length vs ≡ 0 → held_in_stack name vs ≡ 0
@@ -187,10 +187,10 @@ entry-results : (h : Here) (call : FunctionCall) → IsAbleStore h.modules → I
     slice_get h.modules h.state.top.function.place ≡ Some h.home → slice_get h.home.functions h.state.top.function.index ≡ Some h.function → has_no_results h.home h.function ≡ true
 entry-results h call store entered same home_is function_is =
     let there : slice_get h.modules call.function.place ≡ Some h.home = subst (λ (d : Definition). slice_get h.modules d.place ≡ Some h.home) same home_is in
-    let home : entered.home ≡ h.home = some_is entered.home h.home (sym entered.home_is ∙ there) in
+    let home : entered.home ≡ h.home = same_Some entered.home h.home (sym entered.home_is ∙ there) in
     let at : slice_get h.home.functions call.function.index ≡ Some entered.function = subst (λ (m : Module). slice_get m.functions call.function.index ≡ Some entered.function) home entered.function_is in
     let at2 : slice_get h.home.functions call.function.index ≡ Some h.function = subst (λ (d : Definition). slice_get h.home.functions d.index ≡ Some h.function) same function_is in
-    let function : entered.function ≡ h.function = some_is entered.function h.function (sym at ∙ at2) in
+    let function : entered.function ≡ h.function = same_Some entered.function h.function (sym at ∙ at2) in
     let fits : entry_fits h.home h.function ≡ true = each (entry_fits h.home) h.home.functions h.state.top.function.index h.function (each-get (λ m. IsTrue (list_all (entry_fits m) m.functions)) h.modules h.state.top.function.place h.home store.entries home_is) function_is in
     let is_entry : h.function.is_entry ≡ true = subst (λ (d : FunctionDefinition). d.is_entry ≡ true) function entered.is_entry in
     entry-none h.function.is_entry (has_no_results h.home h.function) (option_map_or are_entry_parameters (parameter_tokens h.home h.function) false) fits is_entry

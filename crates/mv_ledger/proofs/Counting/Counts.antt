@@ -2,6 +2,7 @@
 use Rattle.std.proofs.Common.{◌≡◌, ℕ, zero, suc, ◌+◌, Bool, true, false, cond, List, [], ◌∷◌, ◌++◌, Option, Some, None, refl, sym, ap, subst, ◌∙◌, arith}
 use Rattle.std.specs.Prelude.{reverse, map, replicate, slice_get, slice_set, unwrap_or, option_and_then}
 use Rattle.std.proofs.lemmas.List.{reverse-append}
+use Rattle.std.proofs.lemmas.Option.{same_Some}
 use Rattle.mv_move_types.specs.declared.token.Abilities.{Abilities}
 use Rattle.mv_move_types.specs.Names.{StructName, same_struct}
 use Rattle.mv_move_types.specs.Module.{Module}
@@ -10,9 +11,9 @@ use Rattle.mv_move_types.specs.Named.{declared}
 use Rattle.mv_move_types.specs.AbilitySets.{no_abilities}
 use Rattle.mv_machine.specs.Typing.{abilities_of}
 use Rattle.mv_machine.specs.Count.{count_in, count_in_fields}
+use Rattle.mv_linker.proofs.NameLemmas.{same_struct-is}
 use Rattle.mv_ledger.specs.Counting.Held.{held_in_stack, held_in_local, held_in_locals}
 use Rattle.mv_ledger.specs.Counting.Kept.{Allows, IsKept, AreKept, IsScarce, StackIsKept, LocalIsKept, LocalsAreKept}
-use Rattle.mv_interpreter.proofs.Names.{some_is, same_struct-is}
 use Rattle.mv_ledger.proofs.Counting.Binds.{map-is, then-is}
 
 -- the abilities of a struct that is declared
@@ -43,7 +44,7 @@ other_name modules name ability own a lacks own_is has = by_case (same_struct ow
     by_case false e = refl
     by_case true e =
         let same : Some a ≡ Some lacks.abilities = sym own_is ∙ (ap (declared modules) (same_struct-is own name e) ∙ lacks.is_declared) in
-        let clash : true ≡ false = sym has ∙ (ap ability (some_is a lacks.abilities same) ∙ lacks.lacks) in
+        let clash : true ≡ false = sym has ∙ (ap ability (same_Some a lacks.abilities same) ∙ lacks.lacks) in
         absurd cc
 
 mutual
@@ -115,7 +116,7 @@ pub held-set : (name : StructName) (xs : List (Option Value)) (l : ℕ) (old new
     held_in_locals name (slice_set xs l new) + held_in_local name old ≡ held_in_locals name xs + held_in_local name new
 held-set name [] l old new e = absurd cc
 held-set name (x ∷ xs) zero old new e =
-    let same : held_in_local name x ≡ held_in_local name old = ap (held_in_local name) (some_is x old e) in
+    let same : held_in_local name x ≡ held_in_local name old = ap (held_in_local name) (same_Some x old e) in
     omega (arith, same)
 held-set name (x ∷ xs) (suc l) old new e =
     let ih : held_in_locals name (slice_set xs l new) + held_in_local name old ≡ held_in_locals name xs + held_in_local name new = held-set name xs l old new e in
@@ -128,7 +129,7 @@ kept-set modules (x ∷ xs) (suc l) new a b = (a.0, kept-set modules xs l new a.
 
 pub kept-get : (modules : List Module) (xs : List (Option Value)) (l : ℕ) (old : Option Value) → LocalsAreKept modules xs → slice_get xs l ≡ Some old → LocalIsKept modules old
 kept-get modules [] l old a e = absurd cc
-kept-get modules (x ∷ xs) zero old a e = subst (LocalIsKept modules) (some_is x old e) a.0
+kept-get modules (x ∷ xs) zero old a e = subst (LocalIsKept modules) (same_Some x old e) a.0
 kept-get modules (x ∷ xs) (suc l) old a e = kept-get modules xs l old a.1 e
 
 -- a new frame's locals are its arguments
@@ -149,7 +150,7 @@ pub held-with_field : (name : StructName) (fs : Values) (i : ℕ) (old new : Val
     count_in_fields name (with_field fs i new) + count_in name old ≡ count_in_fields name fs + count_in name new
 held-with_field name NoMore i old new e = absurd cc
 held-with_field name (More v vs) zero old new e =
-    let same : count_in name v ≡ count_in name old = ap (count_in name) (some_is v old e) in
+    let same : count_in name v ≡ count_in name old = ap (count_in name) (same_Some v old e) in
     omega (arith, same)
 held-with_field name (More v vs) (suc i) old new e =
     let ih : count_in_fields name (with_field vs i new) + count_in name old ≡ count_in_fields name vs + count_in name new = held-with_field name vs i old new e in
@@ -159,13 +160,13 @@ pub kept-with_field : (modules : List Module) (outer : Abilities) (fs : Values) 
     abilities_of modules new ≡ abilities_of modules old → IsKept modules new → AreKept modules outer (with_field fs i new)
 kept-with_field modules outer NoMore i old new a e same kept = tt
 kept-with_field modules outer (More v vs) zero old new a e same kept =
-    let at : abilities_of modules v ≡ abilities_of modules new = ap (abilities_of modules) (some_is v old e) ∙ sym same in
+    let at : abilities_of modules v ≡ abilities_of modules new = ap (abilities_of modules) (same_Some v old e) ∙ sym same in
     (subst (Allows outer) at a.0, kept, a.2)
 kept-with_field modules outer (More v vs) (suc i) old new a e same kept = (a.0, a.1, kept-with_field modules outer vs i old new a.2 e same kept)
 
 pub kept-field : (modules : List Module) (outer : Abilities) (fs : Values) (i : ℕ) (old : Value) → AreKept modules outer fs → field fs i ≡ Some old → IsKept modules old
 kept-field modules outer NoMore i old a e = absurd cc
-kept-field modules outer (More v vs) zero old a e = subst (IsKept modules) (some_is v old e) a.1
+kept-field modules outer (More v vs) zero old a e = subst (IsKept modules) (same_Some v old e) a.1
 kept-field modules outer (More v vs) (suc i) old a e = kept-field modules outer vs i old a.2 e
 
 kept-field_of : (modules : List Module) (v : Value) (i : ℕ) (old : Value) → IsKept modules v → field_of v i ≡ Some old → IsKept modules old
@@ -175,7 +176,7 @@ kept-field_of modules (Ref r) i old a e = absurd cc
 
 -- what a path leads to is kept
 pub kept-value_at : (modules : List Module) (path : List ℕ) (v old : Value) → IsKept modules v → value_at v path ≡ Some old → IsKept modules old
-kept-value_at modules [] v old a e = subst (IsKept modules) (some_is v old e) a
+kept-value_at modules [] v old a e = subst (IsKept modules) (same_Some v old e) a
 kept-value_at modules (i ∷ path) v old a e =
     let found = then-is (λ w. value_at w path) (field_of v i) old e in
     kept-value_at modules path found.0 old (kept-field_of modules v i found.0 a found.1) found.2
@@ -203,8 +204,8 @@ replaces-field modules (Struct own fs) i a b old new kept e r = record {
 pub replaces-at : (modules : List Module) (path : List ℕ) (v w old new : Value) → IsKept modules v → IsKept modules new → abilities_of modules new ≡ abilities_of modules old →
     value_at v path ≡ Some old → with_value_at v path new ≡ Some w → Replaces modules v w old new
 replaces-at modules [] v w old new kept kept_new same at written =
-    let was : v ≡ old = some_is v old at in
-    subst (λ x. Replaces modules v x old new) (some_is new w written) (record {
+    let was : v ≡ old = same_Some v old at in
+    subst (λ x. Replaces modules v x old new) (same_Some new w written) (record {
       kept = kept_new;
       same = same ∙ ap (abilities_of modules) (sym was);
       counts = λ name. let e : count_in name v ≡ count_in name old = ap (count_in name) was in omega (arith, e);
@@ -213,7 +214,7 @@ replaces-at modules (i ∷ path) v w old new kept kept_new same at written =
     let found = then-is (λ x. value_at x path) (field_of v i) old at in
     let mapped = map-is (with_field_of v i) (option_and_then (λ x. with_value_at x path new) (field_of v i)) w written in
     let inner = then-is (λ x. with_value_at x path new) (field_of v i) mapped.0 mapped.1 in
-    let one : inner.0 ≡ found.0 = some_is inner.0 found.0 (sym inner.1 ∙ found.1) in
+    let one : inner.0 ≡ found.0 = same_Some inner.0 found.0 (sym inner.1 ∙ found.1) in
     let put : with_value_at found.0 path new ≡ Some mapped.0 = subst (λ x. with_value_at x path new ≡ Some mapped.0) one inner.2 in
     let below : Replaces modules found.0 mapped.0 old new = replaces-at modules path found.0 mapped.0 old new (kept-field_of modules v i found.0 kept found.1) kept_new same found.2 put in
     subst (λ x. Replaces modules v x old new) mapped.2 (replaces-field modules v i found.0 mapped.0 old new kept found.1 below)

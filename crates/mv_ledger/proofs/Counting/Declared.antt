@@ -12,8 +12,8 @@ use Rattle.mv_machine.specs.Value.{Value, Leaf, Struct, Ref, Values, NoMore, Mor
 use Rattle.mv_machine.specs.State.{Storage}
 use Rattle.mv_machine.specs.Count.{count, count_in, count_in_fields}
 use Rattle.mv_linker.specs.Link.{IsStore, tables_in}
-use Rattle.mv_interpreter.proofs.Names.{same_struct-is}
-use Rattle.mv_interpreter.proofs.Lists.{on_some, then_found}
+use Rattle.mv_linker.proofs.NameLemmas.{same_struct-is}
+use Rattle.mv_linker.proofs.Found.{on_some, then_found}
 use Rattle.mv_ledger.specs.Counting.Kept.{IsKept, AreKept, StorageIsKept}
 use Rattle.mv_ledger.proofs.Heirs.{Inherits, Stayed, tested, found-passes, on_and_then, stayed}
 use Rattle.mv_ledger.proofs.Counting.Binds.{map-is}
@@ -46,7 +46,7 @@ declared-by modules name a e =
       home_is = at;
       definition_is = d_is;
       name_is = named.1 ∙ ap (λ (n : StructName). Some n) (same_struct-is named.0 name named.2);
-      abilities_are = then_found (slice_get m.struct_handles d.handle) _ handle.0 a handle.1 (ap (λ (b : Abilities). Some b) handle.2);
+      abilities_are = then_found (slice_get m.struct_handles d.handle) _ handle.0 (Some a) handle.1 (ap (λ (b : Abilities). Some b) handle.2);
     }))))
 
 -- a struct definition with its abilities

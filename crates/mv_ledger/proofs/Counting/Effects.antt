@@ -1,6 +1,6 @@
 -- Each instruction's rule, as one of the kinds of effect.
-use Rattle.std.proofs.Common.{◌≡◌, ℕ, ◌+◌, Bool, true, false, List, [], ◌∷◌, ◌++◌, Option, Some, Result, Ok, refl, sym, ap, ap₂, subst, ◌∙◌, length, append-nil}
-use Rattle.std.specs.Prelude.{not, ◌&&◌, ◌||◌, ◌==◌, nat_lt, nat_le, ok_or, reverse, is_some, slice_get, flat_map, bit_and, bit_or, bit_xor}
+use Rattle.std.proofs.Common.{◌≡◌, ℕ, ◌+◌, Bool, true, false, List, [], ◌∷◌, ◌++◌, Option, Result, Ok, refl, sym, ap, ap₂, subst, ◌∙◌, length, append-nil}
+use Rattle.std.specs.Prelude.{not, ◌&&◌, ◌==◌, nat_lt, nat_le, ok_or, reverse, is_some, slice_get, flat_map, bit_and, bit_or, bit_xor, ◌||◌}
 use Rattle.std.specs.Cmp.{first_so, second_so}
 use Rattle.std.specs.List.{AllByRecursion, list_all, list_any}
 use Rattle.std.proofs.lemmas.Bool.{eqb-true}
@@ -36,9 +36,11 @@ use Rattle.mv_machine.specs.StepStructs.{unpack}
 use Rattle.mv_machine.specs.StepReferences.{own_field, lends, borrow_field, read_reference, write_reference, freeze}
 use Rattle.mv_machine.specs.StepGlobals.{exists, borrow_global, move_from}
 use Rattle.mv_machine.specs.StepControl.{callee, call, branch_if, abort}
+use Rattle.mv_machine.proofs.Laws.{on_bind, on_need}
+use Rattle.mv_linker.proofs.NameLemmas.{same_struct-is}
+use Rattle.mv_interpreter.proofs.Borrows.Operands.{held-is}
 use Rattle.mv_ledger.specs.Counting.Effects.{Appears, a_leaf, a_reference, a_copy, in_local, at_place, Effect, Restacked, MovedLocal, StoredLocal, Packed, Unpacked, Written, MovedFrom, MovedTo, Called, Resumed, Ends, Went, Left}
-use Rattle.mv_interpreter.proofs.Names.{same_struct-is}
-use Rattle.mv_ledger.proofs.Counting.Binds.{on_bind, on_need, on_some, on_operand, on_number, on_boolean, on_address, on_reference, on_fields, on_operands, WhereOk, ok_or-is, none-is}
+use Rattle.mv_ledger.proofs.Counting.Binds.{on_some, on_operand, on_number, on_boolean, on_address, on_reference, on_fields, on_operands, WhereOk, none-is}
 
 -- operands are given for operands
 pub record Trades (h : Here) (stack after : List Value) : Type 0 where
@@ -196,11 +198,6 @@ pushes-ends h v t a e = trade-ends h (h.state.top.at + 1) (v ∷ h.state.top.sta
 
 stays-ends : (h : Here) (at : ℕ) (t : Turn) → goes_to at h.state ≡ Ok t → Ends h t
 stays-ends h at t e = trade-ends h at h.state.top.stack t (record { taken = []; given = []; rest = h.state.top.stack; before = refl; dropped = tt; appears = tt; afterwards = refl }) e
-
-held-is : (h : Here) (l : ℕ) (v : Value) → held h l ≡ Ok v → slice_get h.state.top.locals l ≡ Some (Some v)
-unfolding held
-held-is h l v e =
-    on_some (slice_get h.state.top.locals l) _ _ v e (λ local local_is e1. local_is ∙ ap (λ (x : Option Value). Some x) (ok_or-is local _ v e1))
 
 copy_local-ends : (h : Here) (l : ℕ) (t : Turn) → copy_local h l ≡ Ok t → Ends h t
 unfolding copy_local

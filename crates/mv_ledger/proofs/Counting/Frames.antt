@@ -1,6 +1,6 @@
 -- Counts in frames and states, and what a write at a root does to them.
-use Rattle.std.proofs.Common.{◌≡◌, ℕ, ◌+◌, ◌<◌, ◌≤◌, Bool, true, false, cond, List, [], ◌∷◌, Option, Some, refl, sym, ap, subst, ◌∙◌, arith}
-use Rattle.std.specs.Prelude.{map, slice_get, slice_set, ◌==◌}
+use Rattle.std.proofs.Common.{◌≡◌, ℕ, ◌+◌, Bool, true, false, cond, List, [], ◌∷◌, Some, refl, ap, arith}
+use Rattle.std.specs.Prelude.{map, slice_set, ◌==◌}
 use Rattle.std.proofs.lemmas.Bool.{eqb-true}
 use Rattle.mv_move_types.specs.Names.{StructName}
 use Rattle.mv_move_types.specs.Module.{Module}
@@ -8,30 +8,17 @@ use Rattle.mv_machine.specs.Value.{Value, Root, Local, Stored}
 use Rattle.mv_machine.specs.State.{Frame, State, frames, local_value, local_in, root_value, with_local, with_root}
 use Rattle.mv_machine.specs.Count.{count_in}
 use Rattle.mv_machine.specs.Step.{with_stack}
+use Rattle.mv_interpreter.proofs.Typing.Frames.{held_entry, written_below}
+use Rattle.mv_interpreter.specs.Typing.StateTyped.{Numbered}
+use Rattle.mv_interpreter.proofs.Typing.Write.{numbers_stay}
 use Rattle.mv_ledger.specs.Counting.Held.{held_in_locals, held_in_frame, held_in_frames, held}
-use Rattle.mv_ledger.specs.Counting.Kept.{IsKept, StackIsKept, FrameIsKept, FramesAreKept, AreNumbered}
+use Rattle.mv_ledger.specs.Counting.Kept.{IsKept, StackIsKept, FrameIsKept, FramesAreKept}
 use Rattle.mv_ledger.specs.Counting.Fine.{IsFine}
-use Rattle.mv_ledger.proofs.Counting.Binds.{then-is}
 use Rattle.mv_ledger.proofs.Counting.Counts.{held-set, kept-set, kept-get}
 use Rattle.mv_ledger.proofs.Counting.Stored.{count-over, kept-stored_at, kept-with, ascending-with}
 
-local-is : (f : Frame) (l : ℕ) (v : Value) → local_value f l ≡ Some v → slice_get f.locals l ≡ Some (Some v)
-local-is f l v e =
-    let found = then-is (λ (x : Option Value). x) (slice_get f.locals l) v e in
-    found.1 ∙ ap (λ (x : Option Value). Some x) found.2
-
--- the frames below a number have not that number
-others-stay : (n l : ℕ) (v : Value) (m : ℕ) (fs : List Frame) → m ≤ n → AreNumbered m fs → map (with_local n l v) fs ≡ fs
-others-stay n l v m [] h numbered = refl
-others-stay n l v m (f ∷ fs) h numbered =
-    by_case (f.number == n) refl (others-stay n l v f.number fs (omega (arith, h, numbered.0)) numbered.1)
-  where
-    by_case : (b : Bool) → (f.number == n) ≡ b → map (with_local n l v) fs ≡ fs → cond b (record f { locals = slice_set f.locals l (Some v) }) f ∷ map (with_local n l v) fs ≡ f ∷ fs
-    by_case false e ih = ap (λ (gs : List Frame). f ∷ gs) ih
-    by_case true e ih = let same : f.number ≡ n = eqb-true f.number n e in absurd (omega (arith, same, h, numbered.0))
-
 -- a write to a local counts the old value out and the new one in
-pub held-frames : (name : StructName) (n l : ℕ) (old new : Value) (m : ℕ) (fs : List Frame) → AreNumbered m fs → local_in fs n l ≡ Some old →
+pub held-frames : (name : StructName) (n l : ℕ) (old new : Value) (m : ℕ) (fs : List Frame) → Numbered m fs → local_in fs n l ≡ Some old →
     held_in_frames name (map (with_local n l new) fs) + count_in name old ≡ held_in_frames name fs + count_in name new
 held-frames name n l old new m [] numbered e = absurd cc
 held-frames name n l old new m (f ∷ fs) numbered e = by_case (f.number == n) refl e (held-frames name n l old new f.number fs numbered.1)
@@ -42,8 +29,8 @@ held-frames name n l old new m (f ∷ fs) numbered e = by_case (f.number == n) r
         ≡ (held_in_frame name f + held_in_frames name fs) + count_in name new
     by_case false s g ih = let i : held_in_frames name (map (with_local n l new) fs) + count_in name old ≡ held_in_frames name fs + count_in name new = ih g in omega (arith, i)
     by_case true s g ih =
-        let rest : held_in_frames name (map (with_local n l new) fs) ≡ held_in_frames name fs = ap (held_in_frames name) (others-stay n l new f.number fs (let same : f.number ≡ n = eqb-true f.number n s in omega (arith, same)) numbered.1) in
-        let here : held_in_locals name (slice_set f.locals l (Some new)) + count_in name old ≡ held_in_locals name f.locals + count_in name new = held-set name f.locals l (Some old) (Some new) (local-is f l old g) in
+        let rest : held_in_frames name (map (with_local n l new) fs) ≡ held_in_frames name fs = ap (held_in_frames name) (written_below n l new f.number fs numbered.1 (let same : f.number ≡ n = eqb-true f.number n s in omega (arith, same))) in
+        let here : held_in_locals name (slice_set f.locals l (Some new)) + count_in name old ≡ held_in_locals name f.locals + count_in name new = held-set name f.locals l (Some old) (Some new) (held_entry f l old g) in
         omega (arith, rest, here)
 
 pub kept-local_in : (modules : List Module) (n l : ℕ) (v : Value) (fs : List Frame) → FramesAreKept modules fs → local_in fs n l ≡ Some v → IsKept modules v
@@ -52,7 +39,7 @@ kept-local_in modules n l v (f ∷ fs) kept e = by_case (f.number == n) e (kept-
   where
     by_case : (b : Bool) → cond b (local_value f l) (local_in fs n l) ≡ Some v → (local_in fs n l ≡ Some v → IsKept modules v) → IsKept modules v
     by_case false g ih = ih g
-    by_case true g ih = kept-get modules f.locals l (Some v) kept.0.locals (local-is f l v g)
+    by_case true g ih = kept-get modules f.locals l (Some v) kept.0.locals (held_entry f l v g)
 
 kept-with_local : (modules : List Module) (n l : ℕ) (v : Value) (f : Frame) → FrameIsKept modules f → IsKept modules v → FrameIsKept modules (with_local n l v f)
 kept-with_local modules n l v f kept new = by_case (f.number == n)
@@ -64,18 +51,6 @@ kept-with_local modules n l v f kept new = by_case (f.number == n)
 pub kept-frames : (modules : List Module) (n l : ℕ) (v : Value) (fs : List Frame) → FramesAreKept modules fs → IsKept modules v → FramesAreKept modules (map (with_local n l v) fs)
 kept-frames modules n l v [] kept new = tt
 kept-frames modules n l v (f ∷ fs) kept new = (kept-with_local modules n l v f kept.0 new, kept-frames modules n l v fs kept.1 new)
-
-pub number-with_local : (n l : ℕ) (v : Value) (f : Frame) → (with_local n l v f).number ≡ f.number
-number-with_local n l v f = by_case (f.number == n)
-  where
-    by_case : (b : Bool) → (cond b (record f { locals = slice_set f.locals l (Some v) }) f).number ≡ f.number
-    by_case false = refl
-    by_case true = refl
-
-pub numbered-frames : (n l : ℕ) (v : Value) (m k : ℕ) (fs : List Frame) → m ≡ k → AreNumbered m fs → AreNumbered k (map (with_local n l v) fs)
-numbered-frames n l v m k [] e numbered = tt
-numbered-frames n l v m k (f ∷ fs) e numbered =
-    (rw (number-with_local n l v f) (subst (λ x. f.number < x) e numbered.0), numbered-frames n l v f.number (with_local n l v f).number fs (sym (number-with_local n l v f)) numbered.1)
 
 -- ---- a state with other operands, and a write at a root
 
@@ -96,7 +71,7 @@ fine-root modules s (Local n l) v fine kept = record {
   framed = kept-frames modules n l v (frames s) fine.framed kept;
   stored = fine.stored;
   ascending = fine.ascending;
-  numbered = numbered-frames n l v s.entered s.entered (frames s) refl fine.numbered;
+  numbered = numbers_stay n l v s.entered (frames s) fine.numbered;
 }
 fine-root modules s (Stored key) v fine kept = record {
   framed = fine.framed;

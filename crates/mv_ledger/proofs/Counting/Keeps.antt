@@ -3,6 +3,7 @@ use Rattle.std.proofs.Common.{◌≡◌, ℕ, ◌+◌, true, cond, List, [], ◌
 use Rattle.std.specs.Prelude.{reverse, map, replicate, slice_get, slice_set}
 use Rattle.std.specs.List.{AllByRecursion, list_all}
 use Rattle.std.specs.Cmp.{first_so, second_so}
+use Rattle.std.proofs.lemmas.Option.{same_Some}
 use Rattle.mv_move_types.specs.declared.token.LeafKind.TheVariants.{Address}
 use Rattle.std.proofs.lemmas.List.{reverse-reverse}
 use Rattle.mv_move_types.specs.Names.{StructName, same_struct}
@@ -13,9 +14,9 @@ use Rattle.mv_machine.specs.Typing.{abilities_of}
 use Rattle.mv_machine.specs.Count.{count, count_in, count_in_fields}
 use Rattle.mv_machine.specs.Step.{Here, with_stack, may_drop}
 use Rattle.mv_machine.specs.StepParts.{can_drop}
-use Rattle.mv_interpreter.proofs.Names.{some_is}
+use Rattle.mv_interpreter.specs.Typing.StateTyped.{Numbered}
 use Rattle.mv_ledger.specs.Counting.Held.{held_in_stack, held_in_local, held_in_locals, held_in_frame, held_in_frames, held, made, unmade}
-use Rattle.mv_ledger.specs.Counting.Kept.{IsKept, IsScarce, StackIsKept, LocalIsKept, LocalsAreKept, FramesAreKept, AreNumbered}
+use Rattle.mv_ledger.specs.Counting.Kept.{IsKept, IsScarce, StackIsKept, LocalIsKept, LocalsAreKept, FramesAreKept}
 use Rattle.mv_ledger.specs.Counting.Effects.{Stands, in_local, at_place, Appears, a_leaf, a_reference, a_copy, Effect, Restacked, MovedLocal, StoredLocal, Packed, Unpacked, Written, MovedFrom, MovedTo, Called, Resumed}
 use Rattle.mv_ledger.specs.Counting.Fine.{IsAbleStore, IsFine, Balances}
 use Rattle.mv_ledger.proofs.Counting.Binds.{then-is, place-written}
@@ -93,7 +94,7 @@ wrote : (modules : List Module) (s : State) (below : List Value) (p : Place) (ol
 wrote modules s below p old new next fine kept same old_is next_is =
     let w = place-written (with_stack s below) p new next next_is in
     let found = then-is (λ x. value_at x p.path) (root_value s p.root) old old_is in
-    let one : found.0 ≡ w.old = some_is found.0 w.old (sym found.1 ∙ (sym (root-stack s below p.root) ∙ w.old_is)) in
+    let one : found.0 ≡ w.old = same_Some found.0 w.old (sym found.1 ∙ (sym (root-stack s below p.root) ∙ w.old_is)) in
     let at : value_at w.old p.path ≡ Some old = subst (λ x. value_at x p.path ≡ Some old) one found.2 in
     let root_kept : IsKept modules w.old = subst (IsKept modules) one (kept-root modules s p.root found.0 fine found.1) in
     record {
@@ -177,7 +178,7 @@ effect-fine h place _ store home_is fine (Called function others taken rest s) =
 effect-fine h place _ store home_is fine (Resumed results f fs s d e) =
     let kept : StackIsKept h.modules (reverse results) = subst (StackIsKept h.modules) s fine.framed.0.stack in
     let under : FramesAreKept h.modules (f ∷ fs) = subst (FramesAreKept h.modules) e fine.framed.1 in
-    let numbers : AreNumbered h.state.top.number (f ∷ fs) = subst (AreNumbered h.state.top.number) e fine.numbered.1 in
+    let numbers : Numbered h.state.top.number (f ∷ fs) = subst (Numbered h.state.top.number) e fine.numbered.1 in
     record {
       framed = (record { locals = under.0.locals; stack = kept-append h.modules (reverse results) f.stack kept under.0.stack }, under.1);
       stored = fine.stored;

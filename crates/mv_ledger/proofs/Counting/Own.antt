@@ -8,11 +8,12 @@ use Rattle.mv_machine.specs.State.{Storage, State, with_root, with_place}
 use Rattle.mv_machine.specs.Step.{Here, Turn, Goes, Returns, OwnStruct, with_stack}
 use Rattle.mv_machine.specs.StepStructs.{own_struct}
 use Rattle.mv_machine.specs.Run.{FunctionCall, run}
+use Rattle.mv_machine.proofs.Laws.{on_need}
+use Rattle.mv_linker.proofs.NameLemmas.{same_module-is}
 use Rattle.mv_ledger.specs.Counting.Headline.{IsOwnWork}
 use Rattle.mv_ledger.specs.Counting.Effects.{Effect, Restacked, MovedLocal, StoredLocal, Packed, Unpacked, Written, MovedFrom, MovedTo, Called, Resumed, Ends, Went, Left}
 use Rattle.mv_ledger.specs.Counting.Returns.{AtReturn}
-use Rattle.mv_interpreter.proofs.Names.{same_module-is}
-use Rattle.mv_ledger.proofs.Counting.Binds.{on_need, on_some, WhereOk, place-written}
+use Rattle.mv_ledger.proofs.Counting.Binds.{on_some, WhereOk, place-written}
 use Rattle.mv_ledger.proofs.Counting.Runs.{step-stepped, run-keeps}
 
 -- the struct that an instruction names is of the module at work

@@ -4,6 +4,7 @@ use Rattle.std.specs.Prelude.{◌&&◌, slice_get, ◌||◌}
 use Rattle.std.specs.List.{AllByRecursion, list_all}
 use Rattle.std.specs.Option.{option_map_or}
 use Rattle.std.specs.Cmp.{first_so, second_so}
+use Rattle.std.proofs.lemmas.Option.{same_Some}
 use Rattle.mv_move_types.specs.declared.tables.StructHandle.{StructHandle}
 use Rattle.mv_move_types.specs.declared.token.Abilities.{Abilities}
 use Rattle.mv_move_types.specs.Options.{◌>>=◌}
@@ -22,19 +23,19 @@ use Rattle.mv_abilities.specs.Abilities.{AbilitiesHold, implies, field_is_able, 
 use Rattle.mv_linker.specs.Links.{struct_is_there, structs_are_there}
 use Rattle.mv_machine.specs.Step.{Here, OwnStruct}
 use Rattle.mv_machine.specs.StepStructs.{own_struct}
+use Rattle.mv_machine.proofs.Laws.{on_bind, on_need}
 use Rattle.mv_linker.proofs.Upgraded.{same_abilities-is}
-use Rattle.mv_interpreter.proofs.Names.{some_is}
-use Rattle.mv_interpreter.proofs.Lists.{each}
+use Rattle.mv_linker.proofs.Found.{each}
 use Rattle.mv_ledger.specs.Counting.Kept.{Allows, IsKept, AreKept, StackIsKept}
 use Rattle.mv_ledger.specs.Counting.Fine.{IsAbleStore}
-use Rattle.mv_ledger.proofs.Counting.Binds.{on_bind, on_need, on_some, WhereOk}
+use Rattle.mv_ledger.proofs.Counting.Binds.{on_some, WhereOk}
 use Rattle.mv_ledger.proofs.Counting.Tags.{has_tag-abilities, tag_named-abilities}
 use Rattle.mv_ledger.proofs.Heirs.{tested}
 
 -- what each element is, the one at an index is
 pub each-get : {A : Type 0} (P : A → Type 0) (xs : List A) (i : ℕ) (x : A) → AllByRecursion P xs → slice_get xs i ≡ Some x → P x
 each-get P [] i x h e = absurd cc
-each-get P (y ∷ ys) zero x h e = subst P (some_is y x e) h.0
+each-get P (y ∷ ys) zero x h e = subst P (same_Some y x e) h.0
 each-get P (y ∷ ys) (suc i) x h e = each-get P ys i x h.1 e
 
 -- a struct handle of a store's module names a struct that is declared as the handle says
@@ -44,7 +45,7 @@ there-get modules m k j [] handle h e = absurd cc
 there-get modules m k zero (x ∷ xs) handle h e =
     let at : k ≡ k + 0 = omega arith in
     subst (λ n. struct_is_there modules m n handle ≡ true) at
-    (subst (λ y. struct_is_there modules m k y ≡ true) (some_is x handle e) (first_so (struct_is_there modules m k x) (structs_are_there modules m (k + 1) xs) h))
+    (subst (λ y. struct_is_there modules m k y ≡ true) (same_Some x handle e) (first_so (struct_is_there modules m k x) (structs_are_there modules m (k + 1) xs) h))
 there-get modules m k (suc j) (x ∷ xs) handle h e =
     let at : (k + 1) + j ≡ k + suc j = omega arith in
     subst (λ n. struct_is_there modules m n handle ≡ true) at
@@ -60,7 +61,7 @@ handles-declared modules m all j handle name handle_is name_is =
     let here : struct_is_there modules m j handle ≡ true = subst (λ n. struct_is_there modules m n handle ≡ true) at (there-get modules m 0 j m.struct_handles handle all handle_is) in
     let named = tested (λ n. option_map_or (same_abilities handle.abilities) (declared modules n) false) (struct_name m j) here in
     let found = tested (same_abilities handle.abilities) (declared modules named.0) named.2 in
-    let one : named.0 ≡ name = some_is named.0 name (sym named.1 ∙ name_is) in
+    let one : named.0 ≡ name = same_Some named.0 name (sym named.1 ∙ name_is) in
     let same : found.0 ≡ handle.abilities = sym (same_abilities-is handle.abilities found.0 found.2) in
     sym (ap (declared modules) one) ∙ (found.1 ∙ ap (λ (a : Abilities). Some a) same)
 
@@ -92,7 +93,7 @@ own_struct-owned h place i s store home_is e =
     let able : struct_is_able h.home d ≡ true = each (struct_is_able h.home) h.home.structs i d (each-get AbilitiesHold h.modules place h.home store.able home_is) d_is in
     let had = tested (λ a. list_all (field_is_able h.home a) d.fields) (struct_abilities h.home d) able in
     let has : struct_abilities h.home d ≡ Some handle.abilities = ap (λ (o : Option StructHandle). o >>= λ x. Some x.abilities) handle_is in
-    let one : had.0 ≡ handle.abilities = some_is had.0 handle.abilities (sym had.1 ∙ has) in
+    let one : had.0 ≡ handle.abilities = same_Some had.0 handle.abilities (sym had.1 ∙ has) in
     subst (WhereOk (Owned h.modules h.home)) e5 (record {
       is_declared = handle-declared h.modules place h.home d.handle handle name store home_is handle_is name_is;
       able = subst (λ a. list_all (field_is_able h.home a) d.fields ≡ true) one had.2;

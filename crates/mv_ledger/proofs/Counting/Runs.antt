@@ -8,9 +8,10 @@ use Rattle.mv_machine.specs.Typing.{Failure, Aborts, Faults}
 use Rattle.mv_move_types.specs.Flow.{successors}
 use Rattle.mv_machine.specs.Step.{Turn, Goes, Returns, step, entered_frame}
 use Rattle.mv_machine.specs.Run.{RunOutcome, FunctionCall, goes_with, follows, turns, first_state, outcome_from, run}
+use Rattle.mv_machine.proofs.Laws.{on_need}
 use Rattle.mv_ledger.specs.Counting.Effects.{Ends}
 use Rattle.mv_ledger.specs.Counting.Returns.{AtReturn}
-use Rattle.mv_ledger.proofs.Counting.Binds.{on_need, on_some, WhereOk}
+use Rattle.mv_ledger.proofs.Counting.Binds.{on_some, WhereOk}
 use Rattle.mv_ledger.proofs.Counting.Effects.{rule-ends}
 
 -- where a step stands, and what it does

@@ -3,11 +3,11 @@ use Rattle.std.proofs.Common.{◌≡◌, ℕ, zero, suc, Bool, true, false, cond
 use Rattle.std.specs.Prelude.{slice_get, ◌||◌, ◌⊎◌, map, filter_map}
 use Rattle.std.specs.Option.{option_map_or}
 use Rattle.std.specs.List.{AllByRecursion, cons_option}
+use Rattle.std.proofs.lemmas.Option.{same_Some}
 use Rattle.mv_move_types.specs.declared.token.Abilities.{Abilities}
 use Rattle.mv_move_types.specs.Names.{StructName}
 use Rattle.mv_move_types.specs.Module.{Module, StructDefinition, name_of_struct, struct_abilities}
 use Rattle.mv_machine.specs.Ledger.{scarce_name, scarce_structs}
-use Rattle.mv_interpreter.proofs.Names.{some_is}
 use Rattle.mv_ledger.specs.Counting.Kept.{IsScarce}
 use Rattle.mv_ledger.specs.Counting.Fine.{IsAbleStore}
 use Rattle.mv_ledger.proofs.Counting.Packs.{HandlesDeclared, each-declared}
@@ -78,10 +78,10 @@ some-right P (x ∷ xs) ys s = inr (some-right P xs ys s)
 
 among-definitions : (m : Module) (ds : List StructDefinition) (i : ℕ) (d : StructDefinition) (name : StructName) → slice_get ds i ≡ Some d → scarce_name m d ≡ Some name → SomeOf (λ y. y ≡ name) (filter_map (scarce_name m) ds)
 among-definitions m [] i d name e g = absurd cc
-among-definitions m (x ∷ xs) zero d name e g = by_case (scarce_name m x) (ap (scarce_name m) (some_is x d e) ∙ g)
+among-definitions m (x ∷ xs) zero d name e g = by_case (scarce_name m x) (ap (scarce_name m) (same_Some x d e) ∙ g)
   where
     by_case : (o : Option StructName) → o ≡ Some name → SomeOf (λ y. y ≡ name) (cons_option o (filter_map (scarce_name m) xs))
-    by_case (Some n) h = inl (some_is n name h)
+    by_case (Some n) h = inl (same_Some n name h)
     by_case None h = absurd cc
 among-definitions m (x ∷ xs) (suc i) d name e g = by_case (scarce_name m x) (among-definitions m xs i d name e g)
   where
@@ -94,7 +94,7 @@ pub scarce-among : (ms : List Module) (name : StructName) (place i : ℕ) (m : M
 scarce-among [] name place i m d m_is d_is e = absurd cc
 scarce-among (x ∷ xs) name zero i m d m_is d_is e =
     some-left (λ y. y ≡ name) (filter_map (scarce_name x) x.structs) (scarce_structs xs)
-    (subst (λ (z : Module). SomeOf (λ y. y ≡ name) (filter_map (scarce_name z) z.structs)) (sym (some_is x m m_is)) (among-definitions m m.structs i d name d_is e))
+    (subst (λ (z : Module). SomeOf (λ y. y ≡ name) (filter_map (scarce_name z) z.structs)) (sym (same_Some x m m_is)) (among-definitions m m.structs i d name d_is e))
 scarce-among (x ∷ xs) name (suc place) i m d m_is d_is e =
     some-right (λ y. y ≡ name) (filter_map (scarce_name x) x.structs) (scarce_structs xs) (scarce-among xs name place i m d m_is d_is e)
 

@@ -1,15 +1,15 @@
 -- Counts in the storage, whose keys ascend.
 use Rattle.std.proofs.Common.{◌≡◌, ◌+◌, Bool, true, false, cond, List, [], ◌∷◌, Some, None, refl, ap, subst, arith}
+use Rattle.std.proofs.lemmas.Option.{same_Some}
 use Rattle.mv_move_types.specs.declared.tables.Key.{Key}
 use Rattle.mv_move_types.specs.Names.{StructName}
 use Rattle.mv_move_types.specs.Module.{Module}
 use Rattle.mv_machine.specs.Value.{Value}
 use Rattle.mv_machine.specs.State.{Storage, key_before, same_key, stored_at, with_stored, without_stored}
 use Rattle.mv_machine.specs.Count.{count, count_in}
-use Rattle.mv_interpreter.proofs.Names.{some_is}
-use Rattle.mv_interpreter.proofs.Typing.Tests.{same_key-is}
+use Rattle.mv_storage.proofs.Keys.{same_key-to, before-trans}
 use Rattle.mv_ledger.specs.Counting.Kept.{IsKept, StorageIsKept, AreAbove, IsAscending}
-use Rattle.mv_ledger.proofs.Counting.Keys.{before-clash, before-trans, before-or}
+use Rattle.mv_ledger.proofs.Counting.Keys.{before-clash, before-or}
 
 -- ---- what is stored
 
@@ -20,7 +20,7 @@ count-without name (f ∷ es) key v e = by_case (same_key f.key key) e (count-wi
   where
     by_case : (same : Bool) → cond same (Some f.value) (stored_at es key) ≡ Some v → (stored_at es key ≡ Some v → count (without_stored es key) name + count_in name v ≡ count es name) →
         count (cond same es (f ∷ without_stored es key)) name + count_in name v ≡ count_in name f.value + count es name
-    by_case true g ih = let same : count_in name f.value ≡ count_in name v = ap (count_in name) (some_is f.value v g) in omega (arith, same)
+    by_case true g ih = let same : count_in name f.value ≡ count_in name v = ap (count_in name) (same_Some f.value v g) in omega (arith, same)
     by_case false g ih = let i : count (without_stored es key) name + count_in name v ≡ count es name = ih g in omega (arith, i)
 
 -- a value put where there is none counts
@@ -43,7 +43,7 @@ none-below (e ∷ es) key above = by_case (same_key e.key key) refl (none-below 
     by_case : (same : Bool) → same_key e.key key ≡ same → stored_at es key ≡ None → cond same (Some e.value) (stored_at es key) ≡ None
     by_case false s ih = ih
     by_case true s ih =
-        let before : key_before key key ≡ true = subst (λ k. key_before key k ≡ true) (same_key-is e.key key s) above.0 in
+        let before : key_before key key ≡ true = subst (λ k. key_before key k ≡ true) (same_key-to e.key key s) above.0 in
         absurd (before-clash key key before before)
 
 pub above-below : (a b : Key) (es : Storage) → key_before a b ≡ true → AreAbove b es → AreAbove a es
@@ -60,7 +60,7 @@ count-over name (f ∷ es) key old new up e = by_case (same_key f.key key) (key_
         (stored_at es key ≡ Some old → count (with_stored es key new) name + count_in name old ≡ count es name + count_in name new) →
         count (cond same (record { key = key; value = new } ∷ es) (cond before (record { key = key; value = new } ∷ f ∷ es) (f ∷ with_stored es key new))) name + count_in name old
         ≡ (count_in name f.value + count es name) + count_in name new
-    by_case true before s b g ih = let same : count_in name f.value ≡ count_in name old = ap (count_in name) (some_is f.value old g) in omega (arith, same)
+    by_case true before s b g ih = let same : count_in name f.value ≡ count_in name old = ap (count_in name) (same_Some f.value old g) in omega (arith, same)
     by_case false true s b g ih =
         let none : stored_at es key ≡ None = none-below es key (above-below key f.key es b up.0) in
         absurd cc
@@ -71,7 +71,7 @@ kept-stored_at modules [] key v kept e = absurd cc
 kept-stored_at modules (f ∷ es) key v kept e = by_case (same_key f.key key) e (kept-stored_at modules es key v kept.1)
   where
     by_case : (same : Bool) → cond same (Some f.value) (stored_at es key) ≡ Some v → (stored_at es key ≡ Some v → IsKept modules v) → IsKept modules v
-    by_case true g ih = subst (IsKept modules) (some_is f.value v g) kept.0
+    by_case true g ih = subst (IsKept modules) (same_Some f.value v g) kept.0
     by_case false g ih = ih g
 
 pub kept-without : (modules : List Module) (es : Storage) (key : Key) → StorageIsKept modules es → StorageIsKept modules (without_stored es key)
@@ -126,6 +126,6 @@ ascending-with (f ∷ es) key v up = by_case (same_key f.key key) (key_before ke
   where
     by_case : (same before : Bool) → same_key f.key key ≡ same → key_before key f.key ≡ before → IsAscending (with_stored es key v) →
         IsAscending (cond same (record { key = key; value = v } ∷ es) (cond before (record { key = key; value = v } ∷ f ∷ es) (f ∷ with_stored es key v)))
-    by_case true before s b ih = (subst (λ k. AreAbove k es) (same_key-is f.key key s) up.0, up.1)
+    by_case true before s b ih = (subst (λ k. AreAbove k es) (same_key-to f.key key s) up.0, up.1)
     by_case false true s b ih = ((b, above-below key f.key es b up.0), (up.0, up.1))
     by_case false false s b ih = (above-with f.key es key v up.0 (before-or key f.key s b), ih)

@@ -2,6 +2,7 @@
 use Rattle.std.proofs.Common.{◌≡◌, true, false, List, Option, Some, None, Ok, refl, sym, ap, subst, ◌∙◌}
 use Rattle.std.specs.Prelude.{unwrap_or, slice_get, option_and_then}
 use Rattle.std.specs.Option.{option_map_or}
+use Rattle.std.proofs.lemmas.Option.{same_Some}
 use Rattle.mv_move_types.specs.declared.token.ValueType.{ValueType}
 use Rattle.mv_move_types.specs.declared.token.ValueType.TheVariants.{OfLeaf, OfStruct}
 use Rattle.mv_move_types.specs.declared.token.Token.{Token}
@@ -16,11 +17,11 @@ use Rattle.mv_move_types.specs.Tags.{Tag, LeafTag, StructTag, ReferenceTag, same
 use Rattle.mv_move_types.specs.Named.{declared}
 use Rattle.mv_move_types.specs.AbilitySets.{same_abilities, leaf_abilities, reference_abilities, no_abilities}
 use Rattle.mv_machine.specs.Typing.{abilities_of, plain_tag, tag_of, has_tag, value_type_tag, tag_named}
+use Rattle.mv_machine.proofs.Laws.{on_bind, on_need}
 use Rattle.mv_abilities.specs.Abilities.{value_type_abilities, token_abilities}
 use Rattle.mv_linker.proofs.Upgraded.{same_abilities-is}
-use Rattle.mv_interpreter.proofs.Names.{some_is}
-use Rattle.mv_interpreter.proofs.Typing.Tests.{same_tag-is}
-use Rattle.mv_ledger.proofs.Counting.Binds.{on_bind, on_need, on_some, WhereOk, map-is}
+use Rattle.mv_linker.proofs.TagTests.{same_tag-is}
+use Rattle.mv_ledger.proofs.Counting.Binds.{on_some, WhereOk, map-is}
 
 -- the abilities of values of this tag
 abbrev pub tag_abilities : List Module → Tag → Abilities
@@ -30,8 +31,8 @@ tag_abilities modules (ReferenceTag m to) = reference_abilities
 
 -- a value has the abilities of its tag
 pub tag_of-abilities : (modules : List Module) (s : State) (v : Value) (tag : Tag) → tag_of s v ≡ Some tag → abilities_of modules v ≡ tag_abilities modules tag
-tag_of-abilities modules s (Leaf kind n) tag e = ap (tag_abilities modules) (some_is (LeafTag kind) tag e)
-tag_of-abilities modules s (Struct name fields) tag e = ap (tag_abilities modules) (some_is (StructTag name) tag e)
+tag_of-abilities modules s (Leaf kind n) tag e = ap (tag_abilities modules) (same_Some (LeafTag kind) tag e)
+tag_of-abilities modules s (Struct name fields) tag e = ap (tag_abilities modules) (same_Some (StructTag name) tag e)
 tag_of-abilities modules s (Ref r) tag e =
     let found = map-is (ReferenceTag r.is_mutable) (option_and_then plain_tag (place_value s r.place)) tag e in
     ap (tag_abilities modules) found.2
@@ -46,7 +47,7 @@ has_tag-abilities modules s v tag e = by_case (tag_of s v) refl e
 -- a type's tag stands for the abilities that the type has by its handle
 value_type_tag-abilities : (modules : List Module) (m : Module) (t : ValueType) (tag : Tag) (a : Abilities) → value_type_tag modules m t ≡ Ok tag → value_type_abilities m t ≡ Some a →
     a ≡ tag_abilities modules tag
-value_type_tag-abilities modules m (OfLeaf kind) tag a e g = sym (some_is (leaf_abilities kind) a g) ∙ subst (WhereOk (λ x. leaf_abilities kind ≡ tag_abilities modules x)) e refl
+value_type_tag-abilities modules m (OfLeaf kind) tag a e g = sym (same_Some (leaf_abilities kind) a g) ∙ subst (WhereOk (λ x. leaf_abilities kind ≡ tag_abilities modules x)) e refl
 value_type_tag-abilities modules m (OfStruct i) tag a e g =
     on_some (slice_get m.struct_handles i) _ _ tag e (λ handle handle_is e1.
     on_some (struct_name m i) _ _ tag e1 (λ name name_is e2.
@@ -54,13 +55,13 @@ value_type_tag-abilities modules m (OfStruct i) tag a e g =
     on_need (same_abilities abilities handle.abilities) _ _ tag e3 (λ met e4.
     let one : Some handle.abilities ≡ Some a = subst (λ (o : Option StructHandle). (o >>= λ x. Some x.abilities) ≡ Some a) handle_is g in
     let tagged : tag_abilities modules (StructTag name) ≡ abilities = ap (λ (o : Option Abilities). unwrap_or o no_abilities) abilities_are in
-    let known : a ≡ tag_abilities modules (StructTag name) = sym (some_is handle.abilities a one) ∙ (sym (same_abilities-is abilities handle.abilities met) ∙ sym tagged) in
+    let known : a ≡ tag_abilities modules (StructTag name) = sym (same_Some handle.abilities a one) ∙ (sym (same_abilities-is abilities handle.abilities met) ∙ sym tagged) in
     subst (WhereOk (λ x. a ≡ tag_abilities modules x)) e4 known))))
 
 pub tag_named-abilities : (modules : List Module) (m : Module) (t : Token) (tag : Tag) (a : Abilities) → tag_named modules m t ≡ Ok tag → token_abilities m t ≡ Some a →
     a ≡ tag_abilities modules tag
 tag_named-abilities modules m (Plain t) tag a e g = value_type_tag-abilities modules m t tag a e g
 tag_named-abilities modules m (ReferenceTo t) tag a e g =
-    on_bind (value_type_tag modules m t) _ tag e (λ to to_is e1. sym (some_is reference_abilities a g) ∙ subst (WhereOk (λ x. reference_abilities ≡ tag_abilities modules x)) e1 refl)
+    on_bind (value_type_tag modules m t) _ tag e (λ to to_is e1. sym (same_Some reference_abilities a g) ∙ subst (WhereOk (λ x. reference_abilities ≡ tag_abilities modules x)) e1 refl)
 tag_named-abilities modules m (MutableReferenceTo t) tag a e g =
-    on_bind (value_type_tag modules m t) _ tag e (λ to to_is e1. sym (some_is reference_abilities a g) ∙ subst (WhereOk (λ x. reference_abilities ≡ tag_abilities modules x)) e1 refl)
+    on_bind (value_type_tag modules m t) _ tag e (λ to to_is e1. sym (same_Some reference_abilities a g) ∙ subst (WhereOk (λ x. reference_abilities ≡ tag_abilities modules x)) e1 refl)

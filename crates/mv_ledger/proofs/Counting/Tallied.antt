@@ -2,6 +2,7 @@
 use Rattle.std.proofs.Common.{◌≡◌, ◌+◌, Bool, true, false, cond, List, [], ◌∷◌, Option, Some, None, refl, sym, ap, ap₂, subst, ◌∙◌, arith}
 use Rattle.std.specs.Prelude.{map, find, unwrap_or}
 use Rattle.std.specs.List.{AllByRecursion}
+use Rattle.std.proofs.lemmas.Option.{same_Some}
 use Rattle.mv_move_types.specs.declared.token.Abilities.{Abilities}
 use Rattle.mv_move_types.specs.Names.{StructName, same_struct}
 use Rattle.mv_move_types.specs.Module.{Module}
@@ -11,7 +12,7 @@ use Rattle.mv_machine.specs.Lines.{Tallied}
 use Rattle.mv_machine.specs.State.{Event, Storage}
 use Rattle.mv_machine.specs.Run.{packs, unpacks}
 use Rattle.mv_machine.specs.Ledger.{scarce_name, scarce_structs, untouched_tally, tally_of, tally_with}
-use Rattle.mv_interpreter.proofs.Names.{some_is, same_struct-is, same_struct-same}
+use Rattle.mv_linker.proofs.NameLemmas.{same_struct-is, same_struct-same}
 use Rattle.mv_ledger.specs.Counting.Kept.{IsScarce, StorageIsKept}
 use Rattle.mv_ledger.specs.Counting.Fine.{IsAbleStore}
 use Rattle.mv_ledger.specs.Counting.Conservation.{Conserves}
@@ -59,7 +60,7 @@ found-each P test [] x a e = absurd cc
 found-each P test (y ∷ ys) x a e = by_case (test y) refl e (found-each P test ys x a.1)
   where
     by_case : (b : Bool) → test y ≡ b → cond b (Some y) (find test ys) ≡ Some x → (find test ys ≡ Some x → P x × (test x ≡ true)) → P x × (test x ≡ true)
-    by_case true s h ih = let one : y ≡ x = some_is y x h in (subst P one a.0, subst (λ z. test z ≡ true) one s)
+    by_case true s h ih = let one : y ≡ x = same_Some y x h in (subst P one a.0, subst (λ z. test z ≡ true) one s)
     by_case false s h ih = ih h
 
 none-passes : {A : Type 0} (test : A → Bool) (xs : List A) → find test xs ≡ None → AllByRecursion (λ x. test x ≡ false) xs
@@ -82,7 +83,7 @@ module _ (old new : List Module) (storage : Storage) (tallies : List Tallied) (k
       by_case None e = unknown-stored old name e storage kept
       by_case (Some a) e =
           let by = declared-by old name a e in
-          let one : a ≡ scarce.abilities = some_is a scarce.abilities (sym (remembers name a e) ∙ scarce.is_declared) in
+          let one : a ≡ scarce.abilities = same_Some a scarce.abilities (sym (remembers name a e) ∙ scarce.is_declared) in
           let named : scarce_name by.home by.definition ≡ Some name = scarce_name-is by.home by.definition name a by.name_is by.abilities_are (ap (λ (x : Abilities). x.copy) one ∙ scarce.copy) (ap (λ (x : Abilities). x.drop) one ∙ scarce.drop) in
           let among : SomeOf (λ x. x ≡ name) (map (λ (t : Tallied). t.struct) tallies) = subst (SomeOf (λ x. x ≡ name)) (sym are.tallied) (scarce-among old name by.place by.index by.home by.definition by.home_is by.definition_is named) in
           some-each (λ (t : Tallied). t.struct ≡ name) (λ (t : Tallied). is_of name t ≡ false) tallies

@@ -4,6 +4,7 @@ use Rattle.std.specs.Prelude.{slice_get, ◌&&◌, ◌||◌}
 use Rattle.std.specs.Cmp.{first_so, second_so}
 use Rattle.std.specs.List.{list_all}
 use Rattle.std.specs.Option.{option_map_or}
+use Rattle.std.proofs.lemmas.Option.{same_Some}
 use Rattle.mv_move_types.specs.declared.tables.Field.{Field}
 use Rattle.mv_move_types.specs.declared.token.Abilities.{Abilities}
 use Rattle.mv_move_types.specs.declared.token.Token.{Token}
@@ -21,8 +22,9 @@ use Rattle.mv_machine.specs.State.{Storage}
 use Rattle.mv_machine.specs.Typed.{leaf_fits, is_of_type, are_of_types, is_of_struct, abilities_at, is_fine_entry, is_fine_storage}
 use Rattle.mv_machine.specs.Typing.{abilities_of}
 use Rattle.mv_abilities.specs.Abilities.{AbilitiesHold, token_abilities, implies, field_is_able, struct_is_able}
-use Rattle.mv_interpreter.proofs.Names.{some_is, same_kind-is, same_struct-is}
-use Rattle.mv_interpreter.proofs.Lists.{each, on_some}
+use Rattle.mv_linker.proofs.NameLemmas.{same_struct-is}
+use Rattle.mv_linker.proofs.Found.{each, on_some}
+use Rattle.mv_interpreter.proofs.Typing.Tests.{same_kind-is}
 use Rattle.mv_ledger.specs.Counting.Kept.{Allows, IsKept, AreKept, StorageIsKept}
 use Rattle.mv_ledger.specs.Counting.Fine.{IsAbleStore}
 use Rattle.mv_ledger.proofs.Heirs.{tested, found-passes, on_and_then}
@@ -55,7 +57,7 @@ module _ (modules : List Module) (store : IsAbleStore modules) where
         declares = declares;
         able = had.2;
       } in
-      subst (λ (x : Module × List Field). Defines modules name x.0 x.1) (some_is (m, d.fields) found e3) here))))
+      subst (λ (x : Module × List Field). Defines modules name x.0 x.1) (same_Some (m, d.fields) found e3) here))))
 
   -- whether the fields of a struct value are of its definition's types
   abbrev fields_fit : StructName → Values → Bool
@@ -63,7 +65,7 @@ module _ (modules : List Module) (store : IsAbleStore modules) where
 
   -- a value of a type has the abilities that its type has
   typed-abilities : (m : Module) (t : Token) (v : Value) (a : Abilities) → HandlesDeclared modules m → is_of_type modules m t v ≡ true → token_abilities m t ≡ Some a → a ≡ abilities_of modules v
-  typed-abilities m (Plain (OfLeaf k)) (Leaf j n) a declares h e = sym (some_is (leaf_abilities k) a e) ∙ sym (ap leaf_abilities (same_kind-is j k (first_so (same_kind j k) (leaf_fits k n) h)))
+  typed-abilities m (Plain (OfLeaf k)) (Leaf j n) a declares h e = sym (same_Some (leaf_abilities k) a e) ∙ sym (ap leaf_abilities (same_kind-is j k (first_so (same_kind j k) (leaf_fits k n) h)))
   typed-abilities m (Plain (OfLeaf k)) (Struct name fields) a declares h e = absurd cc
   typed-abilities m (Plain (OfLeaf k)) (Ref r) a declares h e = absurd cc
   typed-abilities m (Plain (OfStruct i)) (Leaf j n) a declares h e = absurd cc

@@ -7,8 +7,9 @@ use Rattle.mv_machine.specs.State.{State, frames}
 use Rattle.mv_abilities.specs.Abilities.{AbilitiesHold}
 use Rattle.mv_signatures.specs.Signatures.{entry_fits}
 use Rattle.mv_linker.specs.Links.{structs_are_there}
+use Rattle.mv_interpreter.specs.Typing.StateTyped.{Numbered}
 use Rattle.mv_ledger.specs.Counting.Held.{held, made, unmade}
-use Rattle.mv_ledger.specs.Counting.Kept.{FramesAreKept, StorageIsKept, IsAscending, AreNumbered}
+use Rattle.mv_ledger.specs.Counting.Kept.{FramesAreKept, StorageIsKept, IsAscending}
 
 -- what of the phases the counts rest on: abilities hold, handles carry the declared abilities, entry functions have no results
 pub record IsAbleStore (modules : List Module) : Type 0 where
@@ -21,7 +22,7 @@ pub record IsFine (modules : List Module) (s : State) : Type 0 where
   pub framed : FramesAreKept modules (frames s)
   pub stored : StorageIsKept modules s.storage
   pub ascending : IsAscending s.storage
-  pub numbered : AreNumbered s.entered (frames s)
+  pub numbered : Numbered s.entered (frames s)
 
 -- from one state to another as many values are made as unmade or there in addition
 abbrev pub Balances : StructName → State → State → Type 0

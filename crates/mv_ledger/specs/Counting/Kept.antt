@@ -1,5 +1,5 @@
 -- Values whose struct values' abilities are those of their fields too.
-use Rattle.std.specs.Prelude.{◌≡◌, ℕ, ◌<◌, true, false, List, [], ◌∷◌, Option, Some, None}
+use Rattle.std.specs.Prelude.{◌≡◌, true, false, List, [], ◌∷◌, Option, Some, None}
 use Rattle.mv_move_types.specs.declared.tables.Key.{Key}
 use Rattle.mv_move_types.specs.declared.token.Abilities.{Abilities}
 use Rattle.mv_move_types.specs.Names.{StructName}
@@ -71,8 +71,3 @@ AreAbove key (e ∷ es) = (key_before key e.key ≡ true) × AreAbove key es
 abbrev pub IsAscending : Storage → Type 0
 IsAscending [] = Unit {0}
 IsAscending (e ∷ es) = AreAbove e.key es × IsAscending es
-
--- the frames' numbers descend, all below this one
-abbrev pub AreNumbered : ℕ → List Frame → Type 0
-AreNumbered n [] = Unit {0}
-AreNumbered n (f ∷ fs) = (f.number < n) × AreNumbered f.number fs

@@ -1,4 +1,4 @@
-use Rattle.std.proofs.Common.{ℕ, ◌+◌, ◌*◌, ◌<◌, ◌≤◌, ◌^◌, [], ◌∷◌, Some, length, ap, ◌∙◌, subst, arith}
+use Rattle.std.proofs.Common.{◌*◌, ◌≤◌, [], ◌∷◌, Some, length, ap, ◌∙◌, subst, arith}
 use Rattle.mv_machine.specs.Lines.{Refused as ToldRefused, Told as ToldLines}
 use Rattle.mv_machine.specs.Ledger.{AsText, AsJson}
 use Rattle.mv_ledger.specs.Answering.{Replies}

@@ -1,68 +1,85 @@
-use Rattle.std.proofs.Common.{◌≡◌, ◌<◌, ◌≤◌, true, false, List, length, Some, Err, option_map, map, refl, sym, ap, ◌∙◌, arith}
-use Rattle.std.proofs.lemmas.Bool.{leb-true}
+use Rattle.std.proofs.Common.{◌≡◌, ℕ, ◌<◌, ◌≤◌, true, false, Bor, List, Option, length, Some, None, Err, option_map, map, slice_get, refl, sym, ap, subst, ◌∙◌, arith}
+use Rattle.std.specs.Prelude.{IfSome}
 use Rattle.std.proofs.lemmas.Result.{err_from_is_err_and}
+use Rattle.mv_move_types.specs.declared.token.Token.{Token}
+use Rattle.mv_move_types.specs.Module.{Module, FunctionDefinition, parameter_tokens}
+use Rattle.mv_move_types.specs.Named.{is_module, module_place, function_place}
+use Rattle.mv_move_types.specs.Published.{PublishedModule}
 use Rattle.mv_machine.specs.Value.{Value}
 use Rattle.mv_machine.specs.Run.{FunctionCall}
-use Rattle.mv_machine.specs.Ledger.{are_arguments, with_signer as with_sender}
+use Rattle.mv_machine.specs.Ledger.{RunRequest, are_arguments, with_signer as with_sender}
+use Rattle.mv_linker.specs.declared.interfaces.Interface.{Interface}
+use Rattle.mv_linker.specs.Interfaces.{IsInterfaceAt}
+use Rattle.mv_linker.specs.Link.{tables_in}
+use Rattle.mv_linker.proofs.Found.{found_at}
 use Rattle.mv_interpreter.specs.Runs.{arg_value}
 use Rattle.mv_ledger.specs.Asking.{request_of}
 use Rattle.mv_ledger.specs.declared.executing.Barred.TheVariants.{Rejected}
-use Rattle.mv_ledger.proofs.Calls.{place-below, function-below}
-use Rattle.mv_ledger.proofs.Admissions.{FindsTypes, hit, miss, rejected-as, finds_module, finds_function, no_budget, no_module, no_function, no_entry, no_types, no_arguments, no_runs, admits}
+use Rattle.mv_ledger.proofs.Calls.{place-below}
+use Rattle.mv_ledger.proofs.Admissions.{FindsModule, FindsFunction, FindsTypes, hit, miss, rejected-as, no_budget, no_module, no_function, no_entry, no_arguments, no_runs, admits}
 use Rattle.mv_ledger.proofs.executing.admitted.Goals as goal
+use Rattle.mv_ledger.proofs.executing.admitted.Goals.{In_ok-index, After-are_passed}
 
-pub module-requires : goal.module-requires
-module-requires c =
+module _ (published : List PublishedModule) (runs : ℕ) (r : RunRequest) where
+  -- the module of a run
+  record FindsHome (place : ℕ) : Type 0 where
+    home : Module
+    found : FindsModule published runs r place home
+
+  finds-home : (o : Option ℕ) (place : ℕ) → r.budget ≤ 10000000 → o ≡ module_place (tables_in published) r.home → o ≡ Some place → FindsHome place
+  finds-home o place fits is some =
+      let f = found_at (is_module r.home) (tables_in published) place (sym is ∙ some) in
+      record { home = f.entry; found = record { fits = fits; place_is = sym is ∙ some; home_is = f.at } }
+
+  -- no function there has the identifier
+  none-named : (place : ℕ) (h : FindsHome place) (p : Option (ℕ × Bor Interface)) → IfSome (slice_get (tables_in published) place) (λ m. option_map (λ q. q.0) p ≡ function_place m r.function) → p ≡ None → function_place h.home r.function ≡ None
+  none-named place h p named none =
+      let is : option_map (λ q. q.0) p ≡ function_place h.home r.function = subst (λ (x : Option Module). IfSome x (λ m. option_map (λ q. q.0) p ≡ function_place m r.function)) h.found.home_is named in
+      sym is ∙ ap (option_map (λ (q : ℕ × Bor Interface). q.0)) none
+
+  -- the function of a run, with its interface
+  record Finds (place index : ℕ) (i : Interface) : Type 0 where
+    home : Module
+    definition : FunctionDefinition
+    found : FindsFunction published runs r place home index definition
+    entry : definition.is_entry ≡ i.is_entry
+    tokens : parameter_tokens home definition ≡ Some i.parameters.items
+
+  finds : (o : Option ℕ) (place index : ℕ) (i : Bor Interface) (p : Option (ℕ × Bor Interface)) → r.budget ≤ 10000000 → o ≡ module_place (tables_in published) r.home → o ≡ Some place
+      → IfSome (slice_get (tables_in published) place) (λ m. option_map (λ q. q.0) p ≡ function_place m r.function) → IfSome p (λ q. IsInterfaceAt (tables_in published) place q.0 q.1.now) → p ≡ Some (index, i) → Finds place index i.now
+  finds o place index i p fits is some named at found =
+      let a : IsInterfaceAt (tables_in published) place index i.now = subst (λ (x : Option (ℕ × Bor Interface)). IfSome x (λ q. IsInterfaceAt (tables_in published) place q.0 q.1.now)) found at in
+      let index_is : option_map (λ q. q.0) p ≡ function_place a.home r.function = subst (λ (x : Option Module). IfSome x (λ m. option_map (λ q. q.0) p ≡ function_place m r.function)) a.home_is named in
+      record {
+        home = a.home;
+        definition = a.definition;
+        found = record {
+          at = record { fits = fits; place_is = sym is ∙ some; home_is = a.home_is };
+          index_is = sym index_is ∙ ap (option_map (λ (q : ℕ × Bor Interface). q.0)) found;
+          d_is = a.definition_is;
+        };
+        entry = a.interface.entry;
+        tokens = a.interface.parameters;
+      }
+
+  -- it is an entry, and its parameters have these types
+  types-of : (place index : ℕ) (i : Interface) (tokens : List Token) (f : Finds place index i) → tokens ≡ i.parameters.items → i.is_entry ≡ true → FindsTypes published runs r place f.home index f.definition tokens
+  types-of place index i tokens f are entry = record { at = f.found; entry = f.entry ∙ entry; tokens_are = f.tokens ∙ ap (λ ts. Some ts) (sym are) }
+
+  -- an index is small
+  small-index : (p : Option (ℕ × Bor Interface)) (index : ℕ) (i : Bor Interface) → IfSome p (λ q. q.0 < 256) → p ≡ Some (index, i) → index < 256
+  small-index p index i few found = subst (λ (x : Option (ℕ × Bor Interface)). IfSome x (λ q. q.0 < 256)) found few
+
+pub function-requires : goal.function-requires
+function-requires c =
     let some : c.find.result ≡ Some c.in_ok-place.place = hit c.find.result (Rejected 3) c.ok_or.result c.in_ok-place.place c.ok_or.ensures.value c.in_ok-place.was in
     place-below c.args.store.now _ c.find.result c.in_ok-place.place c.find.ensures some
-
-pub bounds-functions-index : goal.bounds-functions-index
-bounds-functions-index c =
-    let at : c.function_of.result ≡ Some c.in_ok-index.index = hit c.function_of.result (Rejected 4) c.ok_or-2.result c.in_ok-index.index c.ok_or-2.ensures.value c.in_ok-index.was in
-    let below : c.in_ok-index.index < length c.in_ok-home.home.functions = function-below c.in_ok-home.home c.args.asked.function.now c.in_ok-index.index (sym c.function_of.ensures ∙ at) in
-    omega (arith, ap length c.functions.ensures.value)
 
 pub overflow_cast-result : goal.overflow_cast-result
 overflow_cast-result c =
     let some : c.find.result ≡ Some c.in_ok-place.place = hit c.find.result (Rejected 3) c.ok_or.result c.in_ok-place.place c.ok_or.ensures.value c.in_ok-place.was in
     let lt : c.in_ok-place.place < length c.args.store.now = place-below c.args.store.now _ c.find.result c.in_ok-place.place c.find.ensures some in
     omega arith
-
-pub overflow_cast-result-2 : goal.overflow_cast-result-2
-overflow_cast-result-2 c =
-    let at : c.function_of.result ≡ Some c.in_ok-index.index = hit c.function_of.result (Rejected 4) c.ok_or-2.result c.in_ok-index.index c.ok_or-2.ensures.value c.in_ok-index.was in
-    let below : c.in_ok-index.index < length c.in_ok-home.home.functions = function-below c.in_ok-home.home c.args.asked.function.now c.in_ok-index.index (sym c.function_of.ensures ∙ at) in
-    let few : length c.in_ok-home.home.functions ≤ 256 = leb-true _ 256 c.functions.ensures.few in
-    omega arith
-
-pub offset_bounds-functions-index : goal.offset_bounds-functions-index
-offset_bounds-functions-index c =
-    let at : c.function_of.result ≡ Some c.in_ok-index.index = hit c.function_of.result (Rejected 4) c.ok_or-2.result c.in_ok-index.index c.ok_or-2.ensures.value c.in_ok-index.was in
-    let below : c.in_ok-index.index < length c.in_ok-home.home.functions = function-below c.in_ok-home.home c.args.asked.function.now c.in_ok-index.index (sym c.function_of.ensures ∙ at) in
-    let few : length c.in_ok-home.home.functions ≤ 256 = leb-true _ 256 c.functions.ensures.few in
-    omega arith
-
-pub returns-clause-call : goal.returns-clause-call
-returns-clause-call c =
-    let some : c.find.result ≡ Some c.in_ok-place.place = hit c.find.result (Rejected 3) c.ok_or.result c.in_ok-place.place c.ok_or.ensures.value c.in_ok-place.was in
-    let in_module = finds_module c.args.store.now c.args.runs (request_of c.args.asked) c.find.result c.in_ok-place.place c.in_ok-home.home (omega (arith, c.if-asked-gt-MOST_STEPS.false)) c.find.ensures some c.in_ok-home.ensures.value in
-    let at : c.function_of.result ≡ Some c.in_ok-index.index = hit c.function_of.result (Rejected 4) c.ok_or-2.result c.in_ok-index.index c.ok_or-2.ensures.value c.in_ok-index.was in
-    let in_function = finds_function c.args.store.now c.args.runs (request_of c.args.asked) c.function_of.result c.in_ok-place.place c.in_ok-home.home c.in_ok-index.index c.functions.result.now c.index-functions-index.result in_module c.function_of.ensures at c.functions.ensures.value c.index-functions-index.is in
-    let entry : c.index-functions-index.result.is_entry ≡ true = first_of (cc, grind arith) in
-    let typed : c.parameters.result ≡ Some c.in_ok-tokens.tokens = hit c.parameters.result (Rejected 6) c.ok_or-3.result c.in_ok-tokens.tokens c.ok_or-3.ensures.value c.in_ok-tokens.was in
-    let types : FindsTypes c.args.store.now c.args.runs (request_of c.args.asked) c.in_ok-place.place c.in_ok-home.home c.in_ok-index.index c.index-functions-index.result c.in_ok-tokens.tokens.now = record { at = in_function; entry = entry; tokens_are = sym c.parameters.ensures ∙ ap (option_map (λ t. t.now)) typed } in
-    let same : are_arguments c.in_ok-tokens.tokens.now (with_sender c.args.asked.sender c.in_ok-tokens.tokens.now (map arg_value c.args.asked.arguments.items)) ≡ c.are_passed.result =
-    ap (are_arguments c.in_ok-tokens.tokens.now) (sym c.in_ok-arguments.ensures.value ∙ ap (map arg_value) (sym c.deref.ensures.value)) ∙ sym c.are_passed.ensures in
-    record {
-      home = c.in_ok-home.home;
-      function = c.index-functions-index.result;
-      tokens = c.in_ok-tokens.tokens.now;
-      home_is = in_module.home_is;
-      function_is = in_function.d_is;
-      tokens_are = sym c.parameters.ensures ∙ ap (option_map (λ t. t.now)) typed;
-      fit = cc;
-      range = c.in_ok-arguments.ensures.range;
-    }
 
 pub returns-then-asked-gt-MOST_STEPS-clause-admitted : goal.returns-then-asked-gt-MOST_STEPS-clause-admitted
 returns-then-asked-gt-MOST_STEPS-clause-admitted c = no_budget c.args.store.now c.args.runs (request_of c.args.asked) (omega (arith, c.if-asked-gt-MOST_STEPS.true))
@@ -76,73 +93,57 @@ returns-in_err-place-clause-admitted c =
 
 pub returns-in_err-index-clause-admitted : goal.returns-in_err-index-clause-admitted
 returns-in_err-index-clause-admitted c =
+    let store = c.args.store.now in
+    let r = request_of c.args.asked in
     let some : c.find.result ≡ Some c.in_ok-place.place = hit c.find.result (Rejected 3) c.ok_or.result c.in_ok-place.place c.ok_or.ensures.value c.in_ok-place.was in
-    let in_module = finds_module c.args.store.now c.args.runs (request_of c.args.asked) c.find.result c.in_ok-place.place c.in_ok-home.home (omega (arith, c.if-asked-gt-MOST_STEPS.false)) c.find.ensures some c.in_ok-home.ensures.value in
+    let h = finds-home store c.args.runs r c.find.result c.in_ok-place.place (omega (arith, c.if-asked-gt-MOST_STEPS.false)) c.find.ensures some in
     let p = err_from_is_err_and c.from_residual-in_err-index.result c.from_residual-in_err-index.ensures.1 in
-    let m = miss c.function_of.result (Rejected 4) c.ok_or-2.result c.in_err-index.field-0.0 c.ok_or-2.ensures.value c.in_err-index.was in
-    rejected-as c.args.store.now c.args.runs (request_of c.args.asked) c.from_residual-in_err-index.result 4 (p.1 ∙ ap (λ b. Err b) (p.2 ∙ m.1))
-    (no_function c.args.store.now c.args.runs (request_of c.args.asked) c.in_ok-place.place c.in_ok-home.home in_module (sym c.function_of.ensures ∙ m.0))
+    let m = miss c.function.result (Rejected 4) c.ok_or-2.result c.in_err-index.field-0.0 c.ok_or-2.ensures.value c.in_err-index.was in
+    rejected-as store c.args.runs r c.from_residual-in_err-index.result 4 (p.1 ∙ ap (λ b. Err b) (p.2 ∙ m.1))
+    (no_function store c.args.runs r c.in_ok-place.place h.home h.found (none-named store c.args.runs r c.in_ok-place.place h c.function.result c.function.ensures.index m.0))
 
-pub returns-then-not-is_entry-clause-admitted : goal.returns-then-not-is_entry-clause-admitted
-returns-then-not-is_entry-clause-admitted c =
+-- the function that was found
+found-of : (c : In_ok-index) → Finds c.args.store.now c.args.runs (request_of c.args.asked) c.in_ok-place.place c.in_ok-index.index c.in_ok-index.function.now
+found-of c =
     let some : c.find.result ≡ Some c.in_ok-place.place = hit c.find.result (Rejected 3) c.ok_or.result c.in_ok-place.place c.ok_or.ensures.value c.in_ok-place.was in
-    let in_module = finds_module c.args.store.now c.args.runs (request_of c.args.asked) c.find.result c.in_ok-place.place c.in_ok-home.home (omega (arith, c.if-asked-gt-MOST_STEPS.false)) c.find.ensures some c.in_ok-home.ensures.value in
-    let at : c.function_of.result ≡ Some c.in_ok-index.index = hit c.function_of.result (Rejected 4) c.ok_or-2.result c.in_ok-index.index c.ok_or-2.ensures.value c.in_ok-index.was in
-    let in_function = finds_function c.args.store.now c.args.runs (request_of c.args.asked) c.function_of.result c.in_ok-place.place c.in_ok-home.home c.in_ok-index.index c.functions.result.now c.index-functions-index.result in_module c.function_of.ensures at c.functions.ensures.value c.index-functions-index.is in
-    let private : c.index-functions-index.result.is_entry ≡ false = first_of (cc, grind arith) in
-    no_entry c.args.store.now c.args.runs (request_of c.args.asked) c.in_ok-place.place c.in_ok-home.home c.in_ok-index.index c.index-functions-index.result in_function private
+    let known = hit c.function.result (Rejected 4) c.ok_or-2.result (c.in_ok-index.index, c.in_ok-index.function) c.ok_or-2.ensures.value c.in_ok-index.was in
+    finds c.args.store.now c.args.runs (request_of c.args.asked) c.find.result c.in_ok-place.place c.in_ok-index.index c.in_ok-index.function c.function.result (omega (arith, c.if-asked-gt-MOST_STEPS.false)) c.find.ensures some c.function.ensures.index c.function.ensures.interface known
 
-pub returns-in_err-tokens-clause-admitted : goal.returns-in_err-tokens-clause-admitted
-returns-in_err-tokens-clause-admitted c =
-    let some : c.find.result ≡ Some c.in_ok-place.place = hit c.find.result (Rejected 3) c.ok_or.result c.in_ok-place.place c.ok_or.ensures.value c.in_ok-place.was in
-    let in_module = finds_module c.args.store.now c.args.runs (request_of c.args.asked) c.find.result c.in_ok-place.place c.in_ok-home.home (omega (arith, c.if-asked-gt-MOST_STEPS.false)) c.find.ensures some c.in_ok-home.ensures.value in
-    let at : c.function_of.result ≡ Some c.in_ok-index.index = hit c.function_of.result (Rejected 4) c.ok_or-2.result c.in_ok-index.index c.ok_or-2.ensures.value c.in_ok-index.was in
-    let in_function = finds_function c.args.store.now c.args.runs (request_of c.args.asked) c.function_of.result c.in_ok-place.place c.in_ok-home.home c.in_ok-index.index c.functions.result.now c.index-functions-index.result in_module c.function_of.ensures at c.functions.ensures.value c.index-functions-index.is in
-    let entry : c.index-functions-index.result.is_entry ≡ true = first_of (cc, grind arith) in
-    let p = err_from_is_err_and c.from_residual-in_err-tokens.result c.from_residual-in_err-tokens.ensures.1 in
-    let m = miss c.parameters.result (Rejected 6) c.ok_or-3.result c.in_err-tokens.field-0.0 c.ok_or-3.ensures.value c.in_err-tokens.was in
-    rejected-as c.args.store.now c.args.runs (request_of c.args.asked) c.from_residual-in_err-tokens.result 6 (p.1 ∙ ap (λ b. Err b) (p.2 ∙ m.1))
-    (no_types c.args.store.now c.args.runs (request_of c.args.asked) c.in_ok-place.place c.in_ok-home.home c.in_ok-index.index c.index-functions-index.result in_function entry (sym c.parameters.ensures ∙ ap (option_map (λ t. t.now)) m.0))
+pub returns-then-not-function-clause-admitted : goal.returns-then-not-function-clause-admitted
+returns-then-not-function-clause-admitted c =
+    let f = found-of (goal.at.returns-then-not-function-clause-admitted c).In_ok-index in
+    let private : c.in_ok-index.function.now.is_entry ≡ false = first_of (cc, grind arith) in
+    no_entry c.args.store.now c.args.runs (request_of c.args.asked) c.in_ok-place.place f.home c.in_ok-index.index f.definition f.found (f.entry ∙ private)
+
+-- its parameters' types, and whether the arguments are of them
+types-found : (c : After-are_passed) → (f : Finds c.args.store.now c.args.runs (request_of c.args.asked) c.in_ok-place.place c.in_ok-index.index c.in_ok-index.function.now)
+    → FindsTypes c.args.store.now c.args.runs (request_of c.args.asked) c.in_ok-place.place f.home c.in_ok-index.index f.definition c.as_slice-tokens.result.now
+types-found c f =
+    let entry : c.in_ok-index.function.now.is_entry ≡ true = first_of (cc, grind arith) in
+    types-of c.args.store.now c.args.runs (request_of c.args.asked) c.in_ok-place.place c.in_ok-index.index c.in_ok-index.function.now c.as_slice-tokens.result.now f c.as_slice-tokens.ensures.value entry
+
+same-arguments : (c : After-are_passed) → are_arguments c.as_slice-tokens.result.now (with_sender c.args.asked.sender c.as_slice-tokens.result.now (map arg_value c.args.asked.arguments.items)) ≡ c.are_passed.result
+same-arguments c =
+    ap (are_arguments c.as_slice-tokens.result.now) (sym c.in_ok-arguments.ensures.value ∙ ap (map arg_value) (sym c.deref.ensures.value)) ∙ sym c.are_passed.ensures
 
 pub returns-then-not-are_passed-clause-admitted : goal.returns-then-not-are_passed-clause-admitted
 returns-then-not-are_passed-clause-admitted c =
-    let some : c.find.result ≡ Some c.in_ok-place.place = hit c.find.result (Rejected 3) c.ok_or.result c.in_ok-place.place c.ok_or.ensures.value c.in_ok-place.was in
-    let in_module = finds_module c.args.store.now c.args.runs (request_of c.args.asked) c.find.result c.in_ok-place.place c.in_ok-home.home (omega (arith, c.if-asked-gt-MOST_STEPS.false)) c.find.ensures some c.in_ok-home.ensures.value in
-    let at : c.function_of.result ≡ Some c.in_ok-index.index = hit c.function_of.result (Rejected 4) c.ok_or-2.result c.in_ok-index.index c.ok_or-2.ensures.value c.in_ok-index.was in
-    let in_function = finds_function c.args.store.now c.args.runs (request_of c.args.asked) c.function_of.result c.in_ok-place.place c.in_ok-home.home c.in_ok-index.index c.functions.result.now c.index-functions-index.result in_module c.function_of.ensures at c.functions.ensures.value c.index-functions-index.is in
-    let entry : c.index-functions-index.result.is_entry ≡ true = first_of (cc, grind arith) in
-    let typed : c.parameters.result ≡ Some c.in_ok-tokens.tokens = hit c.parameters.result (Rejected 6) c.ok_or-3.result c.in_ok-tokens.tokens c.ok_or-3.ensures.value c.in_ok-tokens.was in
-    let types : FindsTypes c.args.store.now c.args.runs (request_of c.args.asked) c.in_ok-place.place c.in_ok-home.home c.in_ok-index.index c.index-functions-index.result c.in_ok-tokens.tokens.now = record { at = in_function; entry = entry; tokens_are = sym c.parameters.ensures ∙ ap (option_map (λ t. t.now)) typed } in
-    let same : are_arguments c.in_ok-tokens.tokens.now (with_sender c.args.asked.sender c.in_ok-tokens.tokens.now (map arg_value c.args.asked.arguments.items)) ≡ c.are_passed.result =
-    ap (are_arguments c.in_ok-tokens.tokens.now) (sym c.in_ok-arguments.ensures.value ∙ ap (map arg_value) (sym c.deref.ensures.value)) ∙ sym c.are_passed.ensures in
+    let here = (goal.at.returns-then-not-are_passed-clause-admitted c).After-are_passed in
+    let f = found-of (goal.at.returns-then-not-are_passed-clause-admitted c).In_ok-index in
     let differ : c.are_passed.result ≡ false = first_of (cc, grind arith) in
-    no_arguments c.args.store.now c.args.runs (request_of c.args.asked) c.in_ok-place.place c.in_ok-home.home c.in_ok-index.index c.index-functions-index.result c.in_ok-tokens.tokens.now types (same ∙ differ)
+    no_arguments c.args.store.now c.args.runs (request_of c.args.asked) c.in_ok-place.place f.home c.in_ok-index.index f.definition c.as_slice-tokens.result.now (types-found here f) (same-arguments here ∙ differ)
 
 pub returns-then-runs-ge-MOST_RUNS-clause-admitted : goal.returns-then-runs-ge-MOST_RUNS-clause-admitted
 returns-then-runs-ge-MOST_RUNS-clause-admitted c =
-    let some : c.find.result ≡ Some c.in_ok-place.place = hit c.find.result (Rejected 3) c.ok_or.result c.in_ok-place.place c.ok_or.ensures.value c.in_ok-place.was in
-    let in_module = finds_module c.args.store.now c.args.runs (request_of c.args.asked) c.find.result c.in_ok-place.place c.in_ok-home.home (omega (arith, c.if-asked-gt-MOST_STEPS.false)) c.find.ensures some c.in_ok-home.ensures.value in
-    let at : c.function_of.result ≡ Some c.in_ok-index.index = hit c.function_of.result (Rejected 4) c.ok_or-2.result c.in_ok-index.index c.ok_or-2.ensures.value c.in_ok-index.was in
-    let in_function = finds_function c.args.store.now c.args.runs (request_of c.args.asked) c.function_of.result c.in_ok-place.place c.in_ok-home.home c.in_ok-index.index c.functions.result.now c.index-functions-index.result in_module c.function_of.ensures at c.functions.ensures.value c.index-functions-index.is in
-    let entry : c.index-functions-index.result.is_entry ≡ true = first_of (cc, grind arith) in
-    let typed : c.parameters.result ≡ Some c.in_ok-tokens.tokens = hit c.parameters.result (Rejected 6) c.ok_or-3.result c.in_ok-tokens.tokens c.ok_or-3.ensures.value c.in_ok-tokens.was in
-    let types : FindsTypes c.args.store.now c.args.runs (request_of c.args.asked) c.in_ok-place.place c.in_ok-home.home c.in_ok-index.index c.index-functions-index.result c.in_ok-tokens.tokens.now = record { at = in_function; entry = entry; tokens_are = sym c.parameters.ensures ∙ ap (option_map (λ t. t.now)) typed } in
-    let same : are_arguments c.in_ok-tokens.tokens.now (with_sender c.args.asked.sender c.in_ok-tokens.tokens.now (map arg_value c.args.asked.arguments.items)) ≡ c.are_passed.result =
-    ap (are_arguments c.in_ok-tokens.tokens.now) (sym c.in_ok-arguments.ensures.value ∙ ap (map arg_value) (sym c.deref.ensures.value)) ∙ sym c.are_passed.ensures in
+    let here = (goal.at.returns-then-runs-ge-MOST_RUNS-clause-admitted c).After-are_passed in
+    let f = found-of (goal.at.returns-then-runs-ge-MOST_RUNS-clause-admitted c).In_ok-index in
     let fit : c.are_passed.result ≡ true = first_of (cc, grind arith) in
-    no_runs c.args.store.now c.args.runs (request_of c.args.asked) c.in_ok-place.place c.in_ok-home.home c.in_ok-index.index c.index-functions-index.result c.in_ok-tokens.tokens.now types (same ∙ fit) (omega (arith, c.if-runs-ge-MOST_RUNS.true))
+    no_runs c.args.store.now c.args.runs (request_of c.args.asked) c.in_ok-place.place f.home c.in_ok-index.index f.definition c.as_slice-tokens.result.now (types-found here f) (same-arguments here ∙ fit) (omega (arith, c.if-runs-ge-MOST_RUNS.true))
 
 pub returns-clause-admitted : goal.returns-clause-admitted
 returns-clause-admitted c =
-    let some : c.find.result ≡ Some c.in_ok-place.place = hit c.find.result (Rejected 3) c.ok_or.result c.in_ok-place.place c.ok_or.ensures.value c.in_ok-place.was in
-    let in_module = finds_module c.args.store.now c.args.runs (request_of c.args.asked) c.find.result c.in_ok-place.place c.in_ok-home.home (omega (arith, c.if-asked-gt-MOST_STEPS.false)) c.find.ensures some c.in_ok-home.ensures.value in
-    let at : c.function_of.result ≡ Some c.in_ok-index.index = hit c.function_of.result (Rejected 4) c.ok_or-2.result c.in_ok-index.index c.ok_or-2.ensures.value c.in_ok-index.was in
-    let in_function = finds_function c.args.store.now c.args.runs (request_of c.args.asked) c.function_of.result c.in_ok-place.place c.in_ok-home.home c.in_ok-index.index c.functions.result.now c.index-functions-index.result in_module c.function_of.ensures at c.functions.ensures.value c.index-functions-index.is in
-    let entry : c.index-functions-index.result.is_entry ≡ true = first_of (cc, grind arith) in
-    let typed : c.parameters.result ≡ Some c.in_ok-tokens.tokens = hit c.parameters.result (Rejected 6) c.ok_or-3.result c.in_ok-tokens.tokens c.ok_or-3.ensures.value c.in_ok-tokens.was in
-    let types : FindsTypes c.args.store.now c.args.runs (request_of c.args.asked) c.in_ok-place.place c.in_ok-home.home c.in_ok-index.index c.index-functions-index.result c.in_ok-tokens.tokens.now = record { at = in_function; entry = entry; tokens_are = sym c.parameters.ensures ∙ ap (option_map (λ t. t.now)) typed } in
-    let same : are_arguments c.in_ok-tokens.tokens.now (with_sender c.args.asked.sender c.in_ok-tokens.tokens.now (map arg_value c.args.asked.arguments.items)) ≡ c.are_passed.result =
-    ap (are_arguments c.in_ok-tokens.tokens.now) (sym c.in_ok-arguments.ensures.value ∙ ap (map arg_value) (sym c.deref.ensures.value)) ∙ sym c.are_passed.ensures in
+    let here = (goal.at.returns-clause-admitted c).After-are_passed in
+    let f = found-of (goal.at.returns-clause-admitted c).In_ok-index in
     let fit : c.are_passed.result ≡ true = first_of (cc, grind arith) in
     let made : List Value → FunctionCall = λ vs. record { function = record { place = c.in_ok-place.place; index = c.in_ok-index.index }; arguments = vs } in
-    admits c.args.store.now c.args.runs (request_of c.args.asked) c.in_ok-place.place c.in_ok-home.home c.in_ok-index.index c.index-functions-index.result c.in_ok-tokens.tokens.now _ types (same ∙ fit) (omega (arith, c.if-runs-ge-MOST_RUNS.false)) (ap made c.in_ok-arguments.ensures.value) refl
+    admits c.args.store.now c.args.runs (request_of c.args.asked) c.in_ok-place.place f.home c.in_ok-index.index f.definition c.as_slice-tokens.result.now _ (types-found here f) (same-arguments here ∙ fit) (omega (arith, c.if-runs-ge-MOST_RUNS.false)) (ap made c.in_ok-arguments.ensures.value) refl

@@ -4,7 +4,7 @@ use Rattle.mv_interpreter.specs.declared.StructTally.{StructTally}
 use Rattle.mv_ledger.specs.declared.tallies.Tally.{Tally}
 use Rattle.mv_ledger.specs.Tallying.{HasRoomFor, HasRoomLeft}
 use Rattle.mv_ledger.specs.View.{all_of, ArePlaced}
-use Rattle.mv_ledger.proofs.TalliesByModule.{lists, all-first, placed-after, step-behind, step-at, room-at, written}
+use Rattle.mv_ledger.proofs.TalliesByModule.{lists, all-first, placed-after, step-after, step-at, room-at, written}
 use Rattle.mv_ledger.proofs.tallies.Tallies.add_run.Goals as goal
 use Rattle.mv_ledger.proofs.tallies.Tallies.add_run.Goals.{in-Some, in_default}
 
@@ -37,6 +37,6 @@ loop-entry-preserved c =
           (written _ w.in-Some.tallies.now w.deref_mut.result.now w.add_entry.new.tallies w.add_entry.ensures w.deref_mut.ensures.value (w.deref_mut.ensures.len))
       | in_default w ↦
           ap (λ t. lists t.modules.items) w.self-inside-is
-          ∙ step-behind c.args.run.now c.loop-entry.entry-index none _ (lists c.self.inside.modules.items) c.loop-entry.self-inside.modules.items c.loop-entry-test.true refl c.self.invariant c.loop-entry.invariant
+          ∙ step-after c.args.run.now c.loop-entry.entry-index none _ (lists c.self.inside.modules.items) c.loop-entry.self-inside.modules.items c.loop-entry-test.true refl c.self.invariant c.loop-entry.invariant
           w.in_default.ensures.item.3
     ]
