@@ -4,9 +4,9 @@ pub mod Whole
 pub mod Steps
 pub mod One
 pub mod Writing
+pub mod HeadlineLemmas
 pub mod Lines
 pub mod Tasks
-pub mod Phases
 pub mod Digits
 pub mod Texts
 pub mod Verdicts

@@ -13,6 +13,7 @@ use Rattle.mv_ledger.specs.View.{LedgerView, state_of}
 use Rattle.mv_ledger.specs.Counting.Headline.{IsBalanced}
 use Rattle.mv_ledger.specs.declared.Reply.{Reply}
 use Rattle.mv_ledger.specs.declared.Reply.TheVariants.{Published, Refused, Rejected, Ran, Memory}
+use Rattle.moveledger.proofs.HeadlineLemmas.{answers_whole}
 use Rattle.moveledger.specs.Answered.{IsAnswered, MayBeAnswered, WritesReply, WritesReplyPart, line_of}
 
 -- ---- a reply has one line
@@ -45,7 +46,7 @@ reply_is_written n reply held holds text h w =
     let P : Option Told → Type 0 = λ o. WritesReply n o held holds in
     subst P (sym h.1.0) (subst (Appends held holds) (lines_text n reply h.0 text h.1.0 h.1.1) w)
 
--- a beginning of it was
+-- a prefix of it was
 pub reply_is_begun : (n : ℕ) (reply : Reply) (held holds : Option (List ℕ)) (text part : List ℕ) → ((t : Told) × ((told reply ≡ Some t) × (text ≡ line_of t))) → StartsWith (numbered n text) part → Appends held holds part
     → WritesReplyPart n (told reply) held holds
 reply_is_begun n reply held holds text part h front w =
@@ -57,11 +58,11 @@ reply_is_begun n reply held holds text part h front w =
 
 answered : (n kind : ℕ) (payload : List ℕ) (reply : Option Told) (old new : LedgerView) (held holds : Option (List ℕ)) → Replies kind payload reply old new → WritesReply n reply held holds → IsAnswered n kind payload old new held holds
 answered n kind payload None old new held holds replies written = absurd written
-answered n kind payload (Some t) old new held holds replies written = (reply_lines t, ((t, (replies, refl)), written))
+answered n kind payload (Some t) old new held holds replies written = (reply_lines t, ((t, (answers_whole kind payload t old new replies, refl)), written))
 
 may_be_answered : (n kind : ℕ) (payload : List ℕ) (reply : Option Told) (old new : LedgerView) (held holds : Option (List ℕ)) → Replies kind payload reply old new → WritesReplyPart n reply held holds → MayBeAnswered n kind payload old new held holds
 may_be_answered n kind payload None old new held holds replies written = inl (replies, written)
-may_be_answered n kind payload (Some t) old new held holds replies written = inr (reply_lines t, ((t, (replies, refl)), written))
+may_be_answered n kind payload (Some t) old new held holds replies written = inr (reply_lines t, ((t, (answers_whole kind payload t old new replies, refl)), written))
 
 pub written_answers : {T E : Type 0} (n kind same : ℕ) (payload : List ℕ) (reply : Option Told) (old new : LedgerView) (held holds : Option (List ℕ)) (r : Result T E) → kind ≡ same → Replies same payload reply old new
     → OnOk r (WritesReply n reply held holds) → OnOk r (IsAnswered n kind payload old new held holds)

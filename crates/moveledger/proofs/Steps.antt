@@ -6,13 +6,13 @@ use Rattle.std.proofs.KnownBytes.{Consumes-nil, Appends-nil, Consumes-trans, App
 use Rattle.mv_ledger.specs.View.{LedgerView}
 use Rattle.mv_machine.specs.Lines.{numbered}
 use Rattle.moveledger.specs.Records.{Record, Whole, Cut, IsText, NoWhole, Begins, AreRecords}
-use Rattle.moveledger.specs.Report.{Step, Reports}
-use Rattle.moveledger.specs.Outcome.{Tells, left_of, Answers, Stops, StopsReading}
+use Rattle.moveledger.specs.Headline.{Step, Reports, Tells, Headline}
+use Rattle.moveledger.specs.Outcome.{left_of, Stops, StopsReading}
 use Rattle.moveledger.specs.Progress.{Progress}
 use Rattle.moveledger.specs.Answered.{MayBeAnswered}
 use Rattle.moveledger.proofs.Taken.{Tells-taken}
 
--- one more record behind others
+-- one more record after others
 
 AreRecords-push : (rs : List Record) (xs rest more : List ℕ) (r : Record) → AreRecords xs rs rest → Begins rest r more → AreRecords xs (rs ++ r ∷ []) more
 AreRecords-push [] xs rest more r e b = (more, subst (λ z. Begins z r more) (sym e) b, refl)
@@ -160,7 +160,7 @@ Progress-stops_reading given gives gives2 held holds old new n took p taken none
 
 -- the input ended
 pub Progress-ends : (given gives gives2 held holds : Option (List ℕ)) (old new : LedgerView) (n : ℕ) (took : List ℕ)
-    → Progress given gives held holds old new n → Consumes gives gives2 took → took ≡ [] → left_of gives2 ≡ [] → Answers given held holds old new n
+    → Progress given gives held holds old new n → Consumes gives gives2 took → took ≡ [] → left_of gives2 ≡ [] → Headline given held holds old new n
 Progress-ends given gives gives2 held holds old new n took p taken none end = record {
   input = p.whole ++ (took ++ left_of gives2);
   records = p.records;
@@ -169,14 +169,14 @@ Progress-ends given gives gives2 held holds old new n took p taken none end = re
   told = Tells-trans given gives p.whole (took ++ left_of gives2) p.taken (Tells-taken gives gives2 took taken);
   read = p.read (took ++ left_of gives2);
   all = inl (ap (λ l. l ++ left_of gives2) none ∙ end);
-  count = p.count;
+  answered = p.count;
   written = p.written;
   report = p.report;
 }
 
 -- the numbers ended
 pub Progress-full : (given gives held holds : Option (List ℕ)) (old new : LedgerView) (n m : ℕ)
-    → Progress given gives held holds old new n → m ≡ n → m ≡ 2 ^ 64 - 1 → Answers given held holds old new m
+    → Progress given gives held holds old new n → m ≡ n → m ≡ 2 ^ 64 - 1 → Headline given held holds old new m
 Progress-full given gives held holds old new n m p same full = record {
   input = p.whole ++ left_of gives;
   records = p.records;
@@ -185,7 +185,7 @@ Progress-full given gives held holds old new n m p same full = record {
   told = Tells-taken given gives p.whole p.taken;
   read = p.read (left_of gives);
   all = inr full;
-  count = same ∙ p.count;
+  answered = same ∙ p.count;
   written = p.written;
   report = p.report;
 }
@@ -193,7 +193,7 @@ Progress-full given gives held holds old new n m p same full = record {
 -- the last record was cut
 pub Progress-cut : (given gives gives2 held holds holds2 : Option (List ℕ)) (old new : LedgerView) (n : ℕ) (took text : List ℕ) (lines : List (List ℕ))
     → Progress given gives held holds old new n → Consumes gives gives2 took → (took ≢ []) → NoWhole (took ++ left_of gives2)
-    → Step new Cut lines new → text ≡ flat_map (numbered (n + 1)) lines → Appends holds holds2 text → Answers given held holds2 old new (n + 1)
+    → Step new Cut lines new → text ≡ flat_map (numbered (n + 1)) lines → Appends holds holds2 text → Headline given held holds2 old new (n + 1)
 Progress-cut given gives gives2 held holds holds2 old new n took text lines p taken some none step said written =
     let r : Record = Cut in
     let tail : List ℕ = took ++ left_of gives2 in
@@ -207,7 +207,7 @@ Progress-cut given gives gives2 held holds holds2 old new n took text lines p ta
       told = Tells-trans given gives p.whole tail p.taken (Tells-taken gives gives2 took taken);
       read = AreRecords-push p.records (p.whole ++ tail) tail [] r (p.read tail) (nonempty took (left_of gives2) some, none, refl);
       all = inl refl;
-      count = omega (arith, p.count, length-push p.records r);
+      answered = omega (arith, p.count, length-push p.records r);
       written = subst (Appends held holds2) (ap (λ l. p.text ++ l) line) (Appends-trans held holds holds2 p.text text p.written written);
       report = Reports-push p.records 1 old new new r p.text lines p.report step;
     }

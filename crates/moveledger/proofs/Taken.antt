@@ -3,10 +3,11 @@ use Rattle.std.proofs.Common.{◌≡◌, ℕ, ◌+◌, ◌-◌, ◌≤◌, List,
 use Rattle.std.specs.Io.KnownBytes.{Consumes, Appends, IsAtEnd}
 use Rattle.std.proofs.KnownBytes.{Consumes-trans, Appends-trans}
 use Rattle.std.proofs.Math.Seq.{take-append-add, take-append-le, take-add}
-use Rattle.moveledger.specs.Outcome.{left_of, Tells}
+use Rattle.moveledger.specs.Headline.{Tells}
+use Rattle.moveledger.specs.Outcome.{left_of}
 use borrow.Rule.Slice.PartMut.{put_mid, post_of}
 
--- what a buffer begins with after a read behind its first bytes
+-- what a buffer begins with after a read after its first bytes
 pub take-put_mid_more : (a k n : ℕ) (xs ys : List ℕ) → a ≤ length xs → n ≤ length ys → take (a + n) (put_mid a k xs ys) ≡ take a xs ++ take n ys
 take-put_mid_more a k n xs ys within fits =
     let same : length (take a xs) ≡ a = length-take-le a xs within in

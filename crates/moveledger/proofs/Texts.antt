@@ -1,4 +1,4 @@
--- The text of a certificate as it is written, and with a line end behind it.
+-- The text of a certificate as it is written, and with a line end after it.
 use Rattle.std.proofs.Common.{◌≡◌, ℕ, zero, suc, ◌+◌, ◌-◌, ◌/◌, ◌%◌, ◌<◌, ◌==◌, Bool, true, false, List, [], ◌∷◌, ◌++◌, length, map, take, slice_index, refl, ap, ◌∙◌, arith, cond}
 use Rattle.std.specs.Char.{to_ascii_lowercase}
 use Rattle.std.proofs.lemmas.Bool.{ne_eqb}
@@ -38,7 +38,7 @@ before_line_end-hexadecimal bytes =
     let none : (slice_index text (length text - 1) == 10) ≡ false = ne_eqb (slice_index text (length text - 1)) 10 (no-line_end bytes (length text - 1)) in
     ap (λ (b : Bool). cond b (take (length text - 1) text) text) none
 
--- and the one that is put behind a text is taken off
+-- and the one that is put after a text is taken off
 pub before_line_end-line : (text : List ℕ) → before_line_end (text ++ 10 ∷ []) ≡ text
 before_line_end-line text =
     let long : length (text ++ 10 ∷ []) ≡ length text + 1 = length-append text (10 ∷ []) in

@@ -9,13 +9,13 @@ use Rattle.std.proofs.KnownBytes.{Appends-nil, Appends-trans}
 use Rattle.mv_machine.specs.Lines.{numbered}
 use Rattle.moveledger.specs.Answered.{Writes, WritesPart}
 
--- a text and its beginning
+-- a text and its prefix
 
 starts_with : (xs part rest : List ℕ) → xs ≡ part ++ rest → StartsWith xs part
 starts_with xs part rest e = ap (take (length part)) e ∙ take-append_seam part rest
 
-behind : (xs part : List ℕ) → StartsWith xs part → xs ≡ part ++ drop (length part) xs
-behind xs part h = sym (take-append-drop (length part) xs) ∙ ap (λ l. l ++ drop (length part) xs) h
+after_part : (xs part : List ℕ) → StartsWith xs part → xs ≡ part ++ drop (length part) xs
+after_part xs part h = sym (take-append-drop (length part) xs) ∙ ap (λ l. l ++ drop (length part) xs) h
 
 -- a writer took those of all these lines that are not left
 abbrev pub HasWritten : ℕ → List (List ℕ) → List (List ℕ) → Option (List ℕ) → Option (List ℕ) → Type 0
@@ -45,6 +45,6 @@ pub HasWritten-begun : (n : ℕ) (all left rest : List (List ℕ)) (line part : 
 HasWritten-begun n all left rest line part a b c h e front w =
     let f : List (List ℕ) → List ℕ = flat_map (numbered n) in
     let more : List ℕ = drop (length part) (numbered n line) in
-    let tail : f left ≡ part ++ (more ++ f rest) = ap f e ∙ ap (λ l. l ++ f rest) (behind (numbered n line) part front) ∙ append_assoc part more (f rest) in
+    let tail : f left ≡ part ++ (more ++ f rest) = ap f e ∙ ap (λ l. l ++ f rest) (after_part (numbered n line) part front) ∙ append_assoc part more (f rest) in
     let text : f all ≡ (f h.0 ++ part) ++ (more ++ f rest) = ap f h.1.0 ∙ flat_map-append (numbered n) h.0 left ∙ ap (λ l. f h.0 ++ l) tail ∙ sym (append_assoc (f h.0) part (more ++ f rest)) in
     (f h.0 ++ part, starts_with (f all) (f h.0 ++ part) (more ++ f rest) text, Appends-trans a b c (f h.0) part h.1.1 w)

@@ -5,13 +5,13 @@ use Rattle.std.specs.Io.KnownBytes.{Appends}
 use Rattle.mv_ledger.specs.View.{LedgerView}
 use Rattle.mv_machine.specs.Lines.{Reply, reply_lines, numbered}
 use Rattle.moveledger.specs.Records.{Whole}
-use Rattle.moveledger.specs.Report.{Step}
+use Rattle.moveledger.specs.Headline.{Step}
 
 -- a writer took these lines, each with this number
 abbrev pub Writes : ℕ → List (List ℕ) → Option (List ℕ) → Option (List ℕ) → Type 0
 Writes n lines held holds = Appends held holds (flat_map (numbered n) lines)
 
--- a writer took a beginning of them
+-- a writer took a prefix of them
 abbrev pub WritesPart : ℕ → List (List ℕ) → Option (List ℕ) → Option (List ℕ) → Type 0
 WritesPart n lines held holds = (part : List ℕ) × StartsWith (flat_map (numbered n) lines) part × Appends held holds part
 
@@ -20,7 +20,7 @@ abbrev pub WritesReply : ℕ → Option Reply → Option (List ℕ) → Option (
 WritesReply n None held holds = ⊥
 WritesReply n (Some reply) held holds = Writes n (reply_lines reply) held holds
 
--- a writer took a beginning of the lines of what is told; nothing, where nothing is
+-- a writer took a prefix of the lines of what is told; nothing, where nothing is
 abbrev pub WritesReplyPart : ℕ → Option Reply → Option (List ℕ) → Option (List ℕ) → Type 0
 WritesReplyPart n None held holds = Appends held holds []
 WritesReplyPart n (Some reply) held holds = WritesPart n (reply_lines reply) held holds
@@ -30,7 +30,7 @@ abbrev pub IsAnswered : ℕ → ℕ → List ℕ → LedgerView → LedgerView �
 IsAnswered n kind payload old new held holds =
     (lines : List (List ℕ)) × (Step old (Whole kind payload) lines new × Writes n lines held holds)
 
--- the ledger went on to new, and a beginning of the record's lines was written; or nothing happened
+-- the ledger went on to new, and a prefix of the record's lines was written; or nothing happened
 abbrev pub MayBeAnswered : ℕ → ℕ → List ℕ → LedgerView → LedgerView → Option (List ℕ) → Option (List ℕ) → Type 0
 MayBeAnswered n kind payload old new held holds =
     ((new ≡ old) × Appends held holds []) ⊎ ((lines : List (List ℕ)) × (Step old (Whole kind payload) lines new × WritesPart n lines held holds))

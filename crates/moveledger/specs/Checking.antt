@@ -11,7 +11,7 @@ use Rattle.hex.specs.declared.error.FromHexError.TheVariants.{OutOfMemory}
 use Rattle.moveledger.specs.Hexadecimal.{IsHexadecimal}
 use Rattle.mv_ledger.specs.Publishing.{Spells, Passes, FailsAt}
 
--- the text without a line end behind it
+-- the text without a line end after it
 abbrev pub before_line_end : List ℕ → List ℕ
 before_line_end text = if slice_index text (length text - 1) == 10 then take (length text - 1) text else text
 
@@ -55,17 +55,17 @@ pub data FailsCheck (bytes text : List ℕ) : ℕ → Type 0 where
   too_long : ¬ AreShort bytes (before_line_end text) → FailsCheck bytes text 1
   failing : (phase : ℕ) → AreShort bytes (before_line_end text) → FailsWith bytes (before_line_end text) phase → FailsCheck bytes text phase
 
--- the module fails the phase that is answered alone, or memory ran out
+-- the module fails this phase alone, or an allocation failed
 abbrev pub IsRefusedAlone : List ℕ → Refusal → Type 0
 IsRefusedAlone bytes (Phase phase) = FailsAlone bytes phase
 IsRefusedAlone bytes Memory = ⊤
 
--- the module and the digits fail it, or memory ran out
+-- the module and the digits fail it, or an allocation failed
 abbrev pub IsRefusedWith : List ℕ → List ℕ → Refusal → Type 0
 IsRefusedWith bytes digits (Phase phase) = FailsWith bytes digits phase
 IsRefusedWith bytes digits Memory = ⊤
 
--- the module and the text fail it, or memory ran out
+-- the module and the text fail it, or an allocation failed
 abbrev pub IsRefusedText : List ℕ → List ℕ → Refusal → Type 0
 IsRefusedText bytes text (Phase phase) = FailsCheck bytes text phase
 IsRefusedText bytes text Memory = ⊤

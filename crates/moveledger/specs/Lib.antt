@@ -1,5 +1,5 @@
 pub mod Records
-pub mod Report
+pub mod Headline
 pub mod Outcome
 pub mod Reading
 pub mod Next

@@ -1,45 +1,27 @@
--- How a run of the engine ends.
-use Rattle.std.specs.Prelude.{◌≡◌, ℕ, ◌+◌, ◌-◌, ◌^◌, List, [], ◌++◌, length, Option, Some, None, ⊤, ◌⊎◌, flat_map}
+-- What stands where the engine ends with an error.
+use Rattle.std.specs.Prelude.{◌≡◌, ℕ, ◌+◌, List, [], ◌++◌, length, Option, Some, None, ◌⊎◌, flat_map}
 use Rattle.std.specs.Io.{StartsWith}
 use Rattle.std.specs.Io.KnownBytes.{Appends, Consumes}
 use Rattle.mv_ledger.specs.View.{LedgerView}
 use Rattle.moveledger.specs.Records.{Record, AreRecords, AreWhole, NoWhole, Begins}
 use Rattle.mv_machine.specs.Lines.{numbered}
-use Rattle.moveledger.specs.Report.{Step, Reports}
-
--- where the bytes are known, they are these
-abbrev pub Tells : Option (List ℕ) → List ℕ → Type 0
-Tells None input = ⊤
-Tells (Some xs) input = xs ≡ input
+use Rattle.moveledger.specs.Headline.{Step, Reports, Tells}
 
 -- the bytes that are known to be left
 abbrev pub left_of : Option (List ℕ) → List ℕ
 left_of None = []
 left_of (Some xs) = xs
 
--- All records that the input begins with are answered: up to its end, or to the last number.
-pub record Answers (given : Option (List ℕ)) (held holds : Option (List ℕ)) (old new : LedgerView) (n : ℕ) : Type 0 where
-  pub input : List ℕ
-  pub records : List Record
-  pub rest : List ℕ
-  pub text : List ℕ
-  pub told : Tells given input
-  pub read : AreRecords input records rest
-  pub all : (rest ≡ []) ⊎ (n ≡ 2 ^ 64 - 1)
-  pub count : n ≡ length records
-  pub written : Appends held holds text
-  pub report : Reports 1 old records text new
-
 -- nothing more happened
 abbrev pub Stays : LedgerView → List ℕ → LedgerView → List ℕ → Type 0
 Stays old tail new part = (new ≡ old) × (part ≡ [])
 
--- one more record, which has this number, was answered, and a beginning of its lines was written
+-- one more record, which has this number, was answered, and a prefix of its lines was written
 abbrev pub Begun : ℕ → LedgerView → List ℕ → LedgerView → List ℕ → Type 0
 Begun n old tail new part = (r : Record) × (rest : List ℕ) × (lines : List (List ℕ)) × Begins tail r rest × Step old r lines new
     × StartsWith (flat_map (numbered n) lines) part
 
--- All lines of some records of the input were written, and a beginning of those of at most one more. The
+-- All lines of some records of the input were written, and a prefix of those of at most one more. The
 -- ledger is as these records left it.
 pub record Stops (given : Option (List ℕ)) (held holds : Option (List ℕ)) (old new : LedgerView) : Type 0 where
   pub input : List ℕ

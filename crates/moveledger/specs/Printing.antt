@@ -13,13 +13,13 @@ line text = text ++ 10 ∷ []
 abbrev pub refused_text : ℕ → List ℕ
 refused_text phase = codes "refused " ++ decimal phase
 
--- what is printed where no certificate is made; nothing where memory ran out
+-- what is printed where no certificate is made; nothing where an allocation failed
 abbrev pub no_proof_line : ProveError → Option (List ℕ)
 no_proof_line (Refused phase) = Some (line (refused_text phase))
 no_proof_line TooComplex = Some (line (codes "too complex"))
 no_proof_line Memory = None
 
--- what is printed of a module and its certificate; nothing where memory ran out
+-- what is printed of a module and its certificate; nothing where an allocation failed
 abbrev pub checked_line : Result (Unit {0}) Refusal → Option (List ℕ)
 checked_line (Ok done) = Some (line (codes "accepted"))
 checked_line (Err (Phase phase)) = Some (line (refused_text phase))

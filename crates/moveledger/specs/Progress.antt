@@ -3,7 +3,7 @@ use Rattle.std.specs.Prelude.{◌≡◌, ℕ, List, length, Option}
 use Rattle.std.specs.Io.KnownBytes.{Appends, Consumes}
 use Rattle.mv_ledger.specs.View.{LedgerView}
 use Rattle.moveledger.specs.Records.{Record, AreWhole}
-use Rattle.moveledger.specs.Report.{Reports}
+use Rattle.moveledger.specs.Headline.{Reports}
 
 -- so many whole records were taken in, and all of them are answered
 pub record Progress (given gives held holds : Option (List ℕ)) (old new : LedgerView) (n : ℕ) : Type 0 where

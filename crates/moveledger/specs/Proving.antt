@@ -25,7 +25,7 @@ pub record IsProvedBy (bytes text : List ℕ) : Type 0 where
   pub written : text ≡ hexadecimal (certificate_text certificate)
   pub passes : Passes (offer_of bytes (certificate_text certificate)) tables certificate
 
--- while it is within its limit, the text is accepted for the module, with a line end behind it and without
+-- while it is within its limit, the text is accepted for the module, with a line end after it and without
 abbrev pub IsAcceptedBack : List ℕ → List ℕ → Type 0
 IsAcceptedBack bytes text = length text ≤ 2097152 → IsAccepted bytes text × IsAccepted bytes (text ++ 10 ∷ [])
 
@@ -43,7 +43,7 @@ pub record HasReferences (bytes : List ℕ) : Type 0 where
   pub sound : IsSound tables
   pub references : ¬ IsWithoutReferences tables
 
--- the module fails the phase that is answered; or it has a local that is a reference; or memory ran out
+-- the module fails this phase; or it has a local that is a reference; or an allocation failed
 abbrev pub HasNoProof : List ℕ → ProveError → Type 0
 HasNoProof bytes (Refused phase) = FailsProof bytes phase
 HasNoProof bytes TooComplex = HasReferences bytes
@@ -57,7 +57,7 @@ pub record IsProvableText (bytes : List ℕ) : Type 0 where
   pub stated : Certificate
   pub passes : Passes (offer_of bytes certificate) tables stated
 
--- what is answered where a module is refused before a certificate is sought
+-- the error where a module is refused before a certificate is sought
 abbrev pub error_of : Refusal → ProveError
 error_of (Phase phase) = Refused phase
 error_of OutOfMemory = Memory

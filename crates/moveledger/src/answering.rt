@@ -52,7 +52,7 @@ fn stop_word(stop: Stop) -> &'static str
     }
 }
 
-/// A word, with the blank behind it, and a number.
+/// A word, with the blank after it, and a number.
 fn counted_text(alloc: Global, word: &str, n: u64) -> Result<String, AllocError>
     ensures { IfOk result (λ text. string_bytes text ≡ word.now ++ decimal n) }
 {
@@ -96,7 +96,7 @@ fn ended_text(alloc: Global, ending: Ending, steps: u64) -> Result<String, Alloc
     }
 }
 
-/// The words for a reply; none for want of memory.
+/// The words for a reply; none where an allocation failed.
 fn words(alloc: Global, reply: Reply) -> Result<Option<String>, AllocError>
     ensures { IfOk result (λ words. MatchOption words (told reply ≡ None) (λ text. (t : Told) × ((told reply ≡ Some t) × (string_bytes text ≡ line_of t)))) }
 {
@@ -152,7 +152,7 @@ fn write_lines<W: Write>(
     Ok(())
 }
 
-/// Writes the line of a reply, behind the record's number.
+/// Writes the line of a reply, after the record's number.
 pub fn write_reply<W: Write>(
     alloc: Global,
     writer: &mut W,
@@ -169,7 +169,7 @@ pub fn write_reply<W: Write>(
     }
 }
 
-/// Writes the lines of a show or an audit, each behind the record's number, or the line of its refusal.
+/// Writes the lines of a show or an audit, each after the record's number, or the line of its refusal.
 fn write_report<W: Write>(
     alloc: Global,
     writer: &mut W,
@@ -199,7 +199,7 @@ const SHOW: u8 = 3;
 /// The kind of an audit record.
 const AUDIT: u8 = 4;
 
-/// Answers a whole record, and writes its lines. Where memory runs out, the ledger is as before or as after the record.
+/// Answers a whole record, and writes its lines. Where an allocation fails, the ledger is as before or as after the record.
 pub fn answer<W: Write>(
     alloc: Global,
     writer: &mut W,

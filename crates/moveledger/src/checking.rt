@@ -11,7 +11,7 @@ use std::alloc::Global;
 /// The most digits of a certificate: two for each of its 1,048,576 bytes.
 const MOST_DIGITS: usize = 2_097_152;
 
-/// The text without a line end behind it.
+/// The text without a line end after it.
 fn before_line_end(text: &[u8]) -> &[u8]
     ensures { result.now ≡ before_line_end text.now }
 {
@@ -21,7 +21,7 @@ fn before_line_end(text: &[u8]) -> &[u8]
     }
 }
 
-/// What is answered to digits that spell no bytes.
+/// The refusal of digits that spell no bytes.
 fn refusal_of(e: FromHexError) -> Refusal
     ensures { result ≡ refusal_of e }
 {
@@ -68,7 +68,7 @@ fn check_phases(alloc: Global, module: &[u8], certificate: &[u8]) -> Result<(), 
     check_digits(alloc, module, digits)
 }
 
-/// Checks a module with the text of a certificate: hexadecimal in either case, and at most one line end behind it.
+/// Checks a module with the text of a certificate: hexadecimal in either case, and at most one line end after it.
 ///
 /// # Errors
 ///
@@ -77,7 +77,7 @@ fn check_phases(alloc: Global, module: &[u8], certificate: &[u8]) -> Result<(), 
 pub fn check_text(alloc: Global, module: &[u8], certificate: &[u8]) -> Result<(), Refusal>
     ensures ok { OnOk result (IsAccepted «module».now certificate.now) }
     ensures refused { IfErr result (IsRefusedText «module».now certificate.now) }
-    // Nothing but want of memory keeps it from what is to be accepted.
+    // Nothing but a failed allocation keeps it from what is to be accepted.
     ensures accepts { IsAccepted «module».now certificate.now → IfErr result (λ e. e ≡ Refusal.Memory) }
 {
     // For the prover: what bytes spell has a text, and bytes are the text of one certificate alone.

@@ -1,7 +1,8 @@
 // The engine: records in, lines out.
 ghost use Rattle.std.specs.Prelude.{◌≡◌, ℕ, List, [], IfOk, IfErr, Err};
 ghost use Rattle.moveledger.specs.Records.{Record, AreRecords};
-ghost use Rattle.moveledger.specs.Outcome.{Answers, Stops, StopsReading};
+ghost use Rattle.moveledger.specs.Headline.{Headline};
+ghost use Rattle.moveledger.specs.Outcome.{Stops, StopsReading};
 
 use crate::answering::{answer, write_reply};
 use crate::reading::{Next, next_record};
@@ -48,8 +49,8 @@ pub fn engine<R: Read, W: Write>(
     writer: &mut W,
     ledger: &mut Ledger,
 ) -> Result<u64, EngineError>
-    // All records that the input begins with are answered.
-    ensures ok { IfOk result (λ n. Answers (R.remaining reader.old)
+    // For every input: the headline.
+    ensures ok { IfOk result (λ n. Headline (R.remaining reader.old)
         (W.contents writer.old) (W.contents writer.new) ledger.old ledger.new n) }
     // Whatever the error: a prefix of the report, and the ledger as some records left it.
     ensures err { IfErr result (λ _. Stops (R.remaining reader.old)

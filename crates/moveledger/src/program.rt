@@ -84,7 +84,7 @@ fn apply(rt: &HostRuntime, path: &str) -> End {
 
 /// Prints a certificate for the module of a file, or why there is none.
 fn prove(rt: &HostRuntime, path: &str) -> End {
-    let module = match beginning(rt, path, MODULE_READ) {
+    let module = match first_bytes(rt, path, MODULE_READ) {
         Ok(module) => module,
         Err(end) => return end,
     };
@@ -95,11 +95,11 @@ fn prove(rt: &HostRuntime, path: &str) -> End {
 
 /// Checks the module of a file with the text of a certificate in another, and prints what comes of it.
 fn check(rt: &HostRuntime, path: &str, certificate: &str) -> End {
-    let module = match beginning(rt, path, MODULE_READ) {
+    let module = match first_bytes(rt, path, MODULE_READ) {
         Ok(module) => module,
         Err(end) => return end,
     };
-    let text = match beginning(rt, certificate, TEXT_READ) {
+    let text = match first_bytes(rt, certificate, TEXT_READ) {
         Ok(text) => text,
         Err(end) => return end,
     };
@@ -109,7 +109,7 @@ fn check(rt: &HostRuntime, path: &str, certificate: &str) -> End {
 }
 
 /// The first bytes of a file, at most so many.
-fn beginning(rt: &HostRuntime, path: &str, most: u64) -> Result<Vec<u8>, End> {
+fn first_bytes(rt: &HostRuntime, path: &str, most: u64) -> Result<Vec<u8>, End> {
     let Ok(file) = File::open(rt, path) else {
         return Err(End::Read);
     };

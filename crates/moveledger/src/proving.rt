@@ -10,7 +10,7 @@ use mv_certificate::encode;
 use mv_move_types::Refusal;
 use std::alloc::{AllocError, Global};
 
-/// What the analyser answers where a module is refused before it.
+/// The error of a module that is refused before a certificate is sought.
 fn unproved(e: Refusal) -> ProveError
     ensures { result ≡ error_of e }
 {

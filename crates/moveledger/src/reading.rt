@@ -26,7 +26,7 @@ fn read_byte<R: Read>(reader: &mut R) -> Result<Option<u8>, EngineError>
     }
 }
 
-/// Fills the buffer, and answers how much was there.
+/// Fills the buffer, and returns how much was there.
 fn fill<R: Read>(reader: &mut R, buffer: &mut [u8]) -> Result<usize, EngineError>
     ensures within { IfOk result (λ n. n ≤ length buffer.new) }
     ensures taken { IfOk result (λ n. Consumes (R.remaining reader.old) (R.remaining reader.new) (take n buffer.new)) }

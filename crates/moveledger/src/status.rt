@@ -26,7 +26,7 @@ pub enum End {
 }
 
 /// The end after the engine's. Where its report couldn't be written out to the last byte, that is a failed write, whatever
-/// the engine answered.
+/// the engine returned.
 pub fn end_of(answered: Result<u64, EngineError>, is_flushed: bool) -> End
     ensures { result ≡ end_after answered is_flushed }
 {

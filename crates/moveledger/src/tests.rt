@@ -60,7 +60,7 @@ fn room(alloc: Global) -> Room {
     }
 }
 
-// A writer that asks for no memory up to 1,024 bytes; none where memory runs out.
+// A writer that asks for no memory up to 1,024 bytes; none where an allocation fails.
 fn roomy(alloc: Global) -> Option<Room> {
     match Vec::with_capacity(alloc, 1024) {
         Ok(taken) => Some(Room {
@@ -94,27 +94,28 @@ fn report(
     Ok((count, writer.taken))
 }
 
+// How many records an input has, given and taken in pieces, and the report on them.
+fn in_pieces(alloc: Global, bytes: &[u8], each: usize) -> Result<(u64, Vec<u8>), EngineError> {
+    let reader = Pieces {
+        each,
+        ..whole(bytes)
+    };
+    let mut writer = Room {
+        each,
+        ..room(alloc)
+    };
+    let mut ledger = Ledger::new(alloc);
+    let count = answered(reader, &mut writer, &mut ledger)?;
+    Ok((count, writer.taken))
+}
+
 // Tries that the inputs of rows are answered as wanted, however many bytes a reader gives and a writer takes in a call.
 fn answered_as_wanted(rt: &impl Abort, alloc: Global, rows: &[Row]) -> Result<(), Fail> {
     for row in rows {
         let bytes = input(alloc, row.records)?;
         for each in [MANY, 7, 1] {
-            let reader = Pieces {
-                each,
-                ..whole(bytes.as_slice())
-            };
-            let mut writer = Room {
-                each,
-                ..room(alloc)
-            };
-            let mut ledger = Ledger::new(alloc);
-            let count = answered(reader, &mut writer, &mut ledger)?;
-            assert_eq!(rt;
-                writer.taken.as_slice(),
-                row.report.as_bytes(),
-                "{}",
-                row.shows
-            );
+            let (count, written) = in_pieces(alloc, &bytes, each)?;
+            assert_eq!(rt; written.as_slice(), row.report.as_bytes(), "{}", row.shows);
             assert_eq!(rt; count, row.records.len() as u64, "{}", row.shows);
         }
     }
@@ -159,28 +160,56 @@ fn long_payloads_are_read_in_pieces(rt: HostRuntime) -> Result<(), Fail> {
     Ok(())
 }
 
+// What comes of an input whose reader fails after so many bytes, and the report.
+fn read_until(
+    alloc: Global,
+    bytes: &[u8],
+    until: usize,
+    error: ErrorKind,
+) -> (Result<u64, EngineError>, Vec<u8>) {
+    let reader = Pieces {
+        until,
+        error,
+        ..whole(bytes)
+    };
+    let mut writer = room(alloc);
+    let mut ledger = Ledger::new(alloc);
+    let result = answered(reader, &mut writer, &mut ledger);
+    (result, writer.taken)
+}
+
 #[test]
 fn failed_reads_end_it(rt: HostRuntime) -> Result<(), Fail> {
     let row = coins::MINTED_TWICE;
     let bytes = input(rt.alloc(), row.records)?;
-    for (until, written) in [(0, 0), (123, 0), (124, 14), (125, 14), (176, 27)] {
+    for (until, length) in [(0, 0), (123, 0), (124, 14), (125, 14), (176, 27)] {
         for error in KINDS {
-            let reader = Pieces {
-                until,
-                error,
-                ..whole(bytes.as_slice())
-            };
-            let mut writer = room(rt.alloc());
-            let mut ledger = Ledger::new(rt.alloc());
-            let result = answered(reader, &mut writer, &mut ledger);
+            let (result, written) = read_until(rt.alloc(), &bytes, until, error);
             assert_eq!(rt; result, Err(EngineError::Read));
             assert_eq!(rt;
-                Some(writer.taken.as_slice()),
-                row.report.as_bytes().get(..written)
+                Some(written.as_slice()),
+                row.report.as_bytes().get(..length)
             );
         }
     }
     Ok(())
+}
+
+// What comes of an input whose writer has no more than this room, and the report.
+fn written_until(
+    alloc: Global,
+    bytes: &[u8],
+    left: usize,
+    error: Option<ErrorKind>,
+) -> (Result<u64, EngineError>, Vec<u8>) {
+    let mut writer = Room {
+        room: left,
+        error,
+        ..room(alloc)
+    };
+    let mut ledger = Ledger::new(alloc);
+    let result = answered(whole(bytes), &mut writer, &mut ledger);
+    (result, writer.taken)
 }
 
 #[test]
@@ -189,28 +218,20 @@ fn failed_writes_end_it(rt: HostRuntime) -> Result<(), Fail> {
     let bytes = input(rt.alloc(), row.records)?;
     for left in [0, 3, 16] {
         for error in FULL {
-            let mut writer = Room {
-                room: left,
-                error,
-                ..room(rt.alloc())
-            };
-            let mut ledger = Ledger::new(rt.alloc());
-            let result = answered(whole(&bytes), &mut writer, &mut ledger);
+            let (result, written) = written_until(rt.alloc(), &bytes, left, error);
             assert_eq!(rt; result, Err(EngineError::Write));
-            assert_eq!(rt;
-                Some(writer.taken.as_slice()),
-                row.report.as_bytes().get(..left)
-            );
+            assert_eq!(rt; Some(written.as_slice()), row.report.as_bytes().get(..left));
         }
     }
     Ok(())
 }
 
-// After a fault a ledger answers the records behind those that it was changed by. They count from 1 again.
+// After a fault a ledger answers the records after those that it was changed by. They count from 1 again.
+
 #[test]
-fn ledgers_go_on_after_faults(rt: HostRuntime) -> Result<(), Fail> {
+fn ledgers_go_on_after_failed_reads(rt: HostRuntime) -> Result<(), Fail> {
     let bytes = input(rt.alloc(), coins::MINTED_TWICE.records)?;
-    // A read that fails within the second record: the module is published, and no coin minted.
+    // It fails within the second record: the module is published, and no coin minted.
     let mut ledger = Ledger::new(rt.alloc());
     let reader = Pieces {
         until: 150,
@@ -224,7 +245,13 @@ fn ledgers_go_on_after_faults(rt: HostRuntime) -> Result<(), Fail> {
         next.as_slice(),
         "1 returned 5\n2 aborted exists 0 4\n".as_bytes()
     );
-    // A write that fails within the second line: the coin is minted.
+    Ok(())
+}
+
+#[test]
+fn ledgers_go_on_after_failed_writes(rt: HostRuntime) -> Result<(), Fail> {
+    let bytes = input(rt.alloc(), coins::MINTED_TWICE.records)?;
+    // It fails within the second line: the coin is minted.
     let mut ledger = Ledger::new(rt.alloc());
     let mut writer = Room {
         room: 16,
@@ -255,8 +282,8 @@ fn after(alloc: Global, first: &[Record<'_>], bytes: &[u8]) -> Option<(Vec<u8>, 
     }
 }
 
-// Whether some first records of a row have left a ledger that reports so on the row, and have the written bytes as a beginning
-// of their report, with all lines of those before the last. It is true where memory runs out again.
+// Whether some first records of a row have left a ledger that reports so on the row, and have the written bytes as a prefix
+// of their report, with all lines of those before the last. It is true where an allocation fails again.
 fn is_left_by_some(alloc: Global, row: &Row, bytes: &[u8], written: &[u8], again: &[u8]) -> bool {
     let mut before = Vec::new(alloc);
     for count in 0..=row.records.len() {
@@ -285,7 +312,7 @@ const STARVED: [Row; 6] = [
     counts::VAULTS,
 ];
 
-// With any one request for memory refused, which scripts/refuse-each-growth tries for each: what was written is a beginning
+// With any one request for memory refused, which scripts/refuse-each-growth tries for each: what was written is a prefix
 // of the report, and the ledger is as the records whose lines were written left it, or one more.
 #[test]
 fn ledgers_stand_where_memory_runs_out(rt: HostRuntime) -> Result<(), Fail> {

@@ -1,4 +1,4 @@
-// A module in which any one bit is turned.
+// A module in which any one byte is another.
 
 use super::report;
 use super::rows::coins::{BURN_AT_1, BURNING_COINS, MINT_7};
@@ -51,24 +51,26 @@ fn is_well(alloc: Global, bytes: &[u8]) -> Result<bool, Fail> {
     Ok(is_published_or_refused(first) && text.lines().all(is_conserved))
 }
 
-// Turns each bit at each of these places of the module.
+// Puts each other byte at each of these places of the module.
 fn altered(rt: &impl Abort, alloc: Global, places: Range<usize>) -> Result<(), Fail> {
     let records = [Publish(&[BURNING_COINS]), MINT_7, BURN_AT_1, Audit];
     let mut bytes = input(alloc, &records)?;
     for place in places {
         let place = BEFORE.saturating_add(place);
-        let whole = bytes.get(place).copied().ok_or("the input is shorter")?;
-        for bit in [1, 2, 4, 8, 16, 32, 64, 128] {
-            if let Some(here) = bytes.get_mut(place) {
-                *here = whole ^ bit;
-            }
-            assert!(rt; is_well(alloc, bytes.as_slice())?, "bit {bit} at {place}");
-        }
-        if let Some(here) = bytes.get_mut(place) {
-            *here = whole;
+        for turned in 1..=255 {
+            turn(&mut bytes, place, turned);
+            assert!(rt; is_well(alloc, bytes.as_slice())?, "{turned} at {place}");
+            turn(&mut bytes, place, turned);
         }
     }
     Ok(())
+}
+
+// Turns bits of the byte at a place.
+fn turn(bytes: &mut [u8], place: usize, turned: u8) {
+    if let Some(byte) = bytes.get_mut(place) {
+        *byte ^= turned;
+    }
 }
 
 #[test]

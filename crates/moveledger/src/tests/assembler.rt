@@ -157,128 +157,135 @@ fn placed<T: PartialEq + Copy>(list: &mut Vec<T>, item: T) -> Result<u16, AllocE
     Ok(index(place))
 }
 
-// What the entries of tables name, in the order in which it is named first.
+// A module in the making: what the entries of its tables name, in the order in which it is named first, and those entries.
 #[derive(Drop)]
-struct Pools<'a> {
+struct Parts<'a> {
     addresses: Vec<u128>,
     names: Vec<&'a str>,
     signatures: Vec<&'a [Token]>,
+    module_handles: Vec<u8>,
+    struct_handles: Vec<u8>,
+    struct_definitions: Vec<u8>,
+    function_handles: Vec<u8>,
+    function_definitions: Vec<u8>,
 }
 
-impl<'a> Pools<'a> {
-    fn function_handle(
+impl<'a> Parts<'a> {
+    fn new(alloc: Global, signatures: Vec<&'a [Token]>) -> Self {
+        Parts {
+            addresses: Vec::new(alloc),
+            names: Vec::new(alloc),
+            signatures,
+            module_handles: Vec::new(alloc),
+            struct_handles: Vec::new(alloc),
+            struct_definitions: Vec::new(alloc),
+            function_handles: Vec::new(alloc),
+            function_definitions: Vec::new(alloc),
+        }
+    }
+
+    fn add_module_handle(&mut self, address: u128, name: &'a str) -> Result<(), AllocError> {
+        let handle = ModuleHandle {
+            address: placed(&mut self.addresses, address)?,
+            name: placed(&mut self.names, name)?,
+        };
+        write_module_handle(handle, &mut self.module_handles)
+    }
+
+    fn add_struct_handle(
+        &mut self,
+        module: u16,
+        name: &'a str,
+        abilities: Abilities,
+    ) -> Result<(), AllocError> {
+        let handle = StructHandle {
+            module,
+            name: placed(&mut self.names, name)?,
+            abilities,
+        };
+        write_struct_handle(handle, &mut self.struct_handles)
+    }
+
+    fn add_function_handle(
         &mut self,
         module: u16,
         name: &'a str,
         parameters: &'a [Token],
         results: &'a [Token],
-    ) -> Result<FunctionHandle, AllocError> {
-        Ok(FunctionHandle {
+    ) -> Result<(), AllocError> {
+        let handle = FunctionHandle {
             module,
             name: placed(&mut self.names, name)?,
             parameters: placed(&mut self.signatures, parameters)?,
             results: placed(&mut self.signatures, results)?,
-        })
-    }
-}
-
-fn module_handles<'a>(
-    alloc: Global,
-    sketch: &Sketch<'a>,
-    pools: &mut Pools<'a>,
-) -> Result<Vec<u8>, AllocError> {
-    let mut out = Vec::new(alloc);
-    let own = (sketch.address, sketch.name);
-    for (address, name) in [own].iter().chain(sketch.others.iter()) {
-        let handle = ModuleHandle {
-            address: placed(&mut pools.addresses, *address)?,
-            name: placed(&mut pools.names, *name)?,
         };
-        write_module_handle(handle, &mut out)?;
+        write_function_handle(handle, &mut self.function_handles)
     }
-    Ok(out)
-}
 
-fn struct_handles<'a>(
-    alloc: Global,
-    sketch: &Sketch<'a>,
-    pools: &mut Pools<'a>,
-) -> Result<Vec<u8>, AllocError> {
-    let mut out = Vec::new(alloc);
-    for foreign in sketch.foreign_structs {
-        let handle = StructHandle {
-            module: foreign.module,
-            name: placed(&mut pools.names, foreign.name)?,
-            abilities: foreign.abilities,
-        };
-        write_struct_handle(handle, &mut out)?;
-    }
-    for own in sketch.structs {
-        let handle = StructHandle {
-            module: 0,
-            name: placed(&mut pools.names, own.name)?,
-            abilities: own.abilities,
-        };
-        write_struct_handle(handle, &mut out)?;
-    }
-    Ok(out)
-}
-
-fn struct_definitions<'a>(
-    alloc: Global,
-    sketch: &Sketch<'a>,
-    pools: &mut Pools<'a>,
-) -> Result<Vec<u8>, AllocError> {
-    let mut out = Vec::new(alloc);
-    for (place, own) in sketch.structs.iter().enumerate() {
+    fn add_struct(
+        &mut self,
+        alloc: Global,
+        handle: u16,
+        own: &Struct<'a>,
+    ) -> Result<(), AllocError> {
         let mut fields = Vec::new(alloc);
         for (name, token) in own.fields {
+            let name = placed(&mut self.names, *name)?;
             fields.push(Field {
-                name: placed(&mut pools.names, *name)?,
+                name,
                 token: *token,
             })?;
         }
-        let handle = index(sketch.foreign_structs.len()).saturating_add(index(place));
-        write_struct_definition(handle, &fields, &mut out)?;
+        write_struct_definition(handle, &fields, &mut self.struct_definitions)
     }
-    Ok(out)
-}
 
-fn function_handles<'a>(
-    alloc: Global,
-    sketch: &Sketch<'a>,
-    pools: &mut Pools<'a>,
-) -> Result<Vec<u8>, AllocError> {
-    let mut out = Vec::new(alloc);
-    for f in sketch.foreign_functions {
-        let handle = pools.function_handle(f.module, f.name, f.parameters, f.results)?;
-        write_function_handle(handle, &mut out)?;
-    }
-    for f in sketch.functions {
-        let handle = pools.function_handle(0, f.name, f.parameters, f.results)?;
-        write_function_handle(handle, &mut out)?;
-    }
-    Ok(out)
-}
-
-fn function_definitions<'a>(
-    alloc: Global,
-    sketch: &Sketch<'a>,
-    pools: &mut Pools<'a>,
-) -> Result<Vec<u8>, AllocError> {
-    let mut out = Vec::new(alloc);
-    for (place, own) in sketch.functions.iter().enumerate() {
+    fn add_function(&mut self, handle: u16, own: &Function<'a>) -> Result<(), AllocError> {
         let parts = FunctionParts {
-            handle: index(sketch.foreign_functions.len()).saturating_add(index(place)),
+            handle,
             visibility: own.visibility,
             is_entry: own.is_entry,
             acquires: own.acquires,
-            locals: placed(&mut pools.signatures, own.locals)?,
+            locals: placed(&mut self.signatures, own.locals)?,
             code: own.code,
         };
-        write_function_definition(parts, &mut out)?;
+        write_function_definition(parts, &mut self.function_definitions)
     }
-    Ok(out)
+
+    fn add_handles(&mut self, sketch: &Sketch<'a>) -> Result<(), AllocError> {
+        self.add_module_handle(sketch.address, sketch.name)?;
+        for (address, name) in sketch.others {
+            self.add_module_handle(*address, *name)?;
+        }
+        for foreign in sketch.foreign_structs {
+            self.add_struct_handle(foreign.module, foreign.name, foreign.abilities)?;
+        }
+        for own in sketch.structs {
+            self.add_struct_handle(0, own.name, own.abilities)?;
+        }
+        Ok(())
+    }
+
+    fn add_structs(&mut self, alloc: Global, sketch: &Sketch<'a>) -> Result<(), AllocError> {
+        let first = index(sketch.foreign_structs.len());
+        for (place, own) in sketch.structs.iter().enumerate() {
+            self.add_struct(alloc, first.saturating_add(index(place)), own)?;
+        }
+        Ok(())
+    }
+
+    fn add_functions(&mut self, sketch: &Sketch<'a>) -> Result<(), AllocError> {
+        for f in sketch.foreign_functions {
+            self.add_function_handle(f.module, f.name, f.parameters, f.results)?;
+        }
+        for f in sketch.functions {
+            self.add_function_handle(0, f.name, f.parameters, f.results)?;
+        }
+        let first = index(sketch.foreign_functions.len());
+        for (place, own) in sketch.functions.iter().enumerate() {
+            self.add_function(first.saturating_add(index(place)), own)?;
+        }
+        Ok(())
+    }
 }
 
 // A module's headers and contents.
@@ -290,6 +297,14 @@ struct Tables {
 }
 
 impl Tables {
+    fn new(alloc: Global) -> Self {
+        Tables {
+            count: 0,
+            headers: Vec::new(alloc),
+            contents: Vec::new(alloc),
+        }
+    }
+
     // Adds a table of these entries, unless there is none.
     fn add(&mut self, kind: u8, entries: &[u8]) -> Result<(), AllocError> {
         if entries.is_empty() {
@@ -302,71 +317,94 @@ impl Tables {
         self.contents.extend_from_slice(entries)
     }
 
-    // Adds the tables of what the others name, but for that of the constants.
-    fn add_pools(&mut self, alloc: Global, pools: &Pools<'_>) -> Result<(), AllocError> {
-        let mut names = Vec::new(alloc);
-        for name in &pools.names {
-            write_identifier(name.as_bytes(), &mut names)?;
+    fn add_signatures(&mut self, alloc: Global, all: &[&[Token]]) -> Result<(), AllocError> {
+        let mut entries = Vec::new(alloc);
+        for tokens in all {
+            write_signature(tokens, &mut entries)?;
         }
-        self.add(0x07, &names)?;
-        let mut addresses = Vec::new(alloc);
-        for address in &pools.addresses {
-            write_address(*address, &mut addresses)?;
+        self.add(0x05, &entries)
+    }
+
+    fn add_constants(&mut self, alloc: Global, all: &[(Token, &[u8])]) -> Result<(), AllocError> {
+        let mut entries = Vec::new(alloc);
+        for (token, bytes) in all {
+            write_constant(*token, bytes, &mut entries)?;
         }
-        self.add(0x08, &addresses)
+        self.add(0x06, &entries)
+    }
+
+    fn add_names(&mut self, alloc: Global, all: &[&str]) -> Result<(), AllocError> {
+        let mut entries = Vec::new(alloc);
+        for name in all {
+            write_identifier(name.as_bytes(), &mut entries)?;
+        }
+        self.add(0x07, &entries)
+    }
+
+    fn add_addresses(&mut self, alloc: Global, all: &[u128]) -> Result<(), AllocError> {
+        let mut entries = Vec::new(alloc);
+        for address in all {
+            write_address(*address, &mut entries)?;
+        }
+        self.add(0x08, &entries)
+    }
+
+    fn add_field_handles(&mut self, alloc: Global, all: &[FieldHandle]) -> Result<(), AllocError> {
+        let mut entries = Vec::new(alloc);
+        for handle in all {
+            write_field_handle(*handle, &mut entries)?;
+        }
+        self.add(0x0D, &entries)
+    }
+
+    // Adds the tables that have what the others name.
+    fn add_pools(
+        &mut self,
+        alloc: Global,
+        sketch: &Sketch<'_>,
+        parts: &Parts<'_>,
+    ) -> Result<(), AllocError> {
+        self.add_signatures(alloc, &parts.signatures)?;
+        self.add_constants(alloc, sketch.constants)?;
+        self.add_names(alloc, &parts.names)?;
+        self.add_addresses(alloc, &parts.addresses)
+    }
+
+    // Adds all tables, in ascending order of kind.
+    fn add_all(
+        &mut self,
+        alloc: Global,
+        sketch: &Sketch<'_>,
+        parts: &Parts<'_>,
+    ) -> Result<(), AllocError> {
+        self.add(0x01, &parts.module_handles)?;
+        self.add(0x02, &parts.struct_handles)?;
+        self.add(0x03, &parts.function_handles)?;
+        self.add_pools(alloc, sketch, parts)?;
+        self.add(0x0A, &parts.struct_definitions)?;
+        self.add(0x0C, &parts.function_definitions)?;
+        self.add_field_handles(alloc, sketch.field_handles)
     }
 }
 
-fn signatures(alloc: Global, pools: &Pools<'_>) -> Result<Vec<u8>, AllocError> {
-    let mut out = Vec::new(alloc);
-    for tokens in &pools.signatures {
-        write_signature(tokens, &mut out)?;
-    }
-    Ok(out)
+fn parts_of<'a>(alloc: Global, sketch: &Sketch<'a>) -> Result<Parts<'a>, AllocError> {
+    let mut parts = Parts::new(alloc, Vec::from_slice(alloc, sketch.signatures)?);
+    parts.add_handles(sketch)?;
+    parts.add_structs(alloc, sketch)?;
+    parts.add_functions(sketch)?;
+    Ok(parts)
 }
 
-fn constants(alloc: Global, sketch: &Sketch<'_>) -> Result<Vec<u8>, AllocError> {
-    let mut out = Vec::new(alloc);
-    for (token, bytes) in sketch.constants {
-        write_constant(*token, bytes, &mut out)?;
-    }
-    Ok(out)
-}
-
-fn field_handles(alloc: Global, sketch: &Sketch<'_>) -> Result<Vec<u8>, AllocError> {
-    let mut out = Vec::new(alloc);
-    for handle in sketch.field_handles {
-        write_field_handle(*handle, &mut out)?;
-    }
-    Ok(out)
+fn tables_of(alloc: Global, sketch: &Sketch<'_>) -> Result<Tables, AllocError> {
+    let parts = parts_of(alloc, sketch)?;
+    let mut tables = Tables::new(alloc);
+    tables.add_all(alloc, sketch, &parts)?;
+    Ok(tables)
 }
 
 /// A module's bytes, with its tables in ascending order of kind.
 pub fn assembled(alloc: Global, sketch: &Sketch<'_>) -> Result<Vec<u8>, AllocError> {
-    let mut pools = Pools {
-        addresses: Vec::new(alloc),
-        names: Vec::new(alloc),
-        signatures: Vec::from_slice(alloc, sketch.signatures)?,
-    };
-    let modules = module_handles(alloc, sketch, &mut pools)?;
-    let structs = struct_handles(alloc, sketch, &mut pools)?;
-    let definitions = struct_definitions(alloc, sketch, &mut pools)?;
-    let functions = function_handles(alloc, sketch, &mut pools)?;
-    let codes = function_definitions(alloc, sketch, &mut pools)?;
-    let mut tables = Tables {
-        count: 0,
-        headers: Vec::new(alloc),
-        contents: Vec::new(alloc),
-    };
-    tables.add(0x01, &modules)?;
-    tables.add(0x02, &structs)?;
-    tables.add(0x03, &functions)?;
-    tables.add(0x05, &signatures(alloc, &pools)?)?;
-    tables.add(0x06, &constants(alloc, sketch)?)?;
-    tables.add_pools(alloc, &pools)?;
-    tables.add(0x0A, &definitions)?;
-    tables.add(0x0C, &codes)?;
-    tables.add(0x0D, &field_handles(alloc, sketch)?)?;
+    let tables = tables_of(alloc, sketch)?;
     let version = sketch.version.number();
     let start = [0xA1, 0x1C, 0xEB, 0x0B, version, 0, 0, 0, tables.count];
     let mut out = Vec::from_slice(alloc, &start)?;

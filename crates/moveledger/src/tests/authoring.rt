@@ -1,5 +1,6 @@
 // What the commands of an author print: of a module, and of a module with the text of a certificate.
 
+mod limits;
 mod modules;
 mod rows;
 
@@ -78,6 +79,7 @@ fn texts_have_at_most_2097152_digits(rt: HostRuntime) -> Result<(), Fail> {
     assert_eq!(rt; check_text(alloc, &empty, &text), Err(Refusal::Phase(9)));
     assert_eq!(rt; check_text(alloc, &cut, &text), Err(Refusal::Phase(2)));
     text.push(b'\n')?;
+    assert_eq!(rt; check_text(alloc, &empty, &text), Err(Refusal::Phase(9)));
     assert_eq!(rt; check_text(alloc, &cut, &text), Err(Refusal::Phase(2)));
     text.push(b'\n')?;
     assert_eq!(rt; check_text(alloc, &cut, &text), Err(Refusal::Phase(1)));

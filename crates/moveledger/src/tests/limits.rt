@@ -6,6 +6,7 @@ use super::rows::coins;
 use super::stream::Record::{Publish, Run};
 use super::stream::*;
 use mv_ledger::{Ledger, Reply};
+use mv_module_text::write_identifier;
 use mv_move_types::Instruction::{Branch, LdTrue, MoveLoc, Nop, Pop, Ret};
 use mv_move_types::Token::Plain;
 use mv_move_types::ValueType::OfStruct;
@@ -18,43 +19,30 @@ const ONE: &str = "00000000000000000000000000000001";
 
 const NAME_ALONE: &str = "a11ceb0b05000000030100020702020804100000014d";
 
+// As many letters as a name may have, and one more.
+const LETTERS: &str =
+    "aaaaaaaaaaaaaaaaaaaaaaaaaaaaaaaaaaaaaaaaaaaaaaaaaaaaaaaaaaaaaaaaaaaaaaaaaaaaaaaaaaaaaaaaaaaaaaaaaaaaaaaaaaaaaaaaaaaaaaaaaaaaaaaaa";
+
+// How many records an input has, and the report on them.
+fn on_bytes(alloc: Global, bytes: &[u8]) -> Result<(u64, Vec<u8>), Fail> {
+    let mut ledger = Ledger::new(alloc);
+    report(alloc, Some(bytes), &mut ledger)
+}
+
 // The report on records.
 fn on(alloc: Global, records: &[Record<'_>]) -> Result<Vec<u8>, Fail> {
     let bytes = input(alloc, records)?;
-    let mut ledger = Ledger::new(alloc);
-    let (_, lines) = report(alloc, Some(bytes.as_slice()), &mut ledger)?;
+    let (_, lines) = on_bytes(alloc, &bytes)?;
     Ok(lines)
 }
 
-// A module with nothing in it but its name, one with functions alone, and one with structs alone.
-fn named<'a>(name: &'a str) -> Sketch<'a> {
-    Sketch { name, ..EMPTY }
-}
-
-fn of_functions<'a>(functions: &'a [Function<'a>]) -> Sketch<'a> {
+/// A module with functions alone, and one with structs alone.
+pub fn of_functions<'a>(functions: &'a [Function<'a>]) -> Sketch<'a> {
     Sketch { functions, ..EMPTY }
 }
 
 fn of_structs<'a>(structs: &'a [Struct<'a>]) -> Sketch<'a> {
     Sketch { structs, ..EMPTY }
-}
-
-// A function with a name, which returns.
-fn returning<'a>(name: &'a str) -> Function<'a> {
-    Function {
-        name,
-        code: &[Ret],
-        ..ENTRY
-    }
-}
-
-// A struct that can be dropped.
-fn dropped<'a>(name: &'a str, fields: &'a [(&'a str, Token)]) -> Struct<'a> {
-    Struct {
-        name,
-        abilities: DROP,
-        fields,
-    }
 }
 
 fn offered<'a>(module: &'a Sketch<'a>, certificate: &'a [&'a str]) -> Offered<'a> {
@@ -64,14 +52,18 @@ fn offered<'a>(module: &'a Sketch<'a>, certificate: &'a [&'a str]) -> Offered<'a
     }
 }
 
-// The report where a module is published.
+// The report where a bundle is published, and where a module is.
+fn on_bundle<'a>(alloc: Global, bundle: &'a [Offered<'a>]) -> Result<Vec<u8>, Fail> {
+    on(alloc, &[Publish(bundle)])
+}
+
 fn on_module<'a>(
     alloc: Global,
     module: &'a Sketch<'a>,
     certificate: &'a [&'a str],
 ) -> Result<Vec<u8>, Fail> {
     let bundle = [offered(module, certificate)];
-    on(alloc, &[Publish(&bundle)])
+    on_bundle(alloc, &bundle)
 }
 
 // The report where a module is published, and its function f run with arguments.
@@ -90,43 +82,7 @@ fn on_run<'a>(
     on(alloc, &[Publish(&bundle), Run(run)])
 }
 
-// The report where a ledger is given a bundle.
-fn on_bundle<'a>(
-    alloc: Global,
-    ledger: &mut Ledger,
-    bundle: &'a [Offered<'a>],
-) -> Result<Vec<u8>, Fail> {
-    let bytes = input(alloc, &[Publish(bundle)])?;
-    let (_, lines) = report(alloc, Some(bytes.as_slice()), ledger)?;
-    Ok(lines)
-}
-
-// Modules with these names, and with nothing in them.
-fn all_named<'a>(alloc: Global, names: &'a [String]) -> Result<Vec<Sketch<'a>>, Fail> {
-    let mut modules = Vec::new(alloc);
-    for name in names {
-        modules.push(named(name.as_str()))?;
-    }
-    Ok(modules)
-}
-
-// Modules without functions, with their certificates.
-fn all_offered<'a>(alloc: Global, modules: &'a [Sketch<'a>]) -> Result<Vec<Offered<'a>>, Fail> {
-    let mut bundle = Vec::new(alloc);
-    for module in modules {
-        bundle.push(offered(module, &[]))?;
-    }
-    Ok(bundle)
-}
-
-// Names that begin so, and end in a number from 0 on.
-fn names(alloc: Global, start: &str, count: usize) -> Result<Vec<String>, Fail> {
-    let mut names = Vec::new(alloc);
-    for n in 0..count {
-        names.push(format!(in alloc; "{start}{n}")?)?;
-    }
-    Ok(names)
-}
+// ---- bytes
 
 #[test]
 fn payloads_have_33554432_bytes_at_most(rt: HostRuntime) -> Result<(), Fail> {
@@ -136,42 +92,47 @@ fn payloads_have_33554432_bytes_at_most(rt: HostRuntime) -> Result<(), Fail> {
         ("81808010", 33_554_433, 1, "1 refused 1\n"),
     ] {
         let mut input = decoded(rt.alloc(), &["09", length])?;
-        for _ in 0..size {
-            input.push(0)?;
-        }
+        input.resize(5 + size, 0)?;
         input.extend_from_slice(&[9, 0])?;
-        let mut ledger = Ledger::new(rt.alloc());
-        let (answered, lines) = report(rt.alloc(), Some(input.as_slice()), &mut ledger)?;
+        let (answered, lines) = on_bytes(rt.alloc(), &input)?;
         assert_eq!(rt; answered, count);
         assert_eq!(rt; lines.as_slice(), wanted.as_bytes());
     }
     Ok(())
 }
 
+// Names of 128 letters and digits, 503 of them.
+fn write_long_names(alloc: Global, out: &mut Vec<u8>) -> Result<(), Fail> {
+    let letters = LETTERS.get(..124).ok_or("there are fewer letters")?;
+    for n in 0..503 {
+        let name = format!(in alloc; "M{n:03}{letters}")?;
+        write_identifier(name.as_bytes(), out)?;
+    }
+    Ok(())
+}
+
+// The payload of a bundle of a module whose names fill it up: its first bytes, in hex, and how long the last name is.
+fn full(alloc: Global, start: &[&str], last: usize) -> Result<Vec<u8>, Fail> {
+    let mut payload = decoded(alloc, start)?;
+    write_long_names(alloc, &mut payload)?;
+    let name = LETTERS.get(..last).ok_or("there are fewer letters")?;
+    write_identifier(name.as_bytes(), &mut payload)?;
+    write_parts(alloc, &[ONE, "0000"], &mut payload)?;
+    Ok(payload)
+}
+
 #[test]
 fn modules_have_65536_bytes_at_most(rt: HostRuntime) -> Result<(), Fail> {
-    // A module with 503 names of 128 letters and digits, and one of as many letters as fill it up. The numbers in hex are
-    // the lengths of the module and of its names, and where its address stands.
+    // The numbers in hex are the lengths of the module and of its names, and where its address stands.
     for (length, names, address, last, wanted) in [
         ("808004", "d7ff03", "d9ff03", 104, Reply::Published(1)),
         ("818004", "d8ff03", "daff03", 105, Reply::Refused(1)),
     ] {
-        let start = [ONE, "01", length, "a11ceb0b0500000003010002"];
-        let headers = ["0702", names, "08", address, "10", "0000"];
-        let mut payload = decoded(rt.alloc(), &start)?;
-        payload.extend_from_slice(&decoded(rt.alloc(), &headers)?)?;
-        for n in 0..503 {
-            payload.extend_from_slice(&[0x80, 0x01])?;
-            payload.extend_from_slice(format!(in rt.alloc(); "M{n:03}")?.as_bytes())?;
-            payload.extend_from_slice(&[b'a'; 124])?;
-        }
-        payload.push(last)?;
-        for _ in 0..last {
-            payload.push(b'a')?;
-        }
-        payload.extend_from_slice(&decoded(rt.alloc(), &[ONE, "0000"])?)?;
+        let start = "a11ceb0b05000000030100020702";
+        let parts = [ONE, "01", length, start, names, "08", address, "100000"];
+        let payload = full(rt.alloc(), &parts, last)?;
         let mut ledger = Ledger::new(rt.alloc());
-        assert_eq!(rt; ledger.publish(payload.as_slice()), wanted);
+        assert_eq!(rt; ledger.publish(&payload), wanted);
     }
     Ok(())
 }
@@ -185,11 +146,9 @@ fn certificates_have_1048576_bytes_at_most(rt: HostRuntime) -> Result<(), Fail> 
     ] {
         let parts = [ONE, "0127", NAME_ALONE, ONE, "00", length];
         let mut payload = decoded(rt.alloc(), &parts)?;
-        for _ in 0..size {
-            payload.push(0)?;
-        }
+        payload.resize(60 + size, 0)?;
         let mut ledger = Ledger::new(rt.alloc());
-        assert_eq!(rt; ledger.publish(payload.as_slice()), wanted);
+        assert_eq!(rt; ledger.publish(&payload), wanted);
     }
     Ok(())
 }
@@ -198,28 +157,64 @@ fn certificates_have_1048576_bytes_at_most(rt: HostRuntime) -> Result<(), Fail> 
 fn names_have_128_letters_at_most(rt: HostRuntime) -> Result<(), Fail> {
     // Runs of a function of a module that isn't there.
     for (length, wanted) in [(128, "1 rejected 3\n"), (129, "1 rejected 1\n")] {
-        let mut module = String::new(rt.alloc());
-        for _ in 0..length {
-            module.push('a')?;
-        }
-        let run = Transaction {
-            module: module.as_str(),
-            ..PLAIN
-        };
-        let lines = on(rt.alloc(), &[Run(run)])?;
+        let module = LETTERS.get(..length).ok_or("there are fewer letters")?;
+        let lines = on(rt.alloc(), &[Run(Transaction { module, ..PLAIN })])?;
         assert_eq!(rt; lines.as_slice(), wanted.as_bytes());
     }
     Ok(())
 }
 
+// ---- modules and functions
+
+/// Names that begin so, and end in a number from 0 on.
+pub fn names(alloc: Global, start: &str, count: usize) -> Result<Vec<String>, Fail> {
+    let mut names = Vec::new(alloc);
+    for n in 0..count {
+        names.push(format!(in alloc; "{start}{n}")?)?;
+    }
+    Ok(names)
+}
+
+// A module with nothing in it but its name, and one for each of some names.
+fn empty<'a>(name: &'a str) -> Sketch<'a> {
+    Sketch { name, ..EMPTY }
+}
+
+fn named<'a>(alloc: Global, names: &'a [String]) -> Result<Vec<Sketch<'a>>, Fail> {
+    let mut modules = Vec::new(alloc);
+    for name in names {
+        modules.push(empty(name.as_str()))?;
+    }
+    Ok(modules)
+}
+
+// Modules without functions, with their certificates.
+fn bundled<'a>(alloc: Global, modules: &'a [Sketch<'a>]) -> Result<Vec<Offered<'a>>, Fail> {
+    let mut bundle = Vec::new(alloc);
+    for module in modules {
+        bundle.push(offered(module, &[]))?;
+    }
+    Ok(bundle)
+}
+
+// The bytes of a record that publishes a bundle.
+fn publishing<'a>(alloc: Global, bundle: &'a [Offered<'a>]) -> Result<Vec<u8>, Fail> {
+    Ok(input(alloc, &[Publish(bundle)])?)
+}
+
+// The bytes of a record that publishes so many modules, whose names begin so.
+fn published(alloc: Global, start: &str, count: usize) -> Result<Vec<u8>, Fail> {
+    let names = names(alloc, start, count)?;
+    let modules = named(alloc, &names)?;
+    let bundle = bundled(alloc, &modules)?;
+    publishing(alloc, &bundle)
+}
+
 #[test]
 fn bundles_have_16_modules_at_most(rt: HostRuntime) -> Result<(), Fail> {
     for (count, wanted) in [(16, "1 published 16\n"), (17, "1 refused 1\n")] {
-        let names = names(rt.alloc(), "M", count)?;
-        let mut ledger = Ledger::new(rt.alloc());
-        let modules = all_named(rt.alloc(), &names)?;
-        let bundle = all_offered(rt.alloc(), &modules)?;
-        let lines = on_bundle(rt.alloc(), &mut ledger, &bundle)?;
+        let bytes = published(rt.alloc(), "M", count)?;
+        let (_, lines) = on_bytes(rt.alloc(), &bytes)?;
         assert_eq!(rt; lines.as_slice(), wanted.as_bytes());
     }
     Ok(())
@@ -230,10 +225,8 @@ fn ledgers_have_4096_modules_at_most(rt: HostRuntime) -> Result<(), Fail> {
     let mut ledger = Ledger::new(rt.alloc());
     for n in 0..256 {
         let start = format!(in rt.alloc(); "M{n}_")?;
-        let names = names(rt.alloc(), start.as_str(), 16)?;
-        let modules = all_named(rt.alloc(), &names)?;
-        let bundle = all_offered(rt.alloc(), &modules)?;
-        let lines = on_bundle(rt.alloc(), &mut ledger, &bundle)?;
+        let bytes = published(rt.alloc(), start.as_str(), 16)?;
+        let (_, lines) = report(rt.alloc(), Some(bytes.as_slice()), &mut ledger)?;
         assert_eq!(rt; lines.as_slice(), "1 published 16\n".as_bytes(), "at {n}");
     }
     let bytes = input(rt.alloc(), &[Publish(&[coins::COINS])])?;
@@ -242,192 +235,224 @@ fn ledgers_have_4096_modules_at_most(rt: HostRuntime) -> Result<(), Fail> {
     Ok(())
 }
 
+// A function with a name, which returns, and one for each of some names.
+fn plain<'a>(name: &'a str) -> Function<'a> {
+    Function {
+        name,
+        code: &[Ret],
+        ..ENTRY
+    }
+}
+
+fn returning<'a>(alloc: Global, names: &'a [String]) -> Result<Vec<Function<'a>>, Fail> {
+    let mut functions = Vec::new(alloc);
+    for name in names {
+        functions.push(plain(name.as_str()))?;
+    }
+    Ok(functions)
+}
+
 #[test]
 fn modules_have_256_functions_at_most(rt: HostRuntime) -> Result<(), Fail> {
     for (count, wanted) in [(256, "1 published 1\n"), (257, "1 refused 2\n")] {
         let names = names(rt.alloc(), "f", count)?;
-        let lines = on_functions(rt.alloc(), &names)?;
-        assert_eq!(rt; lines.as_slice(), wanted.as_bytes());
-    }
-    Ok(())
-}
-
-// The report where a module with functions of these names is published.
-fn on_functions(alloc: Global, names: &[String]) -> Result<Vec<u8>, Fail> {
-    let mut functions = Vec::new(alloc);
-    let mut certificate = Vec::new(alloc);
-    for name in names {
-        functions.push(returning(name.as_str()))?;
-        certificate.push("0100")?;
-    }
-    let module = of_functions(&functions);
-    on_module(alloc, &module, &certificate)
-}
-
-#[test]
-fn functions_have_4096_instructions_at_most(rt: HostRuntime) -> Result<(), Fail> {
-    for (before, wanted) in [
-        (4095, "1 published 1\n2 returned 4096\n"),
-        (4096, "1 refused 2\n2 rejected 3\n"),
-    ] {
-        let mut code = Vec::new(rt.alloc());
-        for _ in 0..before {
-            code.push(Nop)?;
-        }
-        code.push(Ret)?;
-        let functions = [Function {
-            code: &code,
-            ..ENTRY
-        }];
+        let functions = returning(rt.alloc(), &names)?;
         let module = of_functions(&functions);
-        let lines = on_run(rt.alloc(), &module, &["0100"], &[])?;
+        let certificate = vec![in rt.alloc(); "0100"; count]?;
+        let lines = on_module(rt.alloc(), &module, &certificate)?;
         assert_eq!(rt; lines.as_slice(), wanted.as_bytes());
     }
     Ok(())
 }
 
+// A function of numbers by how many there are: parameters, results, which are the first of them, other locals, and so many
+// times in its code Nop, and operands that it puts on its stack before it takes them off.
+struct Shape {
+    parameters: usize,
+    results: u16,
+    locals: usize,
+    nops: usize,
+    operands: usize,
+    report: &'static str,
+}
+
+const NOTHING: Shape = Shape {
+    parameters: 0,
+    results: 0,
+    locals: 0,
+    nops: 0,
+    operands: 0,
+    report: "",
+};
+
+const SHAPES: [Shape; 10] = [
+    Shape {
+        parameters: 16,
+        report: "1 published 1\n2 returned 1\n",
+        ..NOTHING
+    },
+    Shape {
+        parameters: 17,
+        report: "1 refused 5\n2 rejected 1\n",
+        ..NOTHING
+    },
+    Shape {
+        parameters: 9,
+        results: 8,
+        report: "1 published 1\n2 rejected 5\n",
+        ..NOTHING
+    },
+    Shape {
+        parameters: 9,
+        results: 9,
+        report: "1 refused 5\n2 rejected 3\n",
+        ..NOTHING
+    },
+    Shape {
+        locals: 64,
+        report: "1 published 1\n2 returned 1\n",
+        ..NOTHING
+    },
+    Shape {
+        parameters: 1,
+        locals: 64,
+        report: "1 refused 5\n2 rejected 3\n",
+        ..NOTHING
+    },
+    Shape {
+        nops: 4095,
+        report: "1 published 1\n2 returned 4096\n",
+        ..NOTHING
+    },
+    Shape {
+        nops: 4096,
+        report: "1 refused 2\n2 rejected 3\n",
+        ..NOTHING
+    },
+    Shape {
+        operands: 128,
+        report: "1 published 1\n2 returned 257\n",
+        ..NOTHING
+    },
+    Shape {
+        operands: 129,
+        report: "1 refused 8\n2 rejected 3\n",
+        ..NOTHING
+    },
+];
+
+// So many types and arguments, up to 64.
+fn numbers(count: usize) -> &'static [Token] {
+    const NUMBERS: &[Token] = &[Plain(U64); 64];
+    NUMBERS.get(..count).unwrap_or(NUMBERS)
+}
+
+fn sevens(count: usize) -> &'static [Argument] {
+    const SEVENS: &[Argument] = &[Argument::U64(7); 64];
+    SEVENS.get(..count).unwrap_or(SEVENS)
+}
+
+fn code_of(alloc: Global, shape: &Shape) -> Result<Vec<Instruction>, Fail> {
+    let mut code = vec![in alloc; Nop; shape.nops]?;
+    for _ in 0..shape.operands {
+        code.push(LdTrue)?;
+    }
+    for _ in 0..shape.operands {
+        code.push(Pop)?;
+    }
+    for local in 0..shape.results {
+        code.push(MoveLoc(local))?;
+    }
+    code.push(Ret)?;
+    Ok(code)
+}
+
+// One block, where the parameters alone are there.
+fn certificate_of(alloc: Global, shape: &Shape) -> Result<Vec<&'static str>, Fail> {
+    let mut certificate = vec![in alloc; "01"; shape.parameters.saturating_add(1)]?;
+    for _ in 0..=shape.locals {
+        certificate.push("00")?;
+    }
+    Ok(certificate)
+}
+
+fn shaped<'a>(
+    parameters: &'a [Token],
+    results: &'a [Token],
+    locals: &'a [Token],
+    code: &'a [Instruction],
+) -> Function<'a> {
+    Function {
+        is_entry: results.is_empty(),
+        parameters,
+        results,
+        locals,
+        code,
+        ..ENTRY
+    }
+}
+
+// The report where the function is published, and run.
+fn on_shape(alloc: Global, shape: &Shape) -> Result<Vec<u8>, Fail> {
+    let code = code_of(alloc, shape)?;
+    let certificate = certificate_of(alloc, shape)?;
+    let functions = [shaped(
+        numbers(shape.parameters),
+        numbers(usize::from(shape.results)),
+        numbers(shape.locals),
+        &code,
+    )];
+    let module = of_functions(&functions);
+    on_run(alloc, &module, &certificate, sevens(shape.parameters))
+}
+
 #[test]
-fn functions_have_4096_blocks_at_most(rt: HostRuntime) -> Result<(), Fail> {
-    let mut code = Vec::new(rt.alloc());
+fn functions_have_their_limits(rt: HostRuntime) -> Result<(), Fail> {
+    for (place, shape) in SHAPES.iter().enumerate() {
+        let lines = on_shape(rt.alloc(), shape)?;
+        assert_eq!(rt; lines.as_slice(), shape.report.as_bytes(), "at {place}");
+    }
+    Ok(())
+}
+
+/// Code of 4,096 blocks, each of which goes on to the next one.
+pub fn branches(alloc: Global) -> Result<Vec<Instruction>, Fail> {
+    let mut code = Vec::new(alloc);
     for next in 1..4096 {
         code.push(Branch(next))?;
     }
     code.push(Ret)?;
-    let mut certificate = Vec::new(rt.alloc());
-    for _ in &code {
-        certificate.push("0100")?;
-    }
+    Ok(code)
+}
+
+#[test]
+fn functions_have_4096_blocks_at_most(rt: HostRuntime) -> Result<(), Fail> {
+    let code = branches(rt.alloc())?;
+    let certificate = vec![in rt.alloc(); "0100"; 4096]?;
     let functions = [Function {
         code: &code,
         ..ENTRY
     }];
     let module = of_functions(&functions);
     let lines = on_run(rt.alloc(), &module, &certificate, &[])?;
-    assert_eq!(rt;
-        lines.as_slice(),
-        "1 published 1\n2 returned 4096\n".as_bytes()
-    );
+    let wanted = "1 published 1\n2 returned 4096\n";
+    assert_eq!(rt; lines.as_slice(), wanted.as_bytes());
     Ok(())
 }
 
-#[test]
-fn functions_have_64_locals_at_most(rt: HostRuntime) -> Result<(), Fail> {
-    // Of the first all are others than parameters, and the second has a parameter besides.
-    for (parameters, wanted) in [
-        (0, "1 published 1\n2 returned 1\n"),
-        (1, "1 refused 5\n2 rejected 3\n"),
-    ] {
-        let mut types = Vec::new(rt.alloc());
-        let mut certificate = vec![in rt.alloc(); "01"]?;
-        for _ in 0..parameters {
-            types.push(Plain(U64))?;
-            certificate.push("01")?;
-        }
-        certificate.extend_from_slice(&["00"; 65])?;
-        let functions = [Function {
-            parameters: &types,
-            locals: &[Plain(U64); 64],
-            code: &[Ret],
-            ..ENTRY
-        }];
-        let module = of_functions(&functions);
-        let lines = on_run(rt.alloc(), &module, &certificate, &[])?;
-        assert_eq!(rt; lines.as_slice(), wanted.as_bytes());
+// ---- structs
+
+/// A struct that can be dropped.
+pub fn dropped<'a>(name: &'a str, fields: &'a [(&'a str, Token)]) -> Struct<'a> {
+    Struct {
+        name,
+        abilities: DROP,
+        fields,
     }
-    Ok(())
 }
 
-#[test]
-fn functions_have_16_parameters_at_most(rt: HostRuntime) -> Result<(), Fail> {
-    for (count, wanted) in [
-        (16, "1 published 1\n2 returned 1\n"),
-        (17, "1 refused 5\n2 rejected 1\n"),
-    ] {
-        let mut parameters = Vec::new(rt.alloc());
-        let mut certificate = vec![in rt.alloc(); "01"]?;
-        let mut arguments = Vec::new(rt.alloc());
-        for _ in 0..count {
-            parameters.push(Plain(U64))?;
-            certificate.push("01")?;
-            arguments.push(Argument::U64(7))?;
-        }
-        certificate.push("00")?;
-        let functions = [Function {
-            parameters: &parameters,
-            code: &[Ret],
-            ..ENTRY
-        }];
-        let module = of_functions(&functions);
-        let lines = on_run(rt.alloc(), &module, &certificate, &arguments)?;
-        assert_eq!(rt; lines.as_slice(), wanted.as_bytes());
-    }
-    Ok(())
-}
-
-#[test]
-fn functions_have_8_results_at_most(rt: HostRuntime) -> Result<(), Fail> {
-    for (count, wanted) in [(8, "1 published 1\n"), (9, "1 refused 5\n")] {
-        let mut types = Vec::new(rt.alloc());
-        let mut certificate = vec![in rt.alloc(); "01"]?;
-        let mut code = Vec::new(rt.alloc());
-        for local in 0..count {
-            types.push(Plain(U64))?;
-            certificate.push("01")?;
-            code.push(MoveLoc(local))?;
-        }
-        certificate.push("00")?;
-        code.push(Ret)?;
-        let lines = on_results(rt.alloc(), &types, &code, &certificate)?;
-        assert_eq!(rt; lines.as_slice(), wanted.as_bytes());
-    }
-    Ok(())
-}
-
-// The report where a function that results in its arguments is published.
-fn on_results<'a>(
-    alloc: Global,
-    types: &'a [Token],
-    code: &'a [Instruction],
-    certificate: &'a [&'a str],
-) -> Result<Vec<u8>, Fail> {
-    let functions = [Function {
-        is_entry: false,
-        parameters: types,
-        results: types,
-        code,
-        ..ENTRY
-    }];
-    let module = of_functions(&functions);
-    on_module(alloc, &module, certificate)
-}
-
-#[test]
-fn stacks_have_128_operands_at_most(rt: HostRuntime) -> Result<(), Fail> {
-    for (operands, wanted) in [
-        (128, "1 published 1\n2 returned 257\n"),
-        (129, "1 refused 8\n2 rejected 3\n"),
-    ] {
-        let mut code = Vec::new(rt.alloc());
-        for _ in 0..operands {
-            code.push(LdTrue)?;
-        }
-        for _ in 0..operands {
-            code.push(Pop)?;
-        }
-        code.push(Ret)?;
-        let functions = [Function {
-            code: &code,
-            ..ENTRY
-        }];
-        let module = of_functions(&functions);
-        let lines = on_run(rt.alloc(), &module, &["0100"], &[])?;
-        assert_eq!(rt; lines.as_slice(), wanted.as_bytes());
-    }
-    Ok(())
-}
-
-// Fields of these names and one type.
-fn fields<'a>(
+/// Fields of these names and one type.
+pub fn fields<'a>(
     alloc: Global,
     names: &'a [String],
     token: Token,
@@ -439,31 +464,27 @@ fn fields<'a>(
     Ok(fields)
 }
 
-#[test]
-fn structs_have_32_fields_at_most(rt: HostRuntime) -> Result<(), Fail> {
-    for (count, wanted) in [(32, "1 published 1\n"), (33, "1 refused 2\n")] {
-        let names = names(rt.alloc(), "x", count)?;
-        let fields = fields(rt.alloc(), &names, Plain(U64))?;
-        let structs = [dropped("L", &fields)];
-        let module = of_structs(&structs);
-        let lines = on_module(rt.alloc(), &module, &[])?;
-        assert_eq!(rt; lines.as_slice(), wanted.as_bytes());
-    }
-    Ok(())
+// The report where a struct of so many numbers is published, and one of so many of it.
+fn on_fields(alloc: Global, inner: usize, outer: usize) -> Result<Vec<u8>, Fail> {
+    let inner_names = names(alloc, "x", inner)?;
+    let numbers = fields(alloc, &inner_names, Plain(U64))?;
+    let outer_names = names(alloc, "x", outer)?;
+    let values = fields(alloc, &outer_names, Plain(OfStruct(0)))?;
+    let structs = [dropped("L", &numbers), dropped("W", &values)];
+    let module = of_structs(&structs);
+    on_module(alloc, &module, &[])
 }
 
 #[test]
-fn structs_have_256_leaves_at_most(rt: HostRuntime) -> Result<(), Fail> {
-    // Structs of 8 and of 9 structs of 32 numbers.
-    for (count, wanted) in [(8, "1 published 1\n"), (9, "1 refused 13\n")] {
-        let names_of_32 = names(rt.alloc(), "x", 32)?;
-        let numbers = fields(rt.alloc(), &names_of_32, Plain(U64))?;
-        let names_of_few = names(rt.alloc(), "x", count)?;
-        let values = fields(rt.alloc(), &names_of_few, Plain(OfStruct(0)))?;
-        let structs = [dropped("L", &numbers), dropped("W", &values)];
-        let module = of_structs(&structs);
-        let lines = on_module(rt.alloc(), &module, &[])?;
-        assert_eq!(rt; lines.as_slice(), wanted.as_bytes());
+fn structs_have_32_fields_and_256_leaves_at_most(rt: HostRuntime) -> Result<(), Fail> {
+    for (inner, outer, wanted) in [
+        (32, 1, "1 published 1\n"),
+        (33, 1, "1 refused 2\n"),
+        (32, 8, "1 published 1\n"),
+        (32, 9, "1 refused 13\n"),
+    ] {
+        let lines = on_fields(rt.alloc(), inner, outer)?;
+        assert_eq!(rt; lines.as_slice(), wanted.as_bytes(), "{inner}, {outer}");
     }
     Ok(())
 }

@@ -24,6 +24,20 @@ pub enum Argument {
     Address(u128),
 }
 
+impl Argument {
+    fn token(self) -> u8 {
+        match self {
+            Argument::Bool(_) => 0x01,
+            Argument::U8(_) => 0x02,
+            Argument::U16(_) => 0x0D,
+            Argument::U32(_) => 0x0E,
+            Argument::U64(_) => 0x03,
+            Argument::U128(_) => 0x04,
+            Argument::Address(_) => 0x05,
+        }
+    }
+}
+
 /// A run of a function, with a budget of steps.
 #[derive(Clone, Copy)]
 pub struct Transaction<'a> {
@@ -70,12 +84,19 @@ pub struct Row {
     pub report: &'static str,
 }
 
+/// Writes bytes that stand in hex, in parts.
+pub fn write_parts(alloc: Global, parts: &[&str], out: &mut Vec<u8>) -> Result<(), FromHexError> {
+    for part in parts {
+        let bytes = hex::decode(alloc, *part)?;
+        out.extend_from_slice(&bytes)?;
+    }
+    Ok(())
+}
+
 /// The bytes that stand in hex, in parts.
 pub fn decoded(alloc: Global, parts: &[&str]) -> Result<Vec<u8>, FromHexError> {
     let mut bytes = Vec::new(alloc);
-    for part in parts {
-        bytes.extend_from_slice(&hex::decode(alloc, *part)?)?;
-    }
+    write_parts(alloc, parts, &mut bytes)?;
     Ok(bytes)
 }
 
@@ -85,21 +106,41 @@ fn write_counted(bytes: &[u8], out: &mut Vec<u8>) -> Result<(), AllocError> {
     out.extend_from_slice(bytes)
 }
 
-// The payload of a bundle, given the bytes of its modules.
+// Writes how a bundle begins: its sender, and how many modules there are.
+fn write_start(sender: u128, modules: usize, out: &mut Vec<u8>) -> Result<(), AllocError> {
+    write_address(sender, out)?;
+    mv_uleb::write(modules as u64, out)
+}
+
+fn write_certificate(alloc: Global, parts: &[&str], out: &mut Vec<u8>) -> Result<(), FromHexError> {
+    let certificate = decoded(alloc, parts)?;
+    Ok(write_counted(&certificate, out)?)
+}
+
+fn write_offered(
+    alloc: Global,
+    offered: &Offered<'_>,
+    out: &mut Vec<u8>,
+) -> Result<(), FromHexError> {
+    let module = assembled(alloc, offered.module)?;
+    write_counted(&module, out)?;
+    write_certificate(alloc, offered.certificate, out)
+}
+
+// The payload of a bundle.
 fn bundle(alloc: Global, sender: u128, modules: &[Offered<'_>]) -> Result<Vec<u8>, FromHexError> {
     let mut out = Vec::new(alloc);
-    write_address(sender, &mut out)?;
-    mv_uleb::write(modules.len() as u64, &mut out)?;
+    write_start(sender, modules.len(), &mut out)?;
     for offered in modules {
-        write_counted(&assembled(alloc, offered.module)?, &mut out)?;
-        write_counted(&decoded(alloc, offered.certificate)?, &mut out)?;
+        write_offered(alloc, offered, &mut out)?;
     }
     Ok(out)
 }
 
+// The payload of a bundle of one module, in which one byte is another.
 fn altered(
     alloc: Global,
-    offered: Offered<'_>,
+    offered: &Offered<'_>,
     place: usize,
     byte: u8,
 ) -> Result<Vec<u8>, FromHexError> {
@@ -108,37 +149,22 @@ fn altered(
         *old = byte;
     }
     let mut out = Vec::new(alloc);
-    write_address(1, &mut out)?;
-    mv_uleb::write(1, &mut out)?;
+    write_start(1, 1, &mut out)?;
     write_counted(&module, &mut out)?;
-    write_counted(&decoded(alloc, offered.certificate)?, &mut out)?;
+    write_certificate(alloc, offered.certificate, &mut out)?;
     Ok(out)
 }
 
 fn write_argument(argument: Argument, out: &mut Vec<u8>) -> Result<(), AllocError> {
+    out.push(argument.token())?;
     match argument {
-        Argument::Bool(value) => out.extend_from_slice(&[0x01, u8::from(value)]),
-        Argument::U8(number) => out.extend_from_slice(&[0x02, number]),
-        Argument::U16(number) => {
-            out.push(0x0D)?;
-            out.extend_from_slice(&number.to_le_bytes())
-        }
-        Argument::U32(number) => {
-            out.push(0x0E)?;
-            out.extend_from_slice(&number.to_le_bytes())
-        }
-        Argument::U64(number) => {
-            out.push(0x03)?;
-            out.extend_from_slice(&number.to_le_bytes())
-        }
-        Argument::U128(number) => {
-            out.push(0x04)?;
-            out.extend_from_slice(&number.to_le_bytes())
-        }
-        Argument::Address(address) => {
-            out.push(0x05)?;
-            write_address(address, out)
-        }
+        Argument::Bool(value) => out.extend_from_slice(&[u8::from(value)]),
+        Argument::U8(number) => out.extend_from_slice(&[number]),
+        Argument::U16(number) => out.extend_from_slice(&number.to_le_bytes()),
+        Argument::U32(number) => out.extend_from_slice(&number.to_le_bytes()),
+        Argument::U64(number) => out.extend_from_slice(&number.to_le_bytes()),
+        Argument::U128(number) => out.extend_from_slice(&number.to_le_bytes()),
+        Argument::Address(address) => write_address(address, out),
     }
 }
 
@@ -161,7 +187,7 @@ fn written(alloc: Global, record: &Record<'_>) -> Result<Vec<u8>, FromHexError> 
     let (kind, payload) = match record {
         Record::Publish(modules) => (1, bundle(alloc, 1, modules)?),
         Record::PublishBy(sender, modules) => (1, bundle(alloc, *sender, modules)?),
-        Record::Altered(offered, place, byte) => (1, altered(alloc, *offered, *place, *byte)?),
+        Record::Altered(offered, place, byte) => (1, altered(alloc, offered, *place, *byte)?),
         Record::Run(call) => (2, run(alloc, call)?),
         Record::Show => (3, Vec::new(alloc)),
         Record::ShowJson => (3, Vec::from_slice(alloc, &[1])?),

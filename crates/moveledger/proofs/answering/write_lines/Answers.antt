@@ -1,5 +1,5 @@
 use Rattle.std.proofs.lemmas.Result.{err_from_is_err_and}
-use Rattle.std.proofs.Common.{◌≡◌, List, ℕ, ◌∷◌}
+use Rattle.std.proofs.Common.{◌≡◌, ◌∷◌}
 use Rattle.moveledger.proofs.Writing.{HasWritten-next, HasWritten-begun, HasWritten-part}
 use Rattle.moveledger.proofs.answering.write_lines.Goals as goal
 

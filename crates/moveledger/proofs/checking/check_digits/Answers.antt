@@ -3,7 +3,7 @@ use Rattle.std.proofs.lemmas.Result.{err_from_is_err_and}
 use Rattle.mv_acquires.specs.Acquires.{AcquiresHold}
 use Rattle.mv_certificate.specs.CertificateText.{IsCertificateText}
 use Rattle.moveledger.specs.Checking.{offer_of}
-use Rattle.moveledger.proofs.Phases.{refused_stated, refused_check}
+use Rattle.mv_ledger.proofs.Phases.{refused_stated, refused_check}
 use Rattle.moveledger.proofs.Verdicts.{refused-in_module, refused-in_digits, refused-in_certificate}
 use Rattle.moveledger.proofs.checking.check_digits.Goals as goal
 

@@ -1,4 +1,4 @@
-use Rattle.std.proofs.Common.{◌≡◌, [], ap, ◌∙◌, map, false, true, List, refl, sym, subst, Bor}
+use Rattle.std.proofs.Common.{◌≡◌, ap, ◌∙◌, map, false, true, List, refl, sym, subst, Bor}
 use Rattle.clap.specs.Words.{takes, App, HasKind, IsAmong, Text, app_of, fault_of, kind_of}
 use Rattle.clap.specs.declared.error.Error.{Error}
 use Rattle.moveledger.specs.Line.{moveledger}

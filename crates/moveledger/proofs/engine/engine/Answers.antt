@@ -1,7 +1,7 @@
 use Rattle.std.proofs.Common.{◌≡◌, ℕ, ◌+◌, List, [], ◌++◌, sym, refl, arith, subst, flat_map}
 use Rattle.std.proofs.lemmas.Result.{err_from_is_err_and}
 use Rattle.moveledger.specs.Outcome.{left_of}
-use Rattle.moveledger.specs.Records.{Whole, Cut, IsText}
+use Rattle.moveledger.specs.Records.{Cut, IsText}
 use Rattle.mv_machine.specs.Lines.{Refused, reply_lines, numbered}
 use Rattle.moveledger.proofs.Taken.{Tells-taken}
 use Rattle.moveledger.proofs.Steps.{Progress-start, Progress-next, Progress-stops, Stops-next, Stops-answered, Progress-stops_reading, Progress-ends, Progress-full, Progress-cut, tail_of_cut}

@@ -1,7 +1,7 @@
 use Rattle.std.proofs.Common.{Some, Err, sym, ap, ◌∙◌}
 use Rattle.std.proofs.lemmas.Result.{err_from_is_err_and}
 use Rattle.moveledger.specs.Checking.{offer_of}
-use Rattle.moveledger.proofs.Phases.{refused_text, refused_bounds, refused_types}
+use Rattle.mv_ledger.proofs.Phases.{refused_text, refused_bounds, refused_types}
 use Rattle.moveledger.proofs.Verdicts.{refused-alone}
 use Rattle.moveledger.proofs.modules.sound.Goals as goal
 

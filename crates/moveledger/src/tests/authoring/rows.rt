@@ -19,7 +19,7 @@ pub struct Checked {
 }
 
 /// What `prove` prints.
-pub const PROVED: [Proved; 19] = [
+pub const PROVED: [Proved; 20] = [
     Proved {
         shows: "a module without functions has an empty certificate",
         module: EMPTY,
@@ -60,6 +60,12 @@ pub const PROVED: [Proved; 19] = [
         shows: "letters are of lower case",
         module: TENTH_LOCAL,
         line: "01010000000000000000000000010100000000000000000001010100000a0000\n",
+        is_accepted: true,
+    },
+    Proved {
+        shows: "an edge stays beside one that covers it",
+        module: BOTH_EDGES,
+        line: "010100010100000001010100000101010000010101010201010002000101010002010000\n",
         is_accepted: true,
     },
     Proved {
@@ -259,7 +265,7 @@ pub const CHECKED: [Checked; 26] = [
         line: "refused 9\n",
     },
     Checked {
-        shows: "nothing stands behind a certificate",
+        shows: "nothing stands after a certificate",
         module: COIN,
         text: "0101010000",
         line: "refused 9\n",

@@ -141,6 +141,14 @@ const JOINS: &[Row] = &[
         report: "1 refused 10\n",
     },
     Row {
+        shows: "what is stated after a branch that isn't taken is said of it",
+        records: &[Publish(&[Offered {
+            certificate: &["01010000", "01010100", "01010200"],
+            ..JOINED
+        }])],
+        report: "1 refused 10\n",
+    },
+    Row {
         shows: "a coin isn't lost where two ways meet",
         records: &[Publish(&[JOINED_COINS])],
         report: "1 refused 10\n",
@@ -150,6 +158,69 @@ const JOINS: &[Row] = &[
         records: &[Publish(&[Offered {
             certificate: &["01010000", "01010000", "01010200"],
             ..JOINED_COINS
+        }])],
+        report: "1 refused 10\n",
+    },
+];
+
+// It moves its local in a loop, and goes on to the loop without a branch.
+const MOVED_IN_A_LOOP: Offered = Offered {
+    module: &Sketch {
+        functions: &[Function {
+            locals: &[Plain(U64)],
+            code: &[
+                LdU64(1),
+                Pop,
+                MoveLoc(0),
+                Pop,
+                LdU64(1),
+                StLoc(0),
+                Branch(2),
+            ],
+            ..ENTRY
+        }],
+        ..EMPTY
+    },
+    certificate: &["010000", "010100"],
+};
+
+// It moves its local in a loop, and puts nothing back.
+const LOST_IN_A_LOOP: Offered = Offered {
+    module: &Sketch {
+        functions: &[Function {
+            locals: &[Plain(U64)],
+            code: &[LdU64(1), StLoc(0), MoveLoc(0), Pop, Branch(2)],
+            ..ENTRY
+        }],
+        ..EMPTY
+    },
+    certificate: &["010000", "010100"],
+};
+
+const LOOPS: &[Row] = &[
+    Row {
+        shows: "a block that ends without a branch goes on to the next one",
+        records: &[Publish(&[MOVED_IN_A_LOOP])],
+        report: "1 refused 10\n",
+    },
+    Row {
+        shows: "the way back of a loop is looked at",
+        records: &[Publish(&[LOST_IN_A_LOOP])],
+        report: "1 refused 10\n",
+    },
+    Row {
+        shows: "the target of a branch is looked at",
+        records: &[Publish(&[Offered {
+            certificate: &["010100", "010100", "010000"],
+            ..DOWN
+        }])],
+        report: "1 refused 10\n",
+    },
+    Row {
+        shows: "so is the block before the one where two ways meet",
+        records: &[Publish(&[Offered {
+            certificate: &["010100", "010100", "010100"],
+            ..DOWN
         }])],
         report: "1 refused 10\n",
     },
@@ -229,4 +300,9 @@ fn runs_and_code_end(rt: HostRuntime) -> Result<(), Fail> {
 #[test]
 fn locals_are_there_to_be_moved(rt: HostRuntime) -> Result<(), Fail> {
     answered_as_wanted(&rt, rt.alloc(), LOCALS)
+}
+
+#[test]
+fn what_holds_in_loops(rt: HostRuntime) -> Result<(), Fail> {
+    answered_as_wanted(&rt, rt.alloc(), LOOPS)
 }

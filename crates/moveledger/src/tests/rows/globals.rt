@@ -139,6 +139,28 @@ const GLOBALS: &[Row] = &[
         report: "1 published 1\n2 aborted missing 0 2\n3 returned 5\n4 returned 13\n",
     },
     Row {
+        shows: "no reference to a stored coin is handed out",
+        records: &[Publish(&[Offered {
+            module: &Sketch {
+                functions: &[
+                    MINT,
+                    Function {
+                        name: "lent",
+                        is_entry: false,
+                        parameters: &[Plain(ADDRESS)],
+                        results: &[Reference(OfStruct(0))],
+                        acquires: &[0],
+                        code: &[MoveLoc(0), ImmBorrowGlobal(0), Ret],
+                        ..ENTRY
+                    },
+                ],
+                ..COIN_MODULE
+            },
+            certificate: &[OF_MINT, "010100"],
+        }])],
+        report: "1 refused 11\n",
+    },
+    Row {
         shows: "a stored coin is written",
         records: &[
             Publish(&[Offered {

@@ -223,12 +223,12 @@ const CALLED: &[Row] = &[
         report: "1 refused 13\n2 published 1\n",
     },
     Row {
-        shows: "a function of a module behind in the bundle is called",
+        shows: "a function of a module later in the bundle is called",
         records: &[Publish(&[GO, COINS]), RUN_GO, Audit],
         report: MINTED_BY_GO,
     },
     Row {
-        shows: "a function of a module before in the bundle is called",
+        shows: "a function of a module earlier in the bundle is called",
         records: &[Publish(&[COINS, GO]), RUN_GO, Audit],
         report: MINTED_BY_GO,
     },

@@ -72,7 +72,7 @@ const MODULES: &[Row] = &[
         report: "1 refused 2\n",
     },
     Row {
-        shows: "a byte behind a module",
+        shows: "a byte after a module",
         records: &[Raw(&["013b", ONE, "0128", HEADERS, CONTENTS, "0000"])],
         report: "1 refused 2\n",
     },
@@ -122,7 +122,7 @@ const CERTIFICATES: &[Row] = &[
         report: "1 refused 9\n",
     },
     Row {
-        shows: "a byte behind a certificate",
+        shows: "a byte after a certificate",
         records: &[Publish(&[Offered {
             certificate: &["01010100", "00"],
             ..COINS

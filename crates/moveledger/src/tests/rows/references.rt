@@ -128,6 +128,27 @@ const SPLITS: Function = Function {
 const LOCALS: &[Row] = &[
     WRITTEN,
     Row {
+        shows: "an edge that flows into a block is stated there",
+        records: &[Publish(&[Offered {
+            certificate: &["0101000000", "0101010100", "0101010100", "0101010100"],
+            ..WRITTEN_IN_A_LOOP
+        }])],
+        report: "1 refused 11\n",
+    },
+    Row {
+        shows: "more edges may be stated than flow in",
+        records: &[Publish(&[Offered {
+            certificate: &[
+                "0101000000",
+                "0101010102010100020000010100020001",
+                "0101010102010100020000010100020001",
+                "0101010102010100020000010100020001",
+            ],
+            ..WRITTEN_IN_A_LOOP
+        }])],
+        report: "1 published 1\n",
+    },
+    Row {
         shows: "nothing is written while a frozen reference is there",
         records: &[Publish(&[Offered {
             module: &Sketch {
@@ -358,7 +379,76 @@ const FIELDS: &[Row] = &[
     },
 ];
 
+// Pairs of pairs. pick(q: &mut Q): &mut P borrows the second one, and g borrows of both while it has what pick gave.
+const PAIRS_OF_PAIRS: Offered = Offered {
+    module: &Sketch {
+        structs: &[
+            PAIR,
+            Struct {
+                name: "Q",
+                fields: &[("x", Plain(OfStruct(0))), ("y", Plain(OfStruct(0)))],
+                ..PAIR
+            },
+        ],
+        functions: &[
+            Function {
+                name: "pick",
+                is_entry: false,
+                parameters: &[MutableReference(OfStruct(1))],
+                results: &[MutableReference(OfStruct(0))],
+                code: &[MoveLoc(0), MutBorrowField(1), Ret],
+                ..ENTRY
+            },
+            Function {
+                name: "g",
+                locals: &[
+                    Plain(OfStruct(1)),
+                    MutableReference(OfStruct(1)),
+                    MutableReference(U64),
+                ],
+                code: &[
+                    LdU64(1),
+                    LdU64(2),
+                    Pack(0),
+                    LdU64(3),
+                    LdU64(4),
+                    Pack(0),
+                    Pack(1),
+                    StLoc(0),
+                    MutBorrowLoc(0),
+                    StLoc(1),
+                    CopyLoc(1),
+                    Call(0),
+                    MutBorrowField(0),
+                    StLoc(2),
+                    MoveLoc(1),
+                    MutBorrowField(1),
+                    Pop,
+                    MoveLoc(2),
+                    Pop,
+                    Ret,
+                ],
+                ..ENTRY
+            },
+        ],
+        field_handles: &[
+            A,
+            FieldHandle {
+                definition: 1,
+                position: 1,
+            },
+        ],
+        ..EMPTY
+    },
+    certificate: &["010100", "0100000000"],
+};
+
 const CALLS: &[Row] = &[
+    Row {
+        shows: "what a call gave may lie in any field",
+        records: &[Publish(&[PAIRS_OF_PAIRS])],
+        report: "1 refused 11\n",
+    },
     Row {
         shows: "it is written through a reference that a call gave",
         records: &[

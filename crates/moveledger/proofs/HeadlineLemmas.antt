@@ -1,0 +1,49 @@
+-- What the ledger promises of a record, taken apart into the parts of the headline.
+use Rattle.std.specs.Prelude.{ℕ, List, Result, Ok, Err, IfOk}
+use Rattle.mv_machine.specs.Run.{RunOutcome, Returned, Aborted, Exhausted, Faulted, FunctionCall, run}
+use Rattle.mv_machine.specs.Ledger.{LedgerState, Request, Publish, Run, Show, Audit, BadRun, Bad, modules_of, admitted}
+use Rattle.mv_machine.specs.Lines.{Reply}
+use Rattle.mv_ledger.specs.Answering.{IsReplied}
+use Rattle.mv_ledger.specs.Counting.Headline.{EndsWell, CallEndsWell, RunsWell}
+use Rattle.mv_ledger.specs.View.{LedgerView, state_of}
+use Rattle.moveledger.specs.Headline.{MeetsNoFault, IsOfOwnModules, ItsRun, AnswersWhole}
+
+ends_without_fault : (budget : ℕ) (o : RunOutcome) → EndsWell budget o → MeetsNoFault budget o
+ends_without_fault budget (Returned steps storage events) h = h.0
+ends_without_fault budget (Aborted kind number steps) h = h
+ends_without_fault budget (Exhausted stop steps) h = h
+ends_without_fault budget (Faulted fault steps) h = h
+
+ends_by_own_modules : (budget : ℕ) (o : RunOutcome) → EndsWell budget o → IsOfOwnModules budget o
+ends_by_own_modules budget (Returned steps storage events) h = h.1
+ends_by_own_modules budget (Aborted kind number steps) h = tt
+ends_by_own_modules budget (Exhausted stop steps) h = tt
+ends_by_own_modules budget (Faulted fault steps) h = tt
+
+-- what follows from a run's end holds of the run that a call asks for
+call_keeps : (Keeps : ℕ → RunOutcome → Type 0) → ((budget : ℕ) (o : RunOutcome) → EndsWell budget o → Keeps budget o)
+    → (s : LedgerState) (budget : ℕ) (asked : Result FunctionCall ℕ) → CallEndsWell s budget asked
+    → IfOk asked (λ call. Keeps budget (run (modules_of s) s.storage call budget))
+call_keeps Keeps from s budget (Ok call) h = from budget (run (modules_of s) s.storage call budget) h
+call_keeps Keeps from s budget (Err reason) h = tt
+
+run_keeps : (Keeps : ℕ → RunOutcome → Type 0) → ((budget : ℕ) (o : RunOutcome) → EndsWell budget o → Keeps budget o)
+    → (s : LedgerState) (request : Request) → RunsWell s request → ItsRun Keeps s request
+run_keeps Keeps from s (Publish sender offers) h = tt
+run_keeps Keeps from s (Run r) h = call_keeps Keeps from s r.budget (admitted s r) h
+run_keeps Keeps from s (Show format) h = tt
+run_keeps Keeps from s (Audit format) h = tt
+run_keeps Keeps from s BadRun h = tt
+run_keeps Keeps from s Bad h = tt
+
+pub answers_whole : (kind : ℕ) (payload : List ℕ) (reply : Reply) (old new : LedgerView) → IsReplied kind payload reply old new → AnswersWhole kind payload reply old new
+answers_whole kind payload reply old new h = record {
+  request = h.answers.0;
+  asked = h.answers.1;
+  faithful = h.answers.2;
+  exact = h.rightly;
+  no_fault = run_keeps MeetsNoFault ends_without_fault (state_of old) h.answers.0 h.answers.3;
+  own_modules = run_keeps IsOfOwnModules ends_by_own_modules (state_of old) h.answers.0 h.answers.3;
+  conserved = h.answers.4;
+  leaves = h.leaves;
+}

@@ -1,0 +1,87 @@
+-- The headline: what the contract of `engine` promises where no read, write or allocation fails.
+--
+--   For every input the ledger's report is the defensive machine's over the records read and the bundles that the report itself
+--   calls published; no run meets a fault; every run returns, aborts or exhausts its steps or frames; and the stored values of
+--   each struct lacking copy and drop number its Packs less its Unpacks in returned runs, each executed by code of the struct's
+--   own module.
+--
+-- Each part of the sentence has its name below, from a run up to a whole input. Records.antt says which records bytes are, and
+-- Outcome.antt which prefix of the report stands where something fails.
+use Rattle.std.specs.Prelude.{◌≡◌, ℕ, ◌+◌, ◌-◌, ◌^◌, ◌≤◌, List, [], ◌∷◌, ◌++◌, length, Option, Some, None, IfOk, ⊤, ◌⊎◌, flat_map}
+use Rattle.std.specs.List.{AllByRecursion}
+use Rattle.std.specs.Io.KnownBytes.{Appends}
+use Rattle.mv_machine.specs.Count.{count}
+use Rattle.mv_machine.specs.Run.{RunOutcome, Returned, Aborted, Exhausted, Faulted, run}
+use Rattle.mv_machine.specs.Ledger.{LedgerState, Request, Run, Answers, modules_of, admitted}
+use Rattle.mv_machine.specs.Lines.{Reply, Refused, reply_lines, numbered}
+use Rattle.mv_ledger.specs.RecordText.{Asks}
+use Rattle.mv_ledger.specs.Publishing.{Spells}
+use Rattle.mv_ledger.specs.Exact.{IsRightly}
+use Rattle.mv_ledger.specs.Changes.{Leaves}
+use Rattle.mv_ledger.specs.View.{LedgerView, state_of}
+use Rattle.moveledger.specs.Records.{Record, Whole, Cut, AreRecords}
+
+-- a run meets no fault: it returns, aborts or exhausts its steps or frames, after at most as many steps as its budget
+abbrev pub MeetsNoFault : ℕ → RunOutcome → Type 0
+MeetsNoFault budget (Returned steps storage events) = steps ≤ budget
+MeetsNoFault budget (Aborted kind number steps) = steps ≤ budget
+MeetsNoFault budget (Exhausted stop steps) = steps ≤ budget
+MeetsNoFault budget (Faulted fault steps) = ⊥
+
+-- each Pack and Unpack of a run that returned was executed by code of the struct's own module
+abbrev pub IsOfOwnModules : ℕ → RunOutcome → Type 0
+IsOfOwnModules budget (Returned steps storage events) = AllByRecursion (λ event. event.by ≡ event.struct.home) events
+IsOfOwnModules budget _ = ⊤
+
+-- the machine's run that a record asks for keeps this, within its budget; there is none where it asks for none or is rejected
+abbrev pub ItsRun : (ℕ → RunOutcome → Type 0) → LedgerState → Request → Type 0
+ItsRun Keeps s (Run r) = IfOk (admitted s r) (λ call. Keeps r.budget (run (modules_of s) s.storage call r.budget))
+ItsRun Keeps s _ = ⊤
+
+-- of each struct lacking copy and drop, the stored values, at any depth, number its Packs less its Unpacks in returned runs
+abbrev pub StoredArePacksLessUnpacks : LedgerState → Type 0
+StoredArePacksLessUnpacks s = AllByRecursion (λ tally. count s.storage tally.struct + tally.unpacks ≡ tally.packs) s.tallies
+
+-- a whole record is answered by this reply, and the ledger goes on from old to new
+pub record AnswersWhole (kind : ℕ) (payload : List ℕ) (reply : Reply) (old new : LedgerView) : Type 0 where
+  -- what the payload asks, by the text of its kind
+  pub request : Request
+  pub asked : Asks kind payload request
+  -- the reply and the ledger after it are the defensive machine's, over the bundles that were called published
+  pub faithful : Answers Spells (state_of old) request reply (state_of new)
+  -- and a bundle is called published where it passes every phase, else refused in the first that it fails
+  pub exact : kind ≡ 1 → IsRightly (state_of old) payload reply (state_of new)
+  pub no_fault : ItsRun MeetsNoFault (state_of old) request
+  pub own_modules : ItsRun IsOfOwnModules (state_of old) request
+  pub conserved : StoredArePacksLessUnpacks (state_of new)
+  -- a refusal and a rejection leave everything as it was, and a run that didn't return all but the number of runs
+  pub leaves : Leaves reply old new
+
+-- a record is answered by these lines; a cut one, which is the last, is refused in phase 1
+abbrev pub Step : LedgerView → Record → List (List ℕ) → LedgerView → Type 0
+Step old Cut lines new = (lines ≡ reply_lines (Refused 1)) × (new ≡ old)
+Step old (Whole kind payload) lines new = (reply : Reply) × (AnswersWhole kind payload reply old new × (lines ≡ reply_lines reply))
+
+-- the text is the report on these records: the lines that answer each, after its number, which for the first is n
+abbrev pub Reports : ℕ → LedgerView → List Record → List ℕ → LedgerView → Type 0
+Reports n old [] text new = (text ≡ []) × (new ≡ old)
+Reports n old (r ∷ rs) text new = (lines : List (List ℕ)) × (mid : LedgerView) × (more : List ℕ) × Step old r lines mid
+    × (text ≡ flat_map (numbered n) lines ++ more) × Reports (n + 1) mid rs more new
+
+-- a reader gives this input, where it tells its bytes
+abbrev pub Tells : Option (List ℕ) → List ℕ → Type 0
+Tells None input = ⊤
+Tells (Some xs) input = xs ≡ input
+
+-- for every input: all records that it begins with, up to its end or to the last number, are answered by a report, which is written
+pub record Headline (given held holds : Option (List ℕ)) (old new : LedgerView) (n : ℕ) : Type 0 where
+  pub input : List ℕ
+  pub records : List Record
+  pub rest : List ℕ
+  pub text : List ℕ
+  pub told : Tells given input
+  pub read : AreRecords input records rest
+  pub all : (rest ≡ []) ⊎ (n ≡ 2 ^ 64 - 1)
+  pub answered : n ≡ length records
+  pub report : Reports 1 old records text new
+  pub written : Appends held holds text
