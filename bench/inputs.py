@@ -1,126 +1,226 @@
-"""Modules and streams for the measurements, written by docs/FORMATS.md. Each function answers bytes."""
+"""The modules, payloads and streams of the measurements."""
 
-ONE = bytes(15) + b"\1"
-SIGNER, U64 = 0x0C, 0x03
-STORE_AND_KEY = 0x0C
-RET, MOVE_LOC, BORROW_LOC, PACK, MOVE_TO = 0x02, 0x0B, 0x0E, 0x12, 0x2D
+from assembler import COPY, DROP, KEY, STORE, Module, address, name, number, sized
 
+ASSET = STORE | KEY
+PLAIN = COPY | DROP | STORE
 
-def number(n):
-    """A ULEB128 number in its shortest form."""
-    out = bytearray()
-    while n > 127:
-        out.append(n & 127 | 128)
-        n >>= 7
-    return bytes(out + bytes([n]))
+# Where there are many edges, so many instructions come before the first state that has them.
+BEGINNING = 220
 
+# With so many units a module has about 6 KB and about 60 KB.
+SMALL, LARGE = 4, 42
 
-def sized(data):
-    return number(len(data)) + data
+# The instructions of each family: what a function begins with, what it repeats, and what it ends with.
+NUMBERS = "CopyLoc 0; StLoc 2;", """CopyLoc 2; CopyLoc 1; Add; LdU64 {n}; Sub; LdU64 3; Mul; LdU64 7; Mod; LdU64 2; Div;
+    CopyLoc 1; BitOr; LdU64 255; BitAnd; LdU64 5; Xor; LdU8 2; Shl; LdU8 1; Shr; StLoc 2; CopyLoc 2; CastU128;
+    LdU128 18446744073709551616; Lt; CopyLoc 2; LdConst u64:{n}; Gt; Or; LdTrue; And; Not; LdFalse; Eq; Pop; CopyLoc 2;
+    CopyLoc 1; Le; CopyLoc 2; CopyLoc 1; Ge; Neq; Pop; CopyLoc 2; LdU64 255; BitAnd; CastU8; CastU64; Pop;
+    {six}""", "MoveLoc 2; Ret"
 
+# What a module of version 6 has besides.
+SIX = "LdU16 1; LdU16 2; Add; CastU32; LdU32 3; Mul; CastU16; CastU64; Pop;"
 
-def name(text):
-    return sized(text.encode())
+CONTROL = "LdU64 0; StLoc 1;", """again{k}: CopyLoc 1; CopyLoc 0; Lt; BrFalse done{k}; CopyLoc 1; CopyLoc 0; LdU64 1; Add;
+    Call numbers{n}; Call help; Pop; CopyLoc 1; LdU64 1; Add; StLoc 1; Nop; Branch again{k}; done{k}: CopyLoc 0; LdU64 1000; Gt;
+    BrFalse fine{k}; LdU64 {n}; Abort; fine{k}:""", "Ret"
 
+STRUCTS = "", """CopyLoc 0; LdU128 {n}; LdTrue; Pack P{n}; StLoc 1; CopyLoc 1; CopyLoc 1; Eq; Pop; CopyLoc 1; Unpack P{n}; Pop;
+    Pop; Pop; MoveLoc 1; StLoc 2; LdU64 {n}; Pack D{n}; Unpack D{n}; Pop; MutBorrowLoc 2; ImmBorrowLoc 0; Call refer{n}; Pop;
+    MoveLoc 2; Pop;""", "Ret"
 
-def join(parts):
-    return b"".join(parts)
+REFERENCES = "", """CopyLoc 0; ImmBorrowField P{n}.a; ReadRef; StLoc 2; CopyLoc 2; CopyLoc 1; ReadRef; Add; CopyLoc 0;
+    MutBorrowField P{n}.a; WriteRef; LdTrue; CopyLoc 0; MutBorrowField P{n}.c; WriteRef; CopyLoc 0; FreezeRef;
+    ImmBorrowField P{n}.b; ReadRef; Pop;""", "MoveLoc 0; Pop; MoveLoc 1; Pop; MoveLoc 2; Ret"
 
-
-def module(tables):
-    """A module whose own handle is the first, from its tables by kind."""
-    headers, offset = b"", 0
-    for kind, table in sorted(tables.items()):
-        headers += bytes([kind]) + number(offset) + number(len(table))
-        offset += len(table)
-    contents = join(table for _, table in sorted(tables.items()))
-    return bytes.fromhex("a11ceb0b05000000") + number(len(tables)) + headers + contents + b"\0"
-
-
-def module_of(parameters, structs, functions, identifiers):
-    """A module at the address 1. A struct has the places of its u64 fields' names; a function has its code, as a list of
-    instructions, and takes `parameters` u64s after a signer. The identifiers are the names of the module, the structs and
-    the functions in this order, and others."""
-    first_function = 1 + len(structs)
-    return module({
-        0x01: number(0) + number(0),
-        0x02: join(number(0) + number(1 + i) + bytes([STORE_AND_KEY, 0]) for i in range(len(structs))),
-        0x03: join(number(0) + number(first_function + i) + bytes([0, 1, 0]) for i in range(len(functions))),
-        0x05: number(1 + parameters) + bytes([SIGNER] + [U64] * parameters) + number(0),
-        0x07: join(map(name, identifiers)),
-        0x08: ONE,
-        0x0A: join(number(i) + b"\2" + number(len(fields)) + join(number(f) + bytes([U64]) for f in fields)
-                   for i, fields in enumerate(structs)),
-        0x0C: join(number(i) + bytes([1, 4]) + number(0) + number(1) + number(len(code)) + join(code)
-                   for i, code in enumerate(functions)),
-    })
+GLOBALS = "", """CopyLoc 1; Exists R{n}; BrTrue there{k}; ImmBorrowLoc 0; LdU64 1; LdU128 2; LdFalse; Pack P{n}; LdU64 {n};
+    CopyLoc 1; Pack R{n}; MoveTo R{n}; there{k}: CopyLoc 1; MutBorrowGlobal R{n}; StLoc 2; LdU64 9; CopyLoc 2;
+    MutBorrowField R{n}.n; WriteRef; MoveLoc 2; MutBorrowField R{n}.p; MutBorrowField P{n}.a; ReadRef; Pop; CopyLoc 1;
+    ImmBorrowGlobal R{n}; ImmBorrowField R{n}.n; ReadRef; Pop; CopyLoc 1; MoveFrom R{n}; Unpack R{n}; Pop; Pop; Pop;""", "Ret"
 
 
-def pack(struct, locals_):
-    """Puts a reference to the signer on the stack, and a struct of what these locals hold."""
-    moves = [bytes([MOVE_LOC]) + number(l) for l in locals_]
-    return [bytes([BORROW_LOC, 0]), *moves, bytes([PACK]) + number(struct)]
+def family(parts, n, version):
+    """The code of a function of a family, which repeats its middle part."""
+    first, middle, last = parts
+    return first + "".join(middle.format(n=n, k=k, six=SIX if version == 6 else "") + " " for k in (1, 2, 3)) + last
 
 
-def store(struct):
-    """Stores the struct on the stack under the signer below it."""
-    return [bytes([MOVE_TO]) + number(struct)]
+def helping():
+    """The module B that others call."""
+    m = Module("B")
+    m.struct("Shared", ASSET, "v: u64")
+    m.function("help", "u64", "u64", "", "MoveLoc 0; Ret", entry=False)
+    return m
 
 
-def many_functions(count, own="M"):
-    """A module of this name with so many structs and functions, some 250 bytes for each pair, and its certificate. Only
-    the first of a function's fourteen blocks is reached."""
-    blocks = 14
-    identifiers = [own] + [f"S{i}" for i in range(count)] + [f"f{i}" for i in range(count)] + ["a", "b", "c"]
-    a = len(identifiers) - 3
-    functions = [(pack(i, [1, 2, 3]) + store(i) + [bytes([RET])]) * blocks for i in range(count)]
-    certificate = (b"\1" + b"\1" * 4 + b"\0" + b"\0" * (blocks - 1)) * count
-    return module_of(3, [[a, a + 1, a + 2]] * count, functions, identifiers), certificate
+def all_families(units, version, own="M"):
+    """A module with every table and instruction: so many times three structs and five functions, some 1,400 bytes each time."""
+    m = Module(own, version)
+    m.foreign_struct("B", "Shared", ASSET)
+    m.foreign_function("B", "help", "u64", "u64")
+    for n in range(units):
+        m.struct(f"P{n}", PLAIN, "a: u64; b: u128; c: bool")
+        m.struct(f"R{n}", ASSET, f"p: P{n}; n: u64; who: address")
+        m.struct(f"D{n}", 0, "v: u64")
+        m.function(f"numbers{n}", "u64; u64", "u64", "u64", family(NUMBERS, n, version), entry=False)
+        m.function(f"control{n}", "u64", "", "u64", family(CONTROL, n, version))
+        m.function(f"structs{n}", "u64", "", f"P{n}; P{n}", family(STRUCTS, n, version))
+        m.function(f"refer{n}", f"&mut P{n}; &u64", "u64", "u64", family(REFERENCES, n, version), entry=False)
+        m.function(f"globals{n}", "signer; address", "", f"&mut R{n}", family(GLOBALS, n, version), f"R{n}")
+    return m
 
 
-def longest_run():
-    """A module with the function that makes the most steps, 61, and its certificate. A value comes in by a parameter
-    alone, and there are at most 15 beside the signer: each is moved and packed, in 45 steps, and then stored."""
-    structs = 15
-    identifiers = ["M"] + [f"S{i}" for i in range(structs)] + ["fill", "v"]
-    packs = sum((pack(i, [1 + i]) for i in range(structs)), [])
-    stores = sum((store(i) for i in reversed(range(structs))), [])
-    code = packs + stores + [bytes([RET])]
-    return module_of(structs, [[structs + 2]] * structs, [code], identifiers), b"\1" + b"\1" * (1 + structs) + b"\0"
+def one_function(structs, parameters, locals_, code):
+    m = Module()
+    for own, abilities, fields in structs:
+        m.struct(own, abilities, fields)
+    m.function("f", parameters, "", locals_, code)
+    return m
 
 
-def coin():
-    """A module with the function mint, which stores one coin under the signer, and its certificate."""
-    code = pack(0, [1]) + store(0) + [bytes([RET])]
-    return module_of(1, [[3]], [code], ["M", "Coin", "mint", "v"]), b"\1\1\1\0"
+def filled(code, count):
+    """Code with so many instructions before a Nop at its end, and Ret."""
+    lines = [line for line in code.replace("\n", " ").split(";") if line.strip()]
+    return ";".join(lines + [" Nop"] * (count - len(lines) - 1) + [" Ret"])
 
 
-def publish_payload(text, certificate):
-    return ONE + b"\1" + sized(text) + sized(certificate)
+def mixed(count):
+    """A module with one function of so many instructions: two blocks every 22, with a struct and references to it."""
+    unit = """LdU64 1; LdU64 2; Pack P; StLoc 2; MutBorrowLoc 2; StLoc 3; CopyLoc 3; ImmBorrowField P.a; ReadRef; StLoc 1;
+        CopyLoc 1; CopyLoc 3; MutBorrowField P.b; WriteRef; MoveLoc 3; Pop; CopyLoc 0; LdU64 {n}; Lt; BrTrue next{n};
+        CopyLoc 1; StLoc 0; next{n}: """
+    code = "".join(unit.format(n=n) for n in range((count - 2) // 22)) + "Nop"
+    return one_function([("P", PLAIN, "a: u64; b: u64")], "u64", "u64; P; &mut P", filled(code, count))
 
 
-def run_payload(sender, function, budget, arguments):
-    values = join(bytes([U64]) + (7).to_bytes(8, "little") for _ in range(arguments))
-    return sender.to_bytes(16, "big") + ONE + name("M") + name(function) + number(budget) + number(arguments) + values
+def many_edges(count):
+    """A module with a function of so many instructions, in which each of 31 references may lead to each of 32 locals: 992
+    edges, stated for each block of 32 instructions."""
+    m = Module()
+    taken = range(1, 33)
+    m.function("pick", "; ".join(["&u64"] * 16), "&u64", "", "MoveLoc 0; Ret", entry=False)
+    code = "".join(f"LdU64 {l}; StLoc {l};" for l in taken)
+    code += "".join(f"ImmBorrowLoc {l};" for l in taken[:16]) + "Call pick; StLoc 33;"
+    code += "MoveLoc 33;" + "".join(f"ImmBorrowLoc {l};" for l in taken[16:31]) + "Call pick; StLoc 33;"
+    code += "MoveLoc 33;" + "ImmBorrowLoc 32;" * 15 + "Call pick; StLoc 33;"
+    code += "".join(f"CopyLoc 33; StLoc {l};" for l in range(34, 64))
+    block = "CopyLoc 0; BrTrue next{n}; next{n}: Nop; Nop;"
+    block += "CopyLoc 40; ReadRef; Pop; ImmBorrowLoc 7; StLoc 50; CopyLoc 33; StLoc 50; " * 4
+    code += "".join(block.format(n=n) for n in range((count - BEGINNING) // 32)) + "Nop"
+    m.function("f", "bool", "", "; ".join(["u64"] * 32 + ["&u64"] * 31), filled(code, count))
+    return m
+
+
+def many_structs(count):
+    """A module with so many structs and nothing else, some 14 bytes each."""
+    m = Module()
+    for n in range(count):
+        m.struct(f"S{n:x}", PLAIN, "v: u64")
+    return m
+
+
+def looping(blocks):
+    """A module with one function of so many blocks in a loop, every other of which may leave one of 30 references elsewhere.
+    What its end does is seen at its start, so that each block is visited twice."""
+    code = "".join(f"LdU64 {l}; StLoc {l};" for l in range(1, 31))
+    code += "".join(f"ImmBorrowLoc 1; StLoc {l};" for l in range(31, 61)) + "head: Nop;"
+    for n in range(blocks // 2):
+        code += f"CopyLoc 0; BrTrue next{n}; ImmBorrowLoc {1 + n % 29}; StLoc {31 + n * 7 % 29}; next{n}: "
+    code += "ImmBorrowLoc 30; StLoc 60; CopyLoc 0; BrTrue head; Ret"
+    return one_function([], "bool", "; ".join(["u64"] * 30 + ["&u64"] * 30), code)
+
+
+def rippling(rounds, blocks):
+    """A module with one function of so many blocks in a loop, for which what is known of references goes round so often: of 50
+    references so many are handed on from one local to the next, the last one first."""
+    code = "".join(f"LdU64 {l}; StLoc {l};" for l in (1, 2)) + "".join(f"ImmBorrowLoc 1; StLoc {l};" for l in range(3, 53))
+    code += "head: Nop;" + "".join(f"CopyLoc {l - 1}; StLoc {l};" for l in range(2 + rounds, 3, -1))
+    code += "ImmBorrowLoc 2; StLoc 3;"
+    code += "".join(f"CopyLoc 0; BrTrue next{n}; next{n}: " for n in range(blocks - 3)) + "CopyLoc 0; BrTrue head; Ret"
+    return one_function([], "bool", "; ".join(["u64"] * 2 + ["&u64"] * 50), code)
+
+
+def link_of_a_chain(n, length):
+    """A module of some 600 bytes, with a struct, which names the module before it in its chain of this length."""
+    m = Module(f"M{n}")
+    before = n % length != 0
+    if before:
+        m.foreign_struct(f"M{n - 1}", f"Coin{n - 1}", ASSET)
+        m.foreign_function(f"M{n - 1}", f"make{n - 1}", "u64", f"Coin{n - 1}")
+        m.foreign_function(f"M{n - 1}", f"value{n - 1}", f"&Coin{n - 1}", "u64")
+    own = f"Coin{n}"
+    m.struct(own, ASSET, "v: u64; w: u64")
+    m.function(f"make{n}", "u64", own, "", f"CopyLoc 0; MoveLoc 0; Pack {own}; Ret", entry=False)
+    m.function(f"value{n}", f"&{own}", "u64", "", f"MoveLoc 0; ImmBorrowField {own}.v; ReadRef; Ret", entry=False)
+    m.function("mint", "signer; u64", "", "", f"ImmBorrowLoc 0; MoveLoc 1; Call make{n}; MoveTo {own}; Ret")
+    m.function("burn", "address", "", "", f"MoveLoc 0; MoveFrom {own}; Unpack {own}; Pop; Pop; Ret", own)
+    m.function("set", "address; u64", "", "", f"""CopyLoc 1; CopyLoc 0; MutBorrowGlobal {own}; MutBorrowField {own}.w; WriteRef;
+        Ret""", own)
+    of_before = f"CopyLoc 0; Call value{n - 1}; StLoc 1; CopyLoc 1; Pop;" if before else ""
+    m.function("sum", f"&Coin{n - 1}" if before else "&u64", "u64", "u64", f"""{of_before} LdU64 0; StLoc 1; again: CopyLoc 1;
+        LdU64 100; Lt; BrFalse done; CopyLoc 1; LdU64 3; Mul; LdU64 1; Add; LdU64 1000003; Mod; StLoc 1; Branch again;
+        done: {"CopyLoc 1; LdU64 7; Xor; LdU64 5; Add; LdU64 9; Mul; LdU64 11; Mod; StLoc 1; " * 5}
+        CopyLoc 1; Ret""", entry=False)
+    return m
+
+
+# What is run: loops without an end of one kind of work each, under a budget of steps.
+SUMS = """again: CopyLoc 0; LdU64 1000000000; Lt; BrFalse done; CopyLoc 0; LdU64 1; Add; StLoc 0; Branch again; done: Ret"""
+DEEP = "CopyLoc 0; LdU64 0; Eq; BrTrue done; CopyLoc 0; CopyLoc 0; LdU64 1; Sub; Call deep; Add; Ret; done: LdU64 1; Ret"
+MOVES = "MoveLoc 1; StLoc 2; MoveLoc 2; StLoc 1;" * 16
+WRITES = "LdU64 5; CopyLoc 2; MutBorrowField S8.f3; WriteRef;" * 16
+STORED_READS = "CopyLoc 0; ImmBorrowGlobal Coin; ImmBorrowField Coin.v; ReadRef; Pop;" * 16
+STORED_WRITES = "LdU64 5; CopyLoc 0; MutBorrowGlobal Coin; MutBorrowField Coin.v; WriteRef;" * 16
+
+
+def working():
+    """The module whose functions are run."""
+    m = Module()
+    eight = "; ".join(f"f{n}: u64" for n in range(8))
+    m.struct("Coin", ASSET, "v: u64")
+    m.struct("S1", PLAIN, "f0: u64")
+    m.struct("S8", PLAIN, eight)
+    m.struct("S64", PLAIN, "; ".join(f"g{n}: S8" for n in range(8)))
+    made = {"S1": "LdU64 1; Pack S1;", "S8": "LdU64 1;" * 8 + "Pack S8;"}
+    made["S64"] = made["S8"] * 8 + "Pack S64;"
+    m.function("sums", "u64", "", "", SUMS)
+    m.function("deep", "u64", "u64", "", DEEP, entry=False)
+    m.function("calls", "u64", "", "", "again: LdU64 200; Call deep; Pop; Branch again")
+    for struct in "S1", "S8", "S64":
+        code = f"{made[struct]} StLoc 1; again: {MOVES} Branch again"
+        m.function(f"moves{struct[1:]}", "u64", "", f"{struct}; {struct}", code)
+    code = f"{made['S8']} StLoc 1; MutBorrowLoc 1; StLoc 2; again: {WRITES} Branch again"
+    m.function("writes", "u64", "", "S8; &mut S8", code)
+    m.function("reads", "address", "", "", f"again: {STORED_READS} Branch again", "Coin")
+    m.function("stores", "address", "", "", f"again: {STORED_WRITES} Branch again", "Coin")
+    m.function("holds", "address", "", "&mut Coin", f"""MoveLoc 0; MutBorrowGlobal Coin; StLoc 1;
+        again: {"LdU64 5; CopyLoc 1; MutBorrowField Coin.v; WriteRef;" * 16} Branch again""", "Coin")
+    m.function("mint", "signer; u64", "", "", "ImmBorrowLoc 0; MoveLoc 1; Pack Coin; MoveTo Coin; Ret")
+    m.function("unpack", "signer; u64", "", "", "ImmBorrowLoc 0; MoveLoc 1; Pack Coin; Unpack Coin; Pop; Pop; Ret")
+    return m
+
+
+def large_working():
+    """The module of 60 KB, with a function that does nothing."""
+    m = all_families(LARGE, 5)
+    m.function("idle", "u64", "", "", "Ret")
+    return m
+
+
+def publish(*bundle):
+    """The payload of a publish record, of modules with their certificates."""
+    return address(1) + number(len(bundle)) + b"".join(sized(text) + sized(certificate) for text, certificate in bundle)
+
+
+def u64(value):
+    return b"\3" + value.to_bytes(8, "little")
+
+
+def run(function, budget, *arguments, sender=0, module="M"):
+    """The payload of a run record; arguments come with their tokens."""
+    called = address(sender) + address(1) + name(module) + name(function) + number(budget)
+    return called + number(len(arguments)) + b"".join(arguments)
 
 
 def record(kind, payload):
     return bytes([kind]) + sized(payload)
-
-
-def mints(count):
-    """A stream that publishes the coin and mints one for each of so many senders."""
-    runs = (record(2, run_payload(1000 + n, "mint", 100, 1)) for n in range(count))
-    return record(1, publish_payload(*coin())) + join(runs)
-
-
-def modules(count):
-    """A stream that publishes so many modules with nothing in them."""
-    texts = (module({1: b"\0\0", 7: name(f"M{n}"), 8: ONE}) for n in range(count))
-    return join(record(1, publish_payload(text, b"")) for text in texts)
-
-
-def large_modules(count):
-    """A stream that publishes so many modules with 255 structs and functions each."""
-    bundles = (many_functions(255, f"M{n}") for n in range(count))
-    return join(record(1, publish_payload(*bundle)) for bundle in bundles)

@@ -1,146 +1,158 @@
-"""Writes the inputs of the measurements into a folder, or measures there. Each time is the least of several tries, since
-whatever else the machine does only makes a try slower; the tries of all measurements take turns."""
+"""Writes the inputs of the measurements into a folder, or measures there and prints a line for each."""
 
-import subprocess
 import sys
-import time
 from pathlib import Path
 
-import inputs
+import files
+from clock import STEPS, Clock
+from files import BLOCKS, CHAIN, CHAINED, FUNCTIONS, LARGE_FEW, LARGE_MANY, ROUNDS_OF_A_LOOP, STRUCTS, WORK
+from inputs import BEGINNING
 
-ROUNDS = 15
+ROUNDS = 3
+VALUES = 250_000
+MODULES = 4_096
 
-# The steps of the longest run, those of them before anything is stored, and so many runs that a million are made.
-STEPS, STEPS_THAT_STORE_NOTHING = 61, 45
-RUNS = -(-1_000_000 // STEPS)
-
-# The streams with the number of lines in their reports, and how the last of these ends.
-STREAMS = {
-    "nothing": (0, ""),
-    "small": (1, "published 1"),
-    "large": (1, "published 1"),
-    "mints1000": (1_001, "returned 5"),
-    "mints10000": (10_001, "returned 5"),
-    "modules400": (400, "published 1"),
-    "modules4000": (4_000, "published 1"),
-    "modules4000mints10000": (14_001, "returned 5"),
-    "large100": (100, "published 1"),
-    "large100mints10000": (10_101, "returned 5"),
-}
+AIMS = {"sums": "220"}
 
 
-def write(folder):
-    small, large = inputs.many_functions(28), inputs.many_functions(255)
-    files = {
-        "small.module": small[0],
-        "large.module": large[0],
-        "longest.bundle": inputs.publish_payload(*inputs.longest_run()),
-        "nothing.stream": b"",
-        "small.stream": inputs.record(1, inputs.publish_payload(*small)),
-        "large.stream": inputs.record(1, inputs.publish_payload(*large)),
-        "mints1000.stream": inputs.mints(1_000),
-        "mints10000.stream": inputs.mints(10_000),
-        "modules400.stream": inputs.modules(400),
-        "modules4000.stream": inputs.modules(4_000),
-        "modules4000mints10000.stream": inputs.modules(4_000) + inputs.mints(10_000),
-        "large100.stream": inputs.large_modules(100),
-        "large100mints10000.stream": inputs.large_modules(100) + inputs.mints(10_000),
-    }
-    for budget in 0, STEPS_THAT_STORE_NOTHING, STEPS:
-        files[f"budget{budget}.run"] = inputs.run_payload(0, "fill", budget, 15)
-    for name, data in files.items():
-        (folder / name).write_bytes(data)
+def tell(text, aim=None):
+    print(text + (f" (aim: {aim})" if aim else ""), flush=True)
 
 
-def clocked(folder, *words):
-    """The lines that the measuring program prints, each as its numbers."""
-    program = folder / "crates/mv_bench/out/mv_bench"
-    out = subprocess.run([program, *words], check=True, capture_output=True, text=True, cwd=folder).stdout
-    return [tuple(map(int, line.split())) for line in out.splitlines()]
+def micro(seconds):
+    return f"{seconds * 1e6:.1f} us" if seconds < 0.01 else f"{seconds * 1e3:.1f} ms"
 
 
-def decode(folder, size, times):
-    """The least seconds of so many decodings of a module."""
-    return min(clocked(folder, "decode", f"{size}.module", str(times)))[0] / 1e9
+def instructions(name):
+    """How many instructions a module has."""
+    module = files.measured_modules()[name]
+    module.bytes()
+    return module.instructions
 
 
-def run(folder, budget):
-    """The seconds that the runs take, each with this budget."""
-    ((spent, steps),) = clocked(folder, "run", "longest.bundle", f"budget{budget}.run", str(RUNS))
-    assert steps == budget * RUNS
-    return spent / 1e9
+def sizes(folder, *names):
+    return [(folder / f"{name}.module").stat().st_size for name in names]
 
 
-def apply(folder, stream):
-    """The least seconds that the program takes for a stream. The report goes to a file."""
-    program, (lines, last) = folder / "crates/moveledger/out/moveledger", STREAMS[stream]
-    tries = []
-    for _ in range(5):
-        with open(folder / "report.txt", "wb") as out:
-            start = time.perf_counter()
-            subprocess.run([program, "apply", f"{stream}.stream"], check=True, stdout=out, cwd=folder)
-            tries.append(time.perf_counter() - start)
-    report = (folder / "report.txt").read_text().splitlines()
-    assert len(report) == lines and (not lines or report[-1] == f"{lines} {last}"), report[-1:]
-    return min(tries)
+def tell_linear(folder, what, small, large, spent):
+    """What two modules take, where it is to grow as their bytes do."""
+    few, many = sizes(folder, small, large)
+    tell(f"{what}: {few} bytes in {micro(spent[0])}, {many} bytes in {micro(spent[1])}: {many / few:.1f} times the bytes take "
+         f"{spent[1] / spent[0]:.1f} times the time", f"{many / few:.1f}, linear")
 
 
-def measure(folder):
-    tasks = {}
-    for size, times in ("large", 50), ("small", 500):
-        tasks["decode", size] = lambda size=size, times=times: decode(folder, size, times)
-    for budget in 0, STEPS_THAT_STORE_NOTHING, STEPS:
-        tasks["run", budget] = lambda budget=budget: run(folder, budget)
-    for stream in STREAMS:
-        tasks["apply", stream] = lambda stream=stream: apply(folder, stream)
-    best = {}
-    for _ in range(ROUNDS):
-        for task, take in tasks.items():
-            best[task] = min(best.get(task, float("inf")), take())
-    return best
+def tell_modules(folder, best):
+    for version in 5, 6:
+        names = f"small{version}", f"large{version}"
+        both = [best["phases", name] for name in names]
+        tell_linear(folder, f"decode, version {version}", *names, [phases["2"] for phases in both])
+        speeds = [f"{size / phases['2'] / 1e6:.0f} MB/s" for size, phases in zip(sizes(folder, *names), both)]
+        tell(f"decode, version {version}: {' and '.join(speeds)}", "400 or more")
+        rules = [phases["3 and 4"] + phases["5 to 8"] + phases["12"] for phases in both]
+        tell_linear(folder, f"phases 3 to 8 and 12, version {version}", *names, rules)
+    phases = ", ".join(f"{phase} {micro(spent)}" for phase, spent in best["phases", "large5"].items())
+    tell(f"phases of {sizes(folder, 'large5')[0]} bytes of version 5: {phases}")
 
 
-def tell_decoding(folder, best):
-    size = {kind: (folder / f"{kind}.module").stat().st_size for kind in ("large", "small")}
-    for kind, count in size.items():
-        spent = best["decode", kind]
-        print(f"decode: {count} bytes in {spent * 1e6:.1f} us, {count / spent / 1e6:.0f} MB/s")
-    times = best["decode", "large"] / best["decode", "small"]
-    print(f"decode: {size['large'] / size['small']:.1f} times the bytes take {times:.1f} times the time")
+def tell_publishing(folder, best, clock):
+    def spent(name):
+        return best["apply", name] - best["apply", "helping"]
+
+    few, many = (f"structs{count}" for count in STRUCTS)
+    tell_linear(folder, "publish, all families", "small5", "large5", [spent("small5"), spent("large5")])
+    tell_linear(folder, f"publish, {STRUCTS[0]} and {STRUCTS[1]} structs alone", few, many, [spent(few), spent(many)])
+    tell(f"publish: {sizes(folder, 'large5')[0] / spent('large5') / 1e6:.1f} MB/s")
+    counts = [clock.instructions("apply", f"{name}.stream") for name in ("small5", "large5")]
+    if None in counts:
+        tell("publish: machine instructions aren't counted, since there is no valgrind")
+        return
+    bytecode = instructions("large5") - instructions("small5")
+    tell(f"publish: {(counts[1] - counts[0]) / bytecode:.0f} machine instructions for each of {bytecode} bytecode instructions, "
+         f"the large module's beyond the small one's", "900 or fewer")
 
 
-def tell_running(best):
-    start = best["run", 0]
-    print(f"run: {RUNS} runs of no step in {start * 1e3:.1f} ms, {start / RUNS * 1e6:.2f} us each")
-    for budget, what in (STEPS_THAT_STORE_NOTHING, "that store nothing"), (STEPS, "with all that they store"):
-        spent, steps = best["run", budget], budget * RUNS
-        print(f"run: {RUNS} runs of {budget} steps {what} in {spent * 1e3:.1f} ms: {steps / spent / 1e6:.1f} million steps a "
-              f"second, {steps / (spent - start) / 1e6:.1f} million less the runs of no step")
+def tell_growth(what, of, counts, spent):
+    times = ", ".join(f"{count} {of} in {micro(one)}" for count, one in zip(counts, spent))
+    factor = counts[-1] / counts[0]
+    tell(f"{what}: {times}; {factor:.1f} times as many take {spent[-1] / spent[0]:.1f} times the time", f"{factor:.1f}, linear")
 
 
-def tell_applying(best):
-    spent = {stream: best["apply", stream] - best["apply", "nothing"] for stream in STREAMS}
-    print(f"apply: {best['apply', 'nothing'] * 1e3:.2f} ms for nothing, taken off what follows")
-    print(f"apply: the small module published in {spent['small'] * 1e3:.2f} ms, the large one in {spent['large'] * 1e3:.2f} ms")
-    for kind, few, many in ("mints", 1_000, 10_000), ("modules", 400, 4_000):
-        each = {count: spent[f"{kind}{count}"] / count for count in (few, many)}
+def tell_functions(best):
+    for kind, what in ("mixed", "two blocks every 22"), ("edges", "992 edges in each state"):
+        phases = [best["phases", f"{kind}{count}"] for count in FUNCTIONS]
+        spent = [one["9"] + one["10 to 12"] - one["12"] for one in phases]
+        behind = f"instructions behind its first {BEGINNING}" if kind == "edges" else "instructions"
+        counts = [count - BEGINNING * (kind == "edges") for count in FUNCTIONS]
+        tell_growth(f"phases 9 to 11 of one function, {what}", behind, counts, spent)
+    tell_growth("prove, one function", "instructions", FUNCTIONS, [best["prove", f"mixed{count}"] for count in FUNCTIONS])
+    tell_growth("prove, a loop of blocks", "blocks", BLOCKS, [best["prove", f"blocks{count}"] for count in BLOCKS])
+    tell_growth("prove, a loop of 200 blocks gone round so often", "rounds", ROUNDS_OF_A_LOOP,
+                [best["prove", f"rounds{count}"] for count in ROUNDS_OF_A_LOOP])
+
+
+def tell_store(folder, best, clock):
+    def spent(stream):
+        return best["apply", stream] - best["apply", "nothing"]
+
+    size, whole = (folder / f"chain{CHAINED}.stream").stat().st_size, spent(f"chain{CHAINED}")
+    tell(f"store: {CHAINED} modules of {size / CHAINED:.0f} bytes in chains of {CHAIN}: {size / whole / 1e6:.2f} MB/s, "
+         f"{micro(whole / CHAINED)} each")
+    for kind, what in ("chain", "modules in chains"), ("empty", "empty modules"):
+        last = best["apply", f"{kind}{CHAINED}"] - best["apply", f"{kind}{CHAINED - 400}"]
+        times = last / spent(f"{kind}400")
+        tell(f"store: the last 400 of {CHAINED} {what} take {times:.2f} times the first 400", "1.2 or less")
+    few, many = (clock.memory([(folder / f"chain{count}.stream").read_bytes()]) for count in (400, CHAINED))
+    tell(f"store: {(many - few) / (CHAINED - 400):.0f} bytes of memory for each of these modules")
+    few, many = (clock.memory([(folder / f"large{count}.stream").read_bytes()]) for count in (LARGE_FEW, LARGE_MANY))
+    each = (many - few) / (LARGE_MANY - LARGE_FEW)
+    texts = sum((folder / f"large5.{kind}").stat().st_size for kind in ("module", "certificate"))
+    count = instructions("large5")
+    tell(f"store: {each / 1e3:.0f} KB of memory for each module of 60 KB, {texts / 1e3:.0f} of them its texts; "
+         f"{(each - texts) / count:.1f} bytes of linked code for each of its {count} instructions")
+    tell(f"store: {MODULES} such modules come to {each * MODULES / 1e9:.2f} GB", "2 or less")
+
+
+def tell_runs(folder, best, clock):
+    for name, what in WORK.items():
+        beside = f"; a plain Rust interpreter {STEPS / best['plain', name] / 1e6:.0f}" if ("plain", name) in best else ""
+        aim = AIMS.get(name)
+        tell(f"run: {what}: {STEPS / best['work', name] / 1e6:.1f} million steps a second{beside}", aim and f"{aim} or more")
+    small, large = best["idle", "small"], best["idle", "large"]
+    tell(f"run of no step: {small * 1e6:.2f} us in a module of 3 KB, {large * 1e6:.2f} us in one of 60 KB", "0.6 us or less")
+    tell(f"mint: {best['first', 'mint'] * 1e6:.2f} us with a thousand values stored", "0.9 us or less")
+    behind = min(clock.mint_behind(VALUES) for _ in range(3))
+    alone = (behind - best["first", "unpack"]) * 1e9
+    tell(f"MoveTo: {alone:.0f} ns among {VALUES} stored values, as a mint there of {behind * 1e6:.2f} us takes longer than one "
+         f"that takes its coin apart", "250 ns or less")
+    few, many = (clock.memory(files.many_mints(folder, count)) for count in (VALUES // 10, VALUES))
+    tell(f"storage: {(many - few) / (VALUES - VALUES // 10):.0f} bytes of memory for each value of one leaf", "100 or less")
+
+
+def tell_records(best):
+    for kind, few, many, before in ("mints", 1_000, 10_000, "working"), ("empty", 400, 4_000, "nothing"):
+        each = {count: (best["apply", f"{kind}{count}"] - best["apply", before]) / count for count in (few, many)}
+        what = {"mints": "mints", "empty": "empty modules"}[kind]
         for count, one in each.items():
-            print(f"apply: {count} {kind}, {1 / one:.0f} a second, {one * 1e6:.2f} us each")
-        print(f"apply: one of {many} {kind} takes {each[many] / each[few]:.2f} times one of {few}")
-    for before, what in ("modules4000", "4000 empty modules"), ("large100", "100 large modules"):
-        one = (spent[f"{before}mints10000"] - spent[before]) / 10_000
-        print(f"apply: 10000 mints behind {what}, {1 / one:.0f} a second, {one * 1e6:.2f} us each")
+            tell(f"apply: {count} {what}, {1 / one:.0f} a second, {one * 1e6:.2f} us each")
+        tell(f"apply: one of {many} {what} takes {each[many] / each[few]:.2f} times one of {few}")
+    for before, what in ("empty4000", "4000 empty modules"), (f"large{LARGE_FEW}", f"{LARGE_FEW} modules of 60 KB"):
+        one = (best["apply", f"{before}mints"] - best["apply", before]) / 10_000
+        tell(f"apply: 10000 mints behind {what}, {1 / one:.0f} a second, {one * 1e6:.2f} us each")
 
 
 def main():
-    task, folder = sys.argv[1], Path(sys.argv[2])
+    task, folder = sys.argv[1], Path(sys.argv[2]).resolve()
     if task == "write":
-        write(folder)
+        files.write(folder)
         return
-    best = measure(folder)
-    tell_decoding(folder, best)
-    tell_running(best)
-    tell_applying(best)
+    clock = Clock(folder)
+    best = clock.best(int(sys.argv[3]) if len(sys.argv) > 3 else ROUNDS)
+    tell_modules(folder, best)
+    tell_publishing(folder, best, clock)
+    tell_functions(best)
+    tell_store(folder, best, clock)
+    tell_runs(folder, best, clock)
+    tell_records(best)
 
 
 main()

@@ -1,0 +1,140 @@
+"""What is measured, each as a number: times in seconds, memory in bytes, machine instructions. A time is the least of several
+tries, since whatever else the machine does only makes a try slower; the tries of all measurements take turns."""
+
+import os
+import re
+import shutil
+import subprocess
+import time
+from pathlib import Path
+
+from files import AT_ADDRESS, BLOCKS, FUNCTIONS, ROUNDS_OF_A_LOOP, WORK
+
+STEPS = 10_000_000
+PHASES = ("2", "3 and 4", "5 to 8", "9", "10 to 12", "12")
+STREAMS = (
+    "nothing", "helping", "small5", "large5", "small6", "large6", "structs390", "structs3900", "chain400", "chain3600",
+    "chain4000", "empty400", "empty3600", "empty4000", "working", "mints1000", "mints10000", "empty4000mints", "large100",
+    "large100mints",
+)
+
+
+class Clock:
+    """Runs the programs of a folder."""
+
+    def __init__(self, folder):
+        self.folder = folder
+        self.program = folder / "crates/moveledger/out/moveledger"
+        self.bench = folder / "crates/mv_bench/out/mv_bench"
+        self.baseline = folder / "baseline"
+
+    def lines(self, *words):
+        """The lines that a program prints, each as its numbers."""
+        out = subprocess.run(words, check=True, capture_output=True, text=True, cwd=self.folder).stdout
+        return [tuple(map(int, line.split())) for line in out.splitlines()]
+
+    def phases(self, name, times):
+        """The least seconds of each phase of a module."""
+        tries = self.lines(self.bench, "phases", f"{name}.module", f"{name}.certificate", str(times))
+        return {phase: min(one[i] for one in tries) / 1e9 for i, phase in enumerate(PHASES)}
+
+    def prove(self, name, times):
+        return min(self.lines(self.bench, "prove", f"{name}.module", str(times)))[0] / 1e9
+
+    def runs(self, bundle, first, run, times, every):
+        """The seconds of each so many runs, one after the other, and their steps."""
+        words = f"{bundle}.bundle", f"{first}.run", f"{run}.run", str(times), str(every)
+        return [(spent / 1e9, steps) for spent, steps in self.lines(self.bench, "run", *words)]
+
+    def work(self, name):
+        """The least seconds of one run of many steps."""
+        tries = self.runs("working", "owner" if name in AT_ADDRESS else "no_step", name, 2, 1)
+        assert all(steps == STEPS for _, steps in tries), name
+        return min(tries)[0]
+
+    def plain(self, name):
+        """The same of the plain interpreter."""
+        return self.lines(self.baseline, name, str(STEPS))[0][0] / 1e9
+
+    def apply(self, stream):
+        """The seconds of the processor that the program takes for a stream. The report goes to a file."""
+        report = self.folder / "report.txt"
+        with open(report, "wb") as out:
+            process = subprocess.Popen([self.program, "apply", f"{stream}.stream"], stdout=out, cwd=self.folder)
+            _, status, used = os.wait4(process.pid, 0)
+        process.returncode = os.waitstatus_to_exitcode(status)
+        assert process.returncode == 0, stream
+        count, word = (self.folder / f"{stream}.lines").read_text().split()
+        last = report.read_text().splitlines()[-1:]
+        assert count == "0" or last[0].startswith(f"{count} {word} "), (stream, last)
+        return used.ru_utime + used.ru_stime
+
+    def memory(self, pieces):
+        """The most memory that the program had once it has answered a stream, whose end it waits for."""
+        with open(self.folder / "report.txt", "wb") as out:
+            process = subprocess.Popen([self.program, "apply", "/dev/stdin"], stdin=subprocess.PIPE, stdout=out, cwd=self.folder)
+            for piece in pieces:
+                process.stdin.write(piece)
+            process.stdin.flush()
+            status = Path(f"/proc/{process.pid}/status")
+            while "State:\tS" not in status.read_text():
+                time.sleep(0.01)
+            most = int(re.search(r"VmHWM:\s+(\d+) kB", status.read_text()).group(1))
+            process.communicate()
+        assert process.returncode == 0
+        return most * 1024
+
+    def instructions(self, *words):
+        """The machine instructions of the program, or None where there is no valgrind."""
+        if not shutil.which("valgrind"):
+            return None
+        out = self.folder / "callgrind.out"
+        command = ["valgrind", "--tool=callgrind", f"--callgrind-out-file={out}", self.program, *words]
+        subprocess.run(command, check=True, capture_output=True, cwd=self.folder)
+        return int(re.search(r"^(?:summary|totals): (\d+)", out.read_text(), re.MULTILINE).group(1))
+
+    def tasks(self):
+        """Each measurement of time, and how it is taken once."""
+        tasks = {}
+
+        def add(key, take):
+            tasks[key] = take
+
+        for size, times in ("small", 50), ("large", 5):
+            for version in 5, 6:
+                add(("phases", f"{size}{version}"), lambda n=f"{size}{version}", t=times: self.phases(n, t))
+        for count in FUNCTIONS:
+            add(("phases", f"mixed{count}"), lambda c=count: self.phases(f"mixed{c}", 5))
+            add(("phases", f"edges{count}"), lambda c=count: self.phases(f"edges{c}", 1))
+            add(("prove", f"mixed{count}"), lambda c=count: self.prove(f"mixed{c}", 5))
+        for name in [f"blocks{count}" for count in BLOCKS] + [f"rounds{count}" for count in ROUNDS_OF_A_LOOP]:
+            add(("prove", name), lambda n=name: self.prove(n, 2))
+        for name in WORK:
+            add(("work", name), lambda n=name: self.work(n))
+            if name not in AT_ADDRESS and self.baseline.exists():
+                add(("plain", name), lambda n=name: self.plain(n))
+        add(("idle", "small"), lambda: min(self.runs("working", "no_step", "no_step", 3, 5_000))[0] / 5_000)
+        add(("idle", "large"), lambda: min(self.runs("working60", "no_step60", "no_step60", 3, 5_000))[0] / 5_000)
+        for name in "mint", "unpack":
+            add(("first", name), lambda n=name: min(self.runs("working", "no_step", n, 5, 2_000))[0] / 2_000)
+        for stream in STREAMS:
+            tries = 4 if stream.startswith(("chain", "empty")) else 2
+            add(("apply", stream), lambda s=stream, n=tries: min(self.apply(s) for _ in range(n)))
+        return tasks
+
+    def best(self, rounds):
+        """The least of each measurement over so many rounds."""
+        best = {}
+        for _ in range(rounds):
+            for key, take in self.tasks().items():
+                now = take()
+                if isinstance(now, dict) and key in best:
+                    best[key] = {phase: min(now[phase], best[key][phase]) for phase in now}
+                else:
+                    best[key] = now if key not in best else min(best[key], now)
+        return best
+
+    def mint_behind(self, values):
+        """The least seconds of a mint behind so many, each by an address of no order: of the means of 10,000."""
+        before = values // 10_000
+        return min(self.runs("working", "no_step", "mint", before + 5, 10_000)[before:])[0] / 10_000
