@@ -1,4 +1,5 @@
 pub mod Keys
 pub mod Maps
+pub mod PlaceLemmas
 pub mod Shown
 pub mod Steps

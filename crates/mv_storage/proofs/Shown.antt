@@ -1,7 +1,8 @@
 -- What slots show, as a map.
-use Rattle.std.proofs.Common.{◌≡◌, ℕ, suc, ◌+◌, ◌≤◌, arith, refl, sym, ap, ◌∙◌, Bool, true, false, cond, nat_le, List, [], ◌∷◌, ◌++◌, length, take, drop, Option, Some, None, ⊎_elim, subst}
+use Rattle.std.proofs.Common.{◌≡◌, ℕ, suc, ◌+◌, ◌≤◌, arith, refl, sym, ap, ◌∙◌, Bool, true, false, cond, nat_le, List, [], ◌∷◌, ◌++◌, length, take, drop, Option, Some, None, ⊎_elim, subst, slice_get}
+use Rattle.std.specs.Option.{option_and_then}
 use Rattle.std.specs.Map.{lookup, keys_of}
-use Rattle.std.specs.BTreeMap.{is_at}
+use Rattle.std.specs.BTreeMap.{is_at, IsOrdered}
 use Rattle.std.specs.List.{AllByRecursion}
 use Rattle.std.specs.List.Sorted.{IsStrictlySortedBy}
 use Rattle.std.specs.Ordering.{is_eq, is_lt}
@@ -13,126 +14,141 @@ use Rattle.mv_machine.specs.Flat.{FlatEntry}
 use Rattle.mv_storage.specs.declared.slot.Slot.{Slot}
 use Rattle.mv_storage.specs.declared.slot.Layer.{Layer}
 use Rattle.mv_storage.specs.declared.slot.Layer.TheVariants.{Committed, Current}
-use Rattle.mv_storage.specs.declared.slot.Slot.TheVariants.{One, Many, Changed}
+use Rattle.mv_storage.specs.declared.slot.Slot.TheVariants.{Vacant, Empty, One, Many, AddedOne, AddedMany, Changed}
+use Rattle.mv_storage.specs.declared.places.Places.{Places}
 use Rattle.mv_storage.specs.FlatStorage.{words_under, with_words, without_words}
 use Rattle.mv_storage.specs.Map.{IsBelow, Ascends, overwritten}
-use Rattle.mv_storage.specs.Slots.{key_cmp, of_layer, layer_at, shown, shown_before, is_changed, edited}
+use Rattle.mv_storage.specs.Slots.{key_cmp, layer_at, shown, shown_before, slot_at, value_at, is_changed, edited}
 use Rattle.mv_storage.proofs.Keys.{key_before-is, same_key-is, same_key-symm, same_key-to}
 use Rattle.mv_storage.proofs.Maps.{bool_cases, words_under-below, words_under-with_words, words_under-without_words, Ascends-with_words, Ascends-without_words, entries_from_words}
 
--- slots whose keys ascend
-abbrev pub InOrder : List (Key × Slot) → Type 0
+-- places whose keys ascend
+abbrev pub InOrder : List (Key × ℕ) → Type 0
 InOrder es = IsStrictlySortedBy key_cmp (keys_of es)
 
 -- the slot under a key
-abbrev pub slot_at : List (Key × Slot) → Key → Option Slot
-slot_at es q = lookup (is_at (key_cmp q)) es
+abbrev found : List Slot → List (Key × ℕ) → Key → Option Slot
+found slots es q = option_and_then (slice_get slots) (lookup (is_at (key_cmp q)) es)
 
 below-before : (low key : Key) (o : Option (List ℕ)) (es : List FlatEntry) → key_before low key ≡ true → IsBelow low es → IsBelow low (shown_before key o es)
 below-before low key None es h b = b
 below-before low key (Some w) es h b = h
 
-below-shown : (layer : Layer) (low : Key) (es : List (Key × Slot)) → AllByRecursion (λ k. key_cmp low k ≡ Less) (keys_of es) → IsBelow low (shown layer es)
-below-shown layer low [] h = tt
-below-shown layer low (e ∷ es) h =
-    below-before low e.0 (of_layer layer e.1) (shown layer es) (key_before-is low e.0 ∙ ap is_lt h.0) (below-shown layer low es h.1)
+below-shown : (layer : Layer) (slots : List Slot) (low : Key) (es : List (Key × ℕ)) → AllByRecursion (λ k. key_cmp low k ≡ Less) (keys_of es) → IsBelow low (shown layer slots es)
+below-shown layer slots low [] h = tt
+below-shown layer slots low (e ∷ es) h =
+    below-before low e.0 (layer_at layer (slice_get slots e.1)) (shown layer slots es) (key_before-is low e.0 ∙ ap is_lt h.0) (below-shown layer slots low es h.1)
 
 ascends-before : (key : Key) (o : Option (List ℕ)) (es : List FlatEntry) → IsBelow key es → Ascends es → Ascends (shown_before key o es)
 ascends-before key None es b s = s
 ascends-before key (Some w) es b s = (b, s)
 
-pub Ascends-shown : (layer : Layer) (es : List (Key × Slot)) → InOrder es → Ascends (shown layer es)
-Ascends-shown layer [] s = tt
-Ascends-shown layer (e ∷ es) s =
-    ascends-before e.0 (of_layer layer e.1) (shown layer es) (below-shown layer e.0 es (sorted_head key_cmp e.0 (keys_of es) s))
-    (Ascends-shown layer es (sorted_tail key_cmp e.0 (keys_of es) s))
+pub Ascends-shown : (layer : Layer) (slots : List Slot) (es : List (Key × ℕ)) → InOrder es → Ascends (shown layer slots es)
+Ascends-shown layer slots [] s = tt
+Ascends-shown layer slots (e ∷ es) s =
+    ascends-before e.0 (layer_at layer (slice_get slots e.1)) (shown layer slots es) (below-shown layer slots e.0 es (sorted_head key_cmp e.0 (keys_of es) s))
+    (Ascends-shown layer slots es (sorted_tail key_cmp e.0 (keys_of es) s))
 
-pub words_under-shown : (layer : Layer) (es : List (Key × Slot)) (q : Key) → InOrder es → words_under (shown layer es) q ≡ layer_at layer (slot_at es q)
-words_under-shown layer [] q s = refl
-words_under-shown layer (e ∷ es) q s =
+words_under-found : (layer : Layer) (slots : List Slot) (es : List (Key × ℕ)) (q : Key) → InOrder es → words_under (shown layer slots es) q ≡ layer_at layer (found slots es q)
+words_under-found layer slots [] q s = refl
+words_under-found layer slots (e ∷ es) q s =
     ⊎_elim
     (λ (here : same_key e.0 q ≡ true).
     let at : is_eq (key_cmp q e.0) ≡ true = sym (same_key-is q e.0) ∙ same_key-symm q e.0 ∙ here in
-    let below : IsBelow q (shown layer es) = subst (λ k. IsBelow k (shown layer es)) (same_key-to e.0 q here) (below-shown layer e.0 es (sorted_head key_cmp e.0 (keys_of es) s)) in
-    rw at (found (of_layer layer e.1) here (words_under-below (shown layer es) q below (Ascends-shown layer es (sorted_tail key_cmp e.0 (keys_of es) s)))))
+    let below : IsBelow q (shown layer slots es) = subst (λ k. IsBelow k (shown layer slots es)) (same_key-to e.0 q here) (below-shown layer slots e.0 es (sorted_head key_cmp e.0 (keys_of es) s)) in
+    rw at (hit (layer_at layer (slice_get slots e.1)) here (words_under-below (shown layer slots es) q below (Ascends-shown layer slots es (sorted_tail key_cmp e.0 (keys_of es) s)))))
     (λ (off : same_key e.0 q ≡ false).
     let past : is_eq (key_cmp q e.0) ≡ false = sym (same_key-is q e.0) ∙ same_key-symm q e.0 ∙ off in
-    rw past (missed (of_layer layer e.1) off ∙ words_under-shown layer es q (sorted_tail key_cmp e.0 (keys_of es) s)))
+    rw past (missed (layer_at layer (slice_get slots e.1)) off ∙ words_under-found layer slots es q (sorted_tail key_cmp e.0 (keys_of es) s)))
     (bool_cases (same_key e.0 q))
   where
-    found : (o : Option (List ℕ)) → same_key e.0 q ≡ true → words_under (shown layer es) q ≡ None → words_under (shown_before e.0 o (shown layer es)) q ≡ o
-    found None here none = none
-    found (Some w) here none = rw here refl
+    hit : (o : Option (List ℕ)) → same_key e.0 q ≡ true → words_under (shown layer slots es) q ≡ None → words_under (shown_before e.0 o (shown layer slots es)) q ≡ o
+    hit None here none = none
+    hit (Some w) here none = rw here refl
 
-    missed : (o : Option (List ℕ)) → same_key e.0 q ≡ false → words_under (shown_before e.0 o (shown layer es)) q ≡ words_under (shown layer es) q
+    missed : (o : Option (List ℕ)) → same_key e.0 q ≡ false → words_under (shown_before e.0 o (shown layer slots es)) q ≡ words_under (shown layer slots es) q
     missed None off = refl
     missed (Some w) off = rw off refl
+
+-- the entries that the slots of keys show
+abbrev pub shown_of : Layer → Places → List FlatEntry
+shown_of layer p = shown layer p.slots.items p.tree.entries
+
+pub words_under-shown : (layer : Layer) (p : Places) (q : Key) → IsOrdered key_cmp p.tree → words_under (shown_of layer p) q ≡ value_at layer p q
+words_under-shown layer p q s = words_under-found layer p.slots.items p.tree.entries q s
+
+Ascends-of : (layer : Layer) (p : Places) → IsOrdered key_cmp p.tree → Ascends (shown_of layer p)
+Ascends-of layer p s = Ascends-shown layer p.slots.items p.tree.entries s
 
 -- ---- what slots show after a change
 
 -- the same at each key
-pub shown-same : (l m : Layer) (es fs : List (Key × Slot)) → InOrder es → InOrder fs → ((q : Key) → layer_at m (slot_at fs q) ≡ layer_at l (slot_at es q)) → shown m fs ≡ shown l es
-shown-same l m es fs s t h =
-    entries_from_words (shown m fs) (shown l es) (Ascends-shown m fs t) (Ascends-shown l es s)
-    (λ q. words_under-shown m fs q t ∙ h q ∙ sym (words_under-shown l es q s))
+pub shown-same : (l k : Layer) (m n : Places) → IsOrdered key_cmp m.tree → IsOrdered key_cmp n.tree → ((q : Key) → value_at k n q ≡ value_at l m q) → shown_of k n ≡ shown_of l m
+shown-same l k m n s t h =
+    entries_from_words (shown_of k n) (shown_of l m) (Ascends-of k n t) (Ascends-of l m s)
+    (λ q. words_under-shown k n q t ∙ h q ∙ sym (words_under-shown l m q s))
 
 -- a value at one key
-pub shown-with : (l : Layer) (es fs : List (Key × Slot)) (k : Key) (w : List ℕ) → InOrder es → InOrder fs
-    → ((q : Key) → layer_at l (slot_at fs q) ≡ cond (same_key k q) (Some w) (layer_at l (slot_at es q)))
-    → shown l fs ≡ with_words (shown l es) k w
-shown-with l es fs k w s t h =
-    entries_from_words (shown l fs) (with_words (shown l es) k w) (Ascends-shown l fs t) (Ascends-with_words (shown l es) k w (Ascends-shown l es s))
-    (λ q. words_under-shown l fs q t ∙ h q ∙ ap (cond (same_key k q) (Some w)) (sym (words_under-shown l es q s)) ∙ sym (words_under-with_words (shown l es) k w q))
+pub shown-with : (l : Layer) (m n : Places) (k : Key) (w : List ℕ) → IsOrdered key_cmp m.tree → IsOrdered key_cmp n.tree
+    → ((q : Key) → value_at l n q ≡ cond (same_key k q) (Some w) (value_at l m q))
+    → shown_of l n ≡ with_words (shown_of l m) k w
+shown-with l m n k w s t h =
+    entries_from_words (shown_of l n) (with_words (shown_of l m) k w) (Ascends-of l n t) (Ascends-with_words (shown_of l m) k w (Ascends-of l m s))
+    (λ q. words_under-shown l n q t ∙ h q ∙ ap (cond (same_key k q) (Some w)) (sym (words_under-shown l m q s)) ∙ sym (words_under-with_words (shown_of l m) k w q))
 
 -- nothing at one key
-pub shown-without : (l : Layer) (es fs : List (Key × Slot)) (k : Key) → InOrder es → InOrder fs
-    → ((q : Key) → layer_at l (slot_at fs q) ≡ cond (same_key k q) None (layer_at l (slot_at es q)))
-    → shown l fs ≡ without_words (shown l es) k
-shown-without l es fs k s t h =
-    entries_from_words (shown l fs) (without_words (shown l es) k) (Ascends-shown l fs t) (Ascends-without_words (shown l es) k (Ascends-shown l es s))
-    (λ q. words_under-shown l fs q t ∙ h q ∙ ap (cond (same_key k q) None) (sym (words_under-shown l es q s)) ∙ sym (words_under-without_words (shown l es) k q (Ascends-shown l es s)))
+pub shown-without : (l : Layer) (m n : Places) (k : Key) → IsOrdered key_cmp m.tree → IsOrdered key_cmp n.tree
+    → ((q : Key) → value_at l n q ≡ cond (same_key k q) None (value_at l m q))
+    → shown_of l n ≡ without_words (shown_of l m) k
+shown-without l m n k s t h =
+    entries_from_words (shown_of l n) (without_words (shown_of l m) k) (Ascends-of l n t) (Ascends-without_words (shown_of l m) k (Ascends-of l m s))
+    (λ q. words_under-shown l n q t ∙ h q ∙ ap (cond (same_key k q) None) (sym (words_under-shown l m q s)) ∙ sym (words_under-without_words (shown_of l m) k q (Ascends-of l m s)))
 
 -- at one key what was there
 same-at : {X : Type 0} (f : Key → X) (k q : Key) → cond (same_key k q) (f k) (f q) ≡ f q
 same-at f k q =
     ⊎_elim (λ (t : same_key k q ≡ true). rw t (ap f (same_key-to k q t))) (λ (f : same_key k q ≡ false). rw f refl) (bool_cases (same_key k q))
 
-unchanged : (l : Layer) (es fs : List (Key × Slot)) (k : Key) (v : Option (List ℕ)) → InOrder es → InOrder fs → v ≡ layer_at l (slot_at es k)
-    → ((q : Key) → layer_at l (slot_at fs q) ≡ cond (same_key k q) v (layer_at l (slot_at es q)))
-    → shown l fs ≡ shown l es
-unchanged l es fs k v s t e h =
-    shown-same l l es fs s t (λ q. h q ∙ ap (λ x. cond (same_key k q) x (layer_at l (slot_at es q))) e ∙ same-at (λ x. layer_at l (slot_at es x)) k q)
+unchanged : (l : Layer) (m n : Places) (k : Key) (v : Option (List ℕ)) → IsOrdered key_cmp m.tree → IsOrdered key_cmp n.tree → v ≡ value_at l m k
+    → ((q : Key) → value_at l n q ≡ cond (same_key k q) v (value_at l m q))
+    → shown_of l n ≡ shown_of l m
+unchanged l m n k v s t e h =
+    shown-same l l m n s t (λ q. h q ∙ ap (λ x. cond (same_key k q) x (value_at l m q)) e ∙ same-at (value_at l m) k q)
 
 -- a value at one key, or what was there
-pub shown-put : (l : Layer) (es fs : List (Key × Slot)) (k : Key) (w : List ℕ) (done : Bool) → InOrder es → InOrder fs
-    → ((q : Key) → layer_at l (slot_at fs q) ≡ cond (same_key k q) (cond done (Some w) (layer_at l (slot_at es k))) (layer_at l (slot_at es q)))
-    → shown l fs ≡ cond done (with_words (shown l es) k w) (shown l es)
-shown-put l es fs k w true s t h = shown-with l es fs k w s t h
-shown-put l es fs k w false s t h = unchanged l es fs k (layer_at l (slot_at es k)) s t refl h
+pub shown-put : (l : Layer) (m n : Places) (k : Key) (w : List ℕ) (done : Bool) → IsOrdered key_cmp m.tree → IsOrdered key_cmp n.tree
+    → ((q : Key) → value_at l n q ≡ cond (same_key k q) (cond done (Some w) (value_at l m k)) (value_at l m q))
+    → shown_of l n ≡ cond done (with_words (shown_of l m) k w) (shown_of l m)
+shown-put l m n k w true s t h = shown-with l m n k w s t h
+shown-put l m n k w false s t h = unchanged l m n k (value_at l m k) s t refl h
 
 -- words in place of as many
-pub shown-edit : (l : Layer) (es fs : List (Key × Slot)) (k : Key) (from : ℕ) (new : List ℕ) → InOrder es → InOrder fs
-    → ((q : Key) → layer_at l (slot_at fs q) ≡ cond (same_key k q) (edited from new (layer_at l (slot_at es k))) (layer_at l (slot_at es q)))
-    → shown l fs ≡ overwritten (shown l es) k from new
-shown-edit l es fs k from new s t h = by (layer_at l (slot_at es k)) refl (words_under-shown l es k s) h
+pub shown-edit : (l : Layer) (m n : Places) (k : Key) (from : ℕ) (new : List ℕ) → IsOrdered key_cmp m.tree → IsOrdered key_cmp n.tree
+    → ((q : Key) → value_at l n q ≡ cond (same_key k q) (edited from new (value_at l m k)) (value_at l m q))
+    → shown_of l n ≡ overwritten (shown_of l m) k from new
+shown-edit l m n k from new s t h = by (value_at l m k) refl (words_under-shown l m k s) h
   where
-    by : (v : Option (List ℕ)) → v ≡ layer_at l (slot_at es k) → words_under (shown l es) k ≡ v
-        → ((q : Key) → layer_at l (slot_at fs q) ≡ cond (same_key k q) (edited from new v) (layer_at l (slot_at es q)))
-        → shown l fs ≡ overwritten (shown l es) k from new
-    by None e w h = rw w (unchanged l es fs k None s t e h)
+    by : (v : Option (List ℕ)) → v ≡ value_at l m k → words_under (shown_of l m) k ≡ v
+        → ((q : Key) → value_at l n q ≡ cond (same_key k q) (edited from new v) (value_at l m q))
+        → shown_of l n ≡ overwritten (shown_of l m) k from new
+    by None e w h = rw w (unchanged l m n k None s t e h)
     by (Some old) e w h =
         rw w (
         ⊎_elim
-        (λ (room : nat_le (from + length new) (length old) ≡ true). rw room (shown-with l es fs k (take from old ++ new ++ drop (from + length new) old) s t (rw room at h)))
-        (λ (none : nat_le (from + length new) (length old) ≡ false). rw none (unchanged l es fs k (Some old) s t e (rw none at h)))
+        (λ (room : nat_le (from + length new) (length old) ≡ true). rw room (shown-with l m n k (take from old ++ new ++ drop (from + length new) old) s t (rw room at h)))
+        (λ (none : nat_le (from + length new) (length old) ≡ false). rw none (unchanged l m n k (Some old) s t e (rw none at h)))
         (bool_cases (nat_le (from + length new) (length old))))
 
 -- ---- slots that no run has changed
 
 pub layers-same : (slot : Option Slot) → is_changed slot ≡ false → layer_at Current slot ≡ layer_at Committed slot
 layers-same None h = refl
+layers-same (Some (Vacant next)) h = refl
+layers-same (Some Empty) h = refl
 layers-same (Some (One n)) h = refl
 layers-same (Some (Many words)) h = refl
+layers-same (Some (AddedOne n)) h = cc
+layers-same (Some (AddedMany words)) h = cc
 layers-same (Some (Changed versions)) h = cc
 
 -- ---- how many there are
@@ -142,6 +158,6 @@ shown_before-length key None es n h = omega (arith, h)
 shown_before-length key (Some w) es n h = omega (arith, h)
 
 -- at most one for each slot
-pub shown-length : (layer : Layer) (es : List (Key × Slot)) → length (shown layer es) ≤ length es
-shown-length layer [] = omega arith
-shown-length layer (e ∷ es) = shown_before-length e.0 (of_layer layer e.1) (shown layer es) (length es) (shown-length layer es)
+pub shown-length : (layer : Layer) (slots : List Slot) (es : List (Key × ℕ)) → length (shown layer slots es) ≤ length es
+shown-length layer slots [] = omega arith
+shown-length layer slots (e ∷ es) = shown_before-length e.0 (layer_at layer (slice_get slots e.1)) (shown layer slots es) (length es) (shown-length layer slots es)

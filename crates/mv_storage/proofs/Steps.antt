@@ -1,6 +1,8 @@
 -- What a step of the code on its slots does to what they show.
-use Rattle.std.proofs.Common.{◌≡◌, ℕ, refl, sym, ap, ◌∙◌, Bool, true, false, cond, List, [], ◌∷◌, ◌++◌, Option, Some, None, ⊎_elim, is_some, ◌||◌, IsSome, ◌<◌, ◌≤◌, arith, subst}
-use Rattle.std.specs.BTreeMap.{BTreeMap, get, is_at, IsOrdered, WritesThrough}
+use Rattle.std.proofs.Common.{◌≡◌, ℕ, refl, sym, ap, ◌∙◌, Bool, true, false, cond, List, [], ◌∷◌, ◌++◌, Option, Some, None, ⊎_elim, inl, inr, is_some, ◌||◌, ◌<◌, ◌≤◌, arith, subst, slice_get, slice_set, slice_index_or, length, take, ◌-◌, length-append}
+use Rattle.std.specs.Option.{option_and_then}
+use Rattle.std.specs.BTreeMap.{BTreeMap, get, is_at, IsOrdered}
+use Rattle.std.specs.Map.{lookup}
 use Rattle.std.specs.List.{list_any}
 use Rattle.std.proofs.lemmas.List.Folds.{list_any-append}
 use Rattle.mv_move_types.specs.declared.tables.Key.{Key}
@@ -9,95 +11,54 @@ use Rattle.mv_machine.specs.Flat.{FlatEntry}
 use Rattle.mv_storage.specs.declared.slot.Slot.{Slot}
 use Rattle.mv_storage.specs.declared.slot.Layer.{Layer}
 use Rattle.mv_storage.specs.declared.slot.Layer.TheVariants.{Committed, Current}
+use Rattle.mv_storage.specs.declared.places.Places.{Places}
 use Rattle.mv_storage.specs.FlatStorage.{words_under}
 use Rattle.mv_storage.specs.Map.{Layers}
-use Rattle.mv_storage.specs.Slots.{key_cmp, of_layer, layer_at, shown, is_changed, is_change, IsTracked, IsSettled, layers, seen}
+use Rattle.mv_storage.specs.Slots.{key_cmp, of_layer, layer_at, slot_at, is_change, is_vacant, value_at, is_changed, IsSound, AreNoted, ArePlaced, AreSettling, IsSettling, IsTracked, IsSettled, ShowsAt, ShowsSame, layers, seen}
 use Rattle.mv_storage.proofs.Keys.{same_key-is, same_key-refl, same_key-symm, same_key-to}
 use Rattle.mv_storage.proofs.Maps.{bool_cases}
-use Rattle.mv_storage.proofs.Shown.{words_under-shown, shown-same, layers-same}
+use Rattle.mv_storage.proofs.PlaceLemmas.{HasAt, HasPlace, Put, place-read, wrote-at, used-not_vacant}
+use Rattle.mv_storage.proofs.Shown.{shown_of, words_under-shown, shown-same, layers-same}
 
 -- the words under a key are those of the slot under it
-pub reads : (layer : Layer) (slots : BTreeMap Key Slot) (q : Key) (o : Option Slot) → IsOrdered key_cmp slots → o ≡ get key_cmp slots q
-    → words_under (shown layer slots.entries) q ≡ layer_at layer o
-reads layer slots q o s e = words_under-shown layer slots.entries q s ∙ ap (layer_at layer) (sym e)
+pub reads : (layer : Layer) (p : Places) (q : Key) (o : Option Slot) → IsOrdered key_cmp p.tree → o ≡ slot_at p q
+    → words_under (shown_of layer p) q ≡ layer_at layer o
+reads layer p q o s e = words_under-shown layer p q s ∙ ap (layer_at layer) (sym e)
 
 -- the test of a query is that of its key
-at-same : (k q : Key) → is_at (key_cmp k) q ≡ same_key k q
+pub at-same : (k q : Key) → is_at (key_cmp k) q ≡ same_key k q
 at-same k q = sym (same_key-is k q)
 
--- ---- a slot that is settled
+-- ---- what is shown where a slot is another
 
--- n is m with the slot t in place of s under a key
-pub record Wrote (m n : BTreeMap Key Slot) (k : Key) (s t : Slot) : Type 0 where
-  pub there : Some s ≡ get key_cmp m k
-  pub wrote : (q : Key) → get key_cmp n q ≡ cond (is_at (key_cmp k) q) (Some t) (get key_cmp m q)
-  pub ordered : IsOrdered key_cmp n
+pub has-shows : (layer : Layer) (m n : Places) (k : Key) (slot : Option Slot) (o : Option (List ℕ)) → HasAt m n k slot → layer_at layer slot ≡ o → ShowsAt layer k o m n
+has-shows layer m n k slot o has is q =
+    ap (layer_at layer) (has q)
+    ∙ ⊎_elim (λ (here : same_key k q ≡ true). rw here is) (λ (off : same_key k q ≡ false). rw off refl) (bool_cases (same_key k q))
 
-pub some_from : {X : Type 0} (o : Option X) (x : X) → Some x ≡ o → IsSome o
-some_from o x e = ap is_some (sym e)
+pub has-same : (layer : Layer) (m n : Places) (k : Key) (slot : Option Slot) → HasAt m n k slot → layer_at layer slot ≡ value_at layer m k → ShowsSame layer m n
+has-same layer m n k slot has is q =
+    has-shows layer m n k slot (value_at layer m k) has is q
+    ∙ ⊎_elim
+    (λ (here : same_key k q ≡ true). rw here (ap (value_at layer m) (same_key-to k q here)))
+    (λ (off : same_key k q ≡ false). rw off refl)
+    (bool_cases (same_key k q))
 
-pub wrote_through : (m n : BTreeMap Key Slot) (k : Key) (s t : Slot) → Some s ≡ get key_cmp m k → WritesThrough key_cmp (key_cmp k) m t n → Wrote m n k s t
-wrote_through m n k s t there w = record {
-  there = there;
-  wrote = (w.3 (some_from (get key_cmp m k) s there)).0;
-  ordered = w.4;
-}
-
-pub wrote_entry : (m n : BTreeMap Key Slot) (k : Key) (s t : Slot) → Some s ≡ get key_cmp m k → ((q : Key) → get key_cmp n q ≡ cond (is_at (key_cmp k) q) (Some t) (get key_cmp m q)) → IsOrdered key_cmp n → Wrote m n k s t
-wrote_entry m n k s t there wrote ordered = record { there = there; wrote = wrote; ordered = ordered }
-
-pub wrote-same : (layer : Layer) {m n : BTreeMap Key Slot} {k : Key} {s t : Slot} → Wrote m n k s t → of_layer layer t ≡ of_layer layer s
-    → (q : Key) → layer_at layer (get key_cmp n q) ≡ layer_at layer (get key_cmp m q)
-wrote-same layer {m} {n} {k} {s} {t} w is q =
+-- nothing where nothing was
+pub absent-same : (layer : Layer) (m : Places) (k : Key) → None ≡ get key_cmp m.tree k → ShowsAt layer k None m m
+absent-same layer m k none q =
     ⊎_elim
     (λ (here : same_key k q ≡ true).
-    let new : get key_cmp n q ≡ Some t = w.wrote q ∙ ap (λ b. cond b (Some t) (get key_cmp m q)) (at-same k q ∙ here) in
-    let old : get key_cmp m q ≡ Some s = ap (get key_cmp m) (sym (same_key-to k q here)) ∙ sym w.there in
-    ap (layer_at layer) new ∙ is ∙ ap (layer_at layer) (sym old))
-    (λ (off : same_key k q ≡ false).
-    ap (layer_at layer) (w.wrote q ∙ ap (λ b. cond b (Some t) (get key_cmp m q)) (at-same k q ∙ off)))
+    let e : get key_cmp m.tree q ≡ None = ap (get key_cmp m.tree) (sym (same_key-to k q here)) ∙ sym none in
+    rw here (ap (λ x. layer_at layer (option_and_then (slice_get m.slots.items) x)) e))
+    (λ (off : same_key k q ≡ false). rw off refl)
     (bool_cases (same_key k q))
 
--- what is shown where a slot was written
-pub wrote-shows : (layer : Layer) {m n : BTreeMap Key Slot} {k : Key} {s t : Slot} (o : Option (List ℕ)) → Wrote m n k s t → of_layer layer t ≡ o
-    → (q : Key) → layer_at layer (get key_cmp n q) ≡ cond (same_key k q) o (layer_at layer (get key_cmp m q))
-wrote-shows layer {m} {n} {k} {s} {t} o w is q =
-    ⊎_elim
-    (λ (here : same_key k q ≡ true). rw here (ap (layer_at layer) (w.wrote q ∙ ap (λ b. cond b (Some t) (get key_cmp m q)) (at-same k q ∙ here)) ∙ is))
-    (λ (off : same_key k q ≡ false). rw off (ap (layer_at layer) (w.wrote q ∙ ap (λ b. cond b (Some t) (get key_cmp m q)) (at-same k q ∙ off))))
-    (bool_cases (same_key k q))
+-- the same slots show the same
+pub slots-same : (layer : Layer) (m n : Places) → ((q : Key) → slot_at n q ≡ slot_at m q) → ShowsSame layer m n
+slots-same layer m n same q = ap (layer_at layer) (same q)
 
--- the keys touched still hold each slot that is changed
-pub wrote-tracked : {m n : BTreeMap Key Slot} {k : Key} {s t : Slot} (touched more : List Key) → Wrote m n k s t → IsTracked m touched
-    → ((q : Key) → list_any (same_key q) touched ≡ true → list_any (same_key q) more ≡ true)
-    → (is_change s ≡ false → is_change t ≡ true → list_any (same_key k) more ≡ true)
-    → IsTracked n more
-wrote-tracked {m} {n} {k} {s} {t} touched more w had grows now = record {
-  ordered = w.ordered;
-  fits = λ q h.
-      ⊎_elim
-      (λ (here : same_key k q ≡ true). had.fits q (ap is_some (ap (get key_cmp m) (sym (same_key-to k q here)) ∙ sym w.there)))
-      (λ (off : same_key k q ≡ false). had.fits q (sym (ap is_some (w.wrote q ∙ ap (λ b. cond b (Some t) (get key_cmp m q)) (at-same k q ∙ off))) ∙ h))
-      (bool_cases (same_key k q));
-  noted = λ q h.
-      ⊎_elim
-      (λ (here : same_key k q ≡ true).
-      let new : get key_cmp n q ≡ Some t = w.wrote q ∙ ap (λ b. cond b (Some t) (get key_cmp m q)) (at-same k q ∙ here) in
-      let at : list_any (same_key k) more ≡ true =
-      ⊎_elim (λ (was : is_change s ≡ true). grows k (had.noted k (sym (ap is_changed w.there) ∙ was)))
-      (λ (not : is_change s ≡ false). now not (sym (ap is_changed new) ∙ h)) (bool_cases (is_change s)) in
-      ap (λ x. list_any (same_key x) more) (sym (same_key-to k q here)) ∙ at)
-      (λ (off : same_key k q ≡ false).
-      let old : get key_cmp n q ≡ get key_cmp m q = w.wrote q ∙ ap (λ b. cond b (Some t) (get key_cmp m q)) (at-same k q ∙ off) in
-      grows q (had.noted q (sym (ap is_changed old) ∙ h)))
-      (bool_cases (same_key k q));
-}
-
--- nothing is changed anew
-pub unchanged-tracked : {m n : BTreeMap Key Slot} {k : Key} {s : Slot} (touched more : List Key) → Wrote m n k s s → IsTracked m touched
-    → ((q : Key) → list_any (same_key q) touched ≡ true → list_any (same_key q) more ≡ true)
-    → IsTracked n more
-unchanged-tracked {s = s} touched more w had grows = wrote-tracked touched more w had grows (λ (no : is_change s ≡ false) (yes : is_change s ≡ true). cc)
+-- ---- the keys touched
 
 or-more : (a b : Bool) → a ≡ true → (a || b) ≡ true
 or-more true b e = refl
@@ -109,98 +70,171 @@ or-last false true e = refl
 or-last false false e = cc
 
 -- one more key is touched
-pub grows-push : (touched : List Key) (k q : Key) → list_any (same_key q) touched ≡ true → list_any (same_key q) (touched ++ k ∷ []) ≡ true
-grows-push touched k q h = list_any-append (same_key q) touched (k ∷ []) ∙ or-more (list_any (same_key q) touched) (list_any (same_key q) (k ∷ [])) h
+pub grows-push : (touched : List (Key × ℕ)) (u : Key × ℕ) (q : Key) → list_any (λ t. same_key q t.0) touched ≡ true → list_any (λ t. same_key q t.0) (touched ++ u ∷ []) ≡ true
+grows-push touched u q h = list_any-append (λ t. same_key q t.0) touched (u ∷ []) ∙ or-more (list_any (λ t. same_key q t.0) touched) (list_any (λ t. same_key q t.0) (u ∷ [])) h
 
-pub has-push : (touched : List Key) (k : Key) → list_any (same_key k) (touched ++ k ∷ []) ≡ true
-has-push touched k = list_any-append (same_key k) touched (k ∷ []) ∙ or-last (list_any (same_key k) touched) (same_key k k) (same_key-refl k)
+pub has-push : (touched : List (Key × ℕ)) (u : Key × ℕ) → list_any (λ t. same_key u.0 t.0) (touched ++ u ∷ []) ≡ true
+has-push touched u =
+    list_any-append (λ t. same_key u.0 t.0) touched (u ∷ []) ∙ or-last (list_any (λ t. same_key u.0 t.0) touched) (same_key u.0 u.0) (same_key-refl u.0)
 
--- a change of what a look-up left as it was
-pub from_unchanged : (m p n : BTreeMap Key Slot) (k : Key) (t : Slot) → p ≡ m
-    → ((q : Key) → get key_cmp n q ≡ cond (is_at (key_cmp k) q) (Some t) (get key_cmp p q))
-    → (q : Key) → get key_cmp n q ≡ cond (is_at (key_cmp k) q) (Some t) (get key_cmp m q)
-from_unchanged m p n k t e wrote q = wrote q ∙ ap (λ x. cond (is_at (key_cmp k) q) (Some t) (get key_cmp x q)) e
-
--- a slot that was absent is changed, and its key touched
-pub added-tracked : (m n : BTreeMap Key Slot) (k : Key) (t : Slot) (touched : List Key) → k.place < 65536 → IsTracked m touched → IsOrdered key_cmp n
-    → ((q : Key) → get key_cmp n q ≡ cond (is_at (key_cmp k) q) (Some t) (get key_cmp m q))
-    → IsTracked n (touched ++ k ∷ [])
-added-tracked m n k t touched small had order wrote = record {
-  ordered = order;
-  fits = λ q h.
-      ⊎_elim
-      (λ (here : same_key k q ≡ true). subst (λ (x : Key). x.place < 65536) (same_key-to k q here) small)
-      (λ (off : same_key k q ≡ false). had.fits q (sym (ap is_some (wrote q ∙ ap (λ b. cond b (Some t) (get key_cmp m q)) (at-same k q ∙ off))) ∙ h))
-      (bool_cases (same_key k q));
-  noted = λ q h.
-      ⊎_elim
-      (λ (here : same_key k q ≡ true). ap (λ x. list_any (same_key x) (touched ++ k ∷ [])) (sym (same_key-to k q here)) ∙ has-push touched k)
-      (λ (off : same_key k q ≡ false).
-      let old : get key_cmp n q ≡ get key_cmp m q = wrote q ∙ ap (λ b. cond b (Some t) (get key_cmp m q)) (at-same k q ∙ off) in
-      grows-push touched k q (had.noted q (sym (ap is_changed old) ∙ h)))
-      (bool_cases (same_key k q));
-}
-
--- what is shown where a slot was absent
-pub added-shows : (layer : Layer) (m n : BTreeMap Key Slot) (k : Key) (t : Slot) (o : Option (List ℕ)) → None ≡ get key_cmp m k
-    → ((q : Key) → get key_cmp n q ≡ cond (is_at (key_cmp k) q) (Some t) (get key_cmp m q))
-    → of_layer layer t ≡ o
-    → (q : Key) → layer_at layer (get key_cmp n q) ≡ cond (same_key k q) o (layer_at layer (get key_cmp m q))
-added-shows layer m n k t o none wrote is q =
-    ⊎_elim
-    (λ (here : same_key k q ≡ true). rw here (ap (layer_at layer) (wrote q ∙ ap (λ b. cond b (Some t) (get key_cmp m q)) (at-same k q ∙ here)) ∙ is))
-    (λ (off : same_key k q ≡ false). rw off (ap (layer_at layer) (wrote q ∙ ap (λ b. cond b (Some t) (get key_cmp m q)) (at-same k q ∙ off))))
-    (bool_cases (same_key k q))
-
--- nothing where nothing was
-pub absent-same : (layer : Layer) (m : BTreeMap Key Slot) (k : Key) → None ≡ get key_cmp m k
-    → (q : Key) → cond (same_key k q) None (layer_at layer (get key_cmp m q)) ≡ layer_at layer (get key_cmp m q)
-absent-same layer m k none q =
-    ⊎_elim
-    (λ (here : same_key k q ≡ true). rw here (ap (layer_at layer) (none ∙ ap (get key_cmp m) (same_key-to k q here))))
-    (λ (off : same_key k q ≡ false). rw off refl)
-    (bool_cases (same_key k q))
-
-pub removed-same : (layer : Layer) (n p : BTreeMap Key Slot) (k : Key) → layer_at layer (get key_cmp n k) ≡ None
-    → ((q : Key) → get key_cmp p q ≡ cond (is_at (key_cmp k) q) None (get key_cmp n q))
-    → (q : Key) → layer_at layer (get key_cmp p q) ≡ layer_at layer (get key_cmp n q)
-removed-same layer n p k none gone q =
+-- each slot that is changed is still noted
+pub noted-at : (m n : Places) (k : Key) (slot : Option Slot) (touched more : List (Key × ℕ)) → HasAt m n k slot → AreNoted m touched
+    → ((q : Key) → list_any (λ t. same_key q t.0) touched ≡ true → list_any (λ t. same_key q t.0) more ≡ true)
+    → (is_changed slot ≡ true → list_any (λ t. same_key k t.0) more ≡ true)
+    → AreNoted n more
+noted-at m n k slot touched more has noted grows now q h =
     ⊎_elim
     (λ (here : same_key k q ≡ true).
-    ap (layer_at layer) (gone q ∙ ap (λ b. cond b None (get key_cmp n q)) (at-same k q ∙ here)) ∙ sym none ∙ ap (λ x. layer_at layer (get key_cmp n x)) (same_key-to k q here))
+    let is : slot_at n q ≡ slot = has q ∙ ap (λ b. cond b slot (slot_at m q)) here in
+    ap (λ x. list_any (λ t. same_key x t.0) more) (sym (same_key-to k q here)) ∙ now (sym (ap is_changed is) ∙ h))
     (λ (off : same_key k q ≡ false).
-    ap (layer_at layer) (gone q ∙ ap (λ b. cond b None (get key_cmp n q)) (at-same k q ∙ off)))
+    let is : slot_at n q ≡ slot_at m q = has q ∙ ap (λ b. cond b slot (slot_at m q)) off in
+    grows q (noted q (sym (ap is_changed is) ∙ h)))
     (bool_cases (same_key k q))
+
+pub noted-same : (m n : Places) (touched more : List (Key × ℕ)) → ((q : Key) → slot_at n q ≡ slot_at m q) → AreNoted m touched
+    → ((q : Key) → list_any (λ t. same_key q t.0) touched ≡ true → list_any (λ t. same_key q t.0) more ≡ true)
+    → AreNoted n more
+noted-same m n touched more same noted grows q h = grows q (noted q (sym (ap is_changed (same q)) ∙ h))
+
+pub placed-push : (tree : BTreeMap Key ℕ) (touched : List (Key × ℕ)) (u : Key × ℕ) → get key_cmp tree u.0 ≡ Some u.1 → ArePlaced tree touched → ArePlaced tree (touched ++ u ∷ [])
+placed-push tree [] u at h = (at, tt)
+placed-push tree (t ∷ ts) u at h = (h.0, placed-push tree ts u at h.1)
+
+pub placed-kept : (a b : BTreeMap Key ℕ) (touched : List (Key × ℕ)) → ((q : Key) (place : ℕ) → get key_cmp a q ≡ Some place → get key_cmp b q ≡ Some place) → ArePlaced a touched → ArePlaced b touched
+placed-kept a b [] keep h = tt
+placed-kept a b (t ∷ ts) keep h = (keep t.0 t.1 h.0, placed-kept a b ts keep h.1)
+
+pub settling-placed : (p : Places) (touched : List (Key × ℕ)) → ArePlaced p.tree touched → AreSettling p touched
+settling-placed p [] h = tt
+settling-placed p (t ∷ ts) h = (inl h.0, settling-placed p ts h.1)
+
+pub settling-last : (p : Places) (rest : List (Key × ℕ)) (u : Key × ℕ) → AreSettling p (rest ++ u ∷ []) → IsSettling p u.0 u.1
+settling-last p [] u h = h.0
+settling-last p (t ∷ ts) u h = settling-last p ts u h.1
+
+pub settling-rest : (m n : Places) (rest : List (Key × ℕ)) (u : Key × ℕ) → ((q : Key) (place : ℕ) → IsSettling m q place → IsSettling n q place) → AreSettling m (rest ++ u ∷ []) → AreSettling n rest
+settling-rest m n [] u keep h = tt
+settling-rest m n (t ∷ ts) u keep h = (keep t.0 t.1 h.0, settling-rest m n ts u keep h.1)
 
 pub none_from_test : {X : Type 0} (o : Option X) → is_some o ≡ false → o ≡ None
 none_from_test None e = refl
 none_from_test (Some x) e = cc
 
 -- no slot has a key that does not fit
-pub no_slot : (slots : BTreeMap Key Slot) (q : Key) → ((q : Key) → is_some (get key_cmp slots q) ≡ true → q.place < 65536) → 65536 ≤ q.place → get key_cmp slots q ≡ None
-no_slot slots q fits big =
+pub no_slot : (p : Places) (q : Key) → IsSound p → 65536 ≤ q.place → slot_at p q ≡ None
+no_slot p q sound big =
     ⊎_elim
-    (λ (there : is_some (get key_cmp slots q) ≡ true). absurd (omega (arith, fits q there)))
-    (λ (none : is_some (get key_cmp slots q) ≡ false). none_from_test (get key_cmp slots q) none)
-    (bool_cases (is_some (get key_cmp slots q)))
+    (λ (there : is_some (get key_cmp p.tree q) ≡ true). absurd (omega (arith, sound.fits q there)))
+    (λ (none : is_some (get key_cmp p.tree q) ≡ false). ap (λ x. option_and_then (slice_get p.slots.items) x) (none_from_test (get key_cmp p.tree q) none))
+    (bool_cases (is_some (get key_cmp p.tree q)))
 
--- what is there after a write was there before, and what is there after a slot is gone
-pub wrote-there : {m n : BTreeMap Key Slot} {k : Key} {s t : Slot} → Wrote m n k s t → (q : Key) → is_some (get key_cmp n q) ≡ true → is_some (get key_cmp m q) ≡ true
-wrote-there {m} {n} {k} {s} {t} w q h =
-    ⊎_elim
-    (λ (here : same_key k q ≡ true). ap is_some (ap (get key_cmp m) (sym (same_key-to k q here)) ∙ sym w.there))
-    (λ (off : same_key k q ≡ false). sym (ap is_some (w.wrote q ∙ ap (λ b. cond b (Some t) (get key_cmp m q)) (at-same k q ∙ off))) ∙ h)
-    (bool_cases (same_key k q))
+-- ---- a slot that is written
 
-pub removed-there : (m n p : BTreeMap Key Slot) (k : Key) → ((q : Key) → get key_cmp p q ≡ cond (is_at (key_cmp k) q) None (get key_cmp n q))
-    → ((q : Key) → is_some (get key_cmp n q) ≡ true → is_some (get key_cmp m q) ≡ true)
-    → (q : Key) → is_some (get key_cmp p q) ≡ true → is_some (get key_cmp m q) ≡ true
-removed-there m n p k gone before q h =
+-- a slot that the code has read is that under the key
+pub slot-read : (m : Places) (k : Key) (p : ℕ) (s : Slot) → IsSound m → get key_cmp m.tree k ≡ Some p → s ≡ slice_index_or m.slots.items p s → slot_at m k ≡ Some s
+slot-read m k p s sound at is =
+    ap (λ x. option_and_then (slice_get m.slots.items) x) at ∙ place-read m k p s sound (inl at) is
+
+-- the key's slot is another now, and noted
+pub tracked-put : (m n : Places) (k : Key) (s t : Slot) (touched more : List (Key × ℕ)) → IsTracked m touched → slot_at m k ≡ Some s → Put m n k t
+    → ((q : Key) → list_any (λ u. same_key q u.0) touched ≡ true → list_any (λ u. same_key q u.0) more ≡ true)
+    → (is_change s ≡ false → is_change t ≡ true → list_any (λ u. same_key k u.0) more ≡ true)
+    → ArePlaced n.tree more
+    → IsTracked n more
+tracked-put m n k s t touched more had is put grows now placed = record {
+  sound = put.sound;
+  noted = noted-at m n k (Some t) touched more put.has had.noted grows
+      (λ changed.
+      ⊎_elim
+      (λ (was : is_change s ≡ true). grows k (had.noted k (ap is_changed is ∙ was)))
+      (λ (not : is_change s ≡ false). now not changed)
+      (bool_cases (is_change s)));
+  placed = placed;
+}
+
+pub tracked-wrote : (m n : Places) (k : Key) (p : ℕ) (s t : Slot) (touched more : List (Key × ℕ)) → IsTracked m touched
+    → get key_cmp m.tree k ≡ Some p → slot_at m k ≡ Some s → is_vacant t ≡ false → n.tree ≡ m.tree → n.slots.items ≡ slice_set m.slots.items p t
+    → ((q : Key) → list_any (λ u. same_key q u.0) touched ≡ true → list_any (λ u. same_key q u.0) more ≡ true)
+    → (is_change s ≡ false → is_change t ≡ true → list_any (λ u. same_key k u.0) more ≡ true)
+    → ArePlaced m.tree more
+    → IsTracked n more
+tracked-wrote m n k p s t touched more had at is used tree slots grows now placed =
+    tracked-put m n k s t touched more had is (wrote-at m n k p t had.sound at used tree slots) grows now (subst (λ (x : BTreeMap Key ℕ). ArePlaced x more) (sym tree) placed)
+
+-- nothing was written
+pub tracked-same : (m n : Places) (touched more : List (Key × ℕ)) → IsTracked m touched → IsSound n → ((q : Key) → slot_at n q ≡ slot_at m q)
+    → ((q : Key) → list_any (λ u. same_key q u.0) touched ≡ true → list_any (λ u. same_key q u.0) more ≡ true)
+    → ArePlaced n.tree more
+    → IsTracked n more
+tracked-same m n touched more had sound same grows placed = record {
+  sound = sound;
+  noted = noted-same m n touched more same had.noted grows;
+  placed = placed;
+}
+
+-- what is shown where a slot was written
+pub wrote-shows : (layer : Layer) (m n : Places) (k : Key) (p : ℕ) (t : Slot) (o : Option (List ℕ)) → IsSound m → get key_cmp m.tree k ≡ Some p → is_vacant t ≡ false
+    → n.tree ≡ m.tree → n.slots.items ≡ slice_set m.slots.items p t → of_layer layer t ≡ o
+    → ShowsAt layer k o m n
+wrote-shows layer m n k p t o sound at used tree slots is = has-shows layer m n k (Some t) o (wrote-at m n k p t sound at used tree slots).has is
+
+pub wrote-same : (layer : Layer) (m n : Places) (k : Key) (p : ℕ) (s t : Slot) → IsSound m → get key_cmp m.tree k ≡ Some p → slot_at m k ≡ Some s → is_vacant t ≡ false
+    → n.tree ≡ m.tree → n.slots.items ≡ slice_set m.slots.items p t → of_layer layer t ≡ of_layer layer s
+    → ShowsSame layer m n
+wrote-same layer m n k p s t sound at was used tree slots is =
+    has-same layer m n k (Some t) (wrote-at m n k p t sound at used tree slots).has (is ∙ ap (layer_at layer) (sym was))
+
+-- ---- a key that is new
+
+pub placed-added : (m n : Places) (k : Key) (p : ℕ) (touched : List (Key × ℕ)) → get key_cmp m.tree k ≡ None → HasPlace m n k (Some p) → ArePlaced m.tree touched → ArePlaced n.tree (touched ++ (k, p) ∷ [])
+placed-added m n k p touched none gets placed =
+    placed-push n.tree touched (k, p) (gets k ∙ ap (λ b. cond b (Some p) (get key_cmp m.tree k)) (same_key-refl k))
+    (placed-kept m.tree n.tree touched
+    (λ q place e.
     ⊎_elim
-    (λ (here : same_key k q ≡ true).
-    let e : is_some (get key_cmp p q) ≡ false = ap is_some (gone q ∙ ap (λ b. cond b None (get key_cmp n q)) (at-same k q ∙ here)) in cc)
-    (λ (off : same_key k q ≡ false). before q (sym (ap is_some (gone q ∙ ap (λ b. cond b None (get key_cmp n q)) (at-same k q ∙ off))) ∙ h))
-    (bool_cases (same_key k q))
+    (λ (here : same_key k q ≡ true). let b : None ≡ Some place = sym none ∙ ap (get key_cmp m.tree) (same_key-to k q here) ∙ e in cc)
+    (λ (off : same_key k q ≡ false). gets q ∙ ap (λ b. cond b (Some p) (get key_cmp m.tree q)) off ∙ e)
+    (bool_cases (same_key k q))) placed)
+
+pub tracked-added : (m n : Places) (k : Key) (p : ℕ) (t : Slot) (touched : List (Key × ℕ)) → IsTracked m touched → get key_cmp m.tree k ≡ None
+    → Put m n k t → HasPlace m n k (Some p) → IsTracked n (touched ++ (k, p) ∷ [])
+tracked-added m n k p t touched had none put gets = record {
+  sound = put.sound;
+  noted = noted-at m n k (Some t) touched (touched ++ (k, p) ∷ []) put.has had.noted (λ q h. grows-push touched (k, p) q h) (λ _. has-push touched (k, p));
+  placed = placed-added m n k p touched none gets had.placed;
+}
+
+-- a key keeps the place that it has
+pub placed-same : (m n : Places) (k : Key) (p : ℕ) (touched : List (Key × ℕ)) → get key_cmp m.tree k ≡ Some p → HasPlace m n k (Some p) → ArePlaced m.tree touched → ArePlaced n.tree touched
+placed-same m n k p touched at gets placed =
+    placed-kept m.tree n.tree touched
+    (λ q place e.
+    ⊎_elim
+    (λ (here : same_key k q ≡ true). gets q ∙ ap (λ b. cond b (Some p) (get key_cmp m.tree q)) here ∙ sym at ∙ ap (get key_cmp m.tree) (same_key-to k q here) ∙ e)
+    (λ (off : same_key k q ≡ false). gets q ∙ ap (λ b. cond b (Some p) (get key_cmp m.tree q)) off ∙ e)
+    (bool_cases (same_key k q))) placed
+
+pub placed-entries : (a b : BTreeMap Key ℕ) (touched : List (Key × ℕ)) → b.entries ≡ a.entries → ArePlaced a touched → ArePlaced b touched
+placed-entries a b touched same placed =
+    placed-kept a b touched (λ q place e. ap (λ (es : List (Key × ℕ)). lookup (is_at (key_cmp q)) es) same ∙ e) placed
+
+take-all : {X : Type 0} (xs ys : List X) → take (length xs) (xs ++ ys) ≡ xs
+take-all [] ys = refl
+take-all (x ∷ xs) ys = ap (λ zs. x ∷ zs) (take-all xs ys)
+
+-- what was added last is gone again
+pub popped-same : {X : Type 0} (ts us vs : List X) (x : X) (n : ℕ) → us ≡ ts ++ x ∷ [] → n ≡ length us → vs ≡ take (n - 1) us → vs ≡ ts
+popped-same ts us vs x n pushed long popped =
+    let short : n - 1 ≡ length ts = omega (arith, long, ap length pushed, length-append ts (x ∷ [])) in
+    popped ∙ ap (λ i. take i us) short ∙ ap (take (length ts)) pushed ∙ take-all ts (x ∷ [])
+
+-- from slots that are the same
+pub shows-from : (layer : Layer) (m v n : Places) (k : Key) (o : Option (List ℕ)) → ((q : Key) → slot_at v q ≡ slot_at m q) → ShowsAt layer k o v n → ShowsAt layer k o m n
+shows-from layer m v n k o same shows q = shows q ∙ ap (λ x. cond (same_key k q) o (layer_at layer x)) (same q)
+
+pub same-from : (layer : Layer) (m v n : Places) → ((q : Key) → slot_at v q ≡ slot_at m q) → ShowsSame layer v n → ShowsSame layer m n
+same-from layer m v n same shows q = shows q ∙ ap (layer_at layer) (same q)
 
 -- ---- the slots that are left to settle
 
@@ -209,36 +243,63 @@ or-left true b e f = refl
 or-left false true e f = cc
 or-left false false e f = e
 
-pub tracked-one_less : (m n : BTreeMap Key Slot) (k : Key) (rest : List Key) → IsTracked m (rest ++ k ∷ []) → IsOrdered key_cmp n
-    → is_changed (get key_cmp n k) ≡ false → ((q : Key) → same_key k q ≡ false → get key_cmp n q ≡ get key_cmp m q)
-    → ((q : Key) → is_some (get key_cmp n q) ≡ true → is_some (get key_cmp m q) ≡ true)
-    → IsTracked n rest
-tracked-one_less m n k rest t s done others there = record {
-  ordered = s;
-  fits = λ q h. t.fits q (there q h);
-  noted = λ q h.
-      ⊎_elim
-      (λ (here : same_key k q ≡ true). let e : is_changed (get key_cmp n q) ≡ false = ap (λ x. is_changed (get key_cmp n x)) (sym (same_key-to k q here)) ∙ done in cc)
-      (λ (off : same_key k q ≡ false).
-      let had : is_changed (get key_cmp m q) ≡ true = ap is_changed (sym (others q off)) ∙ h in
-      or-left (list_any (same_key q) rest) (same_key q k) (sym (list_any-append (same_key q) rest (k ∷ [])) ∙ t.noted q had) (same_key-symm q k ∙ off))
-      (bool_cases (same_key k q));
+pub noted-rest : (m n : Places) (rest : List (Key × ℕ)) (u : Key × ℕ) → AreNoted m (rest ++ u ∷ [])
+    → is_changed (slot_at n u.0) ≡ false → ((q : Key) → same_key u.0 q ≡ false → slot_at n q ≡ slot_at m q)
+    → AreNoted n rest
+noted-rest m n rest u noted done others q h =
+    ⊎_elim
+    (λ (here : same_key u.0 q ≡ true). let e : is_changed (slot_at n q) ≡ false = ap (λ x. is_changed (slot_at n x)) (sym (same_key-to u.0 q here)) ∙ done in cc)
+    (λ (off : same_key u.0 q ≡ false).
+    let had : is_changed (slot_at m q) ≡ true = ap is_changed (sym (others q off)) ∙ h in
+    or-left (list_any (λ t. same_key q t.0) rest) (same_key q u.0) (sym (list_any-append (λ t. same_key q t.0) rest (u ∷ [])) ∙ noted q had) (same_key-symm q u.0 ∙ off))
+    (bool_cases (same_key u.0 q))
+
+-- nothing is left
+not-true : (b : Bool) → (b ≡ true → false ≡ true) → b ≡ false
+not-true true h = sym (h refl)
+not-true false h = refl
+
+pub settled-none : (p : Places) (touched : List (Key × ℕ)) → touched ≡ [] → IsSound p → AreNoted p touched → IsSettled p touched
+settled-none p touched none sound noted = record {
+  sound = sound;
+  kept = λ q. not-true (is_changed (slot_at p q)) (λ h. sym (ap (list_any (λ t. same_key q t.0)) none) ∙ noted q h);
+  none = none;
 }
+
+-- a run begins with nothing touched
+pub settled-tracked : (p : Places) (touched : List (Key × ℕ)) → IsSettled p touched → IsTracked p touched
+settled-tracked p touched settled = record {
+  sound = settled.sound;
+  noted = λ q h. let e : is_changed (slot_at p q) ≡ false = settled.kept q in cc;
+  placed = subst (ArePlaced p.tree) (sym settled.none) tt;
+}
+
+-- a key whose slot is gone has none
+pub vacant-settled : (m n : Places) (k : Key) (p : ℕ) (s : Slot) → IsSound m → IsSettling m k p → slice_get m.slots.items p ≡ Some s → is_vacant s ≡ true → n.tree ≡ m.tree
+    → is_changed (slot_at n k) ≡ false
+vacant-settled m n k p s sound (inl e) read vacant tree = absurd (used-not_vacant m.slots.items p (sound.used k p e) (s, read, vacant))
+vacant-settled m n k p s sound (inr v) read vacant tree =
+    ap (λ x. is_changed (option_and_then (slice_get n.slots.items) x)) (ap (λ x. get key_cmp x k) tree ∙ v.0)
+
+-- a slot under a key, and those of the others
+pub has-here : (m n : Places) (k : Key) (slot : Option Slot) → HasAt m n k slot → slot_at n k ≡ slot
+has-here m n k slot has = has k ∙ ap (λ b. cond b slot (slot_at m k)) (same_key-refl k)
+
+pub has-off : (m n : Places) (k : Key) (slot : Option Slot) → HasAt m n k slot → (q : Key) → same_key k q ≡ false → slot_at n q ≡ slot_at m q
+has-off m n k slot has q off = has q ∙ ap (λ b. cond b slot (slot_at m q)) off
 
 -- where no slot is changed, both layers are one
 pub one-layer : (layer : Layer) (slot : Option Slot) → is_changed slot ≡ false → layer_at Committed slot ≡ layer_at layer slot
 one-layer Committed slot h = refl
 one-layer Current slot h = sym (layers-same slot h)
 
-pub seen-shown : (layer : Layer) (slots : BTreeMap Key Slot) → seen layer (layers slots) ≡ shown layer slots.entries
-seen-shown Committed slots = refl
-seen-shown Current slots = refl
+pub seen-shown : (layer : Layer) (p : Places) → seen layer (layers p) ≡ shown_of layer p
+seen-shown Committed p = refl
+seen-shown Current p = refl
 
 -- what is committed once all is settled
-pub settled-shows : (layer : Layer) (m n : BTreeMap Key Slot) → IsOrdered key_cmp m → IsSettled n
-    → ((q : Key) → layer_at layer (get key_cmp n q) ≡ layer_at layer (get key_cmp m q))
-    → shown Committed n.entries ≡ shown layer m.entries
-settled-shows layer m n s t same = shown-same layer Committed m.entries n.entries s t.ordered (λ q. one-layer layer (get key_cmp n q) (t.kept q) ∙ same q)
+pub settled-shows : (layer : Layer) (m n : Places) (touched : List (Key × ℕ)) → IsSound m → IsSettled n touched → ShowsSame layer m n → shown_of Committed n ≡ shown_of layer m
+settled-shows layer m n touched s t same = shown-same layer Committed m n s.ordered t.sound.ordered (λ q. one-layer layer (slot_at n q) (t.kept q) ∙ same q)
 
 -- overlays with the same layers are one
 pub layers-equal : (a b : Layers) → a.committed ≡ b.committed → a.current ≡ b.current → a ≡ b

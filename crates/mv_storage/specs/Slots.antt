@@ -1,5 +1,5 @@
 -- What the slots of storage show, and which of them a run has changed.
-use Rattle.std.specs.Prelude.{ℕ, ◌<◌, List, [], ◌∷◌, Bool, cond, true, false, is_some, ◌≡◌, Option, Some, None, unwrap_or}
+use Rattle.std.specs.Prelude.{ℕ, ◌<◌, List, [], ◌∷◌, Bool, cond, true, false, is_some, ◌≡◌, ◌⊎◌, Option, Some, None, unwrap_or, slice_get}
 use Rattle.std.specs.Option.{option_and_then, option_map}
 use Rattle.std.specs.List.{list_any}
 use Rattle.std.specs.Ordering.{nat_cmp, ordering_then}
@@ -9,9 +9,10 @@ use Rattle.mv_move_types.specs.declared.tables.Key.{Key}
 use Rattle.mv_machine.specs.State.{same_key}
 use Rattle.mv_storage.specs.declared.slot.Slot.{Slot}
 use Rattle.mv_storage.specs.declared.slot.Versions.{Versions}
-use Rattle.mv_storage.specs.declared.slot.Slot.TheVariants.{One, Many, Changed}
+use Rattle.mv_storage.specs.declared.slot.Slot.TheVariants.{Vacant, Empty, One, Many, AddedOne, AddedMany, Changed}
 use Rattle.mv_storage.specs.declared.slot.Layer.{Layer}
 use Rattle.mv_storage.specs.declared.slot.Layer.TheVariants.{Committed, Current}
+use Rattle.mv_storage.specs.declared.places.Places.{Places}
 use Rattle.mv_storage.specs.FlatStorage.{FlatStorage}
 use Rattle.mv_storage.specs.WordLists.{spliced}
 use Rattle.mv_storage.specs.Map.{Layers}
@@ -25,10 +26,19 @@ abbrev pub version : Layer → Versions → Option (List ℕ)
 version Committed v = v.committed
 version Current v = v.current
 
+-- a value that only the run sees
+abbrev pub added : Layer → List ℕ → Option (List ℕ)
+added Committed words = None
+added Current words = Some words
+
 -- the value of a slot as a run sees it, or as it was before
 abbrev pub of_layer : Layer → Slot → Option (List ℕ)
+of_layer layer (Vacant next) = None
+of_layer layer Empty = None
 of_layer layer (One n) = Some (n ∷ [])
 of_layer layer (Many words) = Some words.items
+of_layer layer (AddedOne n) = added layer (n ∷ [])
+of_layer layer (AddedMany words) = added layer words.items
 of_layer layer (Changed versions) = version layer versions.value
 
 -- that of a slot that may be absent
@@ -37,8 +47,12 @@ layer_at layer slot = option_and_then (of_layer layer) slot
 
 -- whether a run has changed it
 abbrev pub is_change : Slot → Bool
+is_change (Vacant next) = false
+is_change Empty = true
 is_change (One n) = false
 is_change (Many words) = false
+is_change (AddedOne n) = true
+is_change (AddedMany words) = true
 is_change (Changed versions) = true
 
 -- whether a run has changed a slot, which may be absent
@@ -46,47 +60,94 @@ abbrev pub is_changed : Option Slot → Bool
 is_changed None = false
 is_changed (Some s) = is_change s
 
+-- whether it is no key's
+abbrev pub is_vacant : Slot → Bool
+is_vacant (Vacant next) = true
+is_vacant Empty = false
+is_vacant (One n) = false
+is_vacant (Many words) = false
+is_vacant (AddedOne n) = false
+is_vacant (AddedMany words) = false
+is_vacant (Changed versions) = false
+
+-- a slot stands at the place, and is no key's
+abbrev pub IsVacantAt : List Slot → ℕ → Type 0
+IsVacantAt slots place = (s : Slot) × (slice_get slots place ≡ Some s) × (is_vacant s ≡ true)
+
+-- a slot stands at the place, and may be a key's
+abbrev pub IsUsedAt : List Slot → ℕ → Type 0
+IsUsedAt slots place = (s : Slot) × (slice_get slots place ≡ Some s) × (is_vacant s ≡ false)
+
 -- the entry of a value that may be absent, before other entries
 abbrev pub shown_before : Key → Option (List ℕ) → FlatStorage → FlatStorage
 shown_before key None entries = entries
 shown_before key (Some words) entries = record { key = key; words = words } ∷ entries
 
--- the entries that slots show
-abbrev pub shown : Layer → List (Key × Slot) → FlatStorage
-shown layer [] = []
-shown layer (e ∷ es) = shown_before e.0 (of_layer layer e.1) (shown layer es)
+-- the entries that keys with their slots' places show
+abbrev pub shown : Layer → List Slot → List (Key × ℕ) → FlatStorage
+shown layer slots [] = []
+shown layer slots (e ∷ es) = shown_before e.0 (layer_at layer (slice_get slots e.1)) (shown layer slots es)
 
 -- both layers of the slots
-abbrev pub layers : BTreeMap Key Slot → Layers
-layers slots = record { committed = shown Committed slots.entries; current = shown Current slots.entries }
+abbrev pub layers : Places → Layers
+layers p = record { committed = shown Committed p.slots.items p.tree.entries; current = shown Current p.slots.items p.tree.entries }
+
+-- the slot under a key
+abbrev pub slot_at : Places → Key → Option Slot
+slot_at p key = option_and_then (slice_get p.slots.items) (get key_cmp p.tree key)
 
 -- what the slot under a key shows in a layer
-abbrev pub value_at : Layer → BTreeMap Key Slot → Key → Option (List ℕ)
-value_at layer slots key = layer_at layer (get key_cmp slots key)
+abbrev pub value_at : Layer → Places → Key → Option (List ℕ)
+value_at layer p key = layer_at layer (slot_at p key)
 
 -- a layer shows at each key what it showed
-abbrev pub ShowsSame : Layer → BTreeMap Key Slot → BTreeMap Key Slot → Type 0
+abbrev pub ShowsSame : Layer → Places → Places → Type 0
 ShowsSame layer old new = (q : Key) → value_at layer new q ≡ value_at layer old q
 
 -- a layer shows this value at one key, and at each other what it showed
-abbrev pub ShowsAt : Layer → Key → Option (List ℕ) → BTreeMap Key Slot → BTreeMap Key Slot → Type 0
+abbrev pub ShowsAt : Layer → Key → Option (List ℕ) → Places → Places → Type 0
 ShowsAt layer key value old new = (q : Key) → value_at layer new q ≡ cond (same_key key q) value (value_at layer old q)
 
 -- a value with these words in place of as many, if they are there
 abbrev pub edited : ℕ → List ℕ → Option (List ℕ) → Option (List ℕ)
 edited from new value = option_map (λ old. unwrap_or (spliced from new old) old) value
 
--- the keys ascend, each is one of a struct definition, and each slot that a run has changed is among the keys touched
-pub record IsTracked (slots : BTreeMap Key Slot) (touched : List Key) : Type 0 where
-  pub ordered : IsOrdered key_cmp slots
-  pub fits : (q : Key) → is_some (get key_cmp slots q) ≡ true → q.place < 65536
-  pub noted : (q : Key) → is_changed (get key_cmp slots q) ≡ true → list_any (same_key q) touched ≡ true
+-- the keys ascend, each is one of a struct definition, and each has a place of its own, where a slot in use stands
+pub record IsSound (p : Places) : Type 0 where
+  pub ordered : IsOrdered key_cmp p.tree
+  pub fits : (q : Key) → is_some (get key_cmp p.tree q) ≡ true → q.place < 65536
+  pub used : (q : Key) (place : ℕ) → get key_cmp p.tree q ≡ Some place → IsUsedAt p.slots.items place
+  pub apart : (q r : Key) (place : ℕ) → get key_cmp p.tree q ≡ Some place → get key_cmp p.tree r ≡ Some place → same_key q r ≡ true
 
--- the keys ascend, each is one of a struct definition, and no slot is changed
-pub record IsSettled (slots : BTreeMap Key Slot) : Type 0 where
-  pub ordered : IsOrdered key_cmp slots
-  pub fits : (q : Key) → is_some (get key_cmp slots q) ≡ true → q.place < 65536
-  pub kept : (q : Key) → is_changed (get key_cmp slots q) ≡ false
+-- each slot that a run has changed is that of a key touched
+abbrev pub AreNoted : Places → List (Key × ℕ) → Type 0
+AreNoted p touched = (q : Key) → is_changed (slot_at p q) ≡ true → list_any (λ t. same_key q t.0) touched ≡ true
+
+-- each key touched has the place that it is noted with
+abbrev pub ArePlaced : BTreeMap Key ℕ → List (Key × ℕ) → Type 0
+ArePlaced tree [] = Unit {0}
+ArePlaced tree (t ∷ ts) = (get key_cmp tree t.0 ≡ Some t.1) × ArePlaced tree ts
+
+-- a key has this place, or none by now, and the place is free
+abbrev pub IsSettling : Places → Key → ℕ → Type 0
+IsSettling p key place = (get key_cmp p.tree key ≡ Some place) ⊎ ((get key_cmp p.tree key ≡ None) × IsVacantAt p.slots.items place)
+
+-- each key touched has the place that it is noted with, or has been taken out since
+abbrev pub AreSettling : Places → List (Key × ℕ) → Type 0
+AreSettling p [] = Unit {0}
+AreSettling p (t ∷ ts) = IsSettling p t.0 t.1 × AreSettling p ts
+
+-- the slots as a run has them
+pub record IsTracked (p : Places) (touched : List (Key × ℕ)) : Type 0 where
+  pub sound : IsSound p
+  pub noted : AreNoted p touched
+  pub placed : ArePlaced p.tree touched
+
+-- the slots where no run is at work: none is changed
+pub record IsSettled (p : Places) (touched : List (Key × ℕ)) : Type 0 where
+  pub sound : IsSound p
+  pub kept : (q : Key) → is_changed (slot_at p q) ≡ false
+  pub none : touched ≡ []
 
 -- one layer of an overlay's
 abbrev pub seen : Layer → Layers → FlatStorage

@@ -9,7 +9,8 @@ use std::marker::Model;
 /// The committed values by ascending key, each with its key. Its model is the list of those that are left.
 #[derive(Drop)]
 pub struct Entries<'a> {
-    pub(crate) slots: Iter<'a, Key, Slot>,
+    pub(crate) places: Iter<'a, Key, u32>,
+    pub(crate) slots: &'a [Slot],
 }
 
 impl<'a> Model for Entries<'a> {
@@ -21,7 +22,7 @@ impl<'a> Model for Entries<'a> {
     ghost use Rattle.mv_storage.specs.Slots.{shown};
     ghost use Rattle.mv_storage.specs.declared.slot.Layer.TheVariants.{Committed};
 
-    ghost view = { λ e. shown Committed e.slots };
+    ghost view = { λ e. shown Committed e.slots.now e.places };
 }
 
 impl<'a> Entries<'a> {
@@ -29,9 +30,11 @@ impl<'a> Entries<'a> {
     pub fn next(&mut self) -> Option<(Key, &'a [u128])>
         ensures { MatchOption result ((self.old ≡ []) × (self.new ≡ [])) (λ e. self.old ≡ record { key = e.0; words = e.1.now } ∷ self.new) }
     {
-        while let Some((key, slot)) = self.slots.next() {
-            if let Some(words) = slot.committed() {
-                return Some((*key, words));
+        while let Some((key, place)) = self.places.next() {
+            if let Some(slot) = self.slots.get(*place as usize) {
+                if let Some(words) = slot.committed() {
+                    return Some((*key, words));
+                }
             }
         }
         None

@@ -3,6 +3,7 @@
 
 mod entries;
 mod overlay;
+mod places;
 mod slot;
 mod slots;
 #[cfg(test)]

@@ -6,19 +6,19 @@ ghost use Rattle.mv_storage.specs.FlatStorage.{words_under, with_words, without_
 ghost use Rattle.mv_storage.specs.Map.{overwritten, Ascends};
 ghost use Rattle.mv_storage.specs.Slots.{seen};
 
-use crate::slot::{Layer, Slot};
+use crate::places::Places;
+use crate::slot::Layer;
 use crate::slots::{edit_in, put_into, settle, take_from};
 use crate::{Entries, Value};
 use mv_move_types::Key;
 use std::alloc::{AllocError, Global};
-use std::collections::BTreeMap;
 use std::marker::Model;
 
 /// Committed values, each under its key. A contract sees the entries by ascending key, each value as its words.
 #[derive(Drop)]
 pub struct Storage {
-    slots: BTreeMap<Key, Slot>,
-    touched: Vec<Key>,
+    places: Places,
+    touched: Vec<(Key, u32)>,
     alloc: Global,
 }
 
@@ -30,9 +30,9 @@ impl Model for Storage {
     ghost use Rattle.mv_storage.specs.Slots.{shown, IsSettled};
     ghost use Rattle.mv_storage.specs.declared.slot.Layer.TheVariants.{Committed};
 
-    ghost view = { λ s. shown Committed s.slots.entries };
+    ghost view = { λ s. shown Committed s.places.slots.items s.places.tree.entries };
 
-    ghost invariant = { λ s. IsSettled s.slots };
+    ghost invariant = { λ s. IsSettled s.places s.touched.items };
 }
 
 impl Storage {
@@ -41,7 +41,7 @@ impl Storage {
         ensures { result ≡ [] }
     {
         Storage {
-            slots: BTreeMap::new(alloc),
+            places: Places::new(alloc),
             touched: Vec::new(alloc),
             alloc,
         }
@@ -51,7 +51,7 @@ impl Storage {
     pub fn get(&self, key: &Key) -> Option<&[u128]>
         ensures { option_copied result ≡ words_under self.now key.now }
     {
-        match self.slots.get(key) {
+        match self.places.find(key) {
             Some(slot) => slot.committed(),
             None => None,
         }
@@ -63,7 +63,8 @@ impl Storage {
         ensures few { length self.entry.now < 2 ^ 63 }
     {
         Entries {
-            slots: self.slots.iter(),
+            places: self.places.tree.iter(),
+            slots: self.places.slots.as_slice(),
         }
     }
 
@@ -74,7 +75,7 @@ impl Storage {
         ensures current { result.current ≡ self }
     {
         Overlay {
-            slots: self.slots,
+            places: self.places,
             touched: self.touched,
             alloc: self.alloc,
         }
@@ -85,8 +86,8 @@ impl Storage {
 /// grows with the storage only as a search in it does.
 #[derive(Drop)]
 pub struct Overlay {
-    slots: BTreeMap<Key, Slot>,
-    touched: Vec<Key>,
+    places: Places,
+    touched: Vec<(Key, u32)>,
     alloc: Global,
 }
 
@@ -97,9 +98,9 @@ impl Model for Overlay {
 
     ghost use Rattle.mv_storage.specs.Slots.{layers, IsTracked};
 
-    ghost view = { λ o. layers o.slots };
+    ghost view = { λ o. layers o.places };
 
-    ghost invariant = { λ o. IsTracked o.slots o.touched.items };
+    ghost invariant = { λ o. IsTracked o.places o.touched.items };
 }
 
 impl Overlay {
@@ -119,7 +120,7 @@ impl Overlay {
     fn find(&self, key: &Key) -> Option<&[u128]>
         ensures { option_copied result ≡ words_under self.now.current key.now }
     {
-        match self.slots.get(key) {
+        match self.places.find(key) {
             Some(slot) => slot.current(),
             None => None,
         }
@@ -131,7 +132,7 @@ impl Overlay {
             (words_under self.now.current (record { address = address; place = place; index = index }) ≡ None)
             (λ k. k ≡ record { address = address; place = place; index = index }) }
     {
-        let _ = &self.slots;
+        let _ = &self.places;
         if place > u16::MAX as u128 {
             return None;
         }
@@ -164,7 +165,7 @@ impl Overlay {
         ensures err { OnErr result (self.new ≡ self.old) }
     {
         edit_in(
-            &mut self.slots,
+            &mut self.places,
             &mut self.touched,
             key,
             from,
@@ -180,18 +181,18 @@ impl Overlay {
         ensures committed { self.new.committed ≡ self.old.committed }
         ensures err { OnErr result (self.new ≡ self.old) }
     {
-        take_from(&mut self.slots, &mut self.touched, key, self.alloc)
+        take_from(&mut self.places, &mut self.touched, key, self.alloc)
     }
 
     /// Puts a value under a key where the run sees none, and says whether it did; nothing changes where it did not. It fails
-    /// only where memory runs out, and nothing changes then.
+    /// only where memory runs out or 2^32 keys have values, and nothing changes then.
     pub fn put(&mut self, key: Key, value: Value) -> Result<bool, AllocError>
         ensures done { IfOk result (λ done. done ≡ not (is_some (words_under self.old.current key))) }
         ensures current { IfOk result (λ done. self.new.current ≡ cond done (with_words self.old.current key value) self.old.current) }
         ensures committed { self.new.committed ≡ self.old.committed }
         ensures err { OnErr result (self.new ≡ self.old) }
     {
-        put_into(&mut self.slots, &mut self.touched, key, value, self.alloc)
+        put_into(&mut self.places, &mut self.touched, key, value)
     }
 
     // The storage that holds one layer.
@@ -199,13 +200,13 @@ impl Overlay {
         ensures { result ≡ seen layer self }
     {
         let Overlay {
-            mut slots,
+            mut places,
             mut touched,
             alloc,
         } = self;
-        settle(&mut slots, &mut touched, layer);
+        settle(&mut places, &mut touched, layer);
         Storage {
-            slots,
+            places,
             touched,
             alloc,
         }

@@ -1,12 +1,13 @@
-// What stands under a key: a value that the run at work has left alone, or the committed one and what the run has made of it.
-ghost use Rattle.std.specs.Prelude.{◌≡◌, cond, None, Some, true, false, not, is_some, option_copied, option_and_then, IfOk, OnOk, OnErr};
-ghost use Rattle.mv_storage.specs.Slots.{version, of_layer, is_change, edited};
+// What stands under a key: a value that the run at work has left alone, one that it has put, or the committed one and what
+// the run has made of it.
+ghost use Rattle.std.specs.Prelude.{◌≡◌, cond, None, Some, true, false, not, ◌||◌, is_some, option_copied, option_and_then, IfOk, OnOk, OnErr};
+ghost use Rattle.mv_storage.specs.Slots.{version, of_layer, is_change, is_vacant, edited};
 ghost use Rattle.mv_storage.specs.WordLists.{spliced};
 ghost use Rattle.mv_storage.specs.declared.slot.Layer.{Layer};
 ghost use Rattle.mv_storage.specs.declared.slot.Layer.TheVariants.{Committed, Current};
 
 use crate::Value;
-use crate::value::Words;
+use crate::value::{Words, overwrite};
 use std::alloc::{AllocError, Global};
 use std::mem::{replace, size_of};
 use std::slice;
@@ -38,11 +39,16 @@ impl Versions {
     }
 }
 
-// A value that the run has left alone, with one leaf in place, or both versions of one that it has changed.
+// No key's, with the next free place; of a key that the run has put and taken again; a committed value that the run has left
+// alone, with one leaf in place; one that the run has put where nothing was; or both versions of one that it has changed.
 #[derive(Drop)]
 pub(crate) enum Slot {
+    Vacant(u32),
+    Empty,
     One(u128),
     Many(Vec<u128>),
+    AddedOne(u128),
+    AddedMany(Vec<u128>),
     Changed(Box<Versions>),
 }
 
@@ -53,6 +59,7 @@ impl Slot {
     fn kept(value: Value) -> Self
         ensures value { (layer : Layer) → of_layer layer result ≡ Some value }
         ensures kept { is_change result ≡ false }
+        ensures used { is_vacant result ≡ false }
     {
         match value.into_words() {
             Words::One(word) => Slot::One(word),
@@ -60,32 +67,45 @@ impl Slot {
         }
     }
 
-    // A value that the run has put where nothing was. It fails only where memory runs out.
-    pub(crate) fn written(value: Value, alloc: Global) -> Result<Self, AllocError>
-        ensures current { IfOk result (λ s. of_layer Current s ≡ Some value) }
-        ensures committed { IfOk result (λ s. of_layer Committed s ≡ None) }
+    // A value that the run has put where nothing was.
+    #[inline]
+    pub(crate) fn added(value: Value) -> Self
+        ensures current { of_layer Current result ≡ Some value }
+        ensures committed { of_layer Committed result ≡ None }
+        ensures change { is_change result ≡ true }
+        ensures used { is_vacant result ≡ false }
     {
-        let versions = Versions {
-            committed: None,
-            current: Some(value),
-        };
-        Ok(Slot::Changed(Box::new(alloc, versions)?))
+        match value.into_words() {
+            Words::One(word) => Slot::AddedOne(word),
+            Words::Many(words) => Slot::AddedMany(words),
+        }
     }
 
     // Whether the run has left it alone.
+    #[inline]
     pub(crate) fn is_kept(&self) -> bool
         ensures { result ≡ not (is_change self.now) }
     {
-        !matches!(self, Slot::Changed(_))
+        matches!(self, Slot::Vacant(_) | Slot::One(_) | Slot::Many(_))
+    }
+
+    // Whether it is no key's.
+    #[inline]
+    pub(crate) fn is_vacant(&self) -> bool
+        ensures { result ≡ is_vacant self.now }
+    {
+        matches!(self, Slot::Vacant(_))
     }
 
     // The words that the run sees.
+    #[inline]
     pub(crate) fn current(&self) -> Option<&[u128]>
         ensures { option_copied result ≡ of_layer Current self.now }
     {
         match self {
-            Slot::One(word) => Some(slice::from_ref(word)),
-            Slot::Many(words) => Some(words.as_slice()),
+            Slot::Vacant(_) | Slot::Empty => None,
+            Slot::One(word) | Slot::AddedOne(word) => Some(slice::from_ref(word)),
+            Slot::Many(words) | Slot::AddedMany(words) => Some(words.as_slice()),
             Slot::Changed(versions) => match &versions.current {
                 Some(value) => Some(value.as_slice()),
                 None => None,
@@ -94,10 +114,12 @@ impl Slot {
     }
 
     // The words that are committed.
+    #[inline]
     pub(crate) fn committed(&self) -> Option<&[u128]>
         ensures { option_copied result ≡ of_layer Committed self.now }
     {
         match self {
+            Slot::Vacant(_) | Slot::Empty | Slot::AddedOne(_) | Slot::AddedMany(_) => None,
             Slot::One(word) => Some(slice::from_ref(word)),
             Slot::Many(words) => Some(words.as_slice()),
             Slot::Changed(versions) => match &versions.committed {
@@ -107,11 +129,14 @@ impl Slot {
         }
     }
 
-    // Puts another value in place of the one that the run sees. It fails only where memory runs out, and nothing changes then.
+    // Keeps a committed value that the run has left alone, and puts another for the run in its place. It fails only where memory
+    // runs out, and nothing changes then.
     fn change(&mut self, current: Option<Value>, alloc: Global) -> Result<(), AllocError>
+        requires { (is_change self.old ≡ false) × (is_vacant self.old ≡ false) }
         ensures current { OnOk result (of_layer Current self.new ≡ current) }
         ensures committed { of_layer Committed self.new ≡ of_layer Committed self.old }
         ensures change { OnOk result (is_change self.new ≡ true) }
+        ensures used { is_vacant self.new ≡ false }
         ensures err { OnErr result (self.new ≡ self.old) }
     {
         let fresh = Box::new(
@@ -124,7 +149,7 @@ impl Slot {
         let committed = match replace(self, Slot::Changed(fresh)) {
             Slot::One(word) => Some(Value::leaf(word)),
             Slot::Many(words) => Some(Value::words(words)),
-            Slot::Changed(versions) => Box::into_inner(versions).committed,
+            _ => None,
         };
         if let Slot::Changed(versions) = self {
             versions.committed = committed;
@@ -134,12 +159,18 @@ impl Slot {
 
     // Puts a value where the run sees none, and says whether it did.
     pub(crate) fn put(&mut self, value: Value) -> bool
+        requires { is_vacant self.old ≡ false }
         ensures done { result ≡ not (is_some (of_layer Current self.old)) }
         ensures current { of_layer Current self.new ≡ cond result (Some value) (of_layer Current self.old) }
         ensures committed { of_layer Committed self.new ≡ of_layer Committed self.old }
         ensures change { is_change self.new ≡ is_change self.old }
+        ensures used { is_vacant self.new ≡ false }
     {
         match self {
+            Slot::Empty => {
+                *self = Slot::added(value);
+                true
+            }
             Slot::Changed(versions) if versions.current.is_none() => {
                 versions.current = Some(value);
                 true
@@ -148,32 +179,53 @@ impl Slot {
         }
     }
 
-    // Takes out what the run sees. The committed value stays, so the run has a copy of it.
+    // Takes out what the run sees. A committed value stays, so the run has a copy of it.
     pub(crate) fn take(&mut self, alloc: Global) -> Result<Option<Value>, AllocError>
+        requires { is_vacant self.old ≡ false }
         ensures value { IfOk result (λ v. v ≡ of_layer Current self.old) }
         ensures committed { of_layer Committed self.new ≡ of_layer Committed self.old }
         ensures gone { OnOk result (of_layer Current self.new ≡ None) }
+        ensures used { is_vacant self.new ≡ false }
         ensures err { OnErr result (self.new ≡ self.old) }
     {
         let copy = match self {
             Slot::One(word) => Value::leaf(*word),
             Slot::Many(words) => Value::words(words.as_slice().to_vec(alloc)?),
             Slot::Changed(versions) => return Ok(versions.current.take()),
+            _ => return Ok(self.take_added()),
         };
         self.change(None, alloc)?;
         Ok(Some(copy))
     }
 
+    // Takes out a value that the run has put.
+    fn take_added(&mut self) -> Option<Value>
+        requires { (of_layer Committed self.old ≡ None) × (is_vacant self.old ≡ false) }
+        ensures value { result ≡ of_layer Current self.old }
+        ensures committed { of_layer Committed self.new ≡ None }
+        ensures gone { of_layer Current self.new ≡ None }
+        ensures used { is_vacant self.new ≡ false }
+    {
+        match replace(self, Slot::Empty) {
+            Slot::AddedOne(word) => Some(Value::leaf(word)),
+            Slot::AddedMany(words) => Some(Value::words(words)),
+            Slot::Changed(versions) => Box::into_inner(versions).current,
+            _ => None,
+        }
+    }
+
     // Gives the run its own copy of a committed value. It fails only where memory runs out, and nothing changes then.
     fn own(&mut self, alloc: Global) -> Result<(), AllocError>
+        requires { is_vacant self.old ≡ false }
         ensures layers { (layer : Layer) → of_layer layer self.new ≡ of_layer layer self.old }
         ensures changed { OnOk result (is_change self.new ≡ true) }
+        ensures used { is_vacant self.new ≡ false }
         ensures err { OnErr result (self.new ≡ self.old) }
     {
         let copy = match self {
             Slot::One(word) => Value::leaf(*word),
             Slot::Many(words) => Value::words(words.as_slice().to_vec(alloc)?),
-            Slot::Changed(_) => return Ok(()),
+            _ => return Ok(()),
         };
         self.change(Some(copy), alloc)
     }
@@ -185,9 +237,11 @@ impl Slot {
         new: &[u128],
         alloc: Global,
     ) -> Result<bool, AllocError>
+        requires { is_vacant self.old ≡ false }
         ensures done { IfOk result (λ done. done ≡ is_some (option_and_then (spliced from new.now) (of_layer Current self.old))) }
         ensures current { OnOk result (of_layer Current self.new ≡ edited from new.now (of_layer Current self.old)) }
         ensures committed { of_layer Committed self.new ≡ of_layer Committed self.old }
+        ensures used { is_vacant self.new ≡ false }
         ensures err { OnErr result (of_layer Current self.new ≡ of_layer Current self.old) }
     {
         let Some(words) = self.current() else {
@@ -197,24 +251,64 @@ impl Slot {
             return Ok(false);
         }
         self.own(alloc)?;
-        if let Slot::Changed(versions) = self {
-            if let Some(value) = &mut versions.current {
-                value.write(from, new);
+        match self {
+            Slot::AddedOne(word) => {
+                if let Some(first) = new.first() {
+                    *word = *first;
+                }
             }
+            Slot::AddedMany(words) => overwrite(words.as_mut_slice(), from, new),
+            Slot::Changed(versions) => {
+                if let Some(value) = &mut versions.current {
+                    value.write(from, new);
+                }
+            }
+            _ => {}
         }
         Ok(true)
     }
 
     // Makes one layer of it the committed one, and says whether there is one.
+    #[inline]
     pub(crate) fn settle(&mut self, layer: Layer) -> bool
+        requires { is_vacant self.old ≡ false }
         ensures there { result ≡ is_some (of_layer layer self.old) }
         ensures same { of_layer layer self.new ≡ of_layer layer self.old }
         ensures kept { result ≡ true → is_change self.new ≡ false }
+        ensures used { is_vacant self.new ≡ false }
     {
-        let Slot::Changed(versions) = self else {
-            return true;
-        };
-        match versions.take(layer) {
+        match self {
+            Slot::One(_) | Slot::Many(_) => true,
+            Slot::AddedOne(word) => match layer {
+                Layer::Committed => false,
+                Layer::Current => {
+                    *self = Slot::One(*word);
+                    true
+                }
+            },
+            Slot::Changed(versions) => match versions.take(layer) {
+                Some(value) => {
+                    *self = Slot::kept(value);
+                    true
+                }
+                None => false,
+            },
+            _ => self.settle_added(layer),
+        }
+    }
+
+    // The same for a value of many leaves that the run has put.
+    fn settle_added(&mut self, layer: Layer) -> bool
+        requires { (of_layer Committed self.old ≡ None) × (is_vacant self.old ≡ false) }
+        ensures there { result ≡ is_some (of_layer layer self.old) }
+        ensures same { of_layer layer self.new ≡ of_layer layer self.old }
+        ensures kept { result ≡ true → is_change self.new ≡ false }
+        ensures used { is_vacant self.new ≡ false }
+    {
+        if let Layer::Committed = layer {
+            return false;
+        }
+        match self.take_added() {
             Some(value) => {
                 *self = Slot::kept(value);
                 true

@@ -1,11 +1,29 @@
-use Rattle.std.proofs.Common.{◌∙◌, subst, ◌++◌, [], ◌∷◌}
-use Rattle.mv_storage.specs.Slots.{IsTracked}
-use Rattle.mv_storage.proofs.Steps.{tracked-one_less}
+use Rattle.std.proofs.Common.{refl, ◌∙◌, subst}
+use Rattle.mv_storage.specs.Slots.{AreNoted, AreSettling}
+use Rattle.mv_storage.proofs.Steps.{settling-placed, settling-last, settling-rest, noted-rest}
 use Rattle.mv_storage.proofs.slots.settle.Goals as goal
+
+pub loop-key-init : goal.loop-key-init
+loop-key-init c = record {
+  sound = c.requires.sound;
+  noted = c.requires.noted;
+  settling = settling-placed c.args.places.now c.args.touched.now.items c.requires.placed;
+  same = λ q. refl;
+}
+
+pub settle_one-requires-clause-settling : goal.settle_one-requires-clause-settling
+settle_one-requires-clause-settling c =
+    let p = c.loop-key.places in
+    settling-last p c.pop.new.self.items (c.in-Some.key, c.in-Some.place) (subst (AreSettling p) c.in-Some.ensures.items c.loop-key.invariant.settling)
 
 pub loop-key-preserved : goal.loop-key-preserved
 loop-key-preserved c =
-    let had : IsTracked c.loop-key.slots (c.pop.new.self.items ++ c.in-Some.key ∷ []) = subst (IsTracked c.loop-key.slots) c.in-Some.ensures.items c.loop-key.invariant.0 in (
-      tracked-one_less c.loop-key.slots _ c.in-Some.key _ had c.settle_one.ensures.ordered c.settle_one.ensures.settled c.settle_one.ensures.others c.settle_one.ensures.there,
-      λ q. c.settle_one.ensures.same q ∙ c.loop-key.invariant.1 q,
-    )
+    let p = c.loop-key.places in
+    let n = c.settle_one.new.places in
+    let rest = c.pop.new.self.items in
+    record {
+      sound = c.settle_one.ensures.sound;
+      noted = noted-rest p n rest (c.in-Some.key, c.in-Some.place) (subst (AreNoted p) c.in-Some.ensures.items c.loop-key.invariant.noted) c.settle_one.ensures.settled c.settle_one.ensures.others;
+      settling = settling-rest p n rest (c.in-Some.key, c.in-Some.place) c.settle_one.ensures.settling (subst (AreSettling p) c.in-Some.ensures.items c.loop-key.invariant.settling);
+      same = λ q. c.settle_one.ensures.same q ∙ c.loop-key.invariant.same q;
+    }

@@ -1,44 +1,40 @@
-use Rattle.std.proofs.Common.{refl, ap}
-use Rattle.std.proofs.lemmas.Result.{on_err_weaker, err_from_is_err_and}
-use Rattle.mv_storage.specs.Slots.{of_layer}
+use Rattle.std.proofs.Common.{◌≡◌, refl, sym, ap, ◌∙◌, Some}
+use Rattle.std.specs.Vec.{with_item}
+use Rattle.std.proofs.lemmas.Result.{on_ok_weaker, IfOk-weaker}
+use Rattle.mv_storage.specs.declared.places.Places.{Places}
 use Rattle.mv_storage.specs.declared.slot.Layer.TheVariants.{Committed, Current}
-use Rattle.mv_storage.proofs.Steps.{wrote_through, wrote-same, wrote-tracked, unchanged-tracked}
+use Rattle.mv_storage.specs.Slots.{layer_at, slot_at}
+use Rattle.mv_storage.proofs.Steps.{slot-read, tracked-wrote, wrote-shows, wrote-same}
 use Rattle.mv_storage.proofs.slots.take_from.Goals as goal
-
-pub returns-in_err-note-clause-tracked : goal.returns-in_err-note-clause-tracked
-returns-in_err-note-clause-tracked c =
-    let s = c.in-Some.slot.now in
-    let w = wrote_through c.args.slots.now (c.get_mut.follows.lender s) c.args.key.now s s c.in-Some.ensures.value (c.get_mut.follows.holds s) in
-    unchanged-tracked c.args.touched.now.items c.note.new.touched.items w c.requires c.note.ensures.kept
-
-pub returns-in_err-note-clause-committed : goal.returns-in_err-note-clause-committed
-returns-in_err-note-clause-committed c =
-    let s = c.in-Some.slot.now in
-    let w = wrote_through c.args.slots.now (c.get_mut.follows.lender s) c.args.key.now s s c.in-Some.ensures.value (c.get_mut.follows.holds s) in
-    wrote-same Committed w refl
-
-pub returns-in_err-note-clause-err : goal.returns-in_err-note-clause-err
-returns-in_err-note-clause-err c =
-    let s = c.in-Some.slot.now in
-    let w = wrote_through c.args.slots.now (c.get_mut.follows.lender s) c.args.key.now s s c.in-Some.ensures.value (c.get_mut.follows.holds s) in
-    let p = err_from_is_err_and c.from_residual.result c.from_residual.ensures.1 in
-    rw p.1 (wrote-same Current w refl)
 
 pub returns-clause-tracked : goal.returns-clause-tracked
 returns-clause-tracked c =
-    let s = c.in-Some.slot.now in
-    let t = c.take.new.self in
-    let w = wrote_through c.args.slots.now (c.get_mut.follows.lender t) c.args.key.now s t c.in-Some.ensures.value (c.get_mut.follows.holds t) in
-    wrote-tracked c.args.touched.now.items c.note.new.touched.items w c.requires c.note.ensures.kept (λ kept _. c.in_ok-note.ensures.noted kept)
+    let m = c.args.places.now in
+    let k = c.args.key.now in
+    let p = c.in-Some.place in
+    let s = c.index.result.now in
+    let is = slot-read m k p s c.requires.sound (sym c.in-Some.ensures) c.index.ensures in
+    tracked-wrote m _ k p s c.take.new.self c.args.touched.now.items c.note.new.touched.items c.requires (sym c.in-Some.ensures) is c.take.ensures.used refl refl
+    c.note.ensures.kept (λ kept _. c.in_ok-note.ensures.noted kept) (c.note.ensures.placed m.tree (sym c.in-Some.ensures) c.requires.placed)
+
+pub returns-clause-value : goal.returns-clause-value
+returns-clause-value c =
+    let m = c.args.places.now in
+    let is = slot-read m c.args.key.now c.in-Some.place c.index_mut.result.now c.requires.sound (sym c.in-Some.ensures) c.index_mut.ensures.value in
+    IfOk-weaker c.take.result _ _ (λ v e. e ∙ ap (layer_at Current) (sym is)) c.take.ensures.value
+
+pub returns-clause-current : goal.returns-clause-current
+returns-clause-current c =
+    let m = c.args.places.now in
+    let n : Places = record { tree = m.tree; slots = with_item m.slots c.in-Some.place c.take.new.self; free = m.free } in
+    on_ok_weaker c.take.result (λ e. wrote-shows Current m n c.args.key.now c.in-Some.place c.take.new.self _ c.requires.sound (sym c.in-Some.ensures) c.take.ensures.used refl refl e) c.take.ensures.gone
 
 pub returns-clause-committed : goal.returns-clause-committed
 returns-clause-committed c =
-    let t = c.take.new.self in
-    let w = wrote_through c.args.slots.now (c.get_mut.follows.lender t) c.args.key.now c.in-Some.slot.now t c.in-Some.ensures.value (c.get_mut.follows.holds t) in
-    wrote-same Committed w c.take.ensures.committed
-
-pub returns-clause-err : goal.returns-clause-err
-returns-clause-err c =
-    let t = c.take.new.self in
-    let w = wrote_through c.args.slots.now (c.get_mut.follows.lender t) c.args.key.now c.in-Some.slot.now t c.in-Some.ensures.value (c.get_mut.follows.holds t) in
-    on_err_weaker c.take.result (λ e. wrote-same Current w (ap (of_layer Current) e)) c.take.ensures.err
+    let m = c.args.places.now in
+    let k = c.args.key.now in
+    let p = c.in-Some.place in
+    let s = c.index_mut.result.now in
+    let is = slot-read m k p s c.requires.sound (sym c.in-Some.ensures) c.index_mut.ensures.value in
+    let n : Places = record { tree = m.tree; slots = with_item m.slots p c.take.new.self; free = m.free } in
+    wrote-same Committed m n k p s c.take.new.self c.requires.sound (sym c.in-Some.ensures) is c.take.ensures.used refl refl c.take.ensures.committed

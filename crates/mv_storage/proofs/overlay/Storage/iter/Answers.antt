@@ -1,11 +1,10 @@
 use Rattle.std.proofs.Common.{◌<◌, ◌^◌, List, length, subst, arith}
 use Rattle.mv_machine.specs.Flat.{FlatEntry}
-use Rattle.mv_storage.specs.Slots.{shown}
 use Rattle.mv_storage.specs.declared.slot.Layer.TheVariants.{Committed}
-use Rattle.mv_storage.proofs.Shown.{shown-length}
+use Rattle.mv_storage.proofs.Shown.{shown_of, shown-length}
 use Rattle.mv_storage.proofs.overlay.Storage.iter.Goals as goal
 
 pub returns-clause-few : goal.returns-clause-few
 returns-clause-few c =
-    let few : length (shown Committed c.self.inside.slots.entries) < 2 ^ 63 = omega (arith, c.iter.ensures.fits, shown-length Committed c.self.inside.slots.entries) in
+    let few : length (shown_of Committed c.self.inside.places) < 2 ^ 63 = omega (arith, c.iter.ensures.fits, shown-length Committed c.self.inside.places.slots.items c.self.inside.places.tree.entries) in
     subst (λ (es : List FlatEntry). length es < 2 ^ 63) c.self.view_is few

@@ -8,7 +8,9 @@ use Rattle.mv_storage.proofs.overlay.Storage.overlay.Goals as goal
 pub returns-clause-current : goal.returns-clause-current
 returns-clause-current c =
     let settled = c.self.invariant in
-    shown-same Committed Current _ _ settled.ordered settled.ordered (λ q. layers-same _ (settled.kept q)) ∙ c.self.view_is
+    shown-same Committed Current c.self.inside.places c.self.inside.places settled.sound.ordered settled.sound.ordered (λ q. layers-same _ (settled.kept q)) ∙ c.self.view_is
 
 pub returns-clause-ascends : goal.returns-clause-ascends
-returns-clause-ascends c = subst Ascends c.self.view_is (Ascends-shown Committed c.self.inside.slots.entries c.self.invariant.ordered)
+returns-clause-ascends c =
+    let places = c.self.inside.places in
+    subst Ascends c.self.view_is (Ascends-shown Committed places.slots.items places.tree.entries c.self.invariant.sound.ordered)

@@ -1,0 +1,138 @@
+// Slots in a list, and the place that each key's slot has there. A place that is free holds the next free one, so that
+// taking a key out takes no memory.
+ghost use Rattle.std.specs.Prelude.{◌≡◌, ◌<◌, length, [], true, None, Some, IfOk, OnOk, OnErr, cond, unwrap_or, option_copied, slice_set};
+ghost use Rattle.std.specs.BTreeMap.{get, IsOrdered};
+ghost use Rattle.mv_move_types.specs.declared.tables.Key.{Key};
+ghost use Rattle.mv_machine.specs.State.{same_key};
+ghost use Rattle.mv_storage.specs.Slots.{key_cmp, slot_at, IsSound, IsVacantAt};
+
+use crate::slot::Slot;
+use mv_move_types::Key;
+use std::alloc::{AllocError, Global};
+use std::collections::BTreeMap;
+use std::collections::btree_map::Entry;
+use std::mem::replace;
+
+// The slots of keys: a search for a key finds a place in the list.
+#[derive(Drop)]
+pub(crate) struct Places {
+    pub(crate) tree: BTreeMap<Key, u32>,
+    pub(crate) slots: Vec<Slot>,
+    // a free place, if there is one
+    free: u32,
+}
+
+impl Places {
+    // No slots.
+    pub(crate) fn new(alloc: Global) -> Self
+        ensures empty { result.tree.entries ≡ [] }
+        ensures sound { IsSound result }
+    {
+        Places {
+            tree: BTreeMap::new(alloc),
+            slots: Vec::new(alloc),
+            free: u32::MAX,
+        }
+    }
+
+    // The place of a key's slot.
+    #[inline]
+    pub(crate) fn place(&self, key: &Key) -> Option<u32>
+        ensures { result ≡ get key_cmp self.now.tree key.now }
+    {
+        match self.tree.get(key) {
+            Some(place) => Some(*place),
+            None => None,
+        }
+    }
+
+    // The slot under a key.
+    #[inline]
+    pub(crate) fn find(&self, key: &Key) -> Option<&Slot>
+        ensures { option_copied result ≡ slot_at self.now key.now }
+    {
+        match self.place(key) {
+            Some(place) => self.slots.get(place as usize),
+            None => None,
+        }
+    }
+
+    // Whether a place is free.
+    #[inline]
+    fn is_vacant(&self, place: u32) -> bool
+        ensures { result ≡ true → IsVacantAt self.now.slots.items place }
+    {
+        match self.slots.get(place as usize) {
+            Some(slot) => slot.is_vacant(),
+            None => false,
+        }
+    }
+
+    // A free place: one that was left, or a new one. It fails where memory runs out or 2^32 places are in use, and nothing
+    // changes then.
+    #[inline]
+    pub(crate) fn vacancy(&mut self) -> Result<u32, AllocError>
+        requires { IsSound self.old }
+        ensures sound { IsSound self.new }
+        ensures same { (q : Key) → slot_at self.new q ≡ slot_at self.old q }
+        ensures tree { self.new.tree ≡ self.old.tree }
+        ensures vacant { IfOk result (λ place. IsVacantAt self.new.slots.items place) }
+    {
+        if self.is_vacant(self.free) {
+            return Ok(self.free);
+        }
+        let place = self.slots.len();
+        if place > u32::MAX as usize {
+            return Err(AllocError);
+        }
+        self.slots.push(Slot::Vacant(self.free))?;
+        self.free = place as u32;
+        Ok(self.free)
+    }
+
+    // Puts a slot at a free place.
+    #[inline]
+    pub(crate) fn fill(&mut self, place: u32, slot: Slot)
+        requires { place < length self.old.slots.items }
+        ensures tree { self.new.tree ≡ self.old.tree }
+        ensures slots { self.new.slots.items ≡ slice_set self.old.slots.items place slot }
+    {
+        if let Slot::Vacant(next) = replace(&mut self.slots[place as usize], slot) {
+            self.free = next;
+        }
+    }
+
+    // Takes a key out, with its slot.
+    pub(crate) fn remove(&mut self, key: &Key, place: u32)
+        requires { place < length self.old.slots.items }
+        ensures ordered { IsOrdered key_cmp self.new.tree }
+        ensures tree { (q : Key) → get key_cmp self.new.tree q ≡ cond (same_key key.now q) None (get key_cmp self.old.tree q) }
+        ensures slots { self.new.slots.items ≡ slice_set self.old.slots.items place (Slot.Vacant self.old.free) }
+    {
+        self.tree.remove(key);
+        self.slots[place as usize] = Slot::Vacant(self.free);
+        self.free = place;
+    }
+}
+
+// Gives a key a place if it has none, and tells the one that it had. It fails only where memory runs out, and nothing
+// changes then.
+#[inline]
+pub(crate) fn enter(
+    tree: &mut BTreeMap<Key, u32>,
+    key: Key,
+    place: u32,
+) -> Result<Option<u32>, AllocError>
+    ensures ordered { IsOrdered key_cmp tree.new }
+    ensures had { IfOk result (λ had. had ≡ get key_cmp tree.old key) }
+    ensures has { IfOk result (λ had. (q : Key) → get key_cmp tree.new q ≡ cond (same_key key q) (Some (unwrap_or had place)) (get key_cmp tree.old q)) }
+    ensures err { OnErr result (tree.new.entries ≡ tree.old.entries) }
+{
+    match tree.entry(key)? {
+        Entry::Occupied(entry) => Ok(Some(*entry.get())),
+        Entry::Vacant(entry) => {
+            entry.insert(place);
+            Ok(None)
+        }
+    }
+}
