@@ -1,13 +1,9 @@
 -- Reading one entry after another, as a loop does.
-use Rattle.std.proofs.Common.{IsTrue, subst, ◌≡◌, ℕ, zero, suc, ◌+◌, ◌-◌, ◌<◌, ◌≤◌, List, [], ◌∷◌, ◌++◌, length, Option, Some, None, refl, sym, ap, ◌∙◌, append_assoc, arith}
+use Rattle.std.proofs.Common.{◌≡◌, ℕ, zero, suc, ◌+◌, ◌-◌, ◌<◌, ◌≤◌, List, [], ◌∷◌, ◌++◌, Option, Some, None, refl, sym, ap, ◌∙◌, append_assoc, arith}
 use Rattle.std.proofs.lemmas.List.{append-nil}
 use Rattle.mv_move_types.specs.Options.{◌>>=◌}
 use Rattle.mv_module_text.specs.Parsing.{Read, entries_from, counted_from, all_from}
 use Rattle.mv_uleb.specs.Parsing.{number_from}
-use Rattle.mv_binary_format.proofs.Binds.{bind_some}
-use Rattle.std.specs.Option.{is_some, option_map_or}
-use Rattle.std.proofs.lemmas.Bool.{false≢true}
-use Rattle.std.proofs.lemmas.Option.{same_Some, none-some, some_pair_parts}
 
 -- what was read before, and what is still read
 abbrev pub with_front : {A : Type 0} → List A → Read (List A) → Read (List A)
@@ -50,37 +46,6 @@ pub counted-is_done : {A : Type 0} (each : List ℕ → Read A) (front : List A)
 counted-is_done {A} each front count i bytes total le so_far =
     let k : count - i ≡ 0 = omega arith in
     let one : with_front front (entries_from each (count - i) bytes) ≡ Some (front, bytes) = rw k (ap (λ (xs : List A). Some (xs, bytes)) (append-nil front)) in
-    sym so_far ∙ one
-
--- what stands after what is read
-abbrev pub rest_of : {A : Type 0} → Read (List A) → Option (List ℕ)
-rest_of None = None
-rest_of (Some x) = Some x.1
-
-rest-first : {A : Type 0} (x : A) (read : Read (List A)) → rest_of (read >>= λ xs. Some (x ∷ xs.0, xs.1)) ≡ rest_of read
-rest-first x None = refl
-rest-first x (Some xs) = refl
-
--- one more is passed over
-pub skipped-goes_on : {A : Type 0} (each : List ℕ → Read A) (count i : ℕ) (bytes : List ℕ) (x : A) (rest : List ℕ) (total : Option (List ℕ)) → i < count → each bytes ≡ Some (x, rest)
-    → rest_of (entries_from each (count - i) bytes) ≡ total → rest_of (entries_from each (count - (i + 1)) rest) ≡ total
-skipped-goes_on each count i bytes x rest total lt h so_far =
-    let k : count - i ≡ suc (count - (i + 1)) = omega arith in
-    let one : rest_of (entries_from each (count - i) bytes) ≡ rest_of (entries_from each (count - (i + 1)) rest) = rw (k, h) (rest-first x (entries_from each (count - (i + 1)) rest)) in
-    sym one ∙ so_far
-
-pub skipped-stops : {A : Type 0} (each : List ℕ → Read A) (count i : ℕ) (bytes : List ℕ) (total : Option (List ℕ)) → i < count → each bytes ≡ None
-    → rest_of (entries_from each (count - i) bytes) ≡ total → total ≡ None
-skipped-stops each count i bytes total lt h so_far =
-    let k : count - i ≡ suc (count - (i + 1)) = omega arith in
-    let one : rest_of (entries_from each (count - i) bytes) ≡ None = rw (k, h) refl in
-    sym so_far ∙ one
-
-pub skipped-is_done : {A : Type 0} (each : List ℕ → Read A) (count i : ℕ) (bytes : List ℕ) (total : Option (List ℕ)) → count ≤ i
-    → rest_of (entries_from each (count - i) bytes) ≡ total → total ≡ Some bytes
-skipped-is_done each count i bytes total le so_far =
-    let k : count - i ≡ 0 = omega arith in
-    let one : rest_of (entries_from each (count - i) bytes) ≡ Some bytes = rw k refl in
     sym so_far ∙ one
 
 -- no bytes, no entries, in however many turns
@@ -162,71 +127,3 @@ ReadsOn-stops each most n i bytes start items cur e lt none g = counted_from-at 
 pub ReadsOn-end : {A : Type 0} (each : List ℕ → Read A) (most n i : ℕ) (bytes start : List ℕ) (items : List A) (cur : List ℕ)
     → number_from most bytes ≡ Some (n, start) → n ≤ i → ReadsOn each n i start items cur → counted_from most each bytes ≡ Some (items, cur)
 ReadsOn-end each most n i bytes start items cur e le g = counted_from-at most each n bytes start e ∙ counted-is_done each items n i cur (entries_from each n start) le g.goes
-
--- what was passed over of the first i of n entries
-pub record SkipsOn {A : Type 0} (each : List ℕ → Read A) (n i : ℕ) (start cur : List ℕ) : Type 0 where
-  pub goes : rest_of (entries_from each (n - i) cur) ≡ rest_of (entries_from each n start)
-
--- one more is passed over
-pub SkipsOn-next : {A : Type 0} (each : List ℕ → Read A) (n i : ℕ) (start cur next : List ℕ) (x : A) → i < n → each cur ≡ Some (x, next) → SkipsOn each n i start cur → SkipsOn each n (i + 1) start next
-SkipsOn-next each n i start cur next x lt e g = record { goes = skipped-goes_on each n i cur x next (rest_of (entries_from each n start)) lt e g.goes }
-
-none_from_rest : {A : Type 0} (r : Read (List A)) → rest_of r ≡ None → r ≡ None
-none_from_rest None e = refl
-none_from_rest (Some x) e = absurd (none-some x.1 (sym e))
-
--- one is not there
-pub SkipsOn-stops : {A : Type 0} (each : List ℕ → Read A) (most n i : ℕ) (bytes start cur : List ℕ) → number_from most bytes ≡ Some (n, start) → i < n → each cur ≡ None → SkipsOn each n i start cur → counted_from most each bytes ≡ None
-SkipsOn-stops each most n i bytes start cur e lt none g =
-    counted_from-at most each n bytes start e ∙ none_from_rest (entries_from each n start) (skipped-stops each n i cur (rest_of (entries_from each n start)) lt none g.goes)
-
-some_from_rest : {A : Type 0} (r : Read (List A)) (rest : List ℕ) → rest_of r ≡ Some rest → (r ≡ Some (option_map_or (λ x. x.0) r [], rest)) × IsTrue (is_some r)
-some_from_rest None rest e = absurd (none-some rest e)
-some_from_rest {A} (Some x) rest e = (ap (λ (z : List ℕ). Some (x.0, z)) (same_Some x.1 rest e), refl)
-
--- all are passed over
-pub SkipsOn-end : {A : Type 0} (each : List ℕ → Read A) (most n i : ℕ) (bytes start cur : List ℕ) → number_from most bytes ≡ Some (n, start) → n ≤ i → SkipsOn each n i start cur
-    → (counted_from most each bytes ≡ Some (option_map_or (λ x. x.0) (entries_from each n start) [], cur)) × IsTrue (is_some (entries_from each n start))
-SkipsOn-end each most n i bytes start cur e le g =
-    let p = some_from_rest (entries_from each n start) cur (skipped-is_done each n i cur (rest_of (entries_from each n start)) le g.goes) in
-    (counted_from-at most each n bytes start e ∙ p.0, p.1)
-
-entries-counted : {A : Type 0} (each : List ℕ → Read A) (n : ℕ) (bytes : List ℕ) (xs : List A) (rest : List ℕ) → entries_from each n bytes ≡ Some (xs, rest) → length xs ≡ n
-entries-counted each zero bytes xs rest e = let p = some_pair_parts [] xs bytes rest e in sym (ap length p.0)
-entries-counted each (suc n) bytes xs rest e =
-    bind_some (each bytes) _ (xs, rest) e (λ x x_is e1.
-    bind_some (entries_from each n x.1) _ (xs, rest) e1 (λ ys ys_is e2.
-    let p = some_pair_parts (x.0 ∷ ys.0) xs ys.1 rest e2 in
-    let l : suc (length ys.0) ≡ length xs = ap length p.0 in
-    sym l ∙ ap suc (entries-counted each n x.1 ys.0 ys.1 ys_is)))
-
-of_read : {A : Type 0} (r : Read (List A)) (n : ℕ) → IsTrue (is_some r) → ((xs : List A) (rest : List ℕ) → r ≡ Some (xs, rest) → length xs ≡ n) → length (option_map_or (λ x. x.0) r []) ≡ n
-of_read None n some h = absurd (false≢true some)
-of_read (Some x) n some h = h x.0 x.1 refl
-
--- as many as were asked for
-pub length-entries : {A : Type 0} (each : List ℕ → Read A) (n : ℕ) (bytes : List ℕ) → IsTrue (is_some (entries_from each n bytes)) → length (option_map_or (λ x. x.0) (entries_from each n bytes) []) ≡ n
-length-entries {A} each n bytes some = of_read (entries_from each n bytes) n some (λ xs rest e. (entries-counted each n bytes xs rest e))
-
--- what was read of entries
-abbrev read_of : {A : Type 0} → Read (List A) → List A
-read_of r = option_map_or (λ x. x.0) r []
-
--- one before what is read
-abbrev preceded : {A : Type 0} → A → Read (List A) → Read (List A)
-preceded x r = r >>= λ xs. Some (x ∷ xs.0, xs.1)
-
-first_of : {A : Type 0} (x : A) (r : Read (List A)) → IsTrue (is_some (preceded x r)) → (read_of (preceded x r) ≡ x ∷ read_of r) × IsTrue (is_some r)
-first_of x None some = absurd (false≢true some)
-first_of x (Some xs) some = (refl, refl)
-
-by_first : {A : Type 0} (each : List ℕ → Read A) (n : ℕ) (bytes : List ℕ) (x : A) (rest : List ℕ) → each bytes ≡ Some (x, rest) → entries_from each (suc n) bytes ≡ preceded x (entries_from each n rest)
-by_first each n bytes x rest e = rw e refl
-
--- the first of so many, and the others
-pub entries-first : {A : Type 0} (each : List ℕ → Read A) (count n : ℕ) (bytes : List ℕ) (x : A) (rest : List ℕ) → count ≡ suc n → each bytes ≡ Some (x, rest) → IsTrue (is_some (entries_from each count bytes))
-    → (option_map_or (λ x. x.0) (entries_from each count bytes) [] ≡ x ∷ option_map_or (λ x. x.0) (entries_from each n rest) []) × IsTrue (is_some (entries_from each n rest))
-entries-first {A} each count n bytes x rest k e some =
-    let one : entries_from each count bytes ≡ preceded x (entries_from each n rest) = ap (λ z. entries_from each z bytes) k ∙ by_first each n bytes x rest e in
-    let s = first_of x (entries_from each n rest) (subst (λ (r : Read (List A)). IsTrue (is_some r)) one some) in
-    (ap read_of one ∙ s.0, s.1)

@@ -3,6 +3,5 @@ pub mod Parsing
 pub mod Kinds
 pub mod Outcomes
 pub mod Tables
-pub mod Code
 pub mod Laws
 pub mod Written

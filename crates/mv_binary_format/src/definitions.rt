@@ -1,10 +1,8 @@
 // Structs and functions as a module defines them.
-ghost use Rattle.std.specs.Prelude.{◌≡◌, IfOk};
+ghost use Rattle.std.specs.Prelude.{◌≡◌};
 ghost use Rattle.mv_module_text.specs.Parsing.{struct_definition_from, function_definition_from};
 ghost use Rattle.mv_module_text.specs.Entries.{struct_definition_text, function_definition_text};
 
-use super::Cursor;
-use super::cursor::{Code, read_code};
 use super::entries::Entry;
 use mv_module_text::{FunctionParts, Reader, write_function_definition, write_struct_definition};
 use mv_move_types::{Field, Instruction, Refusal, Version, Visibility};
@@ -62,19 +60,17 @@ impl<'a> Entry<'a> for StructDefinition {
 
 /// A function that a module defines: its handle, who may call it, and its code.
 #[derive(Drop)]
-pub struct FunctionDefinition<'a> {
+pub struct FunctionDefinition {
     handle: u16,
     visibility: Visibility,
     is_entry: bool,
     acquires: Vec<u16>,
     locals: u16,
-    code: Code<'a>,
+    code: Vec<Instruction>,
 }
 
-impl<'a> Model for FunctionDefinition<'a> {
+impl Model for FunctionDefinition {
     ghost use Rattle.mv_move_types.specs.Module.{FunctionDefinition as FunctionTable};
-    ghost use Rattle.mv_move_types.specs.Versions.{version_number};
-    ghost use Rattle.mv_binary_format.specs.Code.{instructions_of, HasInstructions};
 
     ghost Value = { FunctionTable };
 
@@ -84,13 +80,11 @@ impl<'a> Model for FunctionDefinition<'a> {
       is_entry = d.is_entry;
       acquires = d.acquires.items;
       locals = d.locals;
-      code = instructions_of (version_number d.code.version) d.code.count d.code.bytes.now;
+      code = d.code.items;
     } };
-
-    ghost invariant = { λ d. HasInstructions (version_number d.code.version) d.code.count d.code.bytes.now };
 }
 
-impl<'a> FunctionDefinition<'a> {
+impl FunctionDefinition {
     /// The index of its handle.
     pub fn handle(&self) -> u16
         ensures { result ≡ self.now.handle }
@@ -126,22 +120,15 @@ impl<'a> FunctionDefinition<'a> {
         self.locals
     }
 
-    /// Its instructions, one by one.
-    pub fn code(&self) -> Cursor<'a>
-        ensures { result ≡ self.now.code }
+    /// Its instructions, in order.
+    pub fn code(&self) -> &[Instruction]
+        ensures { result.now ≡ self.now.code }
     {
-        Cursor::new(self.code.version, self.code.bytes, self.code.count)
+        &self.code
     }
 }
 
-// The instructions that are to come.
-fn instructions(alloc: Global, code: Cursor<'_>) -> Result<Vec<Instruction>, AllocError>
-    ensures { IfOk result (λ v. v.items ≡ code.entry) }
-{
-    code.collect(alloc)
-}
-
-impl<'a> Entry<'a> for FunctionDefinition<'a> {
+impl<'a> Entry<'a> for FunctionDefinition {
     ghost from = { function_definition_from };
 
     ghost text = { function_definition_text };
@@ -153,7 +140,7 @@ impl<'a> Entry<'a> for FunctionDefinition<'a> {
         let is_entry = reader.flags()?;
         let acquires = reader.indices(alloc)?;
         let locals = reader.index()?;
-        let code = read_code(version, reader)?;
+        let code = reader.instructions(alloc, version)?;
         Ok(FunctionDefinition {
             handle,
             visibility,
@@ -164,15 +151,14 @@ impl<'a> Entry<'a> for FunctionDefinition<'a> {
         })
     }
 
-    fn write(&self, alloc: Global, out: &mut Vec<u8>) -> Result<(), AllocError> {
-        let code = instructions(alloc, self.code())?;
+    fn write(&self, _alloc: Global, out: &mut Vec<u8>) -> Result<(), AllocError> {
         let parts = FunctionParts {
             handle: self.handle(),
             visibility: self.visibility(),
             is_entry: self.is_entry(),
             acquires: self.acquires(),
             locals: self.locals(),
-            code: &code,
+            code: self.code(),
         };
         write_function_definition(parts, out)
     }

@@ -1,8 +1,7 @@
-//! Whole modules in the Move binary format: their tables, their texts, and a cursor over a function's code.
+//! Whole modules in the Move binary format: their tables and their texts.
 #![tactic(auto)]
 
 mod contents;
-mod cursor;
 mod definitions;
 mod entries;
 mod headers;
@@ -17,17 +16,16 @@ ghost use Rattle.mv_binary_format.specs.ModuleText.{IsModuleText};
 ghost use Rattle.mv_binary_format.specs.Parsing.{module_of};
 ghost use Rattle.mv_binary_format.specs.Outcomes.{Decides};
 
-pub use cursor::Cursor;
 pub use definitions::{FunctionDefinition, StructDefinition};
 pub use laws::{modules_are_read_by_text, texts_are_of_one_module};
 pub use layout::encode;
-pub use module::{Module, code};
+pub use module::Module;
 pub use mv_module_text::Constant;
 use mv_module_text::Reader;
 use mv_move_types::Refusal;
 use std::alloc::Global;
 
-/// Reads the module that the bytes are a text of; its names and its code stay slices of them.
+/// Reads the module that the bytes are a text of; its names and its constants' bytes stay slices of them.
 ///
 /// # Errors
 /// [`Refusal::Phase`] with 2 if the bytes are no module's text; [`Refusal::Memory`] if an allocation failed.

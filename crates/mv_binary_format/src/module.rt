@@ -1,5 +1,5 @@
 // A module as its tables.
-ghost use Rattle.std.specs.Prelude.{◌≡◌, ◌<◌, ◌≤◌, length, slice_get, option_map, Some, IfSome, IsTrue, nat_le};
+ghost use Rattle.std.specs.Prelude.{◌≡◌, ◌≤◌, length, slice_get, option_map, Some, IsTrue, nat_le};
 ghost use Rattle.std.specs.List.{list_all};
 ghost use Rattle.mv_move_types.specs.Versions.{version_number};
 ghost use Rattle.mv_move_types.specs.Module.{Module as Tables};
@@ -12,7 +12,7 @@ ghost use Rattle.mv_module_text.specs.Fits.{signature_fits, struct_definition_fi
 use super::contents::{Table, read_entries};
 use super::headers::TableKind;
 use super::names::{Identifier, Signature};
-use super::{Cursor, FunctionDefinition, StructDefinition};
+use super::{FunctionDefinition, StructDefinition};
 use mv_module_text::Constant;
 use mv_move_types::{
     FieldHandle, FunctionHandle, ModuleHandle, Refusal, StructHandle, Token, Version,
@@ -23,8 +23,8 @@ use std::marker::Model;
 // The most functions that a module defines.
 const MOST_FUNCTIONS: usize = 256;
 
-/// A module that `decode` returned. Names and code are slices of its bytes; its model is the record of its tables, each
-/// part of which has a text.
+/// A module that `decode` returned. Names and the bytes of constants are slices of its bytes; its model is the record of
+/// its tables, each part of which has a text.
 #[derive(Drop)]
 pub struct Module<'a> {
     version: Version,
@@ -36,7 +36,7 @@ pub struct Module<'a> {
     identifiers: Vec<Identifier<'a>>,
     addresses: Vec<u128>,
     structs: Vec<StructDefinition>,
-    functions: Vec<FunctionDefinition<'a>>,
+    functions: Vec<FunctionDefinition>,
     field_handles: Vec<FieldHandle>,
     own: u16,
 }
@@ -87,7 +87,7 @@ impl<'a> Module<'a> {
         let identifiers = read_entries(alloc, version, TableKind::Identifiers, t)?;
         let addresses = read_entries(alloc, version, TableKind::Addresses, t)?;
         let structs = read_entries(alloc, version, TableKind::Structs, t)?;
-        let functions: Vec<FunctionDefinition<'a>> = read_entries(
+        let functions: Vec<FunctionDefinition> = read_entries(
             alloc,
             version,
             TableKind::Functions,
@@ -208,7 +208,7 @@ impl<'a> Module<'a> {
     }
 
     /// The functions that it defines, at most 256.
-    pub fn functions(&self) -> &[FunctionDefinition<'a>]
+    pub fn functions(&self) -> &[FunctionDefinition]
         ensures value { result.now ≡ self.now.functions }
         ensures fits { IsTrue (list_all (function_definition_fits self.now.version) self.now.functions) }
         ensures few { IsTrue (nat_le (length self.now.functions) 256) }
@@ -236,12 +236,4 @@ impl<'a> Module<'a> {
     {
         self.own
     }
-}
-
-/// The instructions of a function, in order.
-pub fn code<'a>(m: &Module<'a>, f: usize) -> Cursor<'a>
-    requires { f < length m.now.functions }
-    ensures { IfSome (slice_get m.now.functions f) (λ d. result ≡ d.code) }
-{
-    m.functions[f].code()
 }

@@ -1,6 +1,6 @@
 // Modules as bytes.
 
-use super::{code, decode, encode};
+use super::{decode, encode};
 use mv_move_types::{Instruction, Refusal, Version};
 use std::alloc::AllocError;
 use std::test::Fail;
@@ -53,18 +53,14 @@ fn reads_the_coin_module(rt: HostRuntime) -> Result<(), Fail> {
     assert_eq!(rt; m.structs().len(), 1);
     assert_eq!(rt; m.functions().len(), 1);
     assert_eq!(rt; m.own(), 0);
-    let mint = code(&m, 0);
-    assert_eq!(rt; mint.len(), 5);
-    let mut n = 0u32;
-    for i in mint {
-        assert!(rt; n != 0 || i == Instruction::ImmBorrowLoc(0));
-        assert!(rt; n != 1 || i == Instruction::MoveLoc(1));
-        assert!(rt; n != 2 || i == Instruction::Pack(0));
-        assert!(rt; n != 3 || i == Instruction::MoveTo(0));
-        assert!(rt; n != 4 || i == Instruction::Ret);
-        n = n.saturating_add(1);
-    }
-    assert_eq!(rt; n, 5);
+    let mint = [
+        Instruction::ImmBorrowLoc(0),
+        Instruction::MoveLoc(1),
+        Instruction::Pack(0),
+        Instruction::MoveTo(0),
+        Instruction::Ret,
+    ];
+    assert_eq!(rt; m.functions()[0].code(), mint.as_slice());
     Ok(())
 }
 

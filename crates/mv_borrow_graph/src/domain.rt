@@ -21,7 +21,7 @@ fn stacks_of(
     alloc: Global,
     m: &Typed<'_>,
     f: usize,
-    function: &FunctionDefinition<'_>,
+    function: &FunctionDefinition,
 ) -> Result<StackTypes, AllocError>
     requires known { slice_get m.now.functions f ≡ Some function.now }
     requires typed { TypesHold m.now }
@@ -36,7 +36,7 @@ fn stacks_of(
 pub struct BorrowDomain<'t, 'm> {
     module: &'t Bounded<'m>,
     place: usize,
-    function: &'t FunctionDefinition<'m>,
+    function: &'t FunctionDefinition,
     code: &'t [Instruction],
     stacks: StackTypes,
 }

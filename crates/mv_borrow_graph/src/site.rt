@@ -23,7 +23,7 @@ use std::marker::Model;
 pub struct Site<'d, 'm> {
     pub module: &'d Bounded<'m>,
     pub place: usize,
-    pub function: &'d FunctionDefinition<'m>,
+    pub function: &'d FunctionDefinition,
     pub stack: &'d [Token],
 }
 

@@ -1,80 +1,28 @@
 -- The graph of the structs of a module.
-use Rattle.std.proofs.Common.{◌≡◌, ◌↔◌, ℕ, zero, suc, ◌+◌, ◌<◌, ◌==◌, Bool, true, List, [], ◌∷◌, length, map, take, set, Option, Some, None, slice_get, get_or, Contains, refl, sym, ap, ap₂, ◌∙◌, subst, arith, inl, inr, length-set, get_or-set_same, get_or-set_other, eq-eqb, ne_eqb}
+use Rattle.std.proofs.Common.{◌≡◌, ◌↔◌, ℕ, zero, suc, ◌==◌, Bool, true, List, [], ◌∷◌, length, map, Option, Some, None, slice_get, Contains, refl, sym, ap, ap₂, ◌∙◌, subst, arith}
 use Rattle.std.specs.List.{list_all, cons_option}
 use Rattle.std.specs.Option.{option_map}
-use Rattle.std.proofs.lemmas.Bool.{and_parts, ltb-true, cases_eq}
-use Rattle.std.proofs.lemmas.List.{take_all}
+use Rattle.std.proofs.lemmas.Bool.{and_parts, ltb-true}
 use Rattle.std.proofs.lemmas.Option.{none-some, same_Some, slice_get-map, unwrap_or-slice_get}
 use Rattle.mv_move_types.specs.declared.token.Token.{Token}
 use Rattle.mv_move_types.specs.declared.token.Token.TheVariants.{Plain, Reference, MutableReference}
 use Rattle.mv_move_types.specs.declared.token.ValueType.TheVariants.{OfLeaf, OfStruct}
 use Rattle.mv_move_types.specs.declared.tables.Field.{Field}
-use Rattle.mv_move_types.specs.Options.{find_index}
 use Rattle.mv_move_types.specs.Module.{Module, StructDefinition}
 use Rattle.mv_bounds.specs.Bounds.{InBounds, token_in, field_in, struct_in}
 use Rattle.mv_bounds.specs.Definitions.{Holds, directly as holds_directly, further as holds_further, defined_by}
 use Rattle.mv_bounds.specs.Cycles.{LeadsTo, IsAcyclic, directly, further}
-use Rattle.mv_bounds.specs.Containment.{held_by, containment, ArePlaces, place_of, places_of}
-use Rattle.mv_bounds.proofs.PlaceLemmas.{find-none, find-here, find-kept}
+use Rattle.mv_bounds.specs.Containment.{held_by, containment, place_of, places_of}
+use Rattle.mv_bounds.specs.Places.{AreStructPlaces}
+use Rattle.mv_bounds.proofs.HandleLemmas.{find-map}
 
--- the place of a handle's definition
-abbrev is_of : ℕ → StructDefinition → Bool
-is_of h d = d.handle == h
-
--- a struct that is the first of its handle
-pub places_new : (structs : List StructDefinition) (n i : ℕ) (places after : List (Option ℕ)) (d : StructDefinition) (at : ℕ) → ArePlaces structs n i places → i < length structs → d ≡ get_or structs i d → at ≡ d.handle → at < n → get_or places at None ≡ None → after ≡ set places at (Some i) → ArePlaces structs n (i + 1) after
-places_new structs n i places after d at p low is of inside free wrote =
-    record {
-      len = ap length wrote ∙ length-set places at (Some i) ∙ p.len;
-      each = λ h l. elim (cases_eq h at) [
-        | inl e ↦
-            ap (λ (xs : List (Option ℕ)). get_or xs h None) wrote ∙ ap (λ j. get_or (set places at (Some i)) j None) e ∙ get_or-set_same places at (Some i) None (omega (arith, inside, p.len))
-            ∙ sym (find-here (is_of h) structs i d low is (sym (p.each h l) ∙ ap (λ j. get_or places j None) e ∙ free) (eq-eqb _ _ (sym of ∙ sym e)))
-        | inr ne ↦
-            ap (λ (xs : List (Option ℕ)). get_or xs h None) wrote ∙ get_or-set_other places at h (Some i) None ne ∙ p.each h l ∙ other h (λ e. ne (sym e ∙ sym of))
-      ];
-    }
-  where
-    other : (h : ℕ) → (d.handle ≡ h → ⊥) → find_index (is_of h) (take i structs) ≡ find_index (is_of h) (take (i + 1) structs)
-    other h ne = by_found (find_index (is_of h) (take i structs)) refl
-      where
-        by_found : (o : Option ℕ) → find_index (is_of h) (take i structs) ≡ o → find_index (is_of h) (take i structs) ≡ find_index (is_of h) (take (i + 1) structs)
-        by_found None e = e ∙ sym (find-none (is_of h) structs i d low is e (ne_eqb _ _ ne))
-        by_found (Some k) e = e ∙ sym (find-kept (is_of h) structs i k e)
-
--- a struct whose handle has a definition before, or is none
-pub places_kept : (structs : List StructDefinition) (n i : ℕ) (places after : List (Option ℕ)) (d : StructDefinition) (at : ℕ) → ArePlaces structs n i places → i < length structs → d ≡ get_or structs i d → at ≡ d.handle → (at < n → (k : ℕ) × (get_or places at None ≡ Some k)) → after ≡ places → ArePlaces structs n (i + 1) after
-places_kept structs n i places after d at p low is of taken kept =
-    record {
-      len = ap length kept ∙ p.len;
-      each = λ h l. ap (λ (xs : List (Option ℕ)). get_or xs h None) kept ∙ p.each h l ∙ elim (cases_eq h at) [
-        | inl e ↦
-            let had = taken (omega (arith, l, e)) in
-            let found : find_index (is_of h) (take i structs) ≡ Some had.0 = sym (p.each h l) ∙ ap (λ j. get_or places j None) e ∙ had.1 in
-            found ∙ sym (find-kept (is_of h) structs i had.0 found)
-        | inr ne ↦ other h (λ e. ne (sym e ∙ sym of))
-      ];
-    }
-  where
-    other : (h : ℕ) → (d.handle ≡ h → ⊥) → find_index (is_of h) (take i structs) ≡ find_index (is_of h) (take (i + 1) structs)
-    other h ne = by_found (find_index (is_of h) (take i structs)) refl
-      where
-        by_found : (o : Option ℕ) → find_index (is_of h) (take i structs) ≡ o → find_index (is_of h) (take i structs) ≡ find_index (is_of h) (take (i + 1) structs)
-        by_found None e = e ∙ sym (find-none (is_of h) structs i d low is e (ne_eqb _ _ ne))
-        by_found (Some k) e = e ∙ sym (find-kept (is_of h) structs i k e)
-
--- a place that is not free
-pub some_place : (o : Option ℕ) → (o ≡ None → ⊥) → (k : ℕ) × (o ≡ Some k)
-some_place None ne = absurd (ne refl)
-some_place (Some k) ne = (k, refl)
-
-module _ (m : Module) (bounds : InBounds m) (places : List (Option ℕ)) (p : ArePlaces m.structs (length m.struct_handles) (length m.structs) places) where
+module _ (m : Module) (bounds : InBounds m) (places : List (Option ℕ)) (p : AreStructPlaces m places) where
   -- a type's place is its definition's
   place_same : (t : Token) → token_in m t ≡ true → place_of places t ≡ defined_by m t
   place_same (Plain (OfLeaf k)) inside = refl
   place_same (Plain (OfStruct h)) inside =
       unwrap_or-slice_get places h None ∙ p.each h (ltb-true h (length m.struct_handles) inside)
-      ∙ ap (find_index (λ (d : StructDefinition). d.handle == h)) (take_all (length m.structs) m.structs (omega arith))
+      ∙ find-map (λ (d : StructDefinition). d.handle) (λ x. x == h) m.structs
   place_same (Reference t) inside = refl
   place_same (MutableReference t) inside = refl
 

@@ -1,5 +1,5 @@
-pub mod CodeLemmas
 pub mod PlaceLemmas
+pub mod HandleLemmas
 pub mod FunctionLemmas
 pub mod Entries
 pub mod Distinct

@@ -1,5 +1,5 @@
 -- Nodes are removed from a graph one by one, and all of them where no node leads to itself.
-use Rattle.std.proofs.Common.{◌≡◌, ◌↔◌, ℕ, zero, suc, ◌+◌, ◌-◌, ◌<◌, ◌≤◌, ◌==◌, Bool, true, false, cond, List, [], ◌∷◌, ◌++◌, length, get_or, set, slice_get, Some, replicate, refl, sym, ap, ◌∙◌, subst, arith, inl, inr, nat_lt, length-set, get_or-set_same, get_or-set_other}
+use Rattle.std.proofs.Common.{◌≡◌, ◌↔◌, ℕ, zero, suc, ◌+◌, ◌<◌, ◌≤◌, ◌==◌, Bool, true, false, cond, List, [], ◌∷◌, ◌++◌, length, get_or, set, slice_get, Some, replicate, refl, sym, ap, ◌∙◌, subst, arith, inl, inr, nat_lt, length-set, get_or-set_same, get_or-set_other}
 use Rattle.std.specs.List.{list_all}
 use Rattle.std.proofs.lemmas.Bool.{cases_eq, and_parts, and_from, ltb-true, true_from_ne_false, false≢true}
 use Rattle.std.proofs.lemmas.List.{length-replicate, get_or-replicate}

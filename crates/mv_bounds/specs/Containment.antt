@@ -1,11 +1,10 @@
 -- The graph of the structs of a module: which hold which in their fields.
-use Rattle.std.specs.Prelude.{◌≡◌, ◌<◌, ◌==◌, ℕ, List, length, map, take, Option, None, slice_get, slice_index_or, unwrap_or}
+use Rattle.std.specs.Prelude.{ℕ, List, map, Option, None, slice_get, unwrap_or}
 use Rattle.std.specs.List.{filter_map}
 use Rattle.mv_move_types.specs.declared.token.Token.{Token}
 use Rattle.mv_move_types.specs.declared.token.Token.TheVariants.{Plain}
 use Rattle.mv_move_types.specs.declared.token.ValueType.TheVariants.{OfStruct}
 use Rattle.mv_move_types.specs.declared.tables.Field.{Field}
-use Rattle.mv_move_types.specs.Options.{find_index}
 use Rattle.mv_move_types.specs.Module.{Module, StructDefinition}
 use Rattle.mv_bounds.specs.Definitions.{defined_by}
 
@@ -16,11 +15,6 @@ held_by m fields = filter_map (λ (f : Field). defined_by m f.token) fields
 -- the struct definitions that each holds
 abbrev pub containment : Module → List (List ℕ)
 containment m = map (λ (d : StructDefinition). held_by m d.fields) m.structs
-
--- the definitions of the handles below a number, among the first structs
-pub record ArePlaces (structs : List StructDefinition) (handles i : ℕ) (places : List (Option ℕ)) : Type 0 where
-  pub len : length places ≡ handles
-  pub each : (h : ℕ) → h < handles → slice_index_or places h None ≡ find_index (λ (d : StructDefinition). d.handle == h) (take i structs)
 
 -- the definition of a type, by its handle
 abbrev pub place_of : List (Option ℕ) → Token → Option ℕ

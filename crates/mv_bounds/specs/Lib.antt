@@ -1,7 +1,7 @@
 pub mod Bounds
 pub mod Definitions
 pub mod Answers
-pub mod Codes
+pub mod Places
 pub mod Functions
 pub mod Cycles
 pub mod Removal

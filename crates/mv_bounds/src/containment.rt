@@ -1,37 +1,21 @@
 // Which structs of a module hold which, and that none holds itself.
-ghost use Rattle.std.specs.Prelude.{◌≡◌, ◌↔◌, ℕ, length, map, IsTrue, IfOk};
+ghost use Rattle.std.specs.Prelude.{◌≡◌, ◌↔◌, ℕ, map, IsTrue, IfOk};
 ghost use Rattle.mv_bounds.specs.Bounds.{InBounds};
 ghost use Rattle.mv_bounds.specs.Definitions.{Holds};
-ghost use Rattle.mv_bounds.specs.Containment.{ArePlaces, place_of, places_of, containment};
+ghost use Rattle.mv_bounds.specs.Containment.{place_of, places_of, containment};
 
 use super::cycles::is_acyclic;
+use super::places::{place_at, struct_places};
 use mv_binary_format::Module;
 use mv_move_types::{Field, Token, ValueType};
 use std::alloc::{AllocError, Global};
-
-/// The definition of each struct handle, if the module has one.
-fn definitions(alloc: Global, m: &Module) -> Result<Vec<Option<usize>>, AllocError>
-    ensures { IfOk result (λ v. ArePlaces m.now.structs (length m.now.struct_handles) (length m.now.structs) v.items) }
-{
-    let mut places = vec![in alloc; None; m.struct_handles().len()]?;
-    let structs = m.structs();
-    for i in 0..structs.len() {
-        let handle = usize::from(structs[i].handle());
-        if handle < places.len() && places[handle].is_none() {
-            places[handle] = Some(i);
-        }
-    }
-    Ok(places)
-}
 
 /// The definition of a type, if it is a struct of the module's own.
 fn place_of(places: &[Option<usize>], token: Token) -> Option<usize>
     ensures { result ≡ place_of places.now token }
 {
     match token {
-        Token::Plain(ValueType::OfStruct(handle)) => {
-            places.get(usize::from(handle)).copied().unwrap_or(None)
-        }
+        Token::Plain(ValueType::OfStruct(handle)) => place_at(places, handle),
         _ => None,
     }
 }
@@ -51,7 +35,7 @@ fn containment(alloc: Global, m: &Module) -> Result<Vec<Vec<usize>>, AllocError>
     requires { InBounds m.now }
     ensures { IfOk result (λ g. map (λ v. v.items) g.items ≡ containment m.now) }
 {
-    let places = definitions(alloc, m)?;
+    let places = struct_places(alloc, m)?;
     let mut graph = Vec::new(alloc);
     for d in m.structs() {
         graph.push(held(alloc, &places, d.fields())?)?;

@@ -14,6 +14,7 @@ ghost use Rattle.mv_bounds.specs.Bounds.{InBounds};
 ghost use Rattle.mv_bounds.specs.Definitions.{all_differ, same_constant, defined_once, struct_home, function_home, WellDefined};
 
 use super::containment::are_finite;
+use super::places::{defined_functions, defined_structs};
 use mv_binary_format::{Constant, Module};
 use mv_move_types::{Field, Token};
 use std::alloc::{AllocError, Global};
@@ -275,20 +276,6 @@ fn function_homes(alloc: Global, m: &Module) -> Result<Vec<u16>, AllocError>
     ensures { IfOk result (λ v. v.items ≡ map (λ (h : FunctionHandle). h.module) m.now.function_handles) }
 {
     m.function_handles().iter().map(|h| h.module).collect(alloc)
-}
-
-/// The handle of each struct definition.
-fn defined_structs(alloc: Global, m: &Module) -> Result<Vec<u16>, AllocError>
-    ensures { IfOk result (λ v. v.items ≡ map (λ (d : StructTable). d.handle) m.now.structs) }
-{
-    m.structs().iter().map(|d| d.handle()).collect(alloc)
-}
-
-/// The handle of each function definition.
-fn defined_functions(alloc: Global, m: &Module) -> Result<Vec<u16>, AllocError>
-    ensures { IfOk result (λ v. v.items ≡ map (λ (d : FunctionTable). d.handle) m.now.functions) }
-{
-    m.functions().iter().map(|d| d.handle()).collect(alloc)
 }
 
 /// Whether the module defines each struct of its own once, and no other.

@@ -6,12 +6,13 @@ ghost use Rattle.mv_bounds.specs.Bounds.{local_count};
 ghost use Rattle.mv_bounds.specs.Functions.{IsDefined};
 
 use super::Bounded;
+use super::places::place_at;
 use mv_binary_format::FunctionDefinition;
 use mv_move_types::{FunctionHandle, Token};
 
 impl<'a> Bounded<'a> {
     // The definition of function `f`, and its handle.
-    fn defined(&self, f: usize) -> (&FunctionDefinition<'a>, &FunctionHandle)
+    fn defined(&self, f: usize) -> (&FunctionDefinition, &FunctionHandle)
         requires { f < length self.now.functions }
         ensures { IsDefined self.now f result.0.now result.1.now }
     {
@@ -94,11 +95,18 @@ impl<'a> Bounded<'a> {
     pub fn own_acquires(&self, handle: u16) -> &[u16]
         ensures { result.now ≡ own_acquires self.now handle }
     {
-        let functions = self.module().functions();
-        match definition_of(functions, handle) {
-            Some(f) => functions[f].acquires(),
+        match self.definition(handle) {
+            Some(f) => self.module().functions()[f].acquires(),
             None => &[],
         }
+    }
+
+    // The place of the function that a handle is defined by, if there is one.
+    fn definition(&self, handle: u16) -> Option<usize>
+        ensures place { result ≡ find_index (λ (d : FunctionTable). d.handle == handle) self.now.functions }
+        ensures below { IfSome result (λ f. f < length self.now.functions) }
+    {
+        place_at(&self.places, handle)
     }
 }
 
@@ -110,17 +118,4 @@ fn among(first: &[Token], second: &[Token], index: usize) -> Option<Token>
         None => first.get(index).copied(),
         Some(beyond) => second.get(beyond).copied(),
     }
-}
-
-// The place of the function that a handle is defined by, if there is one.
-fn definition_of(functions: &[FunctionDefinition<'_>], handle: u16) -> Option<usize>
-    ensures place { result ≡ find_index (λ (d : FunctionTable). d.handle == handle) functions.now }
-    ensures below { IfSome result (λ f. f < length functions.now) }
-{
-    for f in 0..functions.len() {
-        if functions[f].handle() == handle {
-            return Some(f);
-        }
-    }
-    None
 }

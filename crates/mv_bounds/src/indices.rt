@@ -1,15 +1,14 @@
 // Phase 3: every index is below the length of its table.
-ghost use Rattle.std.specs.Prelude.{◌≡◌, ◌↔◌, length, IsTrue, map};
+ghost use Rattle.std.specs.Prelude.{◌≡◌, ◌↔◌, length, IsTrue};
 ghost use Rattle.std.specs.List.{list_all};
-ghost use Rattle.mv_move_types.specs.Module.{Constant as ConstantEntry, FunctionDefinition as FunctionTable};
+ghost use Rattle.mv_move_types.specs.Module.{Constant as ConstantEntry};
 ghost use Rattle.mv_bounds.specs.Bounds.{InBounds, below, value_type_in, token_in, module_handle_in, struct_handle_in, function_handle_in, field_in, struct_in, field_handle_in, immediate_in, instruction_in, local_count, function_in};
 
 use mv_binary_format::{FunctionDefinition, Module, StructDefinition};
 use mv_move_types::{Field, FieldHandle, Immediate, Instruction, Token, ValueType};
 
-/// Whether every index of a module with these instructions is below the length of its table.
-pub fn in_bounds(m: &Module, codes: &[Vec<Instruction>]) -> bool
-    requires { map (λ c. c.items) codes.now ≡ map (λ (d : FunctionTable). d.code) m.now.functions }
+/// Whether every index of a module is below the length of its table.
+pub fn in_bounds(m: &Module) -> bool
     ensures { IsTrue result ↔ InBounds m.now }
 {
     module_handles_in(m)
@@ -18,7 +17,7 @@ pub fn in_bounds(m: &Module, codes: &[Vec<Instruction>]) -> bool
         && signatures_in(m)
         && constants_in(m)
         && structs_in(m)
-        && functions_in(m, codes)
+        && functions_in(m)
         && field_handles_in(m)
         && usize::from(m.own()) < m.module_handles().len()
 }
@@ -199,28 +198,20 @@ fn acquires_in(m: &Module, d: &FunctionDefinition) -> bool
     d.acquires().iter().all(|i| usize::from(*i) < structs)
 }
 
-/// Whether a function's handle, locals, acquires list and these instructions of it name what is there.
-fn function_in(m: &Module, d: &FunctionDefinition, code: &[Instruction]) -> bool
-    requires { code.now ≡ d.now.code }
+/// Whether a function's handle, locals, acquires list and code name what is there.
+fn function_in(m: &Module, d: &FunctionDefinition) -> bool
     ensures { result ≡ function_in m.now d.now }
 {
     let locals = local_count(m, d);
     usize::from(d.handle()) < m.function_handles().len()
         && usize::from(d.locals()) < m.signature_count()
         && acquires_in(m, d)
-        && code_in(m, locals, code)
+        && code_in(m, locals, d.code())
 }
 
 /// Whether what the functions name is there.
-fn functions_in(m: &Module, codes: &[Vec<Instruction>]) -> bool
-    requires { map (λ c. c.items) codes.now ≡ map (λ (d : FunctionTable). d.code) m.now.functions }
+fn functions_in(m: &Module) -> bool
     ensures { result ≡ list_all (function_in m.now) m.now.functions }
 {
-    let functions = m.functions();
-    for f in 0..functions.len() {
-        if !function_in(m, &functions[f], &codes[f]) {
-            return false;
-        }
-    }
-    true
+    m.functions().iter().all(|d| function_in(m, d))
 }

@@ -119,7 +119,7 @@ fn read_edge(
     alloc: Global,
     reader: &mut Reader<'_>,
     m: &Module<'_>,
-    d: &FunctionDefinition<'_>,
+    d: &FunctionDefinition,
 ) -> Result<Edge, Refusal>
     ensures ok { IfOk result (λ v. edge_from m.now d.now reader.old ≡ Some (v, reader.new)) }
     ensures refused { result ≡ Err (Refusal.Phase 2) → edge_from m.now d.now reader.old ≡ None }
@@ -155,7 +155,7 @@ fn read_edges(
     alloc: Global,
     reader: &mut Reader<'_>,
     m: &Module<'_>,
-    d: &FunctionDefinition<'_>,
+    d: &FunctionDefinition,
 ) -> Result<Edges, Refusal>
     ensures ok { IfOk result (λ v. edges_from m.now d.now reader.old ≡ Some (v, reader.new)) }
     ensures refused { result ≡ Err (Refusal.Phase 2) → edges_from m.now d.now reader.old ≡ None }
@@ -175,7 +175,7 @@ fn read_known(
     alloc: Global,
     reader: &mut Reader<'_>,
     m: &Module<'_>,
-    d: &FunctionDefinition<'_>,
+    d: &FunctionDefinition,
 ) -> Result<Known, Refusal>
     ensures ok { IfOk result (λ v. known_from m.now d.now reader.old ≡ Some (v, reader.new)) }
     ensures refused { result ≡ Err (Refusal.Phase 2) → known_from m.now d.now reader.old ≡ None }
@@ -197,7 +197,7 @@ fn read_block(
     alloc: Global,
     reader: &mut Reader<'_>,
     m: &Module<'_>,
-    d: &FunctionDefinition<'_>,
+    d: &FunctionDefinition,
     reached: bool,
 ) -> Result<Option<Known>, Refusal>
     ensures ok { IfOk result (λ v. block_from m.now d.now reached reader.old ≡ Some (v, reader.new)) }
@@ -219,7 +219,7 @@ fn read_stated(
     alloc: Global,
     reader: &mut Reader<'_>,
     m: &Module<'_>,
-    d: &FunctionDefinition<'_>,
+    d: &FunctionDefinition,
     blocks: &[Block],
 ) -> Result<Stated, Refusal>
     ensures ok { IfOk result (λ v. stated_from m.now d.now (map (λ b. b.reached) blocks.now) reader.old ≡ Some (v, reader.new)) }

@@ -24,7 +24,7 @@ pub fn function_count(m: &Typed<'_>) -> usize
 }
 
 /// The definition of function `f`, which is well typed and has few locals.
-pub fn function_at<'t, 'm>(m: &'t Typed<'m>, f: usize) -> &'t FunctionDefinition<'m>
+pub fn function_at<'t>(m: &'t Typed<'_>, f: usize) -> &'t FunctionDefinition
     requires { f < length m.now.functions }
     ensures at { slice_get m.entry.now.functions f ≡ Some result.now }
     ensures typed { IsTrue (function_is_typed m.entry.now result.now) }
@@ -41,7 +41,7 @@ pub fn has_few_structs(m: &Typed<'_>)
 }
 
 /// The flow graph of function `f`, whose definition is given.
-pub fn graph_of<'t>(m: &'t Typed<'_>, f: usize, function: &FunctionDefinition<'_>) -> &'t Cfg
+pub fn graph_of<'t>(m: &'t Typed<'_>, f: usize, function: &FunctionDefinition) -> &'t Cfg
     requires inside { f < length m.now.functions }
     requires known { slice_get m.now.functions f ≡ Some function.now }
     ensures { IsFlowGraph function.entry.now.code result.now }
@@ -50,7 +50,7 @@ pub fn graph_of<'t>(m: &'t Typed<'_>, f: usize, function: &FunctionDefinition<'_
 }
 
 /// What is known where function `f` begins is there: its locals have types.
-pub fn has_start(m: &Typed<'_>, f: usize, function: &FunctionDefinition<'_>)
+pub fn has_start(m: &Typed<'_>, f: usize, function: &FunctionDefinition)
     requires inside { f < length m.now.functions }
     requires known { slice_get m.now.functions f ≡ Some function.now }
     ensures { IsSome (known_at_start m.entry.now function.entry.now) }
@@ -61,7 +61,7 @@ pub fn has_start(m: &Typed<'_>, f: usize, function: &FunctionDefinition<'_>)
 }
 
 /// The type of a local, parameters first.
-pub fn local_type(m: &Module<'_>, d: &FunctionDefinition<'_>, local: u16) -> Option<Token>
+pub fn local_type(m: &Module<'_>, d: &FunctionDefinition, local: u16) -> Option<Token>
     ensures { result ≡ type_of_local m.now d.now local }
 {
     let handle = m.function_handles().get(usize::from(d.handle()))?;
@@ -76,7 +76,7 @@ pub fn local_type(m: &Module<'_>, d: &FunctionDefinition<'_>, local: u16) -> Opt
 }
 
 /// How many locals a function has.
-pub fn local_count(m: &Module<'_>, d: &FunctionDefinition<'_>) -> Option<usize>
+pub fn local_count(m: &Module<'_>, d: &FunctionDefinition) -> Option<usize>
     ensures { result ≡ option_map length (local_tokens m.now d.now) }
 {
     let handle = m.function_handles().get(usize::from(d.handle()))?;
@@ -100,7 +100,7 @@ fn is_reference(token: Token) -> bool
 }
 
 /// Whether an edge may lead out of the node.
-fn may_lead_from(m: &Module<'_>, d: &FunctionDefinition<'_>, node: Node) -> bool
+fn may_lead_from(m: &Module<'_>, d: &FunctionDefinition, node: Node) -> bool
     ensures { result ≡ is_source m.now d.now node }
 {
     match node {
@@ -118,7 +118,7 @@ fn may_lead_from(m: &Module<'_>, d: &FunctionDefinition<'_>, node: Node) -> bool
 }
 
 /// Whether an edge may lead to the node.
-fn may_lead_to(m: &Module<'_>, d: &FunctionDefinition<'_>, node: Node) -> bool
+fn may_lead_to(m: &Module<'_>, d: &FunctionDefinition, node: Node) -> bool
     ensures { result ≡ is_target m.now d.now node }
 {
     match node {
@@ -138,7 +138,7 @@ fn are_small(path: &[u8]) -> bool
 }
 
 /// Whether an edge leads from where it may to where it may, and its list is short.
-pub fn fits(m: &Module<'_>, d: &FunctionDefinition<'_>, e: &Edge) -> bool
+pub fn fits(m: &Module<'_>, d: &FunctionDefinition, e: &Edge) -> bool
     ensures { result ≡ edge_fits m.now d.now e.now }
 {
     may_lead_from(m, d, e.from())

@@ -139,7 +139,7 @@ fn split(
     requires places { IsPlaced (length code.now) firsts.now places.now }
     ensures { IfOk result (λ blocks. IsSplit code.now firsts.now places.now blocks.items) }
 {
-    let mut blocks = Vec::new(alloc);
+    let mut blocks = Vec::with_capacity(alloc, firsts.len())?;
     for (k, first) in firsts.iter().enumerate() {
         let last = end_of(firsts, k, code.len()) - 1;
         let successors = link(alloc, code, places, last)?;

@@ -25,7 +25,7 @@ fn have_one_name(m: &Module<'_>, n: &Module<'_>) -> bool
 }
 
 /// Whether other modules may call a function.
-pub fn is_public(d: &FunctionDefinition<'_>) -> bool
+pub fn is_public(d: &FunctionDefinition) -> bool
     ensures { result ≡ may_be_called d.now }
 {
     match d.visibility() {
@@ -88,7 +88,7 @@ fn struct_in(m: &Module<'_>, h: usize, abilities: Abilities, n: &Module<'_>) -> 
 }
 
 /// Whether a function definition has the types that a handle says, and may be called from the handle's module.
-fn fits(m: &Module<'_>, handle: FunctionHandle, n: &Module<'_>, d: &FunctionDefinition<'_>) -> bool
+fn fits(m: &Module<'_>, handle: FunctionHandle, n: &Module<'_>, d: &FunctionDefinition) -> bool
     ensures { result ≡ function_fits m.now handle n.now d.now }
 {
     let may_call = is_public(d) || have_one_name(m, n);

@@ -22,7 +22,7 @@ pub struct Interface {
 }
 
 // The types of a function's parameters, if they are there.
-fn parameters<'m>(m: &'m Module<'_>, d: &FunctionDefinition<'_>) -> Option<&'m [Token]>
+fn parameters<'m>(m: &'m Module<'_>, d: &FunctionDefinition) -> Option<&'m [Token]>
     ensures { option_map (λ t. t.now) result ≡ parameter_tokens m.entry.now d.now }
 {
     let handle = m.function_handles().get(d.handle() as usize)?;
@@ -33,7 +33,7 @@ fn parameters<'m>(m: &'m Module<'_>, d: &FunctionDefinition<'_>) -> Option<&'m [
 fn interface_of(
     alloc: Global,
     m: &Module<'_>,
-    d: &FunctionDefinition<'_>,
+    d: &FunctionDefinition,
 ) -> Result<Interface, AllocError>
     ensures identifier { IfOk result (λ i. i.identifier.items ≡ unwrap_or (name_of_function m.now d.now) []) }
     ensures parameters { IfOk result (λ i. i.parameters.items ≡ unwrap_or (parameter_tokens m.now d.now) []) }

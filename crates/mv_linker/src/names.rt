@@ -100,7 +100,7 @@ pub fn struct_place(m: &Module<'_>, name: &StructName<'_>) -> Option<usize>
 }
 
 /// Whether a function definition of the module has this identifier.
-fn has_identifier(m: &Module<'_>, name: &[u8], d: &FunctionDefinition<'_>) -> bool
+fn has_identifier(m: &Module<'_>, name: &[u8], d: &FunctionDefinition) -> bool
     ensures { result ≡ option_map_or (bytes_eq name.now) (name_of_function m.now d.now) false }
 {
     match function_name(m, d) {
@@ -110,7 +110,7 @@ fn has_identifier(m: &Module<'_>, name: &[u8], d: &FunctionDefinition<'_>) -> bo
 }
 
 /// The identifier of a function definition, if it is there.
-pub fn function_name<'a>(m: &Module<'a>, d: &FunctionDefinition<'_>) -> Option<&'a [u8]>
+pub fn function_name<'a>(m: &Module<'a>, d: &FunctionDefinition) -> Option<&'a [u8]>
     ensures { option_map (λ p. p.now) result ≡ name_of_function m.now d.now }
 {
     let handle = m.function_handles().get(d.handle() as usize)?;

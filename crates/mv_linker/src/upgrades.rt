@@ -126,7 +126,7 @@ fn structs_stay(
 }
 
 /// Whether a public function stays public, with the same types.
-fn function_stays(m: &Module<'_>, n: &Module<'_>, d: &FunctionDefinition<'_>) -> bool
+fn function_stays(m: &Module<'_>, n: &Module<'_>, d: &FunctionDefinition) -> bool
     ensures { result ≡ this_stays m.now n.now d.now }
 {
     if !is_public(d) {
@@ -147,9 +147,9 @@ fn function_stays(m: &Module<'_>, n: &Module<'_>, d: &FunctionDefinition<'_>) ->
 /// Whether two function definitions have the same parameters and results.
 fn have_same_types(
     m: &Module<'_>,
-    d: &FunctionDefinition<'_>,
+    d: &FunctionDefinition,
     n: &Module<'_>,
-    e: &FunctionDefinition<'_>,
+    e: &FunctionDefinition,
 ) -> bool
     ensures { result ≡ have_one_type m.now d.now n.now e.now }
 {

@@ -17,7 +17,7 @@ use std::marker::Model;
 /// The types of a function's parameters, and of its other locals.
 fn signatures_of<'t>(
     home: &'t Module<'_>,
-    function: &FunctionDefinition<'_>,
+    function: &FunctionDefinition,
 ) -> Option<(&'t [Token], &'t [Token])>
     ensures parameters { IfSome result (λ p. parameter_tokens home.entry.now function.now ≡ Some p.0.now) }
     ensures locals { option_map (λ p. p.0.now ++ p.1.now) result ≡ local_tokens home.entry.now function.now }
@@ -29,7 +29,7 @@ fn signatures_of<'t>(
 }
 
 /// The definition of function `f`.
-fn function_at<'t, 'm>(home: &'t Module<'m>, f: usize) -> &'t FunctionDefinition<'m>
+fn function_at<'t>(home: &'t Module<'_>, f: usize) -> &'t FunctionDefinition
     requires { f < length home.now.functions }
     ensures { slice_get home.entry.now.functions f ≡ Some result.now }
 {
@@ -64,7 +64,7 @@ fn may_all_remain(m: &Bounded<'_>, locals: &[Token], s: &[Availability]) -> bool
 #[derive(Drop)]
 pub struct LocalsDomain<'t, 'm> {
     bounded: &'t Bounded<'m>,
-    function: &'t FunctionDefinition<'m>,
+    function: &'t FunctionDefinition,
     code: &'t [Instruction],
     parameters: usize,
     locals: Vec<Token>,

@@ -35,6 +35,9 @@ const MOST_TYPES: u64 = 64;
 // The most fields of a struct.
 const MOST_FIELDS: u64 = 32;
 
+// The most instructions of a function.
+const MOST_INSTRUCTIONS: u64 = 4096;
+
 /// Reads entries from the front of bytes. What it stands for is the bytes that are left.
 #[derive(Drop)]
 pub struct Reader<'a> {
@@ -57,13 +60,6 @@ impl<'a> Reader<'a> {
         Reader { rest: bytes }
     }
 
-    /// The bytes that are left.
-    pub fn rest(&self) -> &'a [u8]
-        ensures { result.now ≡ self.now }
-    {
-        self.rest
-    }
-
     /// Whether no bytes are left.
     pub fn is_empty(&self) -> bool
         ensures { IsTrue result ↔ (self.now ≡ []) }
@@ -76,6 +72,7 @@ impl<'a> Reader<'a> {
     /// # Errors
     /// [`Refusal::Phase`] with 2 if no such number is at the front, as each function here has it of what it reads. Then
     /// nothing is known of what is left.
+    #[inline(always)]
     pub fn number(&mut self, max: u64) -> Result<u64, Refusal>
         ensures reads { Reads (number_from max) self.old result self.new }
         ensures small { IfOk result (λ v. v ≤ max) }
@@ -480,5 +477,27 @@ impl<'a> Reader<'a> {
         }
         self.rest = ahead.rest;
         Ok(indices)
+    }
+    /// Reads the code of a function: its instructions, as the version has them, after their number, which is at most
+    /// 4,096.
+    ///
+    /// # Errors
+    /// As [`Reader::signature`].
+    pub fn instructions(
+        &mut self,
+        alloc: Global,
+        version: Version,
+    ) -> Result<Vec<Instruction>, Refusal>
+        ensures { Collects (counted_from 4096 (instruction_from (version_number version))) self.old result self.new }
+    {
+        let mut ahead = Reader { rest: self.rest };
+        let count = ahead.number(MOST_INSTRUCTIONS)?;
+        let mut code = Vec::with_capacity(alloc, count as usize)?;
+        'code: for _ in 0..count {
+            let instruction = ahead.instruction(version)?;
+            code.push(instruction).map_err(|_| Refusal::Memory)?;
+        }
+        self.rest = ahead.rest;
+        Ok(code)
     }
 }

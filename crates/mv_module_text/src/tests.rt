@@ -4,7 +4,7 @@ mod tokens;
 
 use super::*;
 use mv_move_types::{
-    Abilities, Field, FieldHandle, FunctionHandle, Instruction, LeafKind, ModuleHandle,
+    Abilities, Field, FieldHandle, FunctionHandle, Instruction, LeafKind, ModuleHandle, Refusal,
     StructHandle, Token, ValueType, Version, Visibility, Width,
 };
 use std::test::Fail;
@@ -30,6 +30,26 @@ fn lists_are_read(rt: HostRuntime) -> Result<(), Fail> {
     );
     assert_eq!(rt; reader.indices(rt.alloc())?.as_slice(), [5, 6].as_slice());
     assert!(rt; reader.is_empty());
+    Ok(())
+}
+
+#[test]
+fn code_is_read_in_its_version(rt: HostRuntime) -> Result<(), Fail> {
+    let bytes = [2, 0x48, 2, 1, 0x02, 0x07];
+    let code = [Instruction::LdU16(0x0102), Instruction::Ret];
+    let mut six = Reader::new(&bytes);
+    assert_eq!(rt;
+        six.instructions(rt.alloc(), Version::Six)?.as_slice(),
+        code.as_slice()
+    );
+    assert_eq!(rt; six.byte(), Ok(0x07));
+    let mut five = Reader::new(&bytes);
+    assert!(rt;
+        matches!(
+            five.instructions(rt.alloc(), Version::Five),
+            Err(Refusal::Phase(2))
+        )
+    );
     Ok(())
 }
 

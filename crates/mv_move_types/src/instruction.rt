@@ -193,6 +193,7 @@ impl Instruction {
     }
 
     /// How control leaves the instruction.
+    #[inline(always)]
     pub fn exit(self) -> Exit
         ensures { result ≡ exit_of self }
     {

@@ -153,7 +153,7 @@ fn has_at_most(m: &Module<'_>, signature: u16, most: usize) -> bool
 }
 
 /// How many locals a function has, parameters included; 0 where its signatures aren't there.
-fn count_locals(m: &Module<'_>, d: &FunctionDefinition<'_>) -> usize
+fn count_locals(m: &Module<'_>, d: &FunctionDefinition) -> usize
     ensures { result ≡ local_count m.now d.now }
 {
     let Some(handle) = m.function_handles().get(usize::from(d.handle())) else {
@@ -170,14 +170,14 @@ fn count_locals(m: &Module<'_>, d: &FunctionDefinition<'_>) -> usize
 
 /// Whether a function is no entry, or one that a run record can name: without results, and with parameters that a
 /// record can give.
-fn may_be_entry(m: &Module<'_>, d: &FunctionDefinition<'_>) -> bool
+fn may_be_entry(m: &Module<'_>, d: &FunctionDefinition) -> bool
     ensures { result ≡ entry_fits m.now d.now }
 {
     !d.is_entry() || gives_nothing(m, d) && takes_arguments(m, d)
 }
 
 /// Whether a function is there and has no results.
-fn gives_nothing(m: &Module<'_>, d: &FunctionDefinition<'_>) -> bool
+fn gives_nothing(m: &Module<'_>, d: &FunctionDefinition) -> bool
     ensures { result ≡ has_no_results m.now d.now }
 {
     match m.function_handles().get(usize::from(d.handle())) {
@@ -187,7 +187,7 @@ fn gives_nothing(m: &Module<'_>, d: &FunctionDefinition<'_>) -> bool
 }
 
 /// Whether a function's parameters are there and a run record can give them.
-fn takes_arguments(m: &Module<'_>, d: &FunctionDefinition<'_>) -> bool
+fn takes_arguments(m: &Module<'_>, d: &FunctionDefinition) -> bool
     ensures { result ≡ option_map_or are_entry_parameters (parameter_tokens m.now d.now) false }
 {
     let Some(handle) = m.function_handles().get(usize::from(d.handle())) else {

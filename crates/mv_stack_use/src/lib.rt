@@ -77,7 +77,7 @@ pub fn effect(m: &Bounded<'_>, f: usize, i: Instruction) -> Option<StackEffect>
 }
 
 /// What an instruction of a function does to the height of the stack, where what it names is there.
-fn effect_in(m: &Bounded<'_>, d: &FunctionDefinition<'_>, i: Instruction) -> Option<StackEffect>
+fn effect_in(m: &Bounded<'_>, d: &FunctionDefinition, i: Instruction) -> Option<StackEffect>
     ensures { result ≡ effect_of m.now d.now i }
 {
     match i {
@@ -158,7 +158,7 @@ fn of_call(m: &Bounded<'_>, handle: u16) -> Option<StackEffect>
 }
 
 /// A return takes the results.
-fn of_return(m: &Bounded<'_>, d: &FunctionDefinition<'_>) -> Option<StackEffect>
+fn of_return(m: &Bounded<'_>, d: &FunctionDefinition) -> Option<StackEffect>
     ensures { result ≡ return_effect m.now d.now }
 {
     let module = m.module();
@@ -194,7 +194,7 @@ fn height_by(height: usize, e: StackEffect) -> Option<usize>
 /// Whether every block begins and ends with nothing on the stack. `code` is the function's code.
 fn are_blocks_level(
     m: &Bounded<'_>,
-    d: &FunctionDefinition<'_>,
+    d: &FunctionDefinition,
     code: &[Instruction],
     g: &Cfg,
 ) -> bool
@@ -212,7 +212,7 @@ fn are_blocks_level(
 }
 
 /// The height that these instructions leave on an empty stack. None where some instruction can't be run.
-fn height_after(m: &Bounded<'_>, d: &FunctionDefinition<'_>, code: &[Instruction]) -> Option<usize>
+fn height_after(m: &Bounded<'_>, d: &FunctionDefinition, code: &[Instruction]) -> Option<usize>
     ensures { result ≡ height_through m.now d.now code.now 0 }
 {
     let mut height = 0;

@@ -15,7 +15,7 @@ use mv_move_types::{Instruction, Refusal, Token, Width};
 pub struct Scope<'s, 'a> {
     pub module: &'s Bounded<'a>,
     pub place: usize,
-    pub function: &'s FunctionDefinition<'a>,
+    pub function: &'s FunctionDefinition,
 }
 
 /// The scope of function `f`.

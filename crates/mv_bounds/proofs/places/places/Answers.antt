@@ -3,11 +3,12 @@ use Rattle.std.specs.Option.{is_some}
 use Rattle.std.specs.Prelude.{not}
 use Rattle.std.proofs.lemmas.Option.{none-some}
 use Rattle.std.proofs.lemmas.Bool.{false≢true}
-use Rattle.std.proofs.lemmas.List.{get_or_read}
-use Rattle.mv_move_types.specs.Module.{StructDefinition}
-use Rattle.mv_bounds.proofs.ContainmentLemmas.{places_new, places_kept, some_place}
-use Rattle.mv_bounds.proofs.containment.definitions.Goals.{then-handle-len+then-is_none, else-handle-len, else-handle-len-via-then-handle-len+else-is_none, else-handle-len-via-else-handle-len}
-use Rattle.mv_bounds.proofs.containment.definitions.Goals as goal
+use Rattle.std.proofs.lemmas.Grind.{get_or_default_zero}
+use Rattle.std.proofs.lemmas.List.{get_or_read, take_all}
+use Rattle.mv_bounds.specs.Places.{ArePlaces}
+use Rattle.mv_bounds.proofs.HandleLemmas.{places_new, places_kept, some_place}
+use Rattle.mv_bounds.proofs.places.places.Goals.{then-handle-len+then-is_none, else-handle-len, else-handle-len-via-then-handle-len+else-is_none, else-handle-len-via-else-handle-len}
+use Rattle.mv_bounds.proofs.places.places.Goals as goal
 
 none_from : (o : Option ℕ) (r : Bool) → is_some o ≡ not r → r ≡ true → o ≡ None
 none_from None r e h = refl
@@ -19,25 +20,22 @@ not_none (Some k) r e h none = none-some k (sym none)
 
 pub loop-i-preserved : goal.loop-i-preserved
 loop-i-preserved c =
-    let m = c.args.m.now in
+    let defined = c.args.defined.now in
     let places = c.loop-i.places.items in
     let i = c.loop-i.i in
-    let d = c.index-structs-i.result in
     let at = c.from-handle.result in
-    let n = length m.struct_handles in
+    let n = c.args.handles in
     let p = c.loop-i.invariant in
-    let value = c.structs-structs.ensures.value in
-    let low = subst (λ (xs : List StructDefinition). i < length xs) value c.loop-i-test.true in
-    let is = c.index-structs-i.is ∙ ap (λ (xs : List StructDefinition). get_or xs i d) value in
-    let of = c.from-handle.ensures ∙ c.handle.ensures in
+    let low : i < length defined = c.loop-i-test.true in
+    let is : at ≡ get_or defined i at = c.from-handle.ensures ∙ sym (get_or_default_zero defined i at low) in
     elim c.if-handle-len.branch [
       | then-handle-len+then-is_none w ↦
           let inside : at < length places = omega (arith, w.if-handle-len.true, c.len.ensures) in
           let free : get_or places at None ≡ None =
           sym (get_or_read places at w.index.result.now inside w.index.ensures None) ∙ none_from w.index.result.now w.is_none.result w.is_none.ensures w.if-is_none.true in
-          places_new m.structs n i places c.if-handle-len.places.items d at p low is of (omega (arith, inside, p.len)) free (ap (λ (v : Vec (Option ℕ) Global). v.items) w.places-is)
+          places_new defined n i places c.if-handle-len.places.items at p low is (omega (arith, inside, p.len)) free (ap (λ (v : Vec (Option ℕ) Global). v.items) w.places-is)
       | else-handle-len w ↦
-          places_kept m.structs n i places c.if-handle-len.places.items d at p low is of
+          places_kept defined n i places c.if-handle-len.places.items at p low is
           (elim w.else-handle-len.branch [
             | else-handle-len-via-then-handle-len+else-is_none w' ↦ λ l.
                 let inside : at < length places = omega (arith, l, p.len) in
@@ -46,3 +44,7 @@ loop-i-preserved c =
           ])
           (ap (λ (v : Vec (Option ℕ) Global). v.items) w.places-is)
     ]
+
+pub returns : goal.returns
+returns c =
+    subst (λ (xs : List ℕ). ArePlaces xs c.args.handles c.loop-i.places.items) (take_all c.loop-i.i c.args.defined.now c.loop-i-test.false) c.loop-i.invariant

@@ -1,0 +1,6 @@
+use Rattle.std.proofs.Common.{take}
+use Rattle.mv_bounds.specs.Places.{ArePlaces}
+use Rattle.mv_bounds.proofs.places.places.Given as goal
+
+abbrev pub invariant-loop-i : goal.invariant-loop-i
+invariant-loop-i l = ArePlaces (take l.i l.defined) l.handles l.places.items
