@@ -47,16 +47,16 @@ ordered_first true es fs = ap Some (sorted_first es fs)
 ordered_first false es fs = refl
 
 -- a mutable one is its child, too
-pub copied_mutably : (p : Point) (l : ℕ) (token : Token) (t : ValueType) (s both : List Edge) (next : Node) (free : Bool) (r : Result (List Edge) StepError)
+pub copied_mutably : (p : Point) (l : ℕ) (token : Token) (t : ValueType) (s both after : List Edge) (next : Node) (free : Bool) (r : Result (Unit {0}) StepError)
     → token ≡ MutableReference t → free ≡ no_edge_out (Slot l) s → both ≡ sorted (s ++ inherited (λ label. label) (Slot l) (next_temp p) s) → next ≡ next_temp p
-    → Follows r (ordered (then_some free (both ++ an_edge (Slot l) here next ∷ []))) → Follows r (ordered (copy_edges p l token s))
-copied_mutably p l token t s both next free r is_token tested is_both is_next f =
+    → Follows r after (ordered (then_some free (both ++ an_edge (Slot l) here next ∷ []))) → Follows r after (ordered (copy_edges p l token s))
+copied_mutably p l token t s both after next free r is_token tested is_both is_next f =
     let own : List Edge = s ++ inherited (λ label. label) (Slot l) (next_temp p) s in
     let same : ordered (then_some free (both ++ an_edge (Slot l) here next ∷ [])) ≡ ordered (copy_edges p l token s) =
     (λ i. ordered (then_some (tested i) (is_both i ++ an_edge (Slot l) here (is_next i) ∷ [])))
     ∙ ordered_first (no_edge_out (Slot l) s) own (an_edge (Slot l) here (next_temp p) ∷ [])
     ∙ ap (λ x. ordered (copy_edges p l x s)) (sym is_token) in
-    subst (λ (o : Option (List Edge)). Follows r o) same f
+    subst (λ (o : Option (List Edge)). Follows r after o) same f
 
 -- the reference to a field stands where its operand stood
 pub field_made : (p : Point) (f : ℕ) (s new removed all : List Edge) (top : Node) → top ≡ top_temp p → new ≡ sorted (inherited (changed (Extended f)) top top s) → removed ≡ without top s → all ≡ sorted (removed ++ new)

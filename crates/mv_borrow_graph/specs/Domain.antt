@@ -49,11 +49,11 @@ abbrev pub Finds : {A : Type 0} → Result A StepError → Option A → Type 0
 Finds (Ok x) found = found ≡ Some x
 Finds (Err e) found = (e ≡ Need) × (found ≡ None)
 
--- the state after is this one, or a need fails where there is none; memory is wanted only where no need fails
-abbrev pub Follows : {S : Type 0} → Result S StepError → Option S → Type 0
-Follows (Ok t) after = after ≡ Some t
-Follows (Err Need) after = after ≡ None
-Follows (Err Memory) after = IsSome after
+-- the new state is the one after, or a need fails where there is none; memory is wanted only where no need fails
+abbrev pub Follows : {S : Type 0} → Result (Unit {0}) StepError → S → Option S → Type 0
+Follows (Ok done) new after = after ≡ Some new
+Follows (Err Need) new after = after ≡ None
+Follows (Err Memory) new after = IsSome after
 
 -- whether a local is of a reference type
 abbrev pub is_reference_local : Module → FunctionDefinition → ℕ → Bool

@@ -1,52 +1,63 @@
 // The changes that several instructions make, each where a need holds.
-ghost use Rattle.std.specs.Prelude.{◌≡◌, ◌++◌, ◌∷◌, [], Err, IsTrue};
+ghost use Rattle.std.specs.Prelude.{◌≡◌, ◌++◌, ◌∷◌, [], Err, OnOk, IsTrue};
 ghost use Rattle.std.specs.Bool.{then_some};
-ghost use Rattle.mv_edges.specs.Edges.{here, an_edge, without};
+ghost use Rattle.mv_edges.specs.Edges.{here, an_edge, renamed, without};
 ghost use Rattle.mv_edges.specs.Ascending.{are_ascending};
+ghost use Rattle.mv_edges.specs.Sorted.{sorted};
 ghost use Rattle.mv_borrow_graph.specs.Domain.{Follows, ordered};
 
 use mv_edges::{Edge, Edges, Label};
 use mv_lattice::StepError;
 use mv_move_types::Node;
-use std::alloc::Global;
+use std::alloc::{AllocError, Global};
+use std::mem;
 
-/// The same edges.
+/// Leaves the edges as they are.
 #[tactic(auto, using(crate::proofs::Rows::kept_order))]
-pub fn kept(holds: bool, s: Edges) -> Result<Edges, StepError>
-    requires { IsTrue (are_ascending s) }
-    ensures after { Follows result (ordered (then_some holds s)) }
+pub fn keep(holds: bool, s: &Edges) -> Result<(), StepError>
+    requires { IsTrue (are_ascending s.now) }
+    ensures after { Follows result s.now (ordered (then_some holds s.now)) }
     ensures memory { ¬ (result ≡ Err StepError.Memory) }
 {
-    if holds { Ok(s) } else { Err(StepError::Need) }
+    if holds { Ok(()) } else { Err(StepError::Need) }
 }
 
-/// The edges without those at a node.
-pub fn released(holds: bool, node: Node, mut s: Edges) -> Result<Edges, StepError>
-    ensures after { Follows result (ordered (then_some holds (without node s))) }
+/// Takes away the edges at a node.
+pub fn release(holds: bool, node: Node, s: &mut Edges) -> Result<(), StepError>
+    ensures after { Follows result s.new (ordered (then_some holds (without node s.old))) }
     ensures memory { ¬ (result ≡ Err StepError.Memory) }
 {
     if !holds {
         return Err(StepError::Need);
     }
     s.remove_at(node);
-    Ok(s)
+    Ok(())
 }
 
-/// The edges with another, from what is borrowed to the new reference to it.
-pub fn lent(
+/// Adds an edge from what is borrowed to the new reference to it.
+pub fn lend(
     alloc: Global,
     holds: bool,
     from: Node,
     to: Node,
-    mut s: Edges,
-) -> Result<Edges, StepError>
-    ensures { Follows result (ordered (then_some holds (s ++ an_edge from here to ∷ []))) }
+    s: &mut Edges,
+) -> Result<(), StepError>
+    ensures { Follows result s.new (ordered (then_some holds (s.old ++ an_edge from here to ∷ []))) }
 {
     if !holds {
         return Err(StepError::Need);
     }
     s.insert(Edge::new(from, Label::here(alloc), to))?;
-    Ok(s)
+    Ok(())
+}
+
+/// Puts one node in place of another, where no need is.
+pub fn rename(alloc: Global, old: Node, new: Node, s: &mut Edges) -> Result<(), AllocError>
+    ensures { OnOk result (s.new ≡ sorted (renamed old new s.old)) }
+{
+    let edges = mem::replace(s, Edges::new(alloc));
+    *s = edges.rename(alloc, old, new)?;
+    Ok(())
 }
 
 #[cfg(test)]
@@ -57,12 +68,12 @@ mod tests {
     #[test]
     fn lends_a_local(rt: HostRuntime) -> Result<(), Fail> {
         let alloc = rt.alloc();
-        let none = Edges::new(alloc);
-        let one = lent(alloc, true, Node::Own(1), Node::Temp(0), none).map_err(|_| "lent")?;
-        assert_eq!(rt; one.len(), 1);
-        assert_eq!(rt; one.get(0).ok_or("first")?.to(), Node::Temp(0));
+        let mut s = Edges::new(alloc);
+        assert!(rt; lend(alloc, true, Node::Own(1), Node::Temp(0), &mut s).is_ok());
+        assert_eq!(rt; s.len(), 1);
+        assert_eq!(rt; s.get(0).ok_or("first")?.to(), Node::Temp(0));
         // the need fails
-        assert!(rt; lent(alloc, false, Node::Own(1), Node::Temp(1), one).is_err());
+        assert!(rt; lend(alloc, false, Node::Own(1), Node::Temp(1), &mut s).is_err());
         Ok(())
     }
 }

@@ -1,12 +1,12 @@
 // A function's borrow graph as a domain of states.
-ghost use Rattle.std.specs.Prelude.{◌≡◌, ◌<◌, nat_le, [], length, reverse, slice_get, Some, option_map, IfOk, IsTrue};
+ghost use Rattle.std.specs.Prelude.{◌≡◌, ◌<◌, nat_le, [], length, reverse, slice_get, Some, is_some, option_map, IfOk, IsTrue};
 ghost use Rattle.std.specs.List.{list_all};
 ghost use Rattle.mv_type_states.specs.Sound.{types_before};
 ghost use Rattle.mv_type_states.specs.TypesHold.{TypesHold};
 ghost use Rattle.mv_borrow_graph.specs.Domain.{point_at, is_low};
 ghost use Rattle.mv_borrow_graph.specs.Nodes.{are_few as few};
 
-use super::site::Site;
+use super::site::{Site, leaves_edges};
 use mv_binary_format::FunctionDefinition;
 use mv_bounds::Bounded;
 use mv_edges::{Edge, Edges};
@@ -98,6 +98,13 @@ impl<'t, 'm> BorrowDomain<'t, 'm> {
         })
     }
 
+    /// Whether types are known before an instruction.
+    fn is_known(&self, at: usize) -> bool
+        ensures { result ≡ is_some (slice_get (types_before self.now.home self.now.function) at) }
+    {
+        at < self.stacks.len()
+    }
+
     /// What is known where the function begins: no edges.
     pub fn start(&self, alloc: Global) -> Edges
         ensures { result ≡ [] }
@@ -129,7 +136,7 @@ fn are_few(edges: &[Edge]) -> bool
 }
 
 impl<'t, 'm> Domain for BorrowDomain<'t, 'm> {
-    ghost use Rattle.std.specs.Prelude.{◌≡◌, ◌++◌, List, Option, length, slice_get, false, IfOk, IsErrOf, IsSome, IsTrue};
+    ghost use Rattle.std.specs.Prelude.{◌≡◌, ◌++◌, List, Option, length, slice_get, false, IfOk, OnOk, IsErrOf, IsSome, IsTrue};
     ghost use Rattle.std.specs.Option.{option_map_or};
     ghost use Rattle.mv_edges.specs.Edges.{Edge as EdgeRecord, edges_leq};
     ghost use Rattle.mv_edges.specs.Sorted.{sorted};
@@ -160,6 +167,11 @@ impl<'t, 'm> Domain for BorrowDomain<'t, 'm> {
         s.copy(alloc)
     }
 
+    fn copy_into(&self, alloc: Global, s: &Edges, t: &mut Edges) -> Result<(), AllocError> {
+        *t = s.copy(alloc)?;
+        Ok(())
+    }
+
     fn leq(&self, a: &Edges, b: &Edges) -> bool {
         a.leq(b)
     }
@@ -178,15 +190,19 @@ impl<'t, 'm> Domain for BorrowDomain<'t, 'm> {
 
     /// Memory is wanted only where no need fails, of an instruction that puts a reference where none stood.
     #[tactic(auto, using(crate::proofs::Stacks::step_ok, crate::proofs::Stacks::step_need, crate::proofs::Stacks::step_meets, crate::proofs::Stacks::step_memory, crate::proofs::Stacks::step_unknown))]
-    fn step(&self, alloc: Global, s: Edges, at: usize) -> Result<Edges, StepError>
-        ensures ok { IfOk result (λ t. edges_step self.now.home self.now.function at s ≡ Option.Some t) }
-        ensures need { IsErrOf result StepError.Need → edges_step self.now.home self.now.function at s ≡ Option.None }
-        ensures meets { IsErrOf result StepError.Memory → IsSome (edges_step self.now.home self.now.function at s) }
+    fn step(&self, alloc: Global, s: &mut Edges, at: usize) -> Result<(), StepError>
+        requires { IsTrue (are_ascending s.old) }
+        ensures ok { OnOk result (edges_step self.now.home self.now.function at s.old ≡ Option.Some s.new) }
+        ensures need { IsErrOf result StepError.Need → edges_step self.now.home self.now.function at s.old ≡ Option.None }
+        ensures meets { IsErrOf result StepError.Memory → IsSome (edges_step self.now.home self.now.function at s.old) }
         ensures memory { IsErrOf result StepError.Memory → IsTrue (option_map_or (places_reference self.now.home self.now.function) (slice_get self.now.function.code at) false) }
     {
         let Some(instruction) = self.instruction(at) else {
             return Err(StepError::Need);
         };
+        if leaves_edges(&instruction) && self.is_known(at) {
+            return Ok(());
+        }
         match self.site(at) {
             Some(site) => site.step(alloc, instruction, s),
             None => Err(StepError::Need),

@@ -1,14 +1,15 @@
 // Where an instruction stands in its function, and what it does to the edges.
-ghost use Rattle.std.specs.Prelude.{◌≡◌, ◌-◌, ◌&&◌, length, reverse, slice_get, Err, IsTrue};
+ghost use Rattle.std.specs.Prelude.{◌≡◌, ◌-◌, ◌&&◌, List, length, reverse, slice_get, Some, Err, IsTrue};
 ghost use Rattle.std.specs.List.{list_any};
 ghost use Rattle.mv_move_types.specs.declared.borrow.Node.TheVariants.{Temp};
 ghost use Rattle.mv_move_types.specs.Module.{local_type as type_of_local};
-ghost use Rattle.mv_edges.specs.Edges.{same_node};
+ghost use Rattle.mv_type_states.specs.TypesHold.{Point};
+ghost use Rattle.mv_edges.specs.Edges.{Edge as EdgeRecord, same_node};
 ghost use Rattle.mv_edges.specs.Ascending.{are_ascending};
 ghost use Rattle.mv_borrow_graph.specs.BorrowRules.{edges_after, is_mutable, next_temp, top_temp, no_mutable_from};
 ghost use Rattle.mv_borrow_graph.specs.Domain.{Finds, Follows, ordered, places_reference};
 
-use crate::changes::{kept, released};
+use crate::changes::{keep, release};
 use crate::nodes::{is_free, is_mutable_reference};
 use mv_binary_format::FunctionDefinition;
 use mv_bounds::Bounded;
@@ -17,6 +18,33 @@ use mv_lattice::StepError;
 use mv_move_types::{Instruction, Node, Token};
 use std::alloc::Global;
 use std::marker::Model;
+
+/// Whether an instruction leaves all edges as they are wherever it stands, and needs nothing of them.
+#[tactic(auto, unfolding(crate::specs::BorrowRules::edges_after))]
+pub fn leaves_edges(instruction: &Instruction) -> bool
+    ensures { IsTrue result → (p : Point) (s : List EdgeRecord) → edges_after p instruction.now s ≡ Some s }
+{
+    match instruction {
+        Instruction::Pop
+        | Instruction::Ret
+        | Instruction::Call(_)
+        | Instruction::CopyLoc(_)
+        | Instruction::MoveLoc(_)
+        | Instruction::StLoc(_)
+        | Instruction::MutBorrowLoc(_)
+        | Instruction::ImmBorrowLoc(_)
+        | Instruction::MutBorrowField(_)
+        | Instruction::ImmBorrowField(_)
+        | Instruction::ReadRef
+        | Instruction::WriteRef
+        | Instruction::FreezeRef
+        | Instruction::MutBorrowGlobal(_)
+        | Instruction::ImmBorrowGlobal(_)
+        | Instruction::MoveFrom(_)
+        | Instruction::MoveTo(_) => false,
+        _ => true,
+    }
+}
 
 /// An instruction's place in a function of a module, by the types on the stack before it, the last of them topmost.
 #[derive(Drop)]
@@ -116,26 +144,26 @@ impl<'d, 'm> Site<'d, 'm> {
         !self.leads_to_mutable(node, s)
     }
 
-    /// What an instruction here makes of the edges.
+    /// Makes of the edges what an instruction here does.
     ///
     /// # Errors
     /// `Need` where a need of the instruction fails. Else `Memory` if an allocation failed: an instruction that puts no
-    /// reference where none stood takes no memory.
+    /// reference where none stood takes no memory. Nothing is said of the edges then.
     #[tactic(auto, using(crate::proofs::Rows::kept_order), unfolding(crate::specs::BorrowRules::edges_after))]
     pub fn step(
         &self,
         alloc: Global,
         instruction: Instruction,
-        mut s: Edges,
-    ) -> Result<Edges, StepError>
-        requires { IsTrue (are_ascending s) }
-        ensures after { Follows result (ordered (edges_after self.now instruction s)) }
+        s: &mut Edges,
+    ) -> Result<(), StepError>
+        requires { IsTrue (are_ascending s.old) }
+        ensures after { Follows result s.new (ordered (edges_after self.now instruction s.old)) }
         ensures memory { result ≡ Err StepError.Memory → IsTrue (places_reference self.now.home self.now.function instruction) }
     {
         match instruction {
             Instruction::Pop => {
                 s.remove_at(self.top());
-                Ok(s)
+                Ok(())
             }
             Instruction::Ret => self.hand_out(s),
             Instruction::Call(callee) => self.call(alloc, callee, s),
@@ -150,19 +178,19 @@ impl<'d, 'm> Site<'d, 'm> {
             Instruction::ImmBorrowField(field) => {
                 self.borrow_field(alloc, self.position(field)?, s)
             }
-            Instruction::ReadRef => released(self.is_readable(self.top(), &s), self.top(), s),
-            Instruction::WriteRef => released(is_free(self.top(), &s), self.top(), s),
+            Instruction::ReadRef => release(self.is_readable(self.top(), s), self.top(), s),
+            Instruction::WriteRef => release(is_free(self.top(), s), self.top(), s),
             Instruction::FreezeRef => self.freeze(s),
             Instruction::MutBorrowGlobal(definition) => {
                 self.borrow_global_mutably(alloc, definition, s)
             }
             Instruction::ImmBorrowGlobal(definition) => self.borrow_global(alloc, definition, s),
-            Instruction::MoveFrom(definition) => kept(is_free(Node::Glob(definition), &s), s),
+            Instruction::MoveFrom(definition) => keep(is_free(Node::Glob(definition), s), s),
             Instruction::MoveTo(_) => {
                 s.remove_at(self.second());
-                Ok(s)
+                Ok(())
             }
-            _ => Ok(s),
+            _ => Ok(()),
         }
     }
 }

@@ -1,5 +1,6 @@
 // Certificates as values.
 use mv_edges::Edges;
+use mv_lattice::HasState;
 use mv_locals_safety::Availabilities;
 use std::marker::Model;
 
@@ -16,6 +17,22 @@ impl Model for Known {
     ghost Value = { KnownRecord };
 
     ghost view = { λ k. record { locals = k.locals; edges = k.edges } };
+}
+
+impl HasState<Availabilities> for Known {
+    ghost inner = { λ k. k.locals };
+
+    fn state(&self) -> &Availabilities {
+        &self.locals
+    }
+}
+
+impl HasState<Edges> for Known {
+    ghost inner = { λ k. k.edges };
+
+    fn state(&self) -> &Edges {
+        &self.edges
+    }
 }
 
 /// What is stated of each block of a function, by ascending first instruction: nothing where the block isn't reached.

@@ -1,6 +1,6 @@
 // Whether what a certificate states of a module's functions holds.
 
-ghost use Rattle.std.specs.Prelude.{◌≡◌, ◌<◌, ◌⊎◌, length, map, option_map, slice_get, Some, IfOk, IfErr, OnOk, IsTrue};
+ghost use Rattle.std.specs.Prelude.{◌≡◌, ◌<◌, ◌⊎◌, length, slice_get, Some, IfErr, OnOk, IsTrue};
 ghost use Rattle.mv_move_types.specs.Refusals.{IsRefusedIn};
 ghost use Rattle.mv_acquires.specs.Acquires.{AcquiresHold};
 ghost use Rattle.mv_certificate.specs.Answers.{IsRefusedByCertificate};
@@ -12,12 +12,11 @@ ghost use Rattle.mv_certificate.specs.Reads.{FitsAt};
 use super::certificate::{Cert, Stated};
 use super::shape;
 use mv_borrow_graph::BorrowDomain;
-use mv_edges::Edges;
 use mv_lattice::{StepError, check_flow};
-use mv_locals_safety::{Availabilities, LocalsDomain};
+use mv_locals_safety::LocalsDomain;
 use mv_move_types::Refusal;
 use mv_type_states::Typed;
-use std::alloc::{AllocError, Global};
+use std::alloc::Global;
 
 /// A flow that is not accepted is refused in the phase.
 fn refusal_in(phase: u8, e: StepError) -> Refusal
@@ -29,36 +28,6 @@ fn refusal_in(phase: u8, e: StepError) -> Refusal
     }
 }
 
-/// The stated availabilities.
-fn locals_of(alloc: Global, stated: &Stated) -> Result<Vec<Option<Availabilities>>, AllocError>
-    ensures { IfOk result (λ v. v.items ≡ map (option_map (λ k. k.locals)) stated.now) }
-{
-    let mut all = Vec::new(alloc);
-    for block in &stated.blocks {
-        let locals = match block {
-            Some(known) => Some(known.locals.copy(alloc)?),
-            None => None,
-        };
-        all.push(locals)?;
-    }
-    Ok(all)
-}
-
-/// The stated edges.
-fn edges_of(alloc: Global, stated: &Stated) -> Result<Vec<Option<Edges>>, AllocError>
-    ensures { IfOk result (λ v. v.items ≡ map (option_map (λ k. k.edges)) stated.now) }
-{
-    let mut all = Vec::new(alloc);
-    for block in &stated.blocks {
-        let edges = match block {
-            Some(known) => Some(known.edges.copy(alloc)?),
-            None => None,
-        };
-        all.push(edges)?;
-    }
-    Ok(all)
-}
-
 /// Phase 10 for function `f`: the stated availabilities are a flow of its locals.
 fn check_locals_of(alloc: Global, m: &Typed<'_>, f: usize, stated: &Stated) -> Result<(), Refusal>
     requires inside { f < length m.now.functions }
@@ -68,10 +37,9 @@ fn check_locals_of(alloc: Global, m: &Typed<'_>, f: usize, stated: &Stated) -> R
 {
     let domain = LocalsDomain::of_function(alloc, m, f)?;
     let start = domain.start(alloc)?;
-    let locals = locals_of(alloc, stated)?;
     let function = shape::function_at(m, f);
     let graph = shape::graph_of(m, f, function);
-    match check_flow(alloc, &domain, graph, &start, &locals) {
+    match check_flow(alloc, &domain, graph, &start, &stated.blocks) {
         Ok(()) => Ok(()),
         Err(e) => Err(refusal_in(10, e)),
     }
@@ -86,11 +54,10 @@ fn check_edges_of(alloc: Global, m: &Typed<'_>, f: usize, stated: &Stated) -> Re
 {
     let domain = BorrowDomain::of_function(alloc, m, f)?;
     let empty = domain.start(alloc);
-    let edges = edges_of(alloc, stated)?;
     let function = shape::function_at(m, f);
     let graph = shape::graph_of(m, f, function);
     shape::has_start(m, f, function);
-    match check_flow(alloc, &domain, graph, &empty, &edges) {
+    match check_flow(alloc, &domain, graph, &empty, &stated.blocks) {
         Ok(()) => Ok(()),
         Err(e) => Err(refusal_in(11, e)),
     }

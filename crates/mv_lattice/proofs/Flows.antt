@@ -1,9 +1,9 @@
 -- What a turn of the loops over a flow adds.
-use Rattle.std.proofs.Common.{◌≡◌, ℕ, suc, ◌+◌, ◌-◌, ◌<◌, ◌≤◌, List, length, get_or, take, Option, Some, None, refl, sym, ap, subst, arith, slice_get, ◌≢◌, Result, Err, ⊎_elim}
+use Rattle.std.proofs.Common.{◌≡◌, ℕ, suc, ◌+◌, ◌-◌, ◌<◌, ◌≤◌, List, length, get_or, take, Option, Some, None, refl, sym, ap, subst, arith, slice_get, option_map, ◌∙◌, ◌≢◌, Result, Err, ⊎_elim}
 use Rattle.std.proofs.lemmas.Bool.{cases_eq}
 use Rattle.std.proofs.lemmas.List.Elements.{All-more}
-use Rattle.std.proofs.lemmas.Option.{slice_get_read, slice_get_within}
-use Rattle.mv_lattice.specs.Flow.{carried, IsStated, IsBelowEach}
+use Rattle.std.proofs.lemmas.Option.{slice_get-map, slice_get_read, slice_get_within}
+use Rattle.mv_lattice.specs.Flow.{carried, states_of, IsStated, IsBelowEach}
 
 module _ {S : Type 0} (step : ℕ → S → Option S) where
   -- one instruction more
@@ -18,31 +18,34 @@ module _ {S : Type 0} (step : ℕ → S → Option S) where
       let n : last + 1 - at ≡ suc (last + 1 - (at + 1)) = omega arith in
       rw (n, e) refl
 
+-- what is stated at a place, by the entry that was read there
+module _ {K S : Type 0} (inner : K → S) (entries : List (Option K)) (k : ℕ) (r : Option K) (within : k < length entries) (read : r ≡ get_or entries k r) where
+  stated_at : slice_get (states_of inner entries) k ≡ option_map (option_map inner) (Some r)
+  stated_at = slice_get-map (option_map inner) entries k ∙ ap (option_map (option_map inner)) (slice_get_read entries (length entries) k r refl within read)
+
+  pub stated_entry : (u : K) (s : S) → r ≡ Some u → s ≡ inner u → IsStated (states_of inner entries) k s
+  stated_entry u s is same = stated_at ∙ ap (λ o. Some (option_map inner o)) is ∙ ap (λ x. Some (Some x)) (sym same)
+
+  pub unstated_entry : r ≡ None → slice_get (states_of inner entries) k ≡ Some None
+  unstated_entry is = stated_at ∙ ap (λ o. Some (option_map inner o)) is
+
 module _ {S : Type 0} (below : S → S → Type 0) (flow : List (Option S)) (blocks : List ℕ) (t : S) where
-  -- what was read at n is what is stated there
-  pub stated_read : (n : ℕ) (r : Option S) (v u : S) → n < length flow → r ≡ get_or flow n r → r ≡ Some v → IsStated flow n u → v ≡ u
-  stated_read n r v u h e is st =
-      let read : slice_get flow n ≡ Some r = slice_get_read flow (length flow) n r refl h e in
-      cc
-
-  pub below_each_some : (i n : ℕ) (r : Option S) (v : S) → i < length blocks → n ≡ get_or blocks i 0 → n < length flow → r ≡ get_or flow n r → r ≡ Some v → below t v → IsBelowEach below flow (take i blocks) t → IsBelowEach below flow (take (i + 1) blocks) t
-  below_each_some i n r v h at within e is b before =
+  pub below_each_some : (i n : ℕ) (v : S) → i < length blocks → n ≡ get_or blocks i 0 → IsStated flow n v → below t v → IsBelowEach below flow (take i blocks) t → IsBelowEach below flow (take (i + 1) blocks) t
+  below_each_some i n v h at is b before =
       All-more (λ m. (u : S) → IsStated flow m u → below t u) blocks i 0 h before
-      (λ u st. subst (λ x. below t x) (stated_read n r v u within e is (subst (λ x. IsStated flow x u) (sym at) st)) b)
+      (λ u st.
+      let st' : IsStated flow n u = subst (λ x. IsStated flow x u) (sym at) st in
+      let same : v ≡ u = cc in
+      subst (λ x. below t x) same b)
 
-  pub below_each_none : (i n : ℕ) (r : Option S) → i < length blocks → n ≡ get_or blocks i 0 → n < length flow → r ≡ get_or flow n r → r ≡ None → IsBelowEach below flow (take i blocks) t → IsBelowEach below flow (take (i + 1) blocks) t
-  below_each_none i n r h at within e is before =
+  pub below_each_none : (i n : ℕ) → i < length blocks → n ≡ get_or blocks i 0 → slice_get flow n ≡ Some None → IsBelowEach below flow (take i blocks) t → IsBelowEach below flow (take (i + 1) blocks) t
+  below_each_none i n h at none before =
       All-more (λ m. (u : S) → IsStated flow m u → below t u) blocks i 0 h before
-      (λ u st. let st' : IsStated flow n u = subst (λ x. IsStated flow x u) (sym at) st in
-      let read : slice_get flow n ≡ Some r = slice_get_read flow (length flow) n r refl within e in
-      cc)
+      (λ u st. let st' : IsStated flow n u = subst (λ x. IsStated flow x u) (sym at) st in cc)
 
 -- what a read of a list gives
 pub block_read : {B : Type 0} (xs ys : List B) (k : ℕ) (r : B) → xs ≡ ys → k < length xs → r ≡ get_or xs k r → slice_get ys k ≡ Some r
 block_read xs ys k r same h e = subst (λ zs. slice_get zs k ≡ Some r) same (slice_get_read xs (length xs) k r refl h e)
-
-pub state_read : {S : Type 0} (flow : List (Option S)) (k : ℕ) (r o : Option S) → k < length flow → r ≡ get_or flow k r → r ≡ o → slice_get flow k ≡ Some o
-state_read flow k r o h e is = let read : slice_get flow k ≡ Some r = slice_get_read flow (length flow) k r refl h e in cc
 
 module _ {S B : Type 0} (blocks : List B) (flow : List (Option S)) (P : B → S → Type 0) where
   abbrev pub HoldsBelow : ℕ → Type 0

@@ -1,5 +1,5 @@
 -- What a closed flow over a graph is, when its blocks go on, and what rises.
-use Rattle.std.specs.Prelude.{◌≡◌, ℕ, zero, suc, ◌+◌, ◌-◌, List, length, slice_get, option_and_then, Option, Some, All}
+use Rattle.std.specs.Prelude.{◌≡◌, ℕ, zero, suc, ◌+◌, ◌-◌, List, length, slice_get, map, option_and_then, option_map, Option, Some, All}
 use Rattle.mv_cfg.specs.declared.Block.{Block}
 use Rattle.mv_cfg.specs.declared.Cfg.{Cfg}
 use Rattle.mv_cfg.specs.Graph.{IsBlock, IsReached}
@@ -12,6 +12,10 @@ carried step at (suc count) s = option_and_then (carried step (suc at) count) (s
 -- what the whole block makes of s
 abbrev pub through : {S : Type 0} → (ℕ → S → Option S) → Block → S → Option S
 through step b s = carried step b.first (b.last + 1 - b.first) s
+
+-- the states in what is stated
+abbrev pub states_of : {K S : Type 0} → (K → S) → List (Option K) → List (Option S)
+states_of inner stated = map (option_map inner) stated
 
 -- block k is stated to begin in s
 abbrev pub IsStated : {S : Type 0} → List (Option S) → ℕ → S → Type 0

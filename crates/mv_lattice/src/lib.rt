@@ -4,7 +4,7 @@
 ghost use Rattle.std.specs.Prelude.{◌≡◌, ℕ, ◌+◌, ◌-◌, ◌<◌, ◌≤◌, ◌↔◌, Option, length, IsTrue, IfOk, OnOk, IsErrOf, All, [], ◌∷◌};
 ghost use Rattle.mv_cfg.specs.declared.Cfg.{Cfg};
 ghost use Rattle.mv_cfg.specs.Graph.{IsGraph};
-ghost use Rattle.mv_lattice.specs.Flow.{IsFlow, IsClosed, IsClosedAt, IsBelowEach, IsStated, carried};
+ghost use Rattle.mv_lattice.specs.Flow.{IsFlow, IsClosed, IsClosedAt, IsBelowEach, IsStated, carried, states_of};
 ghost use Rattle.mv_lattice.specs.Laws.{IsLawful};
 
 mod search;
@@ -63,6 +63,19 @@ pub trait Domain {
         requires { is_state self.now s.now }
         ensures { IfOk result (λ t. t ≡ s.now) };
 
+    /// Makes the second state equal to the first, in the memory that the second has where that is enough.
+    ///
+    /// # Errors
+    /// If an allocation failed; nothing is said of the second state then.
+    fn copy_into(
+        &self,
+        alloc: Global,
+        s: &Self::State,
+        t: &mut Self::State,
+    ) -> Result<(), AllocError>
+        requires { is_state self.now s.now }
+        ensures { OnOk result (t.new ≡ s.now) };
+
     /// Whether the first state is below the second.
     fn leq(&self, a: &Self::State, b: &Self::State) -> bool
         requires a { is_state self.now a.now }
@@ -84,15 +97,15 @@ pub trait Domain {
         ensures least { IfOk result (λ c. (u : Self.State) → is_state self.now u → below self.now a.now u → below self.now b.now u → below self.now c u) }
         ensures begins { IfOk result (λ c. may_begin self.now a.now → may_begin self.now b.now → may_begin self.now c) };
 
-    /// What the instruction at `at` makes of the state.
+    /// Makes of the state what the instruction at `at` does.
     ///
     /// # Errors
-    /// `Need` where a need of the instruction fails; `Memory` if an allocation failed. The state is dropped then.
-    fn step(&self, alloc: Global, s: Self::State, at: usize) -> Result<Self::State, StepError>
-        requires state { is_state self.now s }
+    /// `Need` where a need of the instruction fails; `Memory` if an allocation failed. Nothing is said of the state then.
+    fn step(&self, alloc: Global, s: &mut Self::State, at: usize) -> Result<(), StepError>
+        requires state { is_state self.now s.old }
         requires inside { at < size self.now }
-        ensures ok { IfOk result (λ t. steps self.now at s ≡ Option.Some t) }
-        ensures need { IsErrOf result StepError.Need → steps self.now at s ≡ Option.None };
+        ensures ok { OnOk result (steps self.now at s.old ≡ Option.Some s.new) }
+        ensures need { IsErrOf result StepError.Need → steps self.now at s.old ≡ Option.None };
 
     /// Whether the state is small enough to be stated by a search.
     fn fits(&self, s: &Self::State) -> bool
@@ -103,43 +116,52 @@ pub trait Domain {
     ghost laws: { (d : Self) → IsLawful (size d) (is_state d) (may_begin d) (below d) (steps d) (is_graph d) };
 }
 
-/// Carries a copy of the state through the instructions from `first` to `last`.
+/// An entry of a list that states something of blocks, among it a state.
+pub trait HasState<S> {
+    /// The entry's state.
+    ghost inner: { Self → S };
+
+    /// The entry's state.
+    fn state(&self) -> &S
+        ensures { result.now ≡ inner self.now };
+}
+
+/// Carries the state through the instructions from `first` to `last`.
 fn carry<D: Domain>(
     alloc: Global,
     d: &D,
-    s: &D::State,
+    s: &mut D::State,
     first: usize,
     last: usize,
-) -> Result<D::State, StepError>
-    requires state { D.is_state d.now s.now }
+) -> Result<(), StepError>
+    requires state { D.is_state d.now s.old }
     requires order { first ≤ last }
     requires inside { last < D.size d.now }
-    ensures state { IfOk result (λ t. D.is_state d.now t) }
-    ensures ok { IfOk result (λ t. carried (D.steps d.now) first (last + 1 - first) s.now ≡ Option.Some t) }
-    ensures need { IsErrOf result StepError.Need → carried (D.steps d.now) first (last + 1 - first) s.now ≡ Option.None }
+    ensures state { OnOk result (D.is_state d.now s.new) }
+    ensures ok { OnOk result (carried (D.steps d.now) first (last + 1 - first) s.old ≡ Option.Some s.new) }
+    ensures need { IsErrOf result StepError.Need → carried (D.steps d.now) first (last + 1 - first) s.old ≡ Option.None }
 {
-    let mut t = d.copy(alloc, s)?;
     for at in first..=last {
-        t = d.step(alloc, t, at)?;
+        d.step(alloc, s, at)?;
     }
-    Ok(t)
+    Ok(())
 }
 
 /// Whether the state is below each one that is stated for one of the blocks.
-fn is_below_each<D: Domain>(
+fn is_below_each<D: Domain, K: HasState<D::State>>(
     d: &D,
     t: &D::State,
     blocks: &[usize],
-    flow: &[Option<D::State>],
+    flow: &[Option<K>],
 ) -> bool
     requires state { D.is_state d.now t.now }
-    requires states { (k : ℕ) (u : D.State) → IsStated flow.now k u → D.is_state d.now u }
+    requires states { (k : ℕ) (u : D.State) → IsStated (states_of K.inner flow.now) k u → D.is_state d.now u }
     requires inside { All (λ n. n < length flow.now) blocks.now }
-    ensures { IsTrue result ↔ IsBelowEach (D.below d.now) flow.now blocks.now t.now }
+    ensures { IsTrue result ↔ IsBelowEach (D.below d.now) (states_of K.inner flow.now) blocks.now t.now }
 {
     for n in blocks {
-        if let Some(u) = &flow[*n] {
-            if !d.leq(t, u) {
+        if let Some(entry) = &flow[*n] {
+            if !d.leq(t, entry.state()) {
                 return false;
             }
         }
@@ -147,24 +169,27 @@ fn is_below_each<D: Domain>(
     true
 }
 
-/// Whether the block carries the state to one that is below each one stated for a successor.
-fn check_block<D: Domain>(
+/// Whether the block carries the state to one that is below each one stated for a successor. `t` is where it is carried:
+/// it may hold any state, and nothing is said of it afterwards.
+fn check_block<D: Domain, K: HasState<D::State>>(
     alloc: Global,
     d: &D,
     block: &Block,
     s: &D::State,
-    flow: &[Option<D::State>],
+    t: &mut D::State,
+    flow: &[Option<K>],
 ) -> Result<(), StepError>
     requires state { D.is_state d.now s.now }
     requires order { block.now.first ≤ block.now.last }
     requires inside { block.now.last < D.size d.now }
-    requires states { (k : ℕ) (u : D.State) → IsStated flow.now k u → D.is_state d.now u }
+    requires states { (k : ℕ) (u : D.State) → IsStated (states_of K.inner flow.now) k u → D.is_state d.now u }
     requires successors { All (λ n. n < length flow.now) block.now.successors.items }
-    ensures ok { OnOk result (IsClosedAt (D.below d.now) (D.steps d.now) flow.now block.now s.now) }
-    ensures need { IsErrOf result StepError.Need → ¬ IsClosedAt (D.below d.now) (D.steps d.now) flow.now block.now s.now }
+    ensures ok { OnOk result (IsClosedAt (D.below d.now) (D.steps d.now) (states_of K.inner flow.now) block.now s.now) }
+    ensures need { IsErrOf result StepError.Need → ¬ IsClosedAt (D.below d.now) (D.steps d.now) (states_of K.inner flow.now) block.now s.now }
 {
-    let t = carry(alloc, d, s, block.first, block.last)?;
-    if is_below_each(d, &t, &block.successors, flow) {
+    d.copy_into(alloc, s, t)?;
+    carry(alloc, d, t, block.first, block.last)?;
+    if is_below_each(d, t, &block.successors, flow) {
         Ok(())
     } else {
         Err(StepError::Need)
@@ -176,27 +201,28 @@ fn check_block<D: Domain>(
 ///
 /// # Errors
 /// `Need` for each other flow; `Memory` if an allocation failed.
-pub fn check_flow<D: Domain>(
+pub fn check_flow<D: Domain, K: HasState<D::State>>(
     alloc: Global,
     d: &D,
     g: &Cfg,
     start: &D::State,
-    stated: &[Option<D::State>],
+    stated: &[Option<K>],
 ) -> Result<(), StepError>
     requires graph { IsGraph g.now (D.size d.now) }
     requires start { D.is_state d.now start.now }
-    requires flow { IsFlow (D.is_state d.now) g.now stated.now }
-    ensures ok { OnOk result (IsClosed (D.below d.now) (D.steps d.now) g.now start.now stated.now) }
-    ensures need { IsErrOf result StepError.Need → ¬ IsClosed (D.below d.now) (D.steps d.now) g.now start.now stated.now }
+    requires flow { IsFlow (D.is_state d.now) g.now (states_of K.inner stated.now) }
+    ensures ok { OnOk result (IsClosed (D.below d.now) (D.steps d.now) g.now start.now (states_of K.inner stated.now)) }
+    ensures need { IsErrOf result StepError.Need → ¬ IsClosed (D.below d.now) (D.steps d.now) g.now start.now (states_of K.inner stated.now) }
 {
-    if let Some(s) = &stated[0] {
-        if !d.leq(start, s) {
+    if let Some(entry) = &stated[0] {
+        if !d.leq(start, entry.state()) {
             return Err(StepError::Need);
         }
     }
+    let mut t = d.copy(alloc, start)?;
     for (k, block) in g.blocks.iter().enumerate() {
-        if let Some(s) = &stated[k] {
-            check_block(alloc, d, block, s, stated)?;
+        if let Some(entry) = &stated[k] {
+            check_block(alloc, d, block, entry.state(), &mut t, stated)?;
         }
     }
     Ok(())
@@ -240,6 +266,16 @@ mod tests {
             Ok(*s)
         }
 
+        fn copy_into(
+            &self,
+            _alloc: Global,
+            s: &Availability,
+            t: &mut Availability,
+        ) -> Result<(), AllocError> {
+            *t = *s;
+            Ok(())
+        }
+
         fn leq(&self, a: &Availability, b: &Availability) -> bool {
             match (*a, *b) {
                 (_, Availability::Maybe) => true,
@@ -262,14 +298,12 @@ mod tests {
             })
         }
 
-        fn step(
-            &self,
-            _alloc: Global,
-            s: Availability,
-            _at: usize,
-        ) -> Result<Availability, StepError> {
-            match s {
-                Availability::Available => Ok(Availability::Unavailable),
+        fn step(&self, _alloc: Global, s: &mut Availability, _at: usize) -> Result<(), StepError> {
+            match *s {
+                Availability::Available => {
+                    *s = Availability::Unavailable;
+                    Ok(())
+                }
                 Availability::Unavailable => Err(StepError::Need),
                 Availability::Maybe => Err(StepError::Need),
             }
@@ -277,6 +311,14 @@ mod tests {
 
         fn fits(&self, _s: &Availability) -> bool {
             true
+        }
+    }
+
+    impl HasState<Availability> for Availability {
+        ghost inner = { λ s. s };
+
+        fn state(&self) -> &Availability {
+            self
         }
     }
 

@@ -1,5 +1,5 @@
 -- What the tables of a module say of a function's locals.
-use Rattle.std.proofs.Common.{◌≡◌, ℕ, zero, suc, ◌+◌, ◌-◌, ◌≤◌, ◌<◌, Bool, true, ◌&&◌, List, [], ◌∷◌, ◌++◌, length, length-append, replicate, slice_get, Option, Some, None, IsSome, Result, Ok, Err, IfOk, IsErrOf, refl, sym, ap, ◌∙◌, subst, arith, option_map, ⊎_elim}
+use Rattle.std.proofs.Common.{◌≡◌, ℕ, zero, suc, ◌+◌, ◌-◌, ◌≤◌, ◌<◌, Bool, true, ◌&&◌, List, [], ◌∷◌, ◌++◌, length, length-append, replicate, slice_get, Option, Some, None, IsSome, refl, sym, ap, ◌∙◌, subst, arith, option_map, ⊎_elim}
 use Rattle.std.specs.List.{list_all, zip}
 use Rattle.std.specs.Bool.{then_some}
 use Rattle.std.proofs.lemmas.Bool.{and_parts}
@@ -14,11 +14,8 @@ use Rattle.mv_move_types.specs.Options.{◌>>=◌}
 use Rattle.mv_move_types.specs.Module.{Module, FunctionDefinition, local_tokens, parameter_tokens}
 use Rattle.mv_bounds.specs.Bounds.{below, InBounds, function_in, function_handle_in, local_count}
 use Rattle.mv_type_states.specs.TypesHold.{Point}
-use Rattle.mv_locals_safety.specs.LocalsRules.{may_leave, leave_known, locals_after}
-use Rattle.mv_locals_safety.specs.Domain.{Function, may_stay, point_in, start_locals, locals_step, IsOfLocals, Follows}
-use Rattle.mv_move_types.specs.declared.instruction.Instruction.{Instruction}
-use Rattle.mv_lattice.specs.declared.StepError.{StepError}
-use Rattle.mv_lattice.specs.declared.StepError.TheVariants.{Need}
+use Rattle.mv_locals_safety.specs.LocalsRules.{may_leave, leave_known}
+use Rattle.mv_locals_safety.specs.Domain.{Function, may_stay, point_in, start_locals, IsOfLocals}
 
 -- an index below the length of its table reads an entry
 read : {A : Type 0} (i : ℕ) (xs : List A) → below i xs ≡ true → (x : A) × (slice_get xs i ≡ Some x)
@@ -68,15 +65,6 @@ return_known d m e ts ts' s s' b r view tokens same_ts same_s tested decided =
   where
     known : list_all (λ q. may_stay m q.0 q.1) (zip ts s) ≡ b → leave_known (point_in m e) s ≡ then_some b s
     known test = rw (tokens, may_leave_zipped (point_in m e) ts s, test) refl
-
--- what follows the rules for an instruction is the step at its place
-pub step_ok : (m : Module) (d : FunctionDefinition) (at : ℕ) (s : List Availability) (i : Instruction) (r : Result (List Availability) StepError) → slice_get d.code at ≡ Some i → Follows r (locals_after (point_in m d) i s) → IfOk r (λ t. locals_step m d at s ≡ Some t)
-step_ok m d at s i (Ok t) code f = rw code f
-step_ok m d at s i (Err e) code f = tt
-
-pub step_need : (m : Module) (d : FunctionDefinition) (at : ℕ) (s : List Availability) (i : Instruction) (r : Result (List Availability) StepError) → slice_get d.code at ≡ Some i → Follows r (locals_after (point_in m d) i s) → IsErrOf r Need → locals_step m d at s ≡ None
-step_need m d at s i (Ok t) code f h = cc (h)
-step_need m d at s i (Err e) code f h = rw code (f.1)
 
 module _ (m : Module) (d : FunctionDefinition) (ts : List Token) (parameters : ℕ) (tokens : local_tokens m d ≡ Some ts) (counted : option_map length (parameter_tokens m d) ≡ Some parameters) where
   pub start_is : (s : List Availability) → s ≡ replicate parameters Available ++ replicate (length ts - parameters) Unavailable → start_locals m d ≡ Some s

@@ -61,7 +61,7 @@ may_stay m t Unavailable = true
 may_stay m t Available = is_droppable m t
 may_stay m t Maybe = is_droppable m t
 
--- the state after is this one, or a need fails where there is none; no step on availabilities takes memory
-abbrev pub Follows : {S : Type 0} → Result S StepError → Option S → Type 0
-Follows (Ok t) after = after ≡ Some t
-Follows (Err e) after = (e ≡ Need) × (after ≡ None)
+-- the new state is the one after, or a need fails where there is none; no step on availabilities takes memory
+abbrev pub Follows : {S : Type 0} → Result (Unit {0}) StepError → S → Option S → Type 0
+Follows (Ok done) new after = after ≡ Some new
+Follows (Err e) new after = (e ≡ Need) × (after ≡ None)

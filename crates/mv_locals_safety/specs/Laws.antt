@@ -1,6 +1,6 @@
 -- The order is one, and a step leaves one availability a local, and keeps the order.
 -- It stands in specs/, since a trait's laws may cite nothing of their own crate but its specs/.
-use Rattle.std.specs.Prelude.{⊤, ◌≡◌, ℕ, List, [], ◌∷◌, Bool, true, false, ◌&&◌, IsTrue, Option, Some, None, length, slice_get, slice_set}
+use Rattle.std.specs.Prelude.{⊤, ◌≡◌, ℕ, List, [], ◌∷◌, Bool, true, false, IsTrue, Option, Some, None, length, slice_get, slice_set}
 use Rattle.std.specs.Bool.{then_some}
 use Rattle.std.proofs.Common.{refl, sym, ap, ◌∙◌}
 use Rattle.std.proofs.lemmas.Bool.{and_parts}

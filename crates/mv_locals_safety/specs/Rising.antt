@@ -1,8 +1,8 @@
 -- Where an instruction finds what it needs among some availabilities, it does among all below, and leaves availabilities below.
 -- It stands in specs/, since a trait's laws may cite nothing of their own crate but its specs/.
-use Rattle.std.specs.Prelude.{◌≡◌, ℕ, zero, suc, List, [], ◌∷◌, Bool, true, false, ◌&&◌, Option, Some, None, slice_get, slice_set}
+use Rattle.std.specs.Prelude.{◌≡◌, ℕ, zero, suc, List, [], ◌∷◌, Bool, true, false, Option, Some, None, slice_get, slice_set}
 use Rattle.std.specs.Bool.{then_some}
-use Rattle.std.proofs.Common.{refl, sym, ap, ◌∙◌, subst, true≢false}
+use Rattle.std.proofs.Common.{refl, sym, subst, true≢false}
 use Rattle.std.proofs.lemmas.Bool.{and_parts, and_from}
 use Rattle.std.proofs.lemmas.Option.{none-some, same_Some}
 use Rattle.mv_move_types.specs.declared.borrow.Availability.{Availability}

@@ -119,19 +119,19 @@ impl<'t, 'm> LocalsDomain<'t, 'm> {
         Ok(Availabilities::new(all))
     }
 
-    /// The same availabilities; refused where a local may hold what can't be dropped.
-    fn returned(&self, s: Availabilities) -> Result<Availabilities, StepError>
-        ensures { Follows result (leave_known (point_in self.now.home self.now.function) s) }
+    /// Leaves the function, which changes nothing; refused where a local may hold what can't be dropped.
+    fn leave(&self, s: &Availabilities) -> Result<(), StepError>
+        ensures { Follows result s.now (leave_known (point_in self.now.home self.now.function) s.now) }
     {
         if !may_all_remain(self.bounded, &self.locals, s.as_slice()) {
             return Err(StepError::Need);
         }
-        Ok(s)
+        Ok(())
     }
 
-    /// The availabilities with a value in a local; refused where one may still stand there that can't be dropped.
-    fn stored(&self, local: u16, s: Availabilities) -> Result<Availabilities, StepError>
-        ensures { Follows result (store_known (point_in self.now.home self.now.function) local s) }
+    /// Puts a value into a local; refused where one may still stand there that can't be dropped.
+    fn store(&self, local: u16, s: &mut Availabilities) -> Result<(), StepError>
+        ensures { Follows result s.new (store_known (point_in self.now.home self.now.function) local s.old) }
     {
         let Some(token) = self.local(local) else {
             return Err(StepError::Need);
@@ -140,7 +140,8 @@ impl<'t, 'm> LocalsDomain<'t, 'm> {
             return Err(StepError::Need);
         };
         if may_remain(self.bounded, token, a) {
-            Ok(s.filled(local))
+            s.fill(local);
+            Ok(())
         } else {
             Err(StepError::Need)
         }
@@ -160,29 +161,25 @@ impl<'t, 'm> LocalsDomain<'t, 'm> {
         self.code.get(at).copied()
     }
 
-    /// What an instruction makes of the availabilities.
+    /// Makes of the availabilities what an instruction does.
     #[tactic(auto, unfolding(crate::specs::LocalsRules::locals_after))]
-    fn after(
-        &self,
-        instruction: Instruction,
-        s: Availabilities,
-    ) -> Result<Availabilities, StepError>
-        ensures { Follows result (locals_after (point_in self.now.home self.now.function) instruction s) }
+    fn apply(&self, instruction: Instruction, s: &mut Availabilities) -> Result<(), StepError>
+        ensures { Follows result s.new (locals_after (point_in self.now.home self.now.function) instruction s.old) }
     {
         match instruction {
-            Instruction::Ret => self.returned(s),
+            Instruction::Ret => self.leave(s),
             Instruction::CopyLoc(local)
             | Instruction::MutBorrowLoc(local)
-            | Instruction::ImmBorrowLoc(local) => s.borrowed(local),
-            Instruction::MoveLoc(local) => s.moved(local),
-            Instruction::StLoc(local) => self.stored(local, s),
-            _ => Ok(s),
+            | Instruction::ImmBorrowLoc(local) => s.borrow(local),
+            Instruction::MoveLoc(local) => s.take(local),
+            Instruction::StLoc(local) => self.store(local, s),
+            _ => Ok(()),
         }
     }
 }
 
 impl<'t, 'm> Domain for LocalsDomain<'t, 'm> {
-    ghost use Rattle.std.specs.Prelude.{◌≡◌, ⊤, Option, length, IfOk, IsErrOf, IsTrue};
+    ghost use Rattle.std.specs.Prelude.{◌≡◌, ⊤, Option, length, OnOk, IsErrOf, IsTrue};
     ghost use Rattle.mv_locals_safety.specs.LocalsRules.{locals_leq};
     ghost use Rattle.mv_locals_safety.specs.Domain.{IsOfLocals, locals_step};
     ghost use Rattle.mv_locals_safety.specs.Laws.{locals_lawful};
@@ -209,6 +206,15 @@ impl<'t, 'm> Domain for LocalsDomain<'t, 'm> {
         s.copy(alloc)
     }
 
+    fn copy_into(
+        &self,
+        _alloc: Global,
+        s: &Availabilities,
+        t: &mut Availabilities,
+    ) -> Result<(), AllocError> {
+        t.copy_from(s)
+    }
+
     fn leq(&self, a: &Availabilities, b: &Availabilities) -> bool {
         a.is_below(b)
     }
@@ -224,18 +230,13 @@ impl<'t, 'm> Domain for LocalsDomain<'t, 'm> {
     }
 
     /// No step takes memory.
-    fn step(
-        &self,
-        _alloc: Global,
-        s: Availabilities,
-        at: usize,
-    ) -> Result<Availabilities, StepError>
-        ensures ok { IfOk result (λ t. locals_step self.now.home self.now.function at s ≡ Option.Some t) }
-        ensures need { IsErrOf result StepError.Need → locals_step self.now.home self.now.function at s ≡ Option.None }
+    fn step(&self, _alloc: Global, s: &mut Availabilities, at: usize) -> Result<(), StepError>
+        ensures ok { OnOk result (locals_step self.now.home self.now.function at s.old ≡ Option.Some s.new) }
+        ensures need { IsErrOf result StepError.Need → locals_step self.now.home self.now.function at s.old ≡ Option.None }
         ensures memory { ¬ IsErrOf result StepError.Memory }
     {
         match self.instruction(at) {
-            Some(instruction) => self.after(instruction, s),
+            Some(instruction) => self.apply(instruction, s),
             None => Err(StepError::Need),
         }
     }

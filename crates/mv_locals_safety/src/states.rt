@@ -1,5 +1,5 @@
 // The availabilities of a function's locals.
-ghost use Rattle.std.specs.Prelude.{◌≡◌, ◌<◌, length, slice_get, slice_set, zip, false, IfOk};
+ghost use Rattle.std.specs.Prelude.{◌≡◌, ◌<◌, length, slice_get, slice_set, zip, false, IfOk, OnOk};
 ghost use Rattle.mv_move_types.specs.declared.borrow.Availability.TheVariants.{Available};
 ghost use Rattle.std.specs.List.{list_all};
 ghost use Rattle.std.specs.Option.{option_map_or};
@@ -103,6 +103,14 @@ impl Availabilities {
         Ok(Availabilities::new(Vec::from_slice(alloc, &self.all)?))
     }
 
+    /// Makes these availabilities equal to others, in the memory that they have where that is enough.
+    pub(crate) fn copy_from(&mut self, other: &Availabilities) -> Result<(), AllocError>
+        ensures { OnOk result (self.new ≡ other.now) }
+    {
+        self.all.clear();
+        self.all.extend_from_slice(&other.all)
+    }
+
     /// Whether a local surely holds a value.
     fn holds(&self, local: u16) -> bool
         ensures { result ≡ option_map_or is_available (slice_get self.now local) false }
@@ -120,37 +128,34 @@ impl Availabilities {
         self.all.get(usize::from(local)).copied()
     }
 
-    /// The availabilities with a value in a local.
-    pub(crate) fn filled(self, local: u16) -> Self
-        requires { local < length self }
-        ensures { result ≡ slice_set self local Available }
+    /// Puts a value into a local.
+    pub(crate) fn fill(&mut self, local: u16)
+        requires { local < length self.old }
+        ensures { self.new ≡ slice_set self.old local Available }
     {
-        let Availabilities { mut all } = self;
-        all[usize::from(local)] = Availability::Available;
-        Availabilities { all }
+        self.all[usize::from(local)] = Availability::Available;
     }
 
-    /// The same availabilities; refused where a local may hold no value.
-    pub(crate) fn borrowed(self, local: u16) -> Result<Self, StepError>
-        ensures { Follows result (needs_available local self) }
+    /// Borrows a local, which changes nothing; refused where it may hold no value.
+    pub(crate) fn borrow(&self, local: u16) -> Result<(), StepError>
+        ensures { Follows result self.now (needs_available local self.now) }
     {
         if self.holds(local) {
-            Ok(self)
+            Ok(())
         } else {
             Err(StepError::Need)
         }
     }
 
-    /// The availabilities without the value of a local; refused where it may hold none.
-    pub(crate) fn moved(self, local: u16) -> Result<Self, StepError>
-        ensures { Follows result (moved_out local self) }
+    /// Takes the value of a local; refused where it may hold none.
+    pub(crate) fn take(&mut self, local: u16) -> Result<(), StepError>
+        ensures { Follows result self.new (moved_out local self.old) }
     {
         if !self.holds(local) {
             return Err(StepError::Need);
         }
-        let Availabilities { mut all } = self;
-        all[usize::from(local)] = Availability::Unavailable;
-        Ok(Availabilities { all })
+        self.all[usize::from(local)] = Availability::Unavailable;
+        Ok(())
     }
 
     /// Whether each local's availability says as much as the other's, or more.

@@ -9,7 +9,7 @@ ghost use Rattle.mv_edges.specs.Sorted.{sorted};
 ghost use Rattle.mv_borrow_graph.specs.BorrowRules.{call_edges, is_mutable, is_mutable_token, is_reference_token, is_root_node, is_temp, no_edge_out, opened_edges, reference_nodes, result_edges, return_edges, without_all};
 ghost use Rattle.mv_borrow_graph.specs.Domain.{Follows, ordered};
 
-use crate::changes::kept;
+use crate::changes::keep;
 use crate::nodes::{are_free, are_free_globals, is_operand, is_root, nodes_of};
 use crate::site::Site;
 use mv_edges::{Change, Edge, Edges};
@@ -91,42 +91,41 @@ fn edges_of_results(
 }
 
 /// Ties a call's results to its arguments, which are taken.
-fn tied(
+fn tie(
     alloc: Global,
     mutable: &[Node],
     all: &[Node],
     place: usize,
     results: &[Token],
-    mut s: Edges,
-) -> Result<Edges, AllocError>
+    s: &mut Edges,
+) -> Result<(), AllocError>
     requires { place + length results.now ≤ 2 ^ 16 }
-    ensures { IfOk result (λ edges. edges ≡ sorted (without_all all.now s ++ result_edges mutable.now all.now place results.now s)) }
+    ensures { OnOk result (s.new ≡ sorted (without_all all.now s.old ++ result_edges mutable.now all.now place results.now s.old)) }
 {
-    let new = edges_of_results(alloc, mutable, all, place, results, &s)?;
-    remove_at_all(&mut s, all);
-    s.add_all(new)?;
-    Ok(s)
+    let new = edges_of_results(alloc, mutable, all, place, results, s)?;
+    remove_at_all(s, all);
+    s.add_all(new)
 }
 
 /// Ties the results to the arguments, whose types are given, where a need holds.
-fn tied_if(
+fn tie_if(
     alloc: Global,
     holds: bool,
     place: usize,
     parameters: &[Token],
     results: &[Token],
-    s: Edges,
-) -> Result<Edges, StepError>
+    s: &mut Edges,
+) -> Result<(), StepError>
     requires taken { place + length parameters.now ≤ 2 ^ 16 }
     requires given { place + length results.now ≤ 2 ^ 16 }
-    ensures { let mutable = reference_nodes is_mutable_token place parameters.now in let all = reference_nodes is_reference_token place parameters.now in Follows result (ordered (then_some holds (without_all all s ++ result_edges mutable all place results.now s))) }
+    ensures { let mutable = reference_nodes is_mutable_token place parameters.now in let all = reference_nodes is_reference_token place parameters.now in Follows result s.new (ordered (then_some holds (without_all all s.old ++ result_edges mutable all place results.now s.old))) }
 {
     if !holds {
         return Err(StepError::Need);
     }
     let mutable = nodes_of(alloc, true, place, parameters)?;
     let all = nodes_of(alloc, false, place, parameters)?;
-    Ok(tied(alloc, &mutable, &all, place, results, s)?)
+    Ok(tie(alloc, &mutable, &all, place, results, s)?)
 }
 
 impl<'d, 'm> Site<'d, 'm> {
@@ -163,8 +162,8 @@ impl<'d, 'm> Site<'d, 'm> {
     }
 
     /// Calls a function: its mutable arguments and the globals that it acquires have to be free.
-    pub fn call(&self, alloc: Global, callee: u16, s: Edges) -> Result<Edges, StepError>
-        ensures { Follows result (ordered (call_edges self.now callee s)) }
+    pub fn call(&self, alloc: Global, callee: u16, s: &mut Edges) -> Result<(), StepError>
+        ensures { Follows result s.new (ordered (call_edges self.now callee s.old)) }
     {
         let Some(handle) = self.function_handle(callee) else {
             return Err(StepError::Need);
@@ -176,8 +175,8 @@ impl<'d, 'm> Site<'d, 'm> {
             return Err(StepError::Need);
         };
         let place = self.first_of(parameters.len());
-        let holds = self.may_call(place, parameters, callee, &s);
-        tied_if(alloc, holds, place, parameters, results, s)
+        let holds = self.may_call(place, parameters, callee, s);
+        tie_if(alloc, holds, place, parameters, results, s)
     }
 
     /// Whether an edge keeps a result from being handed out: it leads to it from what the frame or the storage holds, or
@@ -197,12 +196,12 @@ impl<'d, 'm> Site<'d, 'm> {
     }
 
     /// Hands out the results, into which nothing of the frame may lead.
-    pub fn hand_out(&self, s: Edges) -> Result<Edges, StepError>
-        requires { IsTrue (are_ascending s) }
-        ensures after { Follows result (ordered (return_edges self.now s)) }
+    pub fn hand_out(&self, s: &Edges) -> Result<(), StepError>
+        requires { IsTrue (are_ascending s.now) }
+        ensures after { Follows result s.now (ordered (return_edges self.now s.now)) }
         ensures memory { ¬ (result ≡ Err StepError.Memory) }
     {
-        kept(!self.any_holds_result(&s), s)
+        keep(!self.any_holds_result(s), s)
     }
 }
 
@@ -223,9 +222,16 @@ mod tests {
         let mutable = nodes_of(alloc, true, 0, &parameters)?;
         let all = nodes_of(alloc, false, 0, &parameters)?;
         assert_eq!(rt; mutable.len(), 1);
-        let after = tied(alloc, &mutable, &all, 0, &[Token::Reference(address)], s)?;
-        assert_eq!(rt; after.len(), 1);
-        let only = after.get(0).ok_or("first")?;
+        tie(
+            alloc,
+            &mutable,
+            &all,
+            0,
+            &[Token::Reference(address)],
+            &mut s,
+        )?;
+        assert_eq!(rt; s.len(), 1);
+        let only = s.get(0).ok_or("first")?;
         assert_eq!(rt; only.from(), Node::Own(3));
         assert_eq!(rt; only.to(), Node::Temp(0));
         assert!(rt; only.label().is_open());

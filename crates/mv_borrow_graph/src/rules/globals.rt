@@ -2,7 +2,7 @@
 ghost use Rattle.mv_borrow_graph.specs.BorrowRules.{edges_after};
 ghost use Rattle.mv_borrow_graph.specs.Domain.{Follows, ordered};
 
-use crate::changes::lent;
+use crate::changes::lend;
 use crate::nodes::is_free;
 use crate::site::Site;
 use mv_edges::Edges;
@@ -17,12 +17,12 @@ impl<'d, 'm> Site<'d, 'm> {
         &self,
         alloc: Global,
         definition: u16,
-        s: Edges,
-    ) -> Result<Edges, StepError>
-        ensures { Follows result (ordered (edges_after self.now (Instruction.MutBorrowGlobal definition) s)) }
+        s: &mut Edges,
+    ) -> Result<(), StepError>
+        ensures { Follows result s.new (ordered (edges_after self.now (Instruction.MutBorrowGlobal definition) s.old)) }
     {
         let global = Node::Glob(definition);
-        lent(alloc, is_free(global, &s), global, self.top(), s)
+        lend(alloc, is_free(global, s), global, self.top(), s)
     }
 
     /// Borrows a global: no edge may lead from the struct's globals to a mutable reference.
@@ -31,11 +31,11 @@ impl<'d, 'm> Site<'d, 'm> {
         &self,
         alloc: Global,
         definition: u16,
-        s: Edges,
-    ) -> Result<Edges, StepError>
-        ensures { Follows result (ordered (edges_after self.now (Instruction.ImmBorrowGlobal definition) s)) }
+        s: &mut Edges,
+    ) -> Result<(), StepError>
+        ensures { Follows result s.new (ordered (edges_after self.now (Instruction.ImmBorrowGlobal definition) s.old)) }
     {
         let global = Node::Glob(definition);
-        lent(alloc, self.is_readable(global, &s), global, self.top(), s)
+        lend(alloc, self.is_readable(global, s), global, self.top(), s)
     }
 }

@@ -1,12 +1,12 @@
 // Locals: copied, moved, stored and borrowed.
-ghost use Rattle.std.specs.Prelude.{◌≡◌, ◌++◌, Err, IfOk, IsTrue};
+ghost use Rattle.std.specs.Prelude.{◌≡◌, ◌++◌, Err, OnOk, IsTrue};
 ghost use Rattle.mv_edges.specs.Edges.{inherited};
 ghost use Rattle.mv_edges.specs.Sorted.{sorted};
 ghost use Rattle.mv_edges.specs.Ascending.{are_ascending};
 ghost use Rattle.mv_borrow_graph.specs.BorrowRules.{edges_after, is_reference_token, next_temp, copy_edges, move_edges, store_edges};
 ghost use Rattle.mv_borrow_graph.specs.Domain.{Follows, ordered};
 
-use crate::changes::{kept, lent};
+use crate::changes::{keep, lend, rename};
 use crate::nodes::is_free;
 use crate::site::Site;
 use mv_edges::{Change, Edges};
@@ -16,12 +16,11 @@ use std::alloc::{AllocError, Global};
 
 impl<'d, 'm> Site<'d, 'm> {
     /// Adds the edges that lead into a reference, for a copy of it.
-    fn with_copy(&self, alloc: Global, slot: Node, mut s: Edges) -> Result<Edges, AllocError>
-        ensures { IfOk result (λ t. t ≡ sorted (s ++ inherited (λ label. label) slot (next_temp self.now) s)) }
+    fn add_copy(&self, alloc: Global, slot: Node, s: &mut Edges) -> Result<(), AllocError>
+        ensures { OnOk result (s.new ≡ sorted (s.old ++ inherited (λ label. label) slot (next_temp self.now) s.old)) }
     {
         let new = s.inherited(alloc, Change::Kept, slot, self.next())?;
-        s.add_all(new)?;
-        Ok(s)
+        s.add_all(new)
     }
 
     /// Copies a local: the new reference has the edges of its original, and a mutable one is also its child. A value takes no
@@ -31,22 +30,22 @@ impl<'d, 'm> Site<'d, 'm> {
         alloc: Global,
         local: u16,
         token: Token,
-        s: Edges,
-    ) -> Result<Edges, StepError>
-        requires { IsTrue (are_ascending s) }
-        ensures after { Follows result (ordered (copy_edges self.now local token s)) }
+        s: &mut Edges,
+    ) -> Result<(), StepError>
+        requires { IsTrue (are_ascending s.old) }
+        ensures after { Follows result s.new (ordered (copy_edges self.now local token s.old)) }
         ensures memory { result ≡ Err StepError.Memory → IsTrue (is_reference_token token) }
     {
         let slot = Node::Slot(local);
         match token {
-            Token::Plain(_) => kept(self.is_readable(Node::Own(local), &s), s),
-            Token::Reference(_) => Ok(self.with_copy(alloc, slot, s)?),
+            Token::Plain(_) => keep(self.is_readable(Node::Own(local), s), s),
+            Token::Reference(_) => Ok(self.add_copy(alloc, slot, s)?),
             Token::MutableReference(_) => {
-                if !is_free(slot, &s) {
+                if !is_free(slot, s) {
                     return Err(StepError::Need);
                 }
-                let both = self.with_copy(alloc, slot, s)?;
-                lent(alloc, true, slot, self.next(), both)
+                self.add_copy(alloc, slot, s)?;
+                lend(alloc, true, slot, self.next(), s)
             }
         }
     }
@@ -57,16 +56,16 @@ impl<'d, 'm> Site<'d, 'm> {
         alloc: Global,
         local: u16,
         token: Token,
-        s: Edges,
-    ) -> Result<Edges, StepError>
-        requires { IsTrue (are_ascending s) }
-        ensures after { Follows result (ordered (move_edges self.now local token s)) }
+        s: &mut Edges,
+    ) -> Result<(), StepError>
+        requires { IsTrue (are_ascending s.old) }
+        ensures after { Follows result s.new (ordered (move_edges self.now local token s.old)) }
         ensures memory { result ≡ Err StepError.Memory → IsTrue (is_reference_token token) }
     {
         match token {
-            Token::Plain(_) => kept(is_free(Node::Own(local), &s), s),
+            Token::Plain(_) => keep(is_free(Node::Own(local), s), s),
             Token::Reference(_) | Token::MutableReference(_) => {
-                Ok(s.rename(alloc, Node::Slot(local), self.next())?)
+                Ok(rename(alloc, Node::Slot(local), self.next(), s)?)
             }
         }
     }
@@ -77,17 +76,17 @@ impl<'d, 'm> Site<'d, 'm> {
         alloc: Global,
         local: u16,
         token: Token,
-        mut s: Edges,
-    ) -> Result<Edges, StepError>
-        requires { IsTrue (are_ascending s) }
-        ensures after { Follows result (ordered (store_edges self.now local token s)) }
+        s: &mut Edges,
+    ) -> Result<(), StepError>
+        requires { IsTrue (are_ascending s.old) }
+        ensures after { Follows result s.new (ordered (store_edges self.now local token s.old)) }
         ensures memory { result ≡ Err StepError.Memory → IsTrue (is_reference_token token) }
     {
         match token {
-            Token::Plain(_) => kept(is_free(Node::Own(local), &s), s),
+            Token::Plain(_) => keep(is_free(Node::Own(local), s), s),
             Token::Reference(_) | Token::MutableReference(_) => {
                 s.remove_at(Node::Slot(local));
-                Ok(s.rename(alloc, self.top(), Node::Slot(local))?)
+                Ok(rename(alloc, self.top(), Node::Slot(local), s)?)
             }
         }
     }
@@ -98,20 +97,20 @@ impl<'d, 'm> Site<'d, 'm> {
         &self,
         alloc: Global,
         local: u16,
-        s: Edges,
-    ) -> Result<Edges, StepError>
-        ensures { Follows result (ordered (edges_after self.now (Instruction.MutBorrowLoc local) s)) }
+        s: &mut Edges,
+    ) -> Result<(), StepError>
+        ensures { Follows result s.new (ordered (edges_after self.now (Instruction.MutBorrowLoc local) s.old)) }
     {
         let own = Node::Own(local);
-        lent(alloc, is_free(own, &s), own, self.next(), s)
+        lend(alloc, is_free(own, s), own, self.next(), s)
     }
 
     /// Borrows a local: no edge may lead from its value to a mutable reference.
     #[tactic(auto, unfolding(crate::specs::BorrowRules::edges_after))]
-    pub fn borrow_local(&self, alloc: Global, local: u16, s: Edges) -> Result<Edges, StepError>
-        ensures { Follows result (ordered (edges_after self.now (Instruction.ImmBorrowLoc local) s)) }
+    pub fn borrow_local(&self, alloc: Global, local: u16, s: &mut Edges) -> Result<(), StepError>
+        ensures { Follows result s.new (ordered (edges_after self.now (Instruction.ImmBorrowLoc local) s.old)) }
     {
         let own = Node::Own(local);
-        lent(alloc, self.is_readable(own, &s), own, self.next(), s)
+        lend(alloc, self.is_readable(own, s), own, self.next(), s)
     }
 }

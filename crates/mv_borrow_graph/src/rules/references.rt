@@ -34,14 +34,14 @@ impl<'d, 'm> Site<'d, 'm> {
     }
 
     /// The new reference to a field stands where its operand stood.
-    fn field_reference(&self, alloc: Global, position: u8, mut s: Edges) -> Result<Edges, StepError>
-        ensures { Follows result (ordered (Some (field_edges self.now position s))) }
+    fn field_reference(&self, alloc: Global, position: u8, s: &mut Edges) -> Result<(), StepError>
+        ensures { Follows result s.new (ordered (Some (field_edges self.now position s.old))) }
     {
         let top = self.top();
         let new = s.inherited(alloc, Change::Extended(position), top, top)?;
         s.remove_at(top);
         s.add_all(new)?;
-        Ok(s)
+        Ok(())
     }
 
     /// Borrows a field mutably: no edge out of the operand may agree with the field.
@@ -49,9 +49,9 @@ impl<'d, 'm> Site<'d, 'm> {
         &self,
         alloc: Global,
         position: u8,
-        s: Edges,
-    ) -> Result<Edges, StepError>
-        ensures { Follows result (ordered (mutable_field_edges self.now position s)) }
+        s: &mut Edges,
+    ) -> Result<(), StepError>
+        ensures { Follows result s.new (ordered (mutable_field_edges self.now position s.old)) }
     {
         if s.has_agreeing_out_of(self.top(), position) {
             return Err(StepError::Need);
@@ -76,25 +76,25 @@ impl<'d, 'm> Site<'d, 'm> {
     }
 
     /// Borrows a field: no edge out of the operand that agrees with the field may lead to a mutable reference.
-    pub fn borrow_field(&self, alloc: Global, position: u8, s: Edges) -> Result<Edges, StepError>
-        ensures { Follows result (ordered (immutable_field_edges self.now position s)) }
+    pub fn borrow_field(&self, alloc: Global, position: u8, s: &mut Edges) -> Result<(), StepError>
+        ensures { Follows result s.new (ordered (immutable_field_edges self.now position s.old)) }
     {
-        if !self.is_readable_at(self.top(), position, &s) {
+        if !self.is_readable_at(self.top(), position, s) {
             return Err(StepError::Need);
         }
         self.field_reference(alloc, position, s)
     }
 
     /// Makes a mutable reference an immutable one: no edge may lead from it to a mutable one, and none out of it is left.
-    pub fn freeze(&self, mut s: Edges) -> Result<Edges, StepError>
-        ensures after { Follows result (ordered (then_some (no_mutable_from self.now (top_temp self.now) s) (but_out_of (top_temp self.now) s))) }
+    pub fn freeze(&self, s: &mut Edges) -> Result<(), StepError>
+        ensures after { Follows result s.new (ordered (then_some (no_mutable_from self.now (top_temp self.now) s.old) (but_out_of (top_temp self.now) s.old))) }
         ensures memory { ¬ (result ≡ Err StepError.Memory) }
     {
         let top = self.top();
-        if !self.is_readable(top, &s) {
+        if !self.is_readable(top, s) {
             return Err(StepError::Need);
         }
         s.remove_out_of(top);
-        Ok(s)
+        Ok(())
     }
 }

@@ -1,4 +1,5 @@
-use Rattle.std.proofs.Common.{◌≡◌, ◌↔◌, ◌∙◌, length, IsTrue}
+use Rattle.std.proofs.Common.{◌≡◌, ◌↔◌, ◌∙◌, ap, length, IsTrue}
+use Rattle.mv_lattice.specs.Flow.{states_of}
 use Rattle.mv_certificate.proofs.States.{graph-at, edges-flow-at}
 use Rattle.mv_certificate.proofs.Holds.{edges_exact_at, refused_flow}
 use Rattle.mv_certificate.proofs.checking.check_edges_of.Goals as goal
@@ -10,23 +11,23 @@ check_flow-requires-clause-graph c =
 
 pub check_flow-requires-clause-flow : goal.check_flow-requires-clause-flow
 check_flow-requires-clause-flow c =
-    edges-flow-at c.args.m.now c.args.f c.function_at-function.result.now c.graph_of-graph.result.now c.args.stated.now c.deref.result.now
-    c.function_at-function.ensures.at c.graph_of-graph.ensures c.requires.fits (c.deref.ensures.value ∙ c.in_ok-edges.ensures)
+    edges-flow-at c.args.m.now c.args.f c.function_at-function.result.now c.graph_of-graph.result.now c.args.stated.now (states_of (λ k. k.edges) c.deref.result.now)
+    c.function_at-function.ensures.at c.graph_of-graph.ensures c.requires.fits (ap (states_of (λ k. k.edges)) (c.deref.ensures.value ∙ c.stated.view_is))
 
 pub returns-in-Ok-clause-holds : goal.returns-in-Ok-clause-holds
 returns-in-Ok-clause-holds c =
     (edges_exact_at c.args.m.now c.in_ok-domain.domain.home c.args.f c.function_at-function.result.now c.in_ok-domain.domain.function c.graph_of-graph.result.now c.args.stated.now
     c.in_ok-domain.ensures.home c.function_at-function.ensures.at c.in_ok-domain.ensures.function c.graph_of-graph.ensures c.function_at-function.ensures.typed
-    c.start-empty.result c.deref.result.now c.start-empty.ensures c.has_start.ensures (c.deref.ensures.value ∙ c.in_ok-edges.ensures)
-    (edges-flow-at c.args.m.now c.args.f c.function_at-function.result.now c.graph_of-graph.result.now c.args.stated.now c.deref.result.now
-    c.function_at-function.ensures.at c.graph_of-graph.ensures c.requires.fits (c.deref.ensures.value ∙ c.in_ok-edges.ensures))).0 c.in-Ok.ensures.ok
+    c.start-empty.result (states_of (λ k. k.edges) c.deref.result.now) c.start-empty.ensures c.has_start.ensures (ap (states_of (λ k. k.edges)) (c.deref.ensures.value ∙ c.stated.view_is))
+    (edges-flow-at c.args.m.now c.args.f c.function_at-function.result.now c.graph_of-graph.result.now c.args.stated.now (states_of (λ k. k.edges) c.deref.result.now)
+    c.function_at-function.ensures.at c.graph_of-graph.ensures c.requires.fits (ap (states_of (λ k. k.edges)) (c.deref.ensures.value ∙ c.stated.view_is)))).0 c.in-Ok.ensures.ok
 
 pub returns-clause-refused : goal.returns-clause-refused
 returns-clause-refused c =
     refused_flow 11 _ _ c.in-Err.e c.refusal_in.result
     ((edges_exact_at c.args.m.now c.in_ok-domain.domain.home c.args.f c.function_at-function.result.now c.in_ok-domain.domain.function c.graph_of-graph.result.now c.args.stated.now
     c.in_ok-domain.ensures.home c.function_at-function.ensures.at c.in_ok-domain.ensures.function c.graph_of-graph.ensures c.function_at-function.ensures.typed
-    c.start-empty.result c.deref.result.now c.start-empty.ensures c.has_start.ensures (c.deref.ensures.value ∙ c.in_ok-edges.ensures)
-    (edges-flow-at c.args.m.now c.args.f c.function_at-function.result.now c.graph_of-graph.result.now c.args.stated.now c.deref.result.now
-    c.function_at-function.ensures.at c.graph_of-graph.ensures c.requires.fits (c.deref.ensures.value ∙ c.in_ok-edges.ensures))).1)
+    c.start-empty.result (states_of (λ k. k.edges) c.deref.result.now) c.start-empty.ensures c.has_start.ensures (ap (states_of (λ k. k.edges)) (c.deref.ensures.value ∙ c.stated.view_is))
+    (edges-flow-at c.args.m.now c.args.f c.function_at-function.result.now c.graph_of-graph.result.now c.args.stated.now (states_of (λ k. k.edges) c.deref.result.now)
+    c.function_at-function.ensures.at c.graph_of-graph.ensures c.requires.fits (ap (states_of (λ k. k.edges)) (c.deref.ensures.value ∙ c.stated.view_is)))).1)
     c.in-Err.ensures.need c.refusal_in.ensures
