@@ -69,7 +69,7 @@ fn state_edges(
     ensures edges { IfOk result (EdgesHoldAt m.now f) }
     ensures refused { IfErr result (IsErrorAt m.now f 11 (EdgesHoldAt m.now f) (IsSimpleAt m.now f)) }
 {
-    let domain = BorrowDomain::of_function(alloc, m, f)?;
+    let domain = BorrowDomain::of_function(m, f);
     let start = domain.start(alloc);
     let function = function_at(m, f);
     let graph = graph_of(m, f, function);

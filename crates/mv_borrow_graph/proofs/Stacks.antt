@@ -68,11 +68,6 @@ low_stack all before at stack same low there =
     let long : length (reverse stack) ≡ length stack = length-reverse stack in
     omega (arith, high, long)
 
--- what holds in any case
-pub in_any_case : {A E : Type 0} (r : Result A E) (P : Type 0) → P → IfOk r (λ all. P)
-in_any_case (Ok all) P p = p
-in_any_case (Err e) P p = tt
-
 module _ (m : Module) (d : FunctionDefinition) (at : ℕ) (s : List Edge) (i : Instruction) (code : slice_get d.code at ≡ Some i) where
   known : (p : Point) (o : Option Types) → Some p ≡ option_map (point_at m d) o → (o >>= λ types. ordered (edges_after (point_at m d types) i s)) ≡ ordered (edges_after p i s)
   known p None e = cc

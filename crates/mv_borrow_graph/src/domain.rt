@@ -1,5 +1,5 @@
 // A function's borrow graph as a domain of states.
-ghost use Rattle.std.specs.Prelude.{◌≡◌, ◌<◌, nat_le, [], length, reverse, slice_get, Some, is_some, option_map, IfOk, IsTrue};
+ghost use Rattle.std.specs.Prelude.{◌≡◌, ◌<◌, nat_le, [], length, reverse, slice_get, Some, is_some, option_map, IsTrue};
 ghost use Rattle.std.specs.List.{list_all};
 ghost use Rattle.mv_type_states.specs.Sound.{types_before};
 ghost use Rattle.mv_type_states.specs.TypesHold.{TypesHold};
@@ -17,18 +17,17 @@ use std::alloc::{AllocError, Global};
 use std::marker::Model;
 
 /// The types of the whole stack before each instruction of function `f`, whose definition is given.
-fn stacks_of(
-    alloc: Global,
-    m: &Typed<'_>,
+fn stacks_of<'t>(
+    m: &'t Typed<'_>,
     f: usize,
     function: &FunctionDefinition,
-) -> Result<StackTypes, AllocError>
+) -> &'t StackTypes
     requires known { slice_get m.now.functions f ≡ Some function.now }
     requires typed { TypesHold m.now }
-    ensures before { IfOk result (λ all. all ≡ types_before m.now function.now) }
-    ensures low { IfOk result (λ all. IsTrue (list_all is_low (types_before m.now function.now))) }
+    ensures before { result.now ≡ types_before m.entry.now function.now }
+    ensures low { IsTrue (list_all is_low (types_before m.entry.now function.now)) }
 {
-    m.stack_types(alloc, f)
+    m.stack_types(f)
 }
 
 /// What the references of a function lead into before each of its instructions.
@@ -38,7 +37,7 @@ pub struct BorrowDomain<'t, 'm> {
     place: usize,
     function: &'t FunctionDefinition,
     code: &'t [Instruction],
-    stacks: StackTypes,
+    stacks: &'t StackTypes,
 }
 
 impl<'t, 'm> Model for BorrowDomain<'t, 'm> {
@@ -53,27 +52,26 @@ impl<'t, 'm> Model for BorrowDomain<'t, 'm> {
 
     ghost invariant = { λ d. (slice_get d.module.now.functions d.place ≡ Some d.function.now)
         × (d.code.now ≡ d.function.now.code)
-        × (d.stacks ≡ types_before d.module.now d.function.now)
+        × (d.stacks.now ≡ types_before d.module.now d.function.now)
         × IsTrue (list_all is_low (types_before d.module.now d.function.now)) };
 }
 
 impl<'t, 'm> BorrowDomain<'t, 'm> {
     /// The domain of function `f`.
-    pub fn of_function(alloc: Global, m: &'t Typed<'m>, f: usize) -> Result<Self, AllocError>
+    pub fn of_function(m: &'t Typed<'m>, f: usize) -> Self
         requires { f < length m.now.functions }
-        ensures home { IfOk result (λ d. d.home ≡ m.entry.now) }
-        ensures function { IfOk result (λ d. slice_get m.entry.now.functions f ≡ Some d.function) }
+        ensures home { result.home ≡ m.entry.now }
+        ensures function { slice_get m.entry.now.functions f ≡ Some result.function }
     {
         let module = m.bounded();
         let function = &module.module().functions()[f];
-        let stacks = stacks_of(alloc, m, f, function)?;
-        Ok(BorrowDomain {
+        BorrowDomain {
             module,
             place: f,
             function,
             code: module.code(f),
-            stacks,
-        })
+            stacks: stacks_of(m, f, function),
+        }
     }
 
     /// The instruction at a place, if there is one.

@@ -52,7 +52,7 @@ fn check_edges_of(alloc: Global, m: &Typed<'_>, f: usize, stated: &Stated) -> Re
     ensures holds { OnOk result (EdgesHoldAt m.now f stated.now) }
     ensures refused { IfErr result (IsRefusedIn 11 (EdgesHoldAt m.now f stated.now)) }
 {
-    let domain = BorrowDomain::of_function(alloc, m, f)?;
+    let domain = BorrowDomain::of_function(m, f);
     let empty = domain.start(alloc);
     let function = shape::function_at(m, f);
     let graph = shape::graph_of(m, f, function);

@@ -1,6 +1,6 @@
 -- One turn of a walk over a block's instructions, and one of a walk over a function's blocks.
 --   types_in m d b   the types before each instruction of a block
-use Rattle.std.proofs.Common.{◌≡◌, ℕ, ◌+◌, ◌-◌, ◌<◌, ◌≤◌, Bool, true, false, ◌&&◌, cond, List, [], ◌∷◌, length, map, drop, get_or, Option, Some, None, IsSome, IsTrue, nat_eq, nat_le, refl, ap, sym, ◌∙◌, subst, add-one, drop-cons, arith}
+use Rattle.std.proofs.Common.{◌≡◌, ℕ, ◌+◌, ◌-◌, ◌<◌, ◌≤◌, Bool, true, false, ◌&&◌, cond, List, [], ◌∷◌, ◌++◌, append_assoc, length, map, flat_map, drop, get_or, Option, Some, None, IsSome, IsTrue, nat_eq, nat_le, refl, ap, sym, ◌∙◌, subst, add-one, drop-cons, arith}
 use Rattle.std.specs.Bool.{then_some}
 use Rattle.std.specs.List.{list_all, slice_range}
 use Rattle.std.specs.Option.{option_map_or}
@@ -74,6 +74,15 @@ module _ (m : Module) (d : FunctionDefinition) where
       let next = through-next (get_or code n i) (drop (n + 1) code) s after there (subst (λ (is : List Instruction). IsSome (height_through m d is (length s))) at room) in
       (is ∙ ap (λ is. types_through m d is s) at ∙ next.0, next.1)
 
+  -- one turn of the walk that lists them
+  pub listed : (code : List Instruction) (n : ℕ) (i : Instruction) (s after : Types) (old whole : List Types) → n < length code → types_after m d (get_or code n i) s ≡ Some after
+      → old ++ types_each m d (drop n code) s ≡ whole → (old ++ s ∷ []) ++ types_each m d (drop (n + 1) code) after ≡ whole
+  listed code n i s after old whole below there is =
+      let rest = drop (n + 1) code in
+      let each : types_each m d (drop n code) s ≡ s ∷ types_each m d rest after =
+      ap (λ is. types_each m d is s) (drop-next code n i below) ∙ ap (λ o. s ∷ option_map_or (types_each m d rest) o []) there in
+      append_assoc old (s ∷ []) (types_each m d rest after) ∙ ap (λ l. old ++ l) (sym each) ∙ is
+
   -- where types go through instructions, heights do
   heights-through : (is : List Instruction) (s t : Types) → types_through m d is s ≡ Some t → height_through m d is (length s) ≡ Some (length t)
   heights-through [] s t e = ap (λ x. Some (length x)) (same_Some s t e)
@@ -106,6 +115,16 @@ module _ (m : Module) (d : FunctionDefinition) where
         is ∙ ap (λ xs. list_all (block_is_typed m d) (map (basic_block_of g) xs)) at ∙ ap (λ x. x && list_all (block_is_typed m d) rest) typed,
         (both.1, none),
       )
+
+  -- one turn of the walk that lists the types of a function's blocks
+  pub listed_block : (g : Cfg) (bs : List Block) (k : ℕ) (b : Block) (old new whole : List Types) → k < length bs → b ≡ get_or bs k b
+      → old ++ flat_map (types_in m d) (map (basic_block_of g) (drop k bs)) ≡ whole → new ≡ old ++ types_in m d (basic_block_of g b)
+      → new ++ flat_map (types_in m d) (map (basic_block_of g) (drop (k + 1) bs)) ≡ whole
+  listed_block g bs k b old new whole below is_b is one =
+      let at : drop k bs ≡ b ∷ drop (k + 1) bs = subst (λ (x : Block). drop k bs ≡ x ∷ drop (k + 1) bs) (sym is_b) (drop-next bs k b below) in
+      let rest = flat_map (types_in m d) (map (basic_block_of g) (drop (k + 1) bs)) in
+      ap (λ l. l ++ rest) one ∙ append_assoc old (types_in m d (basic_block_of g b)) rest
+      ∙ sym (ap (λ l. old ++ flat_map (types_in m d) (map (basic_block_of g) l)) at) ∙ is
 
   -- a block that is well typed comes to an end with nothing on the stack
   ends_typed : (o : Option Types) → option_map_or (λ stack. nat_eq (length stack) 0) o false ≡ true → (new : Types) × ((o ≡ Some new) × (length new ≡ 0))

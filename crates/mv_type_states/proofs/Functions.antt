@@ -1,6 +1,7 @@
 -- All functions of a module, one after another, and the phases.
-use Rattle.std.proofs.Common.{◌≡◌, ℕ, ◌+◌, ◌<◌, List, [], ◌∷◌, ◌++◌, length, slice_get, Option, Some, None, IsTrue, IfSome, refl, sym, ◌∙◌, subst, inl, inr, ◌⊎◌, ⊎_elim, zero, suc, length-append, arith}
-use Rattle.std.proofs.lemmas.Option.{MatchOption-at_some, slice_get_within}
+use Rattle.std.proofs.Common.{◌≡◌, ℕ, ◌+◌, ◌<◌, List, [], ◌∷◌, ◌++◌, length, get_or, slice_get, map, take, Option, Some, None, option_map, IsTrue, IfSome, refl, sym, ap, ◌∙◌, subst, inl, inr, ◌⊎◌, ⊎_elim, zero, suc, length-append, arith}
+use Rattle.std.proofs.lemmas.Option.{MatchOption-at_some, slice_get_within, slice_get-map, slice_get-get_or, get_or_from_slice_get, same_Some}
+use Rattle.std.proofs.lemmas.List.{take_more, map-append, length-map}
 use Rattle.mv_move_types.specs.declared.refusal.Refusal.{Refusal}
 use Rattle.mv_move_types.specs.declared.refusal.Refusal.TheVariants.{Phase, Memory}
 use Rattle.mv_move_types.specs.Refusals.{IsRefusedIn}
@@ -12,7 +13,8 @@ use Rattle.mv_cfg.specs.Blocks.{ends_well, FlowHolds}
 use Rattle.mv_cfg.specs.FlowGraph.{IsFlowGraph}
 use Rattle.mv_type_states.specs.TypesHold.{function_is_typed, TypesHold}
 use Rattle.mv_type_states.specs.Graphs.{AreGraphs}
-use Rattle.mv_type_states.specs.Sound.{FailsTypes, ill_signed, unable, endless, ill_typed, IsRefusedByTypes}
+use Rattle.mv_type_states.specs.TypeRules.{Types}
+use Rattle.mv_type_states.specs.Sound.{types_before, FailsTypes, ill_signed, unable, endless, ill_typed, IsRefusedByTypes}
 use Rattle.mv_type_states.proofs.Stacks.{list_all-at, list_all-each}
 
 -- what is refused for a part is refused for the whole
@@ -88,6 +90,35 @@ types_refused m f e there r =
 -- the first functions are well typed
 abbrev pub AreTyped : Module → ℕ → Type 0
 AreTyped m n = (k : ℕ) (d : FunctionDefinition) → k < n → slice_get m.functions k ≡ Some d → IsTrue (function_is_typed m d)
+
+pub AreTyped-push : (m : Module) (n : ℕ) → AreTyped m n → IfSome (slice_get m.functions n) (λ d. IsTrue (function_is_typed m d)) → AreTyped m (n + 1)
+AreTyped-push m n before new k d below at =
+    ⊎_elim (λ h. before k d h at)
+    (λ same. MatchOption-at_some _ (λ (x : FunctionDefinition). IsTrue (function_is_typed m x)) d (subst (λ (i : ℕ). slice_get m.functions i ≡ Some d) same at) new)
+    (less_or_last k n below)
+  where
+    less_or_last : (k n : ℕ) → k < n + 1 → (k < n) ⊎ (k ≡ n)
+    less_or_last k n h = grind arith
+
+-- one more function's types are listed
+pub types_listed : (m : Module) (n : ℕ) (all : List Types) (old : List (List Types)) → n < length m.functions → IfSome (slice_get m.functions n) (λ d. all ≡ types_before m d)
+    → old ≡ map (types_before m) (take n m.functions) → old ++ all ∷ [] ≡ map (types_before m) (take (n + 1) m.functions)
+types_listed m n all old below here is =
+    let d = slice_get-there m.functions n below in
+    let one = MatchOption-at_some _ (λ (x : FunctionDefinition). all ≡ types_before m x) d.0 d.1 here in
+    let more : take (n + 1) m.functions ≡ take n m.functions ++ d.0 ∷ [] =
+    take_more m.functions n d.0 below ∙ ap (λ x. take n m.functions ++ x ∷ []) (get_or_from_slice_get m.functions n d.0 d.0 d.1) in
+    ap (λ l. l ++ all ∷ []) is ∙ ap (λ t. map (types_before m) (take n m.functions) ++ t ∷ []) one
+    ∙ sym (map-append (types_before m) (take n m.functions) (d.0 ∷ [])) ∙ ap (map (types_before m)) (sym more)
+
+-- what is listed of a function, where it is listed of all
+pub listed_at : {A B : Type 0} (v : A → B) (h : FunctionDefinition → B) (fs : List FunctionDefinition) (f : ℕ) (x : A) (xs : List A) → map v xs ≡ map h fs → f < length fs → x ≡ get_or xs f x → IfSome (slice_get fs f) (λ d. v x ≡ h d)
+listed_at v h fs f x xs is below at =
+    let d = slice_get-there fs f below in
+    let within : f < length xs = omega (arith, ap length is, length-map xs v, length-map fs h) in
+    let here : Some (v x) ≡ Some (h d.0) =
+    ap (λ t. Some (v t)) at ∙ sym (ap (option_map v) (slice_get-get_or xs f x within)) ∙ sym (slice_get-map v xs f) ∙ ap (λ l. slice_get l f) is ∙ slice_get-map h fs f ∙ ap (option_map h) d.1 in
+    rw d.1 (same_Some (v x) (h d.0) here)
 
 -- a module refused by the first phase that it fails
 pub fails_signatures : (m : Module) (e : Refusal) → IsRefusedIn 5 (WellSigned m) e → IsRefusedByTypes m e

@@ -5,4 +5,5 @@ pub mod ReturnLemmas
 pub mod HeightLemmas
 pub mod BlockLemmas
 pub mod PartLemmas
+pub mod TopLemmas
 pub mod Functions

@@ -1,6 +1,7 @@
 -- Stacks with the topmost last, and what is taken from them.
-use Rattle.std.proofs.Common.{◌≡◌, ℕ, ◌+◌, ◌<◌, Bool, true, false, ◌&&◌, List, [], ◌∷◌, ◌++◌, length, reverse, append_assoc, get_or, take, drop, slice_get, Some, None, refl, sym, ap, ◌∙◌, subst, zero, suc, add-one, length-append, map, arith, IsTrue, nat_eq, vec_len, Vec, Global, Err}
-use Rattle.std.proofs.lemmas.List.{reverse-append, reverse-reverse, length-reverse, map-append, take_more}
+use Rattle.std.proofs.Common.{◌≡◌, ℕ, ◌+◌, ◌<◌, Bool, true, false, ◌&&◌, List, [], ◌∷◌, ◌++◌, length, reverse, append_assoc, get_or, set, take, drop, slice_get, Some, None, refl, sym, ap, ◌∙◌, subst, zero, suc, add-one, length-append, length-take, map, arith, IsTrue, nat_eq, vec_len, Vec, Global, Err}
+use Rattle.std.proofs.lemmas.List.{reverse-append, reverse-reverse, length-reverse, map-append, take_more, take_all}
+use Rattle.std.proofs.Math.Seq.{set-append_seam}
 use Rattle.std.proofs.lemmas.Bool.{ne_eqb, eqb-false}
 use Rattle.std.proofs.Math.Dec.{eqb-suc-zero}
 use Rattle.mv_move_types.specs.declared.token.Token.{Token}
@@ -9,7 +10,7 @@ use Rattle.mv_move_types.specs.declared.refusal.Refusal.{Refusal}
 use Rattle.mv_move_types.specs.declared.refusal.Refusal.TheVariants.{Phase, Memory}
 use Rattle.mv_move_types.specs.declared.tables.Field.{Field}
 use Rattle.mv_move_types.specs.Options.{◌>>=◌}
-use Rattle.mv_type_states.specs.TypeRules.{Types, provided, taken}
+use Rattle.mv_type_states.specs.TypeRules.{Types, provided, taken, takes_gives}
 use Rattle.mv_type_states.specs.Answers.{Follows}
 use Rattle.mv_type_states.proofs.Tokens.{both_true}
 use Rattle.std.specs.List.{list_all}
@@ -31,6 +32,21 @@ one_and_others false ws s = refl
 pub taken-last : (ws : List Token) (w : Token) (s : Types) → taken (ws ++ w ∷ []) s ≡ (taken (w ∷ []) s >>= λ below. taken ws below)
 taken-last ws w [] = rw (reverse-push ws w, length_push ws w) refl
 taken-last ws w (t ∷ s) = rw (reverse-push ws w, length_push ws w) (one_and_others (same_token t w) ws s)
+
+-- a type in place of the topmost one
+pub exchanged : (xs : List Token) (n : ℕ) (x wanted given : Token) → n + 1 ≡ length xs → x ≡ get_or xs n x → same_token x wanted ≡ true
+    → takes_gives (wanted ∷ []) (given ∷ []) (reverse xs) ≡ Some (reverse (set xs n given))
+exchanged xs n x wanted given size last same =
+    let front = take n xs in
+    let n_long : length front ≡ n = omega (arith, length-take n xs) in
+    let whole : xs ≡ front ++ x ∷ [] =
+    sym (take_all (n + 1) xs (omega arith)) ∙ take_more xs n x (omega arith) ∙ ap (λ t. front ++ t ∷ []) (sym last) in
+    let old : takes_gives (wanted ∷ []) (given ∷ []) (reverse xs) ≡ takes_gives (wanted ∷ []) (given ∷ []) (x ∷ reverse front) =
+    ap (λ l. takes_gives (wanted ∷ []) (given ∷ []) (reverse l)) whole ∙ ap (takes_gives (wanted ∷ []) (given ∷ [])) (reverse-push front x) in
+    let new : set xs n given ≡ front ++ given ∷ [] =
+    ap (λ l. set l n given) whole ∙ ap (λ k. set (front ++ x ∷ []) k given) (sym n_long) ∙ set-append_seam front x [] given in
+    let there : takes_gives (wanted ∷ []) (given ∷ []) (x ∷ reverse front) ≡ Some (given ∷ reverse front) = rw same refl in
+    old ∙ there ∙ ap (λ l. Some l) (sym (ap reverse new ∙ reverse-push front given))
 
 -- one more field's type is pushed
 pub pushed_fields : (fields : List Field) (n : ℕ) (f : Field) (first old new : List Token) → n < length fields → old ≡ first ++ map (λ f. f.token) (take n fields)

@@ -4,5 +4,6 @@ pub mod Sound
 pub mod Answers
 pub mod Scopes
 pub mod Stacks
+pub mod Tops
 pub mod Graphs
 pub mod TypesAt

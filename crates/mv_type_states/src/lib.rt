@@ -1,7 +1,7 @@
 //! Phases 5 to 8 of publishing, and the types on the stack at each instruction.
 #![tactic(auto)]
 
-ghost use Rattle.std.specs.Prelude.{◌≡◌, ◌<◌, length, slice_get, IfOk, IfErr, IfSome, OnOk};
+ghost use Rattle.std.specs.Prelude.{◌≡◌, ◌<◌, length, map, slice_get, IfOk, IfErr, IfSome, OnOk};
 ghost use Rattle.mv_cfg.specs.FlowGraph.{IsFlowGraph};
 ghost use Rattle.mv_move_types.specs.Refusals.{IsRefusedIn};
 ghost use Rattle.mv_cfg.specs.Blocks.{FlowHolds};
@@ -14,36 +14,40 @@ mod rules;
 mod scope;
 mod stack;
 mod stack_types;
+mod tops;
 
 use mv_binary_format::Module;
 use mv_bounds::Bounded;
 use mv_cfg::Cfg;
 use mv_move_types::Refusal;
-use passes::{check_function, function_types};
+use passes::check_function;
 pub use stack_types::StackTypes;
 use std::alloc::{AllocError, Global};
 use std::marker::Model;
+pub use tops::Tops;
 
-/// A module that passed phases 3 to 8, with the flow graphs of its functions.
+/// A module that passed phases 3 to 8, with the flow graphs of its functions and the types before their instructions.
 #[derive(Drop)]
 pub struct Typed<'a> {
     bounded: Bounded<'a>,
     graphs: Vec<Cfg>,
+    stacks: Vec<StackTypes>,
 }
 
 impl<'a> Model for Typed<'a> {
-    ghost use Rattle.std.specs.Prelude.{◌≡◌, ℕ, length, Some, slice_get};
+    ghost use Rattle.std.specs.Prelude.{◌≡◌, ℕ, length, map, Some, slice_get};
     ghost use Rattle.mv_move_types.specs.Module.{Module as Tables, FunctionDefinition as FunctionTable};
     ghost use Rattle.mv_cfg.specs.declared.Cfg.{Cfg as Graph};
     ghost use Rattle.mv_cfg.specs.FlowGraph.{IsFlowGraph};
-    ghost use Rattle.mv_type_states.specs.Sound.{IsSound};
+    ghost use Rattle.mv_type_states.specs.Sound.{IsSound, types_before};
 
     ghost Value = { Tables };
 
     ghost view = { λ t. t.bounded };
 
     ghost invariant = { λ t. IsSound t.bounded × (length t.graphs.items ≡ length t.bounded.functions)
-        × ((f : ℕ) (d : FunctionTable) (g : Graph) → slice_get t.bounded.functions f ≡ Some d → slice_get t.graphs.items f ≡ Some g → IsFlowGraph d.code g) };
+        × ((f : ℕ) (d : FunctionTable) (g : Graph) → slice_get t.bounded.functions f ≡ Some d → slice_get t.graphs.items f ≡ Some g → IsFlowGraph d.code g)
+        × (t.stacks.items ≡ map (types_before t.bounded) t.bounded.functions) };
 }
 
 impl<'a> Typed<'a> {
@@ -72,15 +76,11 @@ impl<'a> Typed<'a> {
     }
 
     /// The types of the whole stack before each instruction of function `f`.
-    ///
-    /// # Errors
-    ///
-    /// If an allocation failed.
-    pub fn stack_types(&self, alloc: Global, f: usize) -> Result<StackTypes, AllocError>
+    pub fn stack_types(&self, f: usize) -> &StackTypes
         requires { f < length self.now.functions }
-        ensures { IfOk result (λ all. IfSome (slice_get self.now.functions f) (λ d. all ≡ types_before self.now d)) }
+        ensures { IfSome (slice_get self.now.functions f) (λ d. result.now ≡ types_before self.now d) }
     {
-        function_types(alloc, &self.bounded, f, &self.graphs[f])
+        &self.stacks[f]
     }
 }
 
@@ -97,16 +97,24 @@ fn flow_graphs(alloc: Global, m: &Bounded<'_>) -> Result<Vec<Cfg>, Refusal>
     Ok(graphs)
 }
 
-/// Accepts exactly the modules whose functions are well typed. The graphs are those of its functions.
-fn check_functions(alloc: Global, m: &Bounded<'_>, graphs: &[Cfg]) -> Result<(), Refusal>
+/// Accepts exactly the modules whose functions are well typed: the types before the instructions of each. The graphs are
+/// those of its functions.
+fn check_functions(
+    alloc: Global,
+    m: &Bounded<'_>,
+    graphs: &[Cfg],
+) -> Result<Vec<StackTypes>, Refusal>
     requires { AreGraphs m.now.functions (length m.now.functions) graphs.now }
     ensures ok { OnOk result (TypesHold m.now) }
+    ensures listed { IfOk result (λ stacks. stacks.items ≡ map (types_before m.now) m.now.functions) }
     ensures refused { IfErr result (IsRefusedIn 8 (TypesHold m.now)) }
 {
+    let mut stacks = Vec::with_capacity(alloc, graphs.len())?;
     for (f, graph) in graphs.iter().enumerate() {
-        check_function(alloc, m, f, graph)?;
+        let all = check_function(alloc, m, f, graph)?;
+        stacks.push(all).map_err(AllocError::from)?;
     }
-    Ok(())
+    Ok(stacks)
 }
 
 /// Tries phases 5, 6, 7 and 8 on a module.
@@ -121,6 +129,13 @@ pub fn check<'a>(alloc: Global, m: Bounded<'a>) -> Result<Typed<'a>, Refusal>
     mv_signatures::check(&m)?;
     mv_abilities::check(&m)?;
     let graphs = flow_graphs(alloc, &m)?;
-    check_functions(alloc, &m, &graphs)?;
-    Ok(Typed { bounded: m, graphs })
+    let stacks = check_functions(alloc, &m, &graphs)?;
+    Ok(Typed {
+        bounded: m,
+        graphs,
+        stacks,
+    })
 }
+
+#[cfg(test)]
+mod tests;

@@ -1,5 +1,5 @@
 // The types through blocks and functions.
-ghost use Rattle.std.specs.Prelude.{◌≡◌, ◌<◌, ◌++◌, [], length, reverse, slice_get, OnOk, IfErr, IfSome, IsSome, IsTrue, IfOk};
+ghost use Rattle.std.specs.Prelude.{◌≡◌, ◌<◌, ◌++◌, length, reverse, slice_get, OnOk, IfErr, IfSome, IsSome, IsTrue, IfOk};
 ghost use Rattle.mv_move_types.specs.Refusals.{IsRefusedIn};
 ghost use Rattle.mv_cfg.specs.FlowGraph.{IsFlowGraph};
 ghost use Rattle.mv_stack_use.specs.Heights.{height_through, function_is_level};
@@ -13,111 +13,69 @@ use super::stack_types::StackTypes;
 use mv_bounds::Bounded;
 use mv_cfg::Cfg;
 use mv_move_types::{Instruction, Refusal, Token};
-use std::alloc::{AllocError, Global};
+use std::alloc::Global;
 
-/// Carries the types on a stack through these instructions, for which there is always room. Refused in phase 8 where one
-/// doesn't find what it needs.
-fn carry(scope: &Scope<'_, '_>, code: &[Instruction], stack: &mut Vec<Token>) -> Result<(), Refusal>
+/// Carries the types on a stack through these instructions, for which there is always room, and lists those before each.
+/// Refused in phase 8 where one doesn't find what it needs.
+fn carry(
+    scope: &Scope<'_, '_>,
+    code: &[Instruction],
+    stack: &mut Vec<Token>,
+    all: &mut StackTypes,
+) -> Result<(), Refusal>
     requires scope { IsScope scope.now }
     requires level { IsSome (height_through scope.now.module.now scope.now.function.now code.now (length (reverse stack.old.items))) }
-    ensures { Follows result (types_through scope.now.module.now scope.now.function.now code.now (reverse stack.old.items)) (reverse stack.new.items) }
+    ensures types { Follows result (types_through scope.now.module.now scope.now.function.now code.now (reverse stack.old.items)) (reverse stack.new.items) }
+    ensures listed { OnOk result (all.new ≡ all.old ++ types_each scope.now.module.now scope.now.function.now code.now (reverse stack.old.items)) }
 {
     for instruction in code {
+        all.add(stack)?;
         scope.step(*instruction, stack)?;
     }
     Ok(())
 }
 
 /// Accepts a function exactly where each instruction of each block finds the types that it needs, and each block begins
-/// and ends with none. Each block is level already; `code` is the function's code, and `g` its flow graph.
+/// and ends with none: the types before each. Each block is level already; `code` is the function's code, and `g` its flow
+/// graph.
 fn check_blocks(
     alloc: Global,
     scope: &Scope<'_, '_>,
     code: &[Instruction],
     g: &Cfg,
-) -> Result<(), Refusal>
+) -> Result<StackTypes, Refusal>
     requires scope { IsScope scope.now }
     requires code { code.now ≡ scope.now.function.now.code }
     requires graph { IsFlowGraph scope.now.function.now.code g.now }
     requires level { IsTrue (function_is_level scope.now.module.now scope.now.function.now) }
     ensures ok { OnOk result (IsTrue (function_is_typed scope.now.module.now scope.now.function.now)) }
+    ensures listed { IfOk result (λ all. all ≡ types_before scope.now.module.now scope.now.function.now) }
     ensures refused { IfErr result (IsRefusedIn 8 (IsTrue (function_is_typed scope.now.module.now scope.now.function.now))) }
 {
+    let mut all = StackTypes::with_room(alloc, code.len())?;
     // Each block leaves it empty.
     let mut stack = Vec::new(alloc);
     for block in &g.blocks {
-        carry(scope, &code[block.first..=block.last], &mut stack)?;
+        carry(scope, &code[block.first..=block.last], &mut stack, &mut all)?;
     }
-    Ok(())
+    Ok(all)
 }
 
 /// Accepts function `f` exactly where each instruction of each block finds the types that it needs, and each block
-/// begins and ends with none. `g` is the function's flow graph.
-pub fn check_function(alloc: Global, m: &Bounded<'_>, f: usize, g: &Cfg) -> Result<(), Refusal>
+/// begins and ends with none: the types of the whole stack before each. `g` is the function's flow graph.
+pub fn check_function(
+    alloc: Global,
+    m: &Bounded<'_>,
+    f: usize,
+    g: &Cfg,
+) -> Result<StackTypes, Refusal>
     requires function { f < length m.now.functions }
     requires graph { IfSome (slice_get m.now.functions f) (λ d. IsFlowGraph d.code g.now) }
     ensures ok { OnOk result (IfSome (slice_get m.now.functions f) (λ d. IsTrue (function_is_typed m.now d))) }
+    ensures listed { IfOk result (λ all. IfSome (slice_get m.now.functions f) (λ d. all ≡ types_before m.now d)) }
     ensures refused { IfErr result (λ e. IfSome (slice_get m.now.functions f) (λ d. IsRefusedIn 8 (IsTrue (function_is_typed m.now d)) e)) }
 {
     let scope = scope_of(m, f);
     mv_stack_use::check(m, f, g)?;
     check_blocks(alloc, &scope, m.code(f), g)
-}
-
-/// Adds the types before each of these instructions, where there are none before the first.
-fn list_types(
-    scope: &Scope<'_, '_>,
-    alloc: Global,
-    code: &[Instruction],
-    all: &mut StackTypes,
-) -> Result<(), AllocError>
-    requires scope { IsScope scope.now }
-    requires typed { IsSome (types_through scope.now.module.now scope.now.function.now code.now []) }
-    ensures { OnOk result (all.new ≡ all.old ++ types_each scope.now.module.now scope.now.function.now code.now []) }
-{
-    let mut stack = Vec::new(alloc);
-    for instruction in code {
-        all.add(&stack)?;
-        match scope.step(*instruction, &mut stack) {
-            Ok(()) => {}
-            Err(Refusal::Memory) => return Err(AllocError),
-            Err(Refusal::Phase(_)) => unreachable!(),
-        }
-    }
-    Ok(())
-}
-
-/// Adds the types before each instruction of a function that is well typed. `code` is its code, and `g` its flow graph.
-fn list_blocks(
-    scope: &Scope<'_, '_>,
-    alloc: Global,
-    code: &[Instruction],
-    g: &Cfg,
-) -> Result<StackTypes, AllocError>
-    requires scope { IsScope scope.now }
-    requires code { code.now ≡ scope.now.function.now.code }
-    requires graph { IsFlowGraph scope.now.function.now.code g.now }
-    requires typed { IsTrue (function_is_typed scope.now.module.now scope.now.function.now) }
-    ensures { IfOk result (λ all. all ≡ types_before scope.now.module.now scope.now.function.now) }
-{
-    let mut all = StackTypes::with_room(alloc, code.len())?;
-    for block in &g.blocks {
-        list_types(scope, alloc, &code[block.first..=block.last], &mut all)?;
-    }
-    Ok(all)
-}
-
-/// The types of the whole stack before each instruction of function `f`. `g` is its flow graph.
-pub fn function_types(
-    alloc: Global,
-    m: &Bounded<'_>,
-    f: usize,
-    g: &Cfg,
-) -> Result<StackTypes, AllocError>
-    requires function { f < length m.now.functions }
-    requires graph { IfSome (slice_get m.now.functions f) (λ d. IsFlowGraph d.code g.now) }
-    requires typed { IfSome (slice_get m.now.functions f) (λ d. IsTrue (function_is_typed m.now d)) }
-    ensures { IfOk result (λ all. IfSome (slice_get m.now.functions f) (λ d. all ≡ types_before m.now d)) }
-{
-    list_blocks(&scope_of(m, f), alloc, m.code(f), g)
 }

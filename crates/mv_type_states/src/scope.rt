@@ -5,7 +5,7 @@ ghost use Rattle.mv_type_states.specs.Answers.{Follows};
 ghost use Rattle.mv_type_states.specs.Scopes.{IsScope, IsScopeOf};
 
 use crate::rules::{control, globals, numbers, references, structs};
-use crate::stack::{BOOLEAN, exchange, number, pop, push};
+use crate::stack::{BOOLEAN, exchange, exchange_two, number, pop, push};
 use mv_binary_format::FunctionDefinition;
 use mv_bounds::Bounded;
 use mv_move_types::{Instruction, Refusal, Token, Width};
@@ -50,8 +50,8 @@ impl<'s, 'a> Scope<'s, 'a> {
             | Instruction::BitOr
             | Instruction::BitAnd
             | Instruction::Xor => numbers::arithmetic(stack),
-            Instruction::Or | Instruction::And => exchange(stack, &[BOOLEAN, BOOLEAN], BOOLEAN),
-            Instruction::Not => exchange(stack, &[BOOLEAN], BOOLEAN),
+            Instruction::Or | Instruction::And => exchange_two(stack, BOOLEAN, BOOLEAN),
+            Instruction::Not => exchange(stack, BOOLEAN, BOOLEAN),
             Instruction::Eq | Instruction::Neq => numbers::equality(m, stack),
             Instruction::Lt | Instruction::Gt | Instruction::Le | Instruction::Ge => {
                 numbers::comparison(stack)

@@ -1,5 +1,6 @@
 // The types on a stack, the topmost last: what is put there and taken away.
 ghost use Rattle.std.specs.Prelude.{◌≡◌, ◌++◌, ◌∷◌, [], map, reverse, Some, IfErr};
+ghost use Rattle.mv_move_types.specs.Tokens.{same_token};
 ghost use Rattle.mv_abilities.specs.Abilities.{token_abilities};
 ghost use Rattle.mv_type_states.specs.TypeRules.{taken, takes_gives, number as number_type};
 ghost use Rattle.mv_type_states.specs.Answers.{Follows, Finds, TakesTop};
@@ -100,12 +101,37 @@ pub fn pop_fields(stack: &mut Vec<Token>, fields: &[Field]) -> Result<(), Refusa
     Ok(())
 }
 
-/// Takes these types, the last of them topmost, and puts one in their place.
-pub fn exchange(stack: &mut Vec<Token>, wanted: &[Token], given: Token) -> Result<(), Refusal>
-    ensures { Follows result (takes_gives wanted.now (given ∷ []) (reverse stack.old.items)) (reverse stack.new.items) }
+/// Whether a type is this one.
+#[inline(always)]
+fn is_type(found: Token, wanted: Token) -> bool
+    ensures { result ≡ same_token found wanted }
 {
-    pop_all(stack, wanted)?;
-    push(stack, given)
+    found == wanted
+}
+
+/// Puts a type in place of the topmost one, which has to be this one.
+#[inline(always)]
+pub fn exchange(stack: &mut Vec<Token>, wanted: Token, given: Token) -> Result<(), Refusal>
+    ensures types { Follows result (takes_gives (wanted ∷ []) (given ∷ []) (reverse stack.old.items)) (reverse stack.new.items) }
+    ensures phase { IfErr result (λ e. e ≡ Refusal.Phase 8) }
+{
+    match stack.last_mut() {
+        Some(found) if is_type(*found, wanted) => {
+            *found = given;
+            Ok(())
+        }
+        _ => Err(Refusal::Phase(8)),
+    }
+}
+
+/// Puts a type in place of the two topmost ones, which both have to be this one.
+#[inline(always)]
+pub fn exchange_two(stack: &mut Vec<Token>, wanted: Token, given: Token) -> Result<(), Refusal>
+    ensures types { Follows result (takes_gives (wanted ∷ wanted ∷ []) (given ∷ []) (reverse stack.old.items)) (reverse stack.new.items) }
+    ensures phase { IfErr result (λ e. e ≡ Refusal.Phase 8) }
+{
+    pop(stack, wanted)?;
+    exchange(stack, wanted, given)
 }
 
 /// The abilities of a type.

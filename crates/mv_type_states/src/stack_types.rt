@@ -1,5 +1,6 @@
 // The types on the stack before each instruction of a function.
-ghost use Rattle.std.specs.Prelude.{◌≡◌, ◌<◌, ◌++◌, ◌∷◌, [], Some, length, reverse, slice_get, IfOk, OnOk};
+ghost use Rattle.std.specs.Prelude.{◌≡◌, ◌<◌, ◌++◌, ◌∷◌, [], Some, length, reverse, slice_get, take, IfOk, OnOk};
+ghost use Rattle.mv_type_states.specs.Tops.{tops_of};
 
 use mv_move_types::Token;
 use std::alloc::{AllocError, Global};
@@ -53,6 +54,34 @@ impl StackTypes {
         Ok(())
     }
 
+    /// Whether two types a stack are much less than all: there are more than four a stack.
+    fn is_high(&self) -> bool {
+        self.tokens.len() / 4 > self.parts.len()
+    }
+
+    /// The two topmost types of each stack.
+    fn tops(&self, alloc: Global) -> Result<Self, AllocError>
+        ensures { IfOk result (λ t. t ≡ tops_of self.now) }
+    {
+        let mut tops = StackTypes::with_room(alloc, self.len())?;
+        for at in 0..self.len() {
+            let stack = self.before(at);
+            tops.add(topmost(stack))?;
+        }
+        Ok(tops)
+    }
+
+    /// The two topmost types of each stack where they are much less, and all types elsewhere, since a copy has its cost.
+    pub(crate) fn into_tops(self, alloc: Global) -> Result<Self, AllocError>
+        ensures { IfOk result (λ t. tops_of t ≡ tops_of self) }
+    {
+        if self.is_high() {
+            self.tops(alloc)
+        } else {
+            Ok(self)
+        }
+    }
+
     /// How many stacks there are, one for each instruction.
     pub fn len(&self) -> usize
         ensures { result ≡ length self.now }
@@ -68,4 +97,11 @@ impl StackTypes {
         let part = self.parts[at];
         &self.tokens[part.start..part.end]
     }
+}
+
+/// The two topmost types of a stack, or as many as it has.
+fn topmost(stack: &[Token]) -> &[Token]
+    ensures { reverse result.now ≡ take 2 (reverse stack.now) }
+{
+    &stack[stack.len().saturating_sub(2)..]
 }

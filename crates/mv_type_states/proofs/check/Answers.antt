@@ -21,11 +21,11 @@ returns-in_err-graphs-clause-refused c =
     let p = err_from_is_err_and c.from_residual-in_err-graphs.result c.from_residual-in_err-graphs.ensures.1 in
     rw (p.1, p.2) (fails_flow c.args.m _ c.in_ok-check.ensures.ok c.in_ok-check-2.ensures.ok c.in_err-graphs.ensures.refused)
 
-pub returns-in_err-check_functions-clause-refused : goal.returns-in_err-check_functions-clause-refused
-returns-in_err-check_functions-clause-refused c =
-    let p = err_from_is_err_and c.from_residual-in_err-check_functions.result c.from_residual-in_err-check_functions.ensures.1 in
+pub returns-in_err-stacks-clause-refused : goal.returns-in_err-stacks-clause-refused
+returns-in_err-stacks-clause-refused c =
+    let p = err_from_is_err_and c.from_residual-in_err-stacks.result c.from_residual-in_err-stacks.ensures.1 in
     rw (p.1, p.2)
-    (fails_types c.args.m _ c.in_ok-check.ensures.ok c.in_ok-check-2.ensures.ok (FlowHolds-from_AreGraphs c.args.m c.in_ok-graphs.graphs.items c.in_ok-graphs.ensures.ok) c.in_err-check_functions.ensures.refused)
+    (fails_types c.args.m _ c.in_ok-check.ensures.ok c.in_ok-check-2.ensures.ok (FlowHolds-from_AreGraphs c.args.m c.in_ok-graphs.graphs.items c.in_ok-graphs.ensures.ok) c.in_err-stacks.ensures.refused)
 
 pub invariant_of-result : goal.invariant_of-result
 invariant_of-result c =
@@ -36,8 +36,9 @@ invariant_of-result c =
         signed = c.in_ok-check.ensures.ok;
         abilities = c.in_ok-check-2.ensures.ok;
         flow = FlowHolds-from_AreGraphs c.args.m c.in_ok-graphs.graphs.items graphs;
-        types = c.in_ok-check_functions.ensures.ok;
+        types = c.in_ok-stacks.ensures.ok;
       },
       graphs.entries,
       graphs.each,
+      c.in_ok-stacks.ensures.listed,
     )

@@ -1,17 +1,36 @@
-use Rattle.std.proofs.Common.{arith}
+use Rattle.std.proofs.Common.{◌≡◌, ◌<◌, length, map, sym, ap, ◌∙◌, true, arith}
+use Rattle.std.specs.Result.{is_ok}
+use Rattle.std.proofs.lemmas.List.{take_all}
 use Rattle.std.proofs.lemmas.Option.{slice_get_within}
 use Rattle.std.proofs.lemmas.Result.{err_from_is_err_and}
 use Rattle.mv_type_states.specs.TypesHold.{function_is_typed}
-use Rattle.mv_type_states.proofs.Functions.{types_refused}
+use Rattle.mv_type_states.specs.Sound.{types_before}
+use Rattle.mv_type_states.proofs.Functions.{types_refused, types_listed, AreTyped-push}
 use Rattle.mv_type_states.proofs.Stacks.{list_all-each}
 use Rattle.mv_type_states.proofs.check_functions.Goals as goal
 
-pub returns-in_err-check_function-clause-refused : goal.returns-in_err-check_function-clause-refused
-returns-in_err-check_function-clause-refused c =
-    let p = err_from_is_err_and c.from_residual.result c.from_residual.ensures.1 in
-    rw (p.1, p.2) (types_refused c.args.m.now c.loop-f.f _ (omega arith) c.in_err-check_function.ensures.refused)
+pub returns-in_err-all-clause-refused : goal.returns-in_err-all-clause-refused
+returns-in_err-all-clause-refused c =
+    let p = err_from_is_err_and c.from_residual-in_err-all.result c.from_residual-in_err-all.ensures.1 in
+    rw (p.1, p.2) (types_refused c.args.m.now c.loop-f.f _ (omega arith) c.in_err-all.ensures.refused)
+
+pub loop-f-preserved : goal.loop-f-preserved
+loop-f-preserved c =
+    let m = c.args.m.now in
+    let f = c.loop-f.f in
+    let below : f < length m.functions = let graphs = c.requires.entries in omega arith in
+    let ok : is_ok c.push.result ≡ true = sym c.map_err.ensures.variant ∙ ap is_ok c.in_ok-map_err.was in
+    record {
+      typed = AreTyped-push m f c.loop-f.invariant.typed c.in_ok-all.ensures.ok;
+      listed = rw (c.push.ensures.items, ok) (types_listed m f c.in_ok-all.all c.loop-f.stacks.items below c.in_ok-all.ensures.listed c.loop-f.invariant.listed);
+    }
 
 pub returns-clause-ok : goal.returns-clause-ok
 returns-clause-ok c =
     list_all-each (function_is_typed c.args.m.now) c.args.m.now.functions
-    (λ k d at. let within = slice_get_within c.args.m.now.functions k d at in c.loop-f.invariant k d (omega arith) at)
+    (λ k d at. let within = slice_get_within c.args.m.now.functions k d at in c.loop-f.invariant.typed k d (omega arith) at)
+
+pub returns-clause-listed : goal.returns-clause-listed
+returns-clause-listed c =
+    let m = c.args.m.now in
+    let graphs = c.requires.entries in c.loop-f.invariant.listed ∙ ap (map (types_before m)) (take_all c.loop-f.f m.functions (omega arith))

@@ -12,7 +12,7 @@ pub fn exists(m: &Bounded<'_>, index: u16, stack: &mut Vec<Token>) -> Result<(),
     ensures { Follows result (of_global (λ t. boolean) m.now index (reverse stack.old.items)) (reverse stack.new.items) }
 {
     keyed(m, index)?;
-    exchange(stack, &[ADDRESS], BOOLEAN)
+    exchange(stack, ADDRESS, BOOLEAN)
 }
 
 /// Takes an address, and gives a mutable reference to the struct.
@@ -24,7 +24,7 @@ pub fn borrow_global_mutably(
     ensures { Follows result (of_global Token.MutableReference m.now index (reverse stack.old.items)) (reverse stack.new.items) }
 {
     let stored = keyed(m, index)?;
-    exchange(stack, &[ADDRESS], Token::MutableReference(stored))
+    exchange(stack, ADDRESS, Token::MutableReference(stored))
 }
 
 /// Takes an address, and gives an immutable reference to the struct.
@@ -32,7 +32,7 @@ pub fn borrow_global(m: &Bounded<'_>, index: u16, stack: &mut Vec<Token>) -> Res
     ensures { Follows result (of_global Token.Reference m.now index (reverse stack.old.items)) (reverse stack.new.items) }
 {
     let stored = keyed(m, index)?;
-    exchange(stack, &[ADDRESS], Token::Reference(stored))
+    exchange(stack, ADDRESS, Token::Reference(stored))
 }
 
 /// Takes an address, and gives the struct.
@@ -40,7 +40,7 @@ pub fn move_from(m: &Bounded<'_>, index: u16, stack: &mut Vec<Token>) -> Result<
     ensures { Follows result (of_global Token.Plain m.now index (reverse stack.old.items)) (reverse stack.new.items) }
 {
     let stored = keyed(m, index)?;
-    exchange(stack, &[ADDRESS], Token::Plain(stored))
+    exchange(stack, ADDRESS, Token::Plain(stored))
 }
 
 /// Takes a reference to a signer, and the struct above it.

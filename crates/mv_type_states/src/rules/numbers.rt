@@ -3,7 +3,7 @@ ghost use Rattle.std.specs.Prelude.{reverse, IfErr, ◌≡◌};
 ghost use Rattle.mv_type_states.specs.TypeRules.{boolean, number as number_type, width_of, plain_of, top_width as top_width_of, of_constant, of_two_numbers, of_equality, of_shift, of_cast};
 ghost use Rattle.mv_type_states.specs.Answers.{Follows, Finds};
 
-use crate::stack::{BOOLEAN, abilities, exchange, number, pop, push, take_top};
+use crate::stack::{BOOLEAN, abilities, exchange, exchange_two, number, pop, push, take_top};
 use mv_bounds::Bounded;
 use mv_move_types::{LeafKind, Refusal, Token, ValueType, Width};
 
@@ -22,7 +22,7 @@ pub fn arithmetic(stack: &mut Vec<Token>) -> Result<(), Refusal>
     ensures { Follows result (of_two_numbers number_type (reverse stack.old.items)) (reverse stack.new.items) }
 {
     let number = number(top_width(stack)?);
-    exchange(stack, &[number, number], number)
+    exchange_two(stack, number, number)
 }
 
 /// Two numbers of one width give a bool.
@@ -30,7 +30,7 @@ pub fn comparison(stack: &mut Vec<Token>) -> Result<(), Refusal>
     ensures { Follows result (of_two_numbers (λ w. boolean) (reverse stack.old.items)) (reverse stack.new.items) }
 {
     let number = number(top_width(stack)?);
-    exchange(stack, &[number, number], BOOLEAN)
+    exchange_two(stack, number, BOOLEAN)
 }
 
 /// Two values of one type that are no references and may be dropped give a bool.
@@ -40,9 +40,8 @@ pub fn equality(m: &Bounded<'_>, stack: &mut Vec<Token>) -> Result<(), Refusal>
     let token = take_top(stack)?;
     plain(token)?;
     let abilities = abilities(m, token)?;
-    pop(stack, token)?;
     if abilities.drop {
-        push(stack, BOOLEAN)
+        exchange(stack, token, BOOLEAN)
     } else {
         Err(Refusal::Phase(8))
     }

@@ -19,7 +19,7 @@ pub fn borrow_field_mutably(
     let (structure, field) = field_types(m, index)?;
     exchange(
         stack,
-        &[Token::MutableReference(structure)],
+        Token::MutableReference(structure),
         Token::MutableReference(field),
     )
 }

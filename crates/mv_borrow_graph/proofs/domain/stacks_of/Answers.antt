@@ -1,5 +1,5 @@
-use Rattle.mv_borrow_graph.proofs.Stacks.{in_any_case, types_low}
+use Rattle.mv_borrow_graph.proofs.Stacks.{types_low}
 use Rattle.mv_borrow_graph.proofs.domain.stacks_of.Goals as goal
 
 pub returns-clause-low : goal.returns-clause-low
-returns-clause-low c = in_any_case c.stack_types.result _ (types_low c.args.m.now c.args.f c.args.function.now c.requires.typed c.requires.known)
+returns-clause-low c = types_low c.args.m.now c.args.f c.args.function.now c.requires.typed c.requires.known

@@ -6,8 +6,8 @@ use Rattle.mv_certificate.proofs.checking.check_edges_of.Goals as goal
 
 pub check_flow-requires-clause-graph : goal.check_flow-requires-clause-graph
 check_flow-requires-clause-graph c =
-    graph-at c.args.m.now c.args.f c.function_at-function.result.now c.in_ok-domain.domain.function c.graph_of-graph.result.now
-    c.function_at-function.ensures.at c.in_ok-domain.ensures.function c.graph_of-graph.ensures
+    graph-at c.args.m.now c.args.f c.function_at-function.result.now c.of_function-domain.result.function c.graph_of-graph.result.now
+    c.function_at-function.ensures.at c.of_function-domain.ensures.function c.graph_of-graph.ensures
 
 pub check_flow-requires-clause-flow : goal.check_flow-requires-clause-flow
 check_flow-requires-clause-flow c =
@@ -16,8 +16,8 @@ check_flow-requires-clause-flow c =
 
 pub returns-in-Ok-clause-holds : goal.returns-in-Ok-clause-holds
 returns-in-Ok-clause-holds c =
-    (edges_exact_at c.args.m.now c.in_ok-domain.domain.home c.args.f c.function_at-function.result.now c.in_ok-domain.domain.function c.graph_of-graph.result.now c.args.stated.now
-    c.in_ok-domain.ensures.home c.function_at-function.ensures.at c.in_ok-domain.ensures.function c.graph_of-graph.ensures c.function_at-function.ensures.typed
+    (edges_exact_at c.args.m.now c.of_function-domain.result.home c.args.f c.function_at-function.result.now c.of_function-domain.result.function c.graph_of-graph.result.now c.args.stated.now
+    c.of_function-domain.ensures.home c.function_at-function.ensures.at c.of_function-domain.ensures.function c.graph_of-graph.ensures c.function_at-function.ensures.typed
     c.start-empty.result (states_of (λ k. k.edges) c.deref.result.now) c.start-empty.ensures c.has_start.ensures (ap (states_of (λ k. k.edges)) (c.deref.ensures.value ∙ c.stated.view_is))
     (edges-flow-at c.args.m.now c.args.f c.function_at-function.result.now c.graph_of-graph.result.now c.args.stated.now (states_of (λ k. k.edges) c.deref.result.now)
     c.function_at-function.ensures.at c.graph_of-graph.ensures c.requires.fits (ap (states_of (λ k. k.edges)) (c.deref.ensures.value ∙ c.stated.view_is)))).0 c.in-Ok.ensures.ok
@@ -25,8 +25,8 @@ returns-in-Ok-clause-holds c =
 pub returns-clause-refused : goal.returns-clause-refused
 returns-clause-refused c =
     refused_flow 11 _ _ c.in-Err.e c.refusal_in.result
-    ((edges_exact_at c.args.m.now c.in_ok-domain.domain.home c.args.f c.function_at-function.result.now c.in_ok-domain.domain.function c.graph_of-graph.result.now c.args.stated.now
-    c.in_ok-domain.ensures.home c.function_at-function.ensures.at c.in_ok-domain.ensures.function c.graph_of-graph.ensures c.function_at-function.ensures.typed
+    ((edges_exact_at c.args.m.now c.of_function-domain.result.home c.args.f c.function_at-function.result.now c.of_function-domain.result.function c.graph_of-graph.result.now c.args.stated.now
+    c.of_function-domain.ensures.home c.function_at-function.ensures.at c.of_function-domain.ensures.function c.graph_of-graph.ensures c.function_at-function.ensures.typed
     c.start-empty.result (states_of (λ k. k.edges) c.deref.result.now) c.start-empty.ensures c.has_start.ensures (ap (states_of (λ k. k.edges)) (c.deref.ensures.value ∙ c.stated.view_is))
     (edges-flow-at c.args.m.now c.args.f c.function_at-function.result.now c.graph_of-graph.result.now c.args.stated.now (states_of (λ k. k.edges) c.deref.result.now)
     c.function_at-function.ensures.at c.graph_of-graph.ensures c.requires.fits (ap (states_of (λ k. k.edges)) (c.deref.ensures.value ∙ c.stated.view_is)))).1)

@@ -1,5 +1,11 @@
-use Rattle.mv_type_states.proofs.Functions.{each_typed}
+use Rattle.std.proofs.Common.{map, ap, ◌∙◌}
+use Rattle.std.proofs.lemmas.List.{map-id}
+use Rattle.mv_type_states.specs.Sound.{types_before}
+use Rattle.mv_type_states.proofs.Functions.{listed_at}
 use Rattle.mv_type_states.proofs.Typed.stack_types.Goals as goal
 
-pub function_types-requires-clause-typed : goal.function_types-requires-clause-typed
-function_types-requires-clause-typed c = each_typed c.self.inside.bounded c.args.f c.self.invariant.0.types
+pub returns : goal.returns
+returns c =
+    let m = c.args.self.now in
+    let stacks = c.self.inside.stacks.items in
+    listed_at (λ s. s) (types_before m) m.functions c.args.f c.index.result.now stacks (map-id stacks ∙ c.self.invariant.3 ∙ ap (λ m. map (types_before m) m.functions) c.self.view_is) c.requires c.index.ensures

@@ -1,9 +1,11 @@
-use Rattle.std.proofs.Common.{◌≡◌, ◌+◌, ◌<◌, [], List, length, reverse, get_or, Some, sym, ap, ◌∙◌, subst}
+use Rattle.std.proofs.Common.{◌≡◌, ◌+◌, ◌++◌, ◌<◌, [], List, length, reverse, get_or, Some, sym, ap, ◌∙◌, subst}
 use Rattle.std.specs.List.{slice_range}
 use Rattle.std.proofs.lemmas.List.{length-reverse, nil_from_length}
 use Rattle.mv_cfg.specs.declared.Block.{Block}
+use Rattle.mv_cfg.specs.FlowGraph.{basic_block_of}
 use Rattle.mv_type_states.specs.TypesHold.{types_through}
-use Rattle.mv_type_states.proofs.BlockLemmas.{walked}
+use Rattle.mv_type_states.specs.Sound.{types_each}
+use Rattle.mv_type_states.proofs.BlockLemmas.{types_in, walked, listed_block}
 use Rattle.mv_type_states.proofs.passes.check_blocks.Goals as goal
 
 pub loop-block-preserved : goal.loop-block-preserved
@@ -12,10 +14,22 @@ loop-block-preserved c =
     let d = c.args.scope.now.function.now in
     let b = c.block-item.result in
     let k = c.loop-block.block-index in
+    let bs = c.args.g.now.blocks.items in
     let same = c.deref-block-items.ensures.value in
+    let below = subst (λ (bs : List Block). k < length bs) same c.loop-block-test.true in
+    let is_b = subst (λ (bs : List Block). b ≡ get_or bs k b) same c.block-item.is in
+    let empty = c.loop-block.invariant.empty in
     let there : types_through m d (slice_range d.code b.first (b.last + 1)) [] ≡ Some (reverse c.carry.new.stack.items) =
-    ap (λ stack. types_through m d (slice_range d.code b.first (b.last + 1)) (reverse stack)) (sym c.loop-block.invariant.2)
-    ∙ ap (λ code. types_through m d (slice_range code b.first (b.last + 1)) (reverse c.loop-block.stack.items)) (sym c.requires.code) ∙ c.in_ok-carry.ensures in
-    let next = walked m d c.args.g.now c.args.g.now.blocks.items k b (reverse c.carry.new.stack.items) _ (subst (λ (bs : List Block). k < length bs) same c.loop-block-test.true)
-    (subst (λ (bs : List Block). b ≡ get_or bs k b) same c.block-item.is) c.loop-block.invariant.0 c.loop-block.invariant.1 there in
-    (next.0, next.1.0, nil_from_length c.carry.new.stack.items (sym (length-reverse c.carry.new.stack.items) ∙ next.1.1))
+    ap (λ stack. types_through m d (slice_range d.code b.first (b.last + 1)) (reverse stack)) (sym empty)
+    ∙ ap (λ code. types_through m d (slice_range code b.first (b.last + 1)) (reverse c.loop-block.stack.items)) (sym c.requires.code) ∙ c.in_ok-carry.ensures.types in
+    let one : c.carry.new.all ≡ c.loop-block.all ++ types_in m d (basic_block_of c.args.g.now b) =
+    c.in_ok-carry.ensures.listed
+    ∙ ap (λ code. c.loop-block.all ++ types_each m d (slice_range code b.first (b.last + 1)) (reverse c.loop-block.stack.items)) c.requires.code
+    ∙ ap (λ stack. c.loop-block.all ++ types_each m d (slice_range d.code b.first (b.last + 1)) (reverse stack)) empty in
+    let next = walked m d c.args.g.now bs k b (reverse c.carry.new.stack.items) _ below is_b c.loop-block.invariant.decide c.loop-block.invariant.level there in
+    record {
+      decide = next.0;
+      level = next.1.0;
+      empty = nil_from_length c.carry.new.stack.items (sym (length-reverse c.carry.new.stack.items) ∙ next.1.1);
+      listed = listed_block m d c.args.g.now bs k b c.loop-block.all c.carry.new.all _ below is_b c.loop-block.invariant.listed one;
+    }

@@ -1,0 +1,7 @@
+use Rattle.std.proofs.Common.{◌≡◌, take}
+use Rattle.mv_type_states.specs.Tops.{tops_of}
+use Rattle.mv_type_states.proofs.stack_types.StackTypes.tops.Given as goal
+
+-- the topmost types of the stacks so far
+abbrev pub invariant-loop-at : goal.invariant-loop-at
+invariant-loop-at l = l.tops ≡ tops_of (take l.at l.self)
