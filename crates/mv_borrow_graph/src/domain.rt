@@ -17,11 +17,7 @@ use std::alloc::{AllocError, Global};
 use std::marker::Model;
 
 /// The types of the whole stack before each instruction of function `f`, whose definition is given.
-fn stacks_of<'t>(
-    m: &'t Typed<'_>,
-    f: usize,
-    function: &FunctionDefinition,
-) -> &'t StackTypes
+fn stacks_of<'t>(m: &'t Typed<'_>, f: usize, function: &FunctionDefinition) -> &'t StackTypes
     requires known { slice_get m.now.functions f ≡ Some function.now }
     requires typed { TypesHold m.now }
     ensures before { result.now ≡ types_before m.entry.now function.now }

@@ -70,7 +70,10 @@ impl<'a> Bounded<'a> {
         requires { f < length self.now.functions }
         ensures { IfSome (slice_get self.now.functions f) (λ d. result ≡ local_type self.now d index) }
     {
-        among(self.parameters(f), self.other_locals(f), usize::from(index))
+        let (definition, handle) = self.defined(f);
+        let parameters = self.signature(handle.parameters);
+        let others = self.signature(definition.locals());
+        among(parameters, others, usize::from(index))
     }
 
     /// Whether the struct of a definition is declared with key; it is not, if there is no such definition.

@@ -19,15 +19,15 @@ pub use certificate::{Cert, Known, Stated};
 pub use laws::texts_are_of_one_certificate;
 use mv_binary_format::Module;
 use mv_move_types::Refusal;
-use mv_type_states::Typed;
+use mv_type_states::{Tops, Typed};
 pub use shape::{function_at, function_count, graph_of, has_start};
 use std::alloc::{AllocError, Global};
 use std::marker::Model;
 
-/// A module that passed phases 3 to 12.
+/// A module that passed phases 3 to 12, with the two topmost types before each instruction.
 #[derive(Drop)]
 pub struct Verified<'a> {
-    typed: Typed<'a>,
+    tops: Tops<'a>,
 }
 
 impl<'a> Model for Verified<'a> {
@@ -38,9 +38,9 @@ impl<'a> Model for Verified<'a> {
 
     ghost Value = { Tables };
 
-    ghost view = { λ v. v.typed };
+    ghost view = { λ v. v.tops };
 
-    ghost invariant = { λ v. IsSound v.typed × AcquiresHold v.typed × HasCertificate v.typed };
+    ghost invariant = { λ v. IsSound v.tops × AcquiresHold v.tops × HasCertificate v.tops };
 }
 
 impl<'a> Verified<'a> {
@@ -56,14 +56,14 @@ impl<'a> Verified<'a> {
         ensures acquires { AcquiresHold self.now }
         ensures certificate { HasCertificate self.now }
     {
-        self.typed.module()
+        self.tops.module()
     }
 
-    /// The module with what it passed before its certificate.
-    pub fn typed(&self) -> &Typed<'a>
+    /// The module with the two topmost types before each instruction, which linking reads.
+    pub fn tops(&self) -> &Tops<'a>
         ensures { result.now ≡ self.now }
     {
-        &self.typed
+        &self.tops
     }
 }
 
@@ -105,7 +105,9 @@ pub fn check<'a>(alloc: Global, m: Typed<'a>, c: &Cert) -> Result<Verified<'a>, 
     checking::check_locals(alloc, &m, c)?;
     checking::check_edges(alloc, &m, c)?;
     checking::check_acquires(alloc, &m)?;
-    Ok(Verified { typed: m })
+    Ok(Verified {
+        tops: m.into_tops(alloc)?,
+    })
 }
 
 #[cfg(test)]

@@ -197,7 +197,8 @@ fn check_block<D: Domain, K: HasState<D::State>>(
 }
 
 /// Accepts exactly the closed flows: the state that is stated for block 0 is above the start state, and each stated state
-/// is carried through its block, every need met, to a state that is below each one stated for a successor.
+/// is carried through its block, every need met, to a state that is below each one stated for a successor. They are all
+/// carried in the memory of the start state.
 ///
 /// # Errors
 /// `Need` for each other flow; `Memory` if an allocation failed.
@@ -205,21 +206,21 @@ pub fn check_flow<D: Domain, K: HasState<D::State>>(
     alloc: Global,
     d: &D,
     g: &Cfg,
-    start: &D::State,
+    start: D::State,
     stated: &[Option<K>],
 ) -> Result<(), StepError>
     requires graph { IsGraph g.now (D.size d.now) }
-    requires start { D.is_state d.now start.now }
+    requires start { D.is_state d.now start }
     requires flow { IsFlow (D.is_state d.now) g.now (states_of K.inner stated.now) }
-    ensures ok { OnOk result (IsClosed (D.below d.now) (D.steps d.now) g.now start.now (states_of K.inner stated.now)) }
-    ensures need { IsErrOf result StepError.Need → ¬ IsClosed (D.below d.now) (D.steps d.now) g.now start.now (states_of K.inner stated.now) }
+    ensures ok { OnOk result (IsClosed (D.below d.now) (D.steps d.now) g.now start (states_of K.inner stated.now)) }
+    ensures need { IsErrOf result StepError.Need → ¬ IsClosed (D.below d.now) (D.steps d.now) g.now start (states_of K.inner stated.now) }
 {
     if let Some(entry) = &stated[0] {
-        if !d.leq(start, entry.state()) {
+        if !d.leq(&start, entry.state()) {
             return Err(StepError::Need);
         }
     }
-    let mut t = d.copy(alloc, start)?;
+    let mut t = start;
     for (k, block) in g.blocks.iter().enumerate() {
         if let Some(entry) = &stated[k] {
             check_block(alloc, d, block, entry.state(), &mut t, stated)?;
@@ -347,7 +348,7 @@ mod tests {
         let g = Cfg {
             blocks: alone(alloc, block)?,
         };
-        check_flow(alloc, &Takes { count }, &g, &start, &[Some(stated)])
+        check_flow(alloc, &Takes { count }, &g, start, &[Some(stated)])
     }
 
     /// What a search states for the one block of so many instructions.

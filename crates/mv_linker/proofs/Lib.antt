@@ -27,6 +27,7 @@ pub mod JoinedTargets
 pub mod DependencyLemmas
 pub mod FunctionLemmas
 pub mod HandleLemmas
+pub mod TopLemmas
 pub mod LinkLemmas
 pub mod SlotLemmas
 pub mod WidthLemmas

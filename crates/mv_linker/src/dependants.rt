@@ -11,7 +11,7 @@ use crate::names::module_name;
 use crate::scope::Scope;
 use mv_binary_format::Module;
 use mv_move_types::Refusal;
-use mv_type_states::Typed;
+use mv_type_states::Tops;
 use std::alloc::{AllocError, Global};
 
 /// A published module that stays and names a module of the bundle.
@@ -20,7 +20,7 @@ pub struct Dependant<'a> {
     /// Its place.
     pub place: usize,
     /// The module.
-    pub module: Typed<'a>,
+    pub module: Tops<'a>,
     /// What its handles name.
     pub names: Names,
 }
@@ -82,7 +82,7 @@ impl<'a> Scope<'a> {
         if !self.names_bundle(&self.store.module(place)?) {
             return Ok(None);
         }
-        let module = self.store.typed(place)?;
+        let module = self.store.tops(place)?;
         let names = self.names_there(alloc, module.module())?;
         Ok(Some(Dependant {
             place,

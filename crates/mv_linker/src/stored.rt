@@ -14,7 +14,7 @@ use crate::code::Code;
 use crate::interfaces::{Interface, index_of};
 use crate::sizes::Size;
 use mv_move_types::{Definition, Refusal};
-use mv_type_states::Typed;
+use mv_type_states::Tops;
 use std::alloc::AllocError;
 
 impl Store {
@@ -64,8 +64,8 @@ impl Store {
         self.codes[usize::from(d.place)].sizes[usize::from(d.index)]
     }
 
-    /// The module at a place, with what it passed before its certificate. It passed that when it was published.
-    pub(crate) fn typed(&self, place: usize) -> Result<Typed<'_>, AllocError>
+    /// The module at a place, with the types that linking reads. It passed phases 3 to 8 when it was published.
+    pub(crate) fn tops(&self, place: usize) -> Result<Tops<'_>, AllocError>
         requires { place < length self.now }
         ensures { IfOk result (λ t. slice_get (tables_in self.now) place ≡ Some t) }
     {
@@ -77,7 +77,7 @@ impl Store {
             Err(Refusal::Phase(_)) => unreachable!(),
         };
         match mv_type_states::check(alloc, bounded) {
-            Ok(typed) => Ok(typed),
+            Ok(typed) => typed.into_tops(alloc),
             Err(Refusal::Memory) => Err(AllocError),
             Err(Refusal::Phase(_)) => unreachable!(),
         }

@@ -192,12 +192,7 @@ fn height_by(height: usize, e: StackEffect) -> Option<usize>
 }
 
 /// Whether every block begins and ends with nothing on the stack. `code` is the function's code.
-fn are_blocks_level(
-    m: &Bounded<'_>,
-    d: &FunctionDefinition,
-    code: &[Instruction],
-    g: &Cfg,
-) -> bool
+fn are_blocks_level(m: &Bounded<'_>, d: &FunctionDefinition, code: &[Instruction], g: &Cfg) -> bool
     requires code { code.now ≡ d.now.code }
     requires graph { IsFlowGraph d.now.code g.now }
     ensures { result ≡ function_is_level m.now d.now }

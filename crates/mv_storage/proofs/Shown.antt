@@ -18,7 +18,7 @@ use Rattle.mv_storage.specs.declared.slot.Slot.TheVariants.{Vacant, Empty, One, 
 use Rattle.mv_storage.specs.declared.places.Places.{Places}
 use Rattle.mv_storage.specs.FlatStorage.{words_under, with_words, without_words}
 use Rattle.mv_storage.specs.Map.{IsBelow, Ascends, overwritten}
-use Rattle.mv_storage.specs.Slots.{key_cmp, layer_at, shown, shown_before, slot_at, value_at, is_changed, edited}
+use Rattle.mv_storage.specs.Slots.{key_cmp, layer_at, shown, shown_before, value_at, is_changed, edited}
 use Rattle.mv_storage.proofs.Keys.{key_before-is, same_key-is, same_key-symm, same_key-to}
 use Rattle.mv_storage.proofs.Maps.{bool_cases, words_under-below, words_under-with_words, words_under-without_words, Ascends-with_words, Ascends-without_words, entries_from_words}
 

@@ -1,5 +1,5 @@
 -- What a step of the code on its slots does to what they show.
-use Rattle.std.proofs.Common.{◌≡◌, ℕ, refl, sym, ap, ◌∙◌, Bool, true, false, cond, List, [], ◌∷◌, ◌++◌, Option, Some, None, ⊎_elim, inl, inr, is_some, ◌||◌, ◌<◌, ◌≤◌, arith, subst, slice_get, slice_set, slice_index_or, length, take, ◌-◌, length-append}
+use Rattle.std.proofs.Common.{◌≡◌, ℕ, refl, sym, ap, ◌∙◌, Bool, true, false, cond, List, [], ◌∷◌, ◌++◌, Option, Some, None, ⊎_elim, inl, inr, is_some, ◌||◌, ◌≤◌, arith, subst, slice_get, slice_set, slice_index_or, length, take, ◌-◌, length-append}
 use Rattle.std.specs.Option.{option_and_then}
 use Rattle.std.specs.BTreeMap.{BTreeMap, get, is_at, IsOrdered}
 use Rattle.std.specs.Map.{lookup}
@@ -43,20 +43,6 @@ has-same layer m n k slot has is q =
     (λ (here : same_key k q ≡ true). rw here (ap (value_at layer m) (same_key-to k q here)))
     (λ (off : same_key k q ≡ false). rw off refl)
     (bool_cases (same_key k q))
-
--- nothing where nothing was
-pub absent-same : (layer : Layer) (m : Places) (k : Key) → None ≡ get key_cmp m.tree k → ShowsAt layer k None m m
-absent-same layer m k none q =
-    ⊎_elim
-    (λ (here : same_key k q ≡ true).
-    let e : get key_cmp m.tree q ≡ None = ap (get key_cmp m.tree) (sym (same_key-to k q here)) ∙ sym none in
-    rw here (ap (λ x. layer_at layer (option_and_then (slice_get m.slots.items) x)) e))
-    (λ (off : same_key k q ≡ false). rw off refl)
-    (bool_cases (same_key k q))
-
--- the same slots show the same
-pub slots-same : (layer : Layer) (m n : Places) → ((q : Key) → slot_at n q ≡ slot_at m q) → ShowsSame layer m n
-slots-same layer m n same q = ap (layer_at layer) (same q)
 
 -- ---- the keys touched
 
@@ -253,26 +239,6 @@ noted-rest m n rest u noted done others q h =
     let had : is_changed (slot_at m q) ≡ true = ap is_changed (sym (others q off)) ∙ h in
     or-left (list_any (λ t. same_key q t.0) rest) (same_key q u.0) (sym (list_any-append (λ t. same_key q t.0) rest (u ∷ [])) ∙ noted q had) (same_key-symm q u.0 ∙ off))
     (bool_cases (same_key u.0 q))
-
--- nothing is left
-not-true : (b : Bool) → (b ≡ true → false ≡ true) → b ≡ false
-not-true true h = sym (h refl)
-not-true false h = refl
-
-pub settled-none : (p : Places) (touched : List (Key × ℕ)) → touched ≡ [] → IsSound p → AreNoted p touched → IsSettled p touched
-settled-none p touched none sound noted = record {
-  sound = sound;
-  kept = λ q. not-true (is_changed (slot_at p q)) (λ h. sym (ap (list_any (λ t. same_key q t.0)) none) ∙ noted q h);
-  none = none;
-}
-
--- a run begins with nothing touched
-pub settled-tracked : (p : Places) (touched : List (Key × ℕ)) → IsSettled p touched → IsTracked p touched
-settled-tracked p touched settled = record {
-  sound = settled.sound;
-  noted = λ q h. let e : is_changed (slot_at p q) ≡ false = settled.kept q in cc;
-  placed = subst (ArePlaced p.tree) (sym settled.none) tt;
-}
 
 -- a key whose slot is gone has none
 pub vacant-settled : (m n : Places) (k : Key) (p : ℕ) (s : Slot) → IsSound m → IsSettling m k p → slice_get m.slots.items p ≡ Some s → is_vacant s ≡ true → n.tree ≡ m.tree

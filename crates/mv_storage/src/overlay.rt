@@ -117,6 +117,7 @@ impl Overlay {
     }
 
     // The words that the run sees under a key.
+    #[inline]
     fn find(&self, key: &Key) -> Option<&[u128]>
         ensures { option_copied result ≡ words_under self.now.current key.now }
     {
@@ -185,7 +186,7 @@ impl Overlay {
     }
 
     /// Puts a value under a key where the run sees none, and says whether it did; nothing changes where it did not. It fails
-    /// only where memory runs out or 2^32 keys have values, and nothing changes then.
+    /// only where memory runs out, or where 2^32 keys have values, committed or put by the run; nothing changes then.
     pub fn put(&mut self, key: Key, value: Value) -> Result<bool, AllocError>
         ensures done { IfOk result (λ done. done ≡ not (is_some (words_under self.old.current key))) }
         ensures current { IfOk result (λ done. self.new.current ≡ cond done (with_words self.old.current key value) self.old.current) }

@@ -2,6 +2,9 @@ ghost use Rattle.std.specs.Prelude.{◌≡◌, [], ◌∷◌, Some, None, cond, 
 ghost use Rattle.mv_storage.specs.FlatStorage.{words_under, with_words};
 ghost use Rattle.mv_storage.specs.Map.{overwritten};
 
+use crate::places::Places;
+use crate::slot::Layer;
+use crate::slots::{put_into, settle};
 use crate::{Overlay, Storage, Value};
 use mv_move_types::Key;
 use std::alloc::{AllocError, Global};
@@ -109,5 +112,63 @@ fn edited_in_place(rt: HostRuntime) -> Result<(), Fail> {
             .get(&FIRST)
             .is_some_and(|words| words == [6, 7, 8].as_slice())
     );
+    Ok(())
+}
+
+#[test]
+fn put_and_taken_again(rt: HostRuntime) -> Result<(), Fail> {
+    let alloc = rt.alloc();
+    let mut overlay = Storage::new(alloc).overlay();
+    assert!(rt; overlay.put(FIRST, Value::leaf(5))?);
+    assert!(rt; overlay.put(SECOND, Value::words([1, 2].to_vec(alloc)?))?);
+    assert!(rt; !overlay.put(SECOND, Value::leaf(0))?);
+    assert!(rt; overlay.edit(&FIRST, 0, [6].as_slice())?);
+    assert!(rt; overlay.edit(&SECOND, 1, [9].as_slice())?);
+    let taken = overlay.take(&FIRST)?;
+    assert!(rt; taken.is_some_and(|value| value.as_slice() == [6].as_slice()));
+    assert!(rt; overlay.take(&FIRST)?.is_none());
+    assert!(rt; overlay.put(FIRST, Value::leaf(7))?);
+    let taken = overlay.take(&SECOND)?;
+    assert!(rt; taken.is_some_and(|value| value.as_slice() == [1, 9].as_slice()));
+    let storage = overlay.commit();
+    assert!(rt; storage.get(&SECOND).is_none());
+    assert!(rt;
+        storage
+            .get(&FIRST)
+            .is_some_and(|words| words == [7].as_slice())
+    );
+    Ok(())
+}
+
+#[test]
+fn put_and_given_up(rt: HostRuntime) -> Result<(), Fail> {
+    let alloc = rt.alloc();
+    let mut overlay = Storage::new(alloc).overlay();
+    assert!(rt; overlay.put(FIRST, Value::leaf(5))?);
+    assert!(rt; overlay.put(SECOND, Value::words([1, 2].to_vec(alloc)?))?);
+    let storage = overlay.discard();
+    assert!(rt; storage.get(&FIRST).is_none());
+    assert!(rt; storage.get(&SECOND).is_none());
+    let mut entries = storage.iter();
+    assert!(rt; entries.next().is_none());
+    Ok(())
+}
+
+// What is taken out leaves its place to what comes next.
+#[test]
+fn places_are_used_again(rt: HostRuntime) -> Result<(), Fail> {
+    let alloc = rt.alloc();
+    let mut places = Places::new(alloc);
+    let mut touched = Vec::new(alloc);
+    assert!(rt; put_into(&mut places, &mut touched, FIRST, Value::leaf(5))?);
+    assert!(rt; put_into(&mut places, &mut touched, SECOND, Value::leaf(6))?);
+    settle(&mut places, &mut touched, Layer::Committed);
+    assert_eq!(rt; places.slots.len(), 2);
+    assert!(rt; put_into(&mut places, &mut touched, SECOND, Value::leaf(7))?);
+    assert!(rt; put_into(&mut places, &mut touched, FIRST, Value::leaf(8))?);
+    settle(&mut places, &mut touched, Layer::Current);
+    assert_eq!(rt; places.slots.len(), 2);
+    let first = places.find(&FIRST);
+    assert!(rt; first.is_some_and(|slot| slot.committed() == Some([8].as_slice())));
     Ok(())
 }

@@ -40,7 +40,7 @@ returns-in_err-check_block-clause-need g c = λ e closed.
     let long = length-map c.args.stated.now (option_map g.K.HasState.inner) in
     let within : c.loop-k.k < length c.args.stated.now = omega (arith, long, c.requires.flow.entries, c.deref-block-items.ensures.len) in
     let stated = stated_entry g.K.HasState.inner c.args.stated.now c.loop-k.k c.index-stated-k.result within c.index-stated-k.is c.in-Some-stated.entry c.state-in-Some-stated.result.now c.in-Some-stated.is c.state-in-Some-stated.ensures in
-    let p = err_from_is_err_and c.from_residual-in_err-check_block.result c.from_residual-in_err-check_block.ensures.1 in
+    let p = err_from_is_err_and c.from_residual.result c.from_residual.ensures.1 in
     c.in_err-check_block.ensures.need (cc (p.1, p.2, e)) (closed.closed c.loop-k.k c.block-item.result c.state-in-Some-stated.result.now block stated)
 
 pub loop-k-preserved : goal.loop-k-preserved

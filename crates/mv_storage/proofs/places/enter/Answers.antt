@@ -2,7 +2,6 @@ use Rattle.std.proofs.Common.{◌≡◌, sym, ap, ◌∙◌, Some, cond}
 use Rattle.std.specs.BTreeMap.{get}
 use Rattle.std.specs.BTreeMap.Entry.{map_with_value, entry_map_ref}
 use Rattle.std.specs.declared.collections.btree_map.Entry.TheVariants.{Vacant}
-use Rattle.mv_move_types.specs.declared.tables.Key.{Key}
 use Rattle.mv_storage.specs.Slots.{key_cmp}
 use Rattle.mv_storage.proofs.Steps.{at-same}
 use Rattle.mv_storage.proofs.places.enter.Goals as goal

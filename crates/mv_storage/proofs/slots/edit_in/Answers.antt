@@ -1,11 +1,11 @@
-use Rattle.std.proofs.Common.{◌≡◌, refl, sym, ap, ◌∙◌, Some, is_some}
+use Rattle.std.proofs.Common.{refl, sym, ap, ◌∙◌, is_some}
 use Rattle.std.specs.Option.{option_and_then}
 use Rattle.std.specs.Vec.{with_item}
 use Rattle.std.proofs.lemmas.Result.{on_ok_weaker, on_err_weaker, IfOk-weaker}
 use Rattle.mv_storage.specs.declared.places.Places.{Places}
 use Rattle.mv_storage.specs.declared.slot.Layer.TheVariants.{Committed, Current}
 use Rattle.mv_storage.specs.WordLists.{spliced}
-use Rattle.mv_storage.specs.Slots.{layer_at, slot_at, edited}
+use Rattle.mv_storage.specs.Slots.{layer_at, edited}
 use Rattle.mv_storage.proofs.Steps.{slot-read, tracked-wrote, wrote-shows, wrote-same}
 use Rattle.mv_storage.proofs.slots.edit_in.Goals as goal
 

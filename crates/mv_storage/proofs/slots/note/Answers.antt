@@ -1,5 +1,3 @@
-use Rattle.std.proofs.Common.{subst, sym, List}
-use Rattle.mv_storage.specs.Slots.{ArePlaced}
 use Rattle.mv_storage.proofs.Steps.{placed-push}
 use Rattle.mv_storage.proofs.slots.note.Goals as goal
 

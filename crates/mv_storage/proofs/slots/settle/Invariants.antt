@@ -1,4 +1,4 @@
-use Rattle.std.proofs.Common.{◌≡◌, length}
+use Rattle.std.proofs.Common.{length}
 use Rattle.mv_storage.specs.Slots.{IsSound, AreNoted, AreSettling, ShowsSame}
 use Rattle.mv_storage.proofs.slots.settle.Given as goal
 

@@ -1,9 +1,9 @@
-use Rattle.std.proofs.Common.{◌≡◌, refl, sym, ap, ◌∙◌, Some}
+use Rattle.std.proofs.Common.{refl, sym, ap, ◌∙◌}
 use Rattle.std.specs.Vec.{with_item}
 use Rattle.std.proofs.lemmas.Result.{on_ok_weaker, IfOk-weaker}
 use Rattle.mv_storage.specs.declared.places.Places.{Places}
 use Rattle.mv_storage.specs.declared.slot.Layer.TheVariants.{Committed, Current}
-use Rattle.mv_storage.specs.Slots.{layer_at, slot_at}
+use Rattle.mv_storage.specs.Slots.{layer_at}
 use Rattle.mv_storage.proofs.Steps.{slot-read, tracked-wrote, wrote-shows, wrote-same}
 use Rattle.mv_storage.proofs.slots.take_from.Goals as goal
 

@@ -7,7 +7,7 @@ use Rattle.mv_type_states.specs.Sound.{IsSound, IsRefusedByTypes, FailsTypes, il
 use Rattle.mv_linker.specs.Link.{IsStore, tables_in}
 use Rattle.mv_linker.proofs.Assembling.{passed-among}
 use Rattle.mv_linker.proofs.Members.{among-at}
-use Rattle.mv_linker.proofs.Store.typed.Goals as goal
+use Rattle.mv_linker.proofs.Store.tops.Goals as goal
 
 -- a store's modules are sound, and so no phase refuses them
 sound-at : (store : List PublishedModule) (place : ℕ) (m : Module) → IsStore store → slice_get (tables_in store) place ≡ Some m → IsSound m
