@@ -1,15 +1,16 @@
 -- What the rows of the rules make of edges.
-use Rattle.std.proofs.Common.{◌≡◌, ℕ, Bool, true, false, not, List, [], ◌∷◌, ◌++◌, length, take, drop, get_or, slice_get, ◌+◌, ◌-◌, ◌<◌, ◌≤◌, Option, Some, None, Result, refl, sym, ap, ◌∙◌, subst, arith, append_assoc, append-nil}
+use Rattle.std.proofs.Common.{◌≡◌, ℕ, Bool, true, false, not, List, [], ◌∷◌, ◌++◌, length, take, drop, get_or, slice_get, ◌+◌, ◌-◌, ◌<◌, ◌≤◌, Option, Some, None, Result, refl, sym, ap, ◌∙◌, subst, arith, append_assoc, append-nil, true≢false}
 use Rattle.std.specs.Bool.{then_some}
 use Rattle.std.specs.List.{list_all, list_any, flat_map}
 use Rattle.std.proofs.Common.{◌&&◌, ◌||◌}
 use Rattle.std.specs.Prelude.{if◌then◌else◌}
+use Rattle.std.proofs.lemmas.Bool.{or_parts}
 use Rattle.std.proofs.lemmas.List.{take_more, drop_more, drop_all, flat_map_more}
 use Rattle.mv_move_types.specs.declared.token.Token.{Token}
 use Rattle.mv_move_types.specs.declared.token.Token.TheVariants.{Plain, Reference, MutableReference}
 use Rattle.mv_move_types.specs.declared.token.ValueType.{ValueType}
 use Rattle.mv_move_types.specs.declared.borrow.Node.{Node}
-use Rattle.mv_move_types.specs.declared.borrow.Node.TheVariants.{Slot, Glob, Temp}
+use Rattle.mv_move_types.specs.declared.borrow.Node.TheVariants.{Slot, Own, Glob, Temp}
 use Rattle.mv_move_types.specs.declared.tables.FunctionHandle.{FunctionHandle}
 use Rattle.mv_move_types.specs.Options.{◌>>=◌}
 use Rattle.mv_move_types.specs.Module.{own_acquires}
@@ -21,7 +22,7 @@ use Rattle.mv_edges.specs.Ascending.{are_ascending}
 use Rattle.mv_edges.specs.Sorted.{sorted}
 use Rattle.mv_edges.proofs.Sorting.{sorted-ascending, ascending-sorted, sorted-append_swap, sorted-append_sorted, any_filter}
 use Rattle.mv_borrow_graph.specs.BorrowRules.{next_temp, top_temp, no_edge_out, copy_edges, field_edges, opened_edges, result_edges, reference_nodes, without_all, call_edges, is_mutable_token, is_reference_token}
-use Rattle.mv_borrow_graph.specs.Domain.{ordered, Follows}
+use Rattle.mv_borrow_graph.specs.Domain.{is_global_node, ordered, Follows}
 
 -- edges that ascend are in their order
 pub kept_order : (es : List Edge) → are_ascending es ≡ true → sorted es ≡ es
@@ -164,3 +165,22 @@ one_not_free place i types d s whole h found rest =
     let others : Bool = list_all p (reference_nodes is_mutable_token (place + (i + 1)) (drop (i + 1) types)) in
     ap (λ b. b && others) (sym found) ∙ sym (tested_more p (is_mutable_token (get_or types i d)) (Temp (place + i)) (reference_nodes is_mutable_token (place + (i + 1)) (drop (i + 1) types)))
     ∙ ap (list_all p) (sym (nodes_more is_mutable_token place i types d h)) ∙ rest
+
+-- ---- globals
+
+not_the_global : (n : Node) (t : ℕ) → is_global_node n ≡ false → same_node n (Glob t) ≡ false
+not_the_global (Slot l) t h = refl
+not_the_global (Own l) t h = refl
+not_the_global (Glob u) t h = absurd (true≢false h)
+not_the_global (Temp k) t h = refl
+
+global_free : (s : List Edge) (t : ℕ) → list_any (λ e. is_global_node e.from) s ≡ false → no_edge_out (Glob t) s ≡ true
+global_free [] t h = refl
+global_free (e ∷ s) t h =
+    let parts = or_parts (is_global_node e.from) (list_any (λ e. is_global_node e.from) s) h in
+    rw (not_the_global e.from t parts.0) (global_free s t parts.1)
+
+-- where no edge leads out of any global, none leads out of these
+pub globals_free : (s : List Edge) (ts : List ℕ) → list_any (λ e. is_global_node e.from) s ≡ false → list_all (λ t. no_edge_out (Glob t) s) ts ≡ true
+globals_free s [] h = refl
+globals_free s (t ∷ ts) h = rw (global_free s t h) (globals_free s ts h)

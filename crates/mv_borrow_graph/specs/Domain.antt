@@ -2,6 +2,8 @@
 use Rattle.std.specs.Prelude.{◌≡◌, ℕ, Bool, true, false, nat_le, List, length, Option, Some, None, Result, Ok, Err, slice_get, IsSome}
 use Rattle.std.specs.Option.{option_map_or}
 use Rattle.mv_move_types.specs.declared.token.Token.{Token}
+use Rattle.mv_move_types.specs.declared.borrow.Node.{Node}
+use Rattle.mv_move_types.specs.declared.borrow.Node.TheVariants.{Slot, Own, Glob, Temp}
 use Rattle.mv_move_types.specs.Options.{◌>>=◌}
 use Rattle.mv_move_types.specs.Module.{Module, FunctionDefinition, local_type}
 use Rattle.mv_move_types.specs.declared.instruction.Instruction.{Instruction}
@@ -54,6 +56,13 @@ abbrev pub Follows : {S : Type 0} → Result (Unit {0}) StepError → S → Opti
 Follows (Ok done) new after = after ≡ Some new
 Follows (Err Need) new after = after ≡ None
 Follows (Err Memory) new after = IsSome after
+
+-- whether a node is a global
+abbrev pub is_global_node : Node → Bool
+is_global_node (Slot l) = false
+is_global_node (Own l) = false
+is_global_node (Glob t) = true
+is_global_node (Temp k) = false
 
 -- whether a local is of a reference type
 abbrev pub is_reference_local : Module → FunctionDefinition → ℕ → Bool

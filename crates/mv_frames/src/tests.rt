@@ -37,3 +37,24 @@ fn words_that_are_not_there(rt: HostRuntime) -> Result<(), Fail> {
     assert_eq!(rt; words.as_slice(), [1, 2].as_slice());
     Ok(())
 }
+
+#[test]
+fn words_past_their_first_room(rt: HostRuntime) -> Result<(), Fail> {
+    let mut words = Words::new(rt.alloc());
+    assert!(rt; words.zeros(31).is_ok());
+    assert!(rt; words.extend([1, 2].as_slice()).is_ok());
+    assert!(rt; words.copy(1, 32).is_ok());
+    assert!(rt; words.push(7).is_ok());
+    assert!(rt; words.zeros(100).is_ok());
+    assert_eq!(rt; words.len(), 166);
+    words.cut(66);
+    words.close(1, 33);
+    assert_eq!(rt; words.len(), 34);
+    assert!(rt; matches!(words.pop(), Ok(7)));
+    assert!(rt; matches!(words.pop(), Ok(2)));
+    words.close(0, 2);
+    assert_eq!(rt; words.len(), 30);
+    assert!(rt; matches!(words.pop(), Ok(1)));
+    assert!(rt; matches!(words.pop(), Ok(0)));
+    Ok(())
+}

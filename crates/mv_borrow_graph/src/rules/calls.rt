@@ -10,7 +10,7 @@ ghost use Rattle.mv_borrow_graph.specs.BorrowRules.{call_edges, is_mutable, is_m
 ghost use Rattle.mv_borrow_graph.specs.Domain.{Follows, ordered};
 
 use crate::changes::keep;
-use crate::nodes::{are_free, are_free_globals, is_operand, is_root, nodes_of};
+use crate::nodes::{any_leaves_global, are_free, are_free_globals, is_operand, is_root, nodes_of};
 use crate::site::Site;
 use mv_edges::{Change, Edge, Edges};
 use mv_lattice::StepError;
@@ -153,12 +153,23 @@ impl<'d, 'm> Site<'d, 'm> {
         self.stack.len().saturating_sub(count)
     }
 
+    /// Whether no edge leads out of the globals that a function acquires. Where none leads out of any global, it isn't asked
+    /// which those are.
+    fn are_acquired_free(&self, callee: u16, s: &Edges) -> bool
+        ensures { result ≡ list_all (λ t. no_edge_out (Glob t) s.now) (own_acquires self.now.home callee) }
+    {
+        if !any_leaves_global(s) {
+            return true;
+        }
+        are_free_globals(self.module.own_acquires(callee), s)
+    }
+
     /// Whether no edge leads out of a call's mutable arguments, or of the globals that the function acquires.
     fn may_call(&self, place: usize, parameters: &[Token], callee: u16, s: &Edges) -> bool
         requires { place + length parameters.now ≤ 2 ^ 16 }
         ensures { result ≡ (list_all (λ n. no_edge_out n s.now) (reference_nodes is_mutable_token place parameters.now) && list_all (λ t. no_edge_out (Glob t) s.now) (own_acquires self.now.home callee)) }
     {
-        are_free(place, parameters, s) && are_free_globals(self.module.own_acquires(callee), s)
+        are_free(place, parameters, s) && self.are_acquired_free(callee, s)
     }
 
     /// Calls a function: its mutable arguments and the globals that it acquires have to be free.
