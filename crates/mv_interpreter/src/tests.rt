@@ -1,5 +1,5 @@
 use crate::linked::{Cut, run_linked};
-use mv_linker::{Callee, Code, Op};
+use mv_linker::{Callee, Code, Identifiers, Op};
 use mv_machine::{Ending, Kind, Stop};
 use mv_move_types::{Definition, Key, Width};
 use mv_storage::Storage;
@@ -90,6 +90,7 @@ fn codes(alloc: Global) -> Result<Vec<Code>, AllocError> {
         others: Vec::new(alloc),
         interfaces: Vec::new(alloc),
         sizes: Vec::new(alloc),
+        identifiers: Identifiers::new(alloc),
     };
     let mut codes = Vec::new(alloc);
     codes.push(code)?;

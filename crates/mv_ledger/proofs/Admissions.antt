@@ -17,7 +17,6 @@ use Rattle.mv_ledger.specs.declared.executing.Call.{Call}
 use Rattle.mv_ledger.specs.declared.executing.Barred.{Barred}
 use Rattle.mv_ledger.specs.declared.executing.Barred.TheVariants.{Rejected}
 use Rattle.mv_ledger.specs.Running.{IsAdmission, IsAdmitted}
-use Rattle.mv_ledger.proofs.Calls.{there}
 
 -- ---- one part after the other
 

@@ -1,6 +1,7 @@
--- An object as it is put after a text, piece by piece.
+-- An object, or a struct's name, as it is put after a text, piece by piece.
 use Rattle.std.proofs.Common.{◌≡◌, ℕ, List, [], ◌∷◌, ◌++◌, append_assoc, codes}
-use Rattle.mv_machine.specs.Lines.{member, object}
+use Rattle.mv_move_types.specs.Names.{StructName}
+use Rattle.mv_machine.specs.Lines.{address_text, member, object, struct_text}
 
 -- the pieces of an object of three members
 three : (t o e c q s k l m a b d : List ℕ)
@@ -28,3 +29,13 @@ pub counts_put : (t0 t1 t2 t3 t4 t5 t6 t7 t8 t9 packed stored struct unpacked : 
 counts_put t0 t1 t2 t3 t4 t5 t6 t7 t8 t9 packed stored struct unpacked p1 p2 p3 p4 p5 p6 p7 p8 p9 =
     rw (p9, p8, p7, p6, p5, p4, p3, p2, p1)
     (four t0 (codes "{") (codes "}") (codes ",") (codes "\"") (codes "\":\"") (codes "packed") (codes "stored") (codes "struct") (codes "unpacked") packed stored struct unpacked)
+
+-- the pieces of a name
+joined : (t a s h n : List ℕ) → ((((t ++ a) ++ s) ++ h) ++ s) ++ n ≡ t ++ (a ++ s ++ h ++ s ++ n)
+joined t a s h n = simp append_assoc
+
+-- of a struct's name
+pub name_put : (t0 t1 t2 t3 t4 t5 home identifier : List ℕ) (address : ℕ) (n : StructName) → t1 ≡ t0 ++ address_text address → t2 ≡ t1 ++ codes "::" → t3 ≡ t2 ++ home → t4 ≡ t3 ++ codes "::" → t5 ≡ t4 ++ identifier
+    → address ≡ n.home.address → home ≡ n.home.name → identifier ≡ n.name → t5 ≡ t0 ++ struct_text n
+name_put t0 t1 t2 t3 t4 t5 home identifier address n p1 p2 p3 p4 p5 address_is home_is identifier_is =
+    rw (p5, p4, p3, p2, p1, address_is, home_is, identifier_is) (joined t0 (address_text n.home.address) (codes "::") n.home.name n.name)

@@ -5,12 +5,11 @@ use Rattle.mv_machine.specs.Lines.{Tallied, struct_text, end_line, member, objec
 use Rattle.mv_linker.specs.Link.{tables_in}
 use Rattle.mv_ledger.specs.declared.audit.Counted.{Counted}
 use Rattle.mv_ledger.specs.declared.tallies.Tally.{Tally}
-use Rattle.mv_ledger.specs.Showing.{name_in}
 use Rattle.mv_ledger.specs.View.{all_of, tallied}
 
 -- a struct with its counts
 abbrev pub counted_in : Counted → Tallied
-counted_in c = record { struct = name_in c.name; packs = c.packs; unpacks = c.unpacks }
+counted_in c = record { struct = c.name; packs = c.packs; unpacks = c.unpacks }
 
 -- as many values are stored as were made and not taken apart
 abbrev pub stored_of : Tallied → ℕ

@@ -1,23 +1,14 @@
 -- How the lines of a show and of an audit are made, and which of them are left.
-use Rattle.std.specs.Prelude.{Bool, cond, codes, ◌≡◌, ℕ, ◌+◌, List, [], ◌∷◌, ◌++◌, map, length, Option, Some, None, option_map, unwrap_or, slice_get}
+use Rattle.std.specs.Prelude.{Bool, cond, codes, ◌≡◌, ℕ, ◌+◌, List, [], ◌∷◌, ◌++◌, map, length, Option, Some, None, option_map, unwrap_or}
 use Rattle.std.specs.Borrow.{Bor}
 use Rattle.mv_move_types.specs.Names.{StructName}
-use Rattle.mv_move_types.specs.Module.{Module, name_of_struct}
+use Rattle.mv_move_types.specs.Module.{Module}
 use Rattle.std.specs.Option.{option_map_or}
 use Rattle.mv_move_types.specs.Options.{◌>>=◌}
 use Rattle.mv_move_types.specs.declared.token.LeafKind.TheVariants.{Boolean}
 use Rattle.mv_machine.specs.Value.{Leaf, Values, NoMore, More}
 use Rattle.mv_machine.specs.Flat.{FlatEntry, storage_of, struct_from}
 use Rattle.mv_machine.specs.Lines.{value_text, rest_text, struct_text, entry_line, end_line}
-use Rattle.mv_ledger.specs.declared.texts.Named.{Named}
-
--- the name of a struct
-abbrev pub name_in : Named → StructName
-name_in n = record { home = record { address = n.address; name = n.home.now }; name = n.name.now }
-
--- the name of the struct that a module defines at an index
-abbrev pub name_in_module : Module → ℕ → Option StructName
-name_in_module m index = slice_get m.structs index >>= name_of_struct m
 
 -- fields' values with a comma between each two
 abbrev pub fields_text : Values → List ℕ

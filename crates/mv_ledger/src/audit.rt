@@ -1,70 +1,70 @@
 // The counts of an audit, and their lines.
-ghost use Rattle.std.specs.Prelude.{◌≡◌, ◌<◌, [], ◌∷◌, All, length, map, IfOk, MatchOption};
+ghost use Rattle.std.specs.Prelude.{◌≡◌, [], ◌∷◌, length, map, IfOk, MatchOption};
 ghost use Rattle.mv_linker.specs.Link.{tables_in};
 ghost use Rattle.mv_ledger.specs.Auditing.{count_line, counted_in, counts_from, stored_of};
-ghost use Rattle.mv_ledger.specs.Showing.{name_in};
 ghost use Rattle.mv_interpreter.specs.Flat.Agreement.{nameless};
 ghost use Rattle.mv_ledger.specs.View.{tallied};
 
 use crate::tallies::{Tallies, Tally};
-use crate::texts::{Named, put_name, put_number, struct_in};
-use mv_linker::Store;
+use crate::texts::{put_name, put_number};
+use mv_linker::{Store, StructName};
+use mv_move_types::Definition;
 use std::alloc::{AllocError, Global};
 use std::marker::Model;
 use std::vec::IntoIter;
 
 /// A struct, and how often its values were made and taken apart.
-#[derive(Clone, Copy)]
+#[derive(Drop)]
 pub struct Counted<'a> {
-    pub name: Named<'a>,
+    pub name: StructName<'a>,
     pub packs: u128,
     pub unpacks: u128,
 }
 
 /// The name of no struct.
-fn unnamed<'a>() -> Named<'a>
-    ensures { name_in result ≡ nameless }
+fn unnamed<'a>() -> StructName<'a>
+    ensures { result ≡ nameless }
 {
-    Named {
-        address: 0,
-        home: &[],
-        name: &[],
+    StructName::new(0, &[], &[])
+}
+
+/// The counts of a tally, with the struct's name.
+fn count_of<'s>(store: &'s Store, tally: &Tally) -> Counted<'s>
+    ensures { counted_in result ≡ tallied (tables_in store.entry.now) tally.now }
+{
+    let definition = Definition {
+        place: tally.place,
+        index: tally.index,
+    };
+    Counted {
+        name: store.struct_name(definition).unwrap_or(unnamed()),
+        packs: tally.packs,
+        unpacks: tally.unpacks,
     }
 }
 
-/// The counts of the structs of the module at a place.
+/// The counts of these tallies.
 fn counts_of<'s>(
     alloc: Global,
     store: &'s Store,
-    place: usize,
     tallies: &[Tally],
 ) -> Result<Vec<Counted<'s>>, AllocError>
-    requires place { place < length store.now }
-    requires tallies { All (λ t. t.place ≡ place) tallies.now }
     ensures { IfOk result (λ v. map counted_in v.items ≡ map (tallied (tables_in store.entry.now)) tallies.now) }
 {
     let mut counts = Vec::new(alloc);
-    if tallies.is_empty() {
-        return Ok(counts);
-    }
-    let home = store.module(place)?;
     'each: for tally in tallies {
-        counts.push(Counted {
-            name: struct_in(&home, tally.index as usize).unwrap_or(unnamed()),
-            packs: tally.packs,
-            unpacks: tally.unpacks,
-        })?;
+        counts.push(count_of(store, tally))?;
     }
     Ok(counts)
 }
 
 /// The line of a struct's counts.
-pub fn count_text(alloc: Global, counted: Counted<'_>) -> Result<Vec<u8>, AllocError>
-    ensures { IfOk result (λ text. text.items ≡ count_line (stored_of (counted_in counted.entry)) (counted_in counted.entry)) }
+pub fn count_text(alloc: Global, counted: &Counted<'_>) -> Result<Vec<u8>, AllocError>
+    ensures { IfOk result (λ text. text.items ≡ count_line (stored_of (counted_in counted.now)) (counted_in counted.now)) }
 {
     let mut text = Vec::new(alloc);
     text.extend_from_slice(b"count ")?;
-    put_name(alloc, &mut text, counted.name)?;
+    put_name(alloc, &mut text, &counted.name)?;
     text.extend_from_slice(b" stored ")?;
     put_number(
         alloc,
@@ -78,8 +78,8 @@ pub fn count_text(alloc: Global, counted: Counted<'_>) -> Result<Vec<u8>, AllocE
     Ok(text)
 }
 
-/// The counts of all structs with neither copy nor drop, module by module. A module is read once, where its first count is
-/// asked for. Its model is the list of those that are left.
+/// The counts of all structs with neither copy nor drop, module by module: those of a module are made where its first one is
+/// asked for, and no byte of it is read. Its model is the list of those that are left.
 #[derive(Drop)]
 pub struct Counts<'a> {
     store: &'a Store,
@@ -127,7 +127,7 @@ impl<'a> Counts<'a> {
                 return Ok(None);
             }
             let tallies = self.tallies.at(self.place);
-            self.counts = counts_of(alloc, self.store, self.place, tallies)?.into_iter();
+            self.counts = counts_of(alloc, self.store, tallies)?.into_iter();
             self.place += 1;
         }
     }

@@ -36,27 +36,27 @@ fn put_entry(
 ) -> Result<(), AllocError>
     ensures { OnOk result (text.new.items ≡ text.old.items ++ entry_object (tables_in store.now) (record { key = key; value = value_under (tables_in store.now) key words.now })) }
 {
-    let name = struct_at(store, key)?;
+    let name = struct_at(store, key);
     text.extend_from_slice(b"{\"address\":\"")?;
     put_address(alloc, text, key.address)?;
     text.extend_from_slice(b"\",\"struct\":\"")?;
-    put_key(alloc, text, name)?;
+    put_key(alloc, text, name.as_ref())?;
     text.extend_from_slice(b"\",\"value\":\"")?;
-    put_value(alloc, text, store, name, words)?;
+    put_value(alloc, text, store, name.as_ref(), words)?;
     text.extend_from_slice(b"\"}")?;
     Ok(())
 }
 
 /// Appends a struct's counts as an object to a text.
-fn put_counts(alloc: Global, text: &mut Vec<u8>, counted: Counted<'_>) -> Result<(), AllocError>
-    ensures { OnOk result (text.new.items ≡ text.old.items ++ count_object (stored_of (counted_in counted.entry)) (counted_in counted.entry)) }
+fn put_counts(alloc: Global, text: &mut Vec<u8>, counted: &Counted<'_>) -> Result<(), AllocError>
+    ensures { OnOk result (text.new.items ≡ text.old.items ++ count_object (stored_of (counted_in counted.now)) (counted_in counted.now)) }
 {
     text.extend_from_slice(b"{\"packed\":\"")?;
     put_number(alloc, text, counted.packs)?;
     text.extend_from_slice(b"\",\"stored\":\"")?;
     put_number(alloc, text, counted.packs.saturating_sub(counted.unpacks))?;
     text.extend_from_slice(b"\",\"struct\":\"")?;
-    put_name(alloc, text, counted.name)?;
+    put_name(alloc, text, &counted.name)?;
     text.extend_from_slice(b"\",\"unpacked\":\"")?;
     put_number(alloc, text, counted.unpacks)?;
     text.extend_from_slice(b"\"}")?;
@@ -99,7 +99,7 @@ pub fn json_of_tallies(
     let mut later = false;
     'each: while let Some(counted) = counts.next(alloc)? {
         put_comma(&mut text, later)?;
-        put_counts(alloc, &mut text, counted)?;
+        put_counts(alloc, &mut text, &counted)?;
         later = true;
     }
     text.extend_from_slice(b"]}")?;

@@ -22,14 +22,14 @@ use std::mem;
 fn entry_text(alloc: Global, store: &Store, key: Key, words: &[u128]) -> Result<Vec<u8>, AllocError>
     ensures { IfOk result (λ text. text.items ≡ entry_line (tables_in store.now) (record { key = key; value = value_under (tables_in store.now) key words.now })) }
 {
-    let name = struct_at(store, key)?;
+    let name = struct_at(store, key);
     let mut text = Vec::new(alloc);
     text.extend_from_slice(b"at ")?;
     put_address(alloc, &mut text, key.address)?;
     text.push(b' ')?;
-    put_key(alloc, &mut text, name)?;
+    put_key(alloc, &mut text, name.as_ref())?;
     text.push(b' ')?;
-    put_value(alloc, &mut text, store, name, words)?;
+    put_value(alloc, &mut text, store, name.as_ref(), words)?;
     Ok(text)
 }
 
@@ -100,7 +100,7 @@ impl<'a> Counting<'a> {
         let Counting { mut counts, told } = self;
         match counts.next(alloc)? {
             Some(counted) => {
-                let line = count_text(alloc, counted)?;
+                let line = count_text(alloc, &counted)?;
                 let told = told + 1;
                 Ok((line, Left::Counting(Counting { counts, told })))
             }

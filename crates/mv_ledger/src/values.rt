@@ -1,44 +1,26 @@
 // Values as text.
-ghost use Rattle.std.specs.Prelude.{◌≡◌, ◌++◌, option_map, IfOk, OnOk};
-ghost use Rattle.mv_move_types.specs.Named.{is_struct};
-ghost use Rattle.mv_move_types.specs.Options.{find_index};
+ghost use Rattle.std.specs.Prelude.{◌≡◌, ◌++◌, IfOk, OnOk};
+ghost use Rattle.std.specs.Option.{option_copied};
+ghost use Rattle.mv_move_types.specs.Named.{module_place};
 ghost use Rattle.mv_linker.specs.Link.{tables_in};
 ghost use Rattle.mv_machine.specs.Flat.{fields_from, struct_from, value_from};
 ghost use Rattle.mv_machine.specs.Lines.{value_text};
-ghost use Rattle.mv_ledger.specs.Showing.{PutsText, fields_text, key_value_text, name_in};
+ghost use Rattle.mv_ledger.specs.Showing.{PutsText, fields_text, key_value_text};
 
-use crate::texts::{Named, put_leaf, struct_of};
-use mv_binary_format::{Module, StructDefinition};
-use mv_linker::Store;
+use crate::texts::put_leaf;
+use mv_binary_format::Module;
+use mv_linker::{Store, StructName, struct_name, struct_place};
 use mv_move_types::{Field, Token, ValueType};
 use std::alloc::{AllocError, Global};
 
 // How deep a struct is nested at most.
 const MOST_NESTING: usize = 8;
 
-/// Whether a definition of a module is that of a struct.
-fn is_of(m: &Module<'_>, d: &StructDefinition, name: Named<'_>) -> bool
-    ensures { result ≡ is_struct m.now (name_in name.entry) d.now }
+/// The place of the module that defines a struct.
+fn home_of(store: &Store, name: &StructName<'_>) -> Option<usize>
+    ensures { result ≡ module_place (tables_in store.now) name.now.home }
 {
-    match struct_of(m, d.handle() as usize) {
-        Some(own) => {
-            own.address == name.address && own.home == name.home && own.name == name.name
-        }
-        None => false,
-    }
-}
-
-/// The index of a struct's definition in a module.
-fn index_of(m: &Module<'_>, name: Named<'_>) -> Option<usize>
-    ensures { result ≡ find_index (is_struct m.now (name_in name.entry)) m.now.structs }
-{
-    let structs = m.structs();
-    for (i, d) in structs.iter().enumerate() {
-        if is_of(m, d, name) {
-            return Some(i);
-        }
-    }
-    None
+    store.find(name.address(), name.home())
 }
 
 /// Appends the value of a struct that some words begin with to a text, and returns the words after it. None where they
@@ -48,21 +30,21 @@ fn put_struct<'w>(
     alloc: Global,
     store: &Store,
     depth: usize,
-    name: Named<'_>,
+    name: &StructName<'_>,
     words: &'w [u128],
     text: &mut Vec<u8>,
 ) -> Result<Option<&'w [u128]>, AllocError>
-    ensures { IfOk result (λ rest. PutsText value_text (struct_from depth (tables_in store.now) (name_in name.entry) words.entry.now)
+    ensures { IfOk result (λ rest. PutsText value_text (struct_from depth (tables_in store.now) name.now words.entry.now)
         rest text.old.items text.new.items) }
 {
     if depth == 0 {
         return Ok(None);
     }
-    let Some(place) = store.find(name.address, name.home) else {
+    let Some(place) = home_of(store, name) else {
         return Ok(None);
     };
     let home = store.module(place)?;
-    let Some(index) = index_of(&home, name) else {
+    let Some(index) = struct_place(&home, name) else {
         return Ok(None);
     };
     let Some(definition) = home.structs().get(index) else {
@@ -131,8 +113,8 @@ fn put_field<'w>(
                 Ok(Some(rest))
             }
         },
-        Token::Plain(ValueType::OfStruct(handle)) => match struct_of(home, handle as usize) {
-            Some(name) => put_struct(alloc, store, depth, name, words, text),
+        Token::Plain(ValueType::OfStruct(handle)) => match struct_name(home, handle as usize) {
+            Some(name) => put_struct(alloc, store, depth, &name, words, text),
             None => Ok(None),
         },
         _ => Ok(None),
@@ -144,10 +126,10 @@ pub fn put_value(
     alloc: Global,
     text: &mut Vec<u8>,
     store: &Store,
-    name: Option<Named<'_>>,
+    name: Option<&StructName<'_>>,
     words: &[u128],
 ) -> Result<(), AllocError>
-    ensures { OnOk result (text.new.items ≡ text.old.items ++ key_value_text (tables_in store.now) (option_map name_in name.entry) words.now) }
+    ensures { OnOk result (text.new.items ≡ text.old.items ++ key_value_text (tables_in store.now) (option_copied name.entry) words.now) }
 {
     let mut value = Vec::new(alloc);
     let rest = match name {

@@ -45,3 +45,6 @@ pub mod Linkable
 pub mod PlacedCodes
 pub mod Joins
 pub mod InterfaceLemmas
+pub mod Constants
+pub mod IdentifierLemmas
+pub mod StructNames

@@ -5,6 +5,7 @@ ghost use Rattle.mv_move_types.specs.Names.{same_struct};
 ghost use Rattle.std.specs.Str.{bytes_eq};
 ghost use Rattle.mv_move_types.specs.Module.{module_name as name_of_module, own_name, struct_name as name_at_handle, name_of_function};
 ghost use Rattle.mv_move_types.specs.Options.{find_index};
+ghost use Rattle.mv_linker.specs.Identifiers.{struct_identifier as identifier_at};
 ghost use Rattle.mv_move_types.specs.Named.{is_struct, function_place as place_of_function};
 
 use mv_binary_format::{FunctionDefinition, Module, StructDefinition};
@@ -27,6 +28,38 @@ impl<'a> Model for StructName<'a> {
 }
 
 impl<'a> StructName<'a> {
+    /// The struct of an identifier in the module of an address and an identifier.
+    pub fn new(address: u128, home: &'a [u8], identifier: &'a [u8]) -> Self
+        ensures { result ≡ record { home = record { address = address; name = home.entry.now }; name = identifier.entry.now } }
+    {
+        StructName {
+            address,
+            home,
+            identifier,
+        }
+    }
+
+    /// The address of the module that defines it.
+    pub fn address(&self) -> u128
+        ensures { result ≡ self.now.home.address }
+    {
+        self.address
+    }
+
+    /// The identifier of the module that defines it.
+    pub fn home(&self) -> &'a [u8]
+        ensures { result.now ≡ self.now.home.name }
+    {
+        self.home
+    }
+
+    /// Its identifier there.
+    pub fn identifier(&self) -> &'a [u8]
+        ensures { result.now ≡ self.now.name }
+    {
+        self.identifier
+    }
+
     /// Whether two names are of one struct.
     pub fn is_same(&self, other: &StructName<'_>) -> bool
         ensures { result ≡ same_struct self.now other.now }
@@ -73,6 +106,14 @@ pub fn struct_name<'a>(m: &Module<'a>, h: usize) -> Option<StructName<'a>>
         home,
         identifier,
     })
+}
+
+/// The identifier of a struct definition, if it is there.
+pub fn struct_identifier<'a>(m: &Module<'a>, d: &StructDefinition) -> Option<&'a [u8]>
+    ensures { option_map (λ p. p.now) result ≡ identifier_at m.now d.now }
+{
+    let handle = m.struct_handles().get(d.handle() as usize)?;
+    m.identifier(handle.name as usize)
 }
 
 /// Whether a struct definition of the module has this name.

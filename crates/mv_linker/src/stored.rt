@@ -12,6 +12,7 @@ ghost use Rattle.mv_linker.specs.Stored.{IsSizeAt};
 use crate::Store;
 use crate::code::Code;
 use crate::interfaces::{Interface, index_of};
+use crate::names::StructName;
 use crate::sizes::Size;
 use mv_move_types::{Definition, Refusal};
 use mv_type_states::Tops;
@@ -32,6 +33,17 @@ impl Store {
     {
         let code = self.codes.get(usize::from(f.place))?;
         code.others.get(usize::from(f.index)).copied()
+    }
+
+    /// The name of the struct that the module at a place defines at an index, if it is there. No memory is taken, and no byte
+    /// of the module is read.
+    pub fn struct_name(&self, d: Definition) -> Option<StructName<'_>>
+        ensures { result ≡ name_at (tables_in self.now) d.place d.index }
+    {
+        let code = self.codes.get(usize::from(d.place))?;
+        let identifier = code.identifiers.get(usize::from(d.index))?;
+        let (name, _) = self.modules.get_index(usize::from(d.place))?;
+        Some(StructName::new(name.address, name.identifier.as_slice(), identifier))
     }
 
     /// The function with this identifier in the module at a place: its index there, and what a call from outside asks of it.

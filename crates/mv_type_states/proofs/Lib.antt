@@ -2,6 +2,7 @@ pub mod Tokens
 pub mod Stacks
 pub mod Tiling
 pub mod ReturnLemmas
+pub mod LocalLemmas
 pub mod HeightLemmas
 pub mod BlockLemmas
 pub mod PartLemmas

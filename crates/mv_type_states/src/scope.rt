@@ -16,6 +16,10 @@ pub struct Scope<'s, 'a> {
     pub module: &'s Bounded<'a>,
     pub place: usize,
     pub function: &'s FunctionDefinition,
+    /// The types of its parameters.
+    pub parameters: &'s [Token],
+    /// The types of its other locals.
+    pub others: &'s [Token],
 }
 
 /// The scope of function `f`.
@@ -27,6 +31,8 @@ pub fn scope_of<'s, 'a>(m: &'s Bounded<'a>, f: usize) -> Scope<'s, 'a>
         module: m,
         place: f,
         function: &m.module().functions()[f],
+        parameters: m.parameters(f),
+        others: m.other_locals(f),
     }
 }
 

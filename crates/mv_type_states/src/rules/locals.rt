@@ -1,5 +1,5 @@
 // Locals: copied, moved, stored and borrowed.
-ghost use Rattle.std.specs.Prelude.{reverse, IfErr, ◌≡◌};
+ghost use Rattle.std.specs.Prelude.{reverse, slice_get, IfErr, ◌≡◌, ◌++◌};
 ghost use Rattle.mv_move_types.specs.Module.{local_type};
 ghost use Rattle.mv_type_states.specs.TypeRules.{of_copy, of_borrow_local, types_after};
 ghost use Rattle.mv_type_states.specs.Answers.{Follows, Finds};
@@ -10,13 +10,23 @@ use crate::scope::Scope;
 use crate::stack::{abilities, pop, push};
 use mv_move_types::{Instruction, Refusal, Token};
 
+/// The type at an index of two lists, one after the other.
+fn among(first: &[Token], second: &[Token], index: usize) -> Option<Token>
+    ensures { result ≡ slice_get (first.now ++ second.now) index }
+{
+    match index.checked_sub(first.len()) {
+        None => first.get(index).copied(),
+        Some(beyond) => second.get(beyond).copied(),
+    }
+}
+
 impl<'s, 'a> Scope<'s, 'a> {
     /// The type of a local.
     fn local(&self, index: u16) -> Result<Token, Refusal>
         requires { IsScope self.now }
         ensures { Finds result (local_type self.now.module.now self.now.function.now index) }
     {
-        match self.module.local(self.place, index) {
+        match among(self.parameters, self.others, usize::from(index)) {
             Some(token) => Ok(token),
             None => Err(Refusal::Phase(8)),
         }

@@ -7,7 +7,7 @@ use Rattle.mv_move_types.specs.declared.token.Token.TheVariants.{Plain}
 use Rattle.mv_move_types.specs.declared.token.ValueType.TheVariants.{OfLeaf}
 use Rattle.mv_move_types.specs.declared.token.LeafKind.TheVariants.{Boolean}
 use Rattle.mv_machine.specs.Lines.{value_text}
-use Rattle.mv_ledger.specs.Showing.{name_in, PutsText}
+use Rattle.mv_ledger.specs.Showing.{PutsText}
 use Rattle.mv_ledger.proofs.Calls.{place-below, tables-at, got_some, got_none}
 use Rattle.mv_ledger.proofs.Fields.{HasPut-first, HasPut-later}
 use Rattle.mv_ledger.proofs.Structs.{no_index, no_definition, with_definition, puts_missing, puts_fields}
@@ -15,32 +15,32 @@ use Rattle.mv_ledger.proofs.values.+values.Goals as goal
 use Rattle.mv_ledger.proofs.values.+values.Goals.{put_fields-then-i-gt0+in_ok-push, put_fields-else-i-gt0}
 
 pub put_struct-module-requires : goal.put_struct-module-requires
-put_struct-module-requires k c = place-below c.args.store.now (name_in c.args.name).home c.find.result c.in-Some.place c.find.ensures c.in-Some.is
+put_struct-module-requires k c = place-below c.args.store.now c.args.name.now.home c.home_of.result c.in-Some.place c.home_of.ensures c.in-Some.is
 
-pub put_struct-returns-in_default-index_of : goal.put_struct-returns-in_default-index_of
-put_struct-returns-in_default-index_of k c =
-    let name = name_in c.args.name in
-    let below = place-below c.args.store.now name.home c.find.result c.in-Some.place c.find.ensures c.in-Some.is in
+pub put_struct-returns-in_default-struct_place : goal.put_struct-returns-in_default-struct_place
+put_struct-returns-in_default-struct_place k c =
+    let name = c.args.name.now in
+    let below = place-below c.args.store.now name.home c.home_of.result c.in-Some.place c.home_of.ensures c.in-Some.is in
     let home_is = tables-at c.args.store.now c.in-Some.place c.in_ok-home.home below c.in_ok-home.ensures.value in
     puts_missing c.args.depth (tables_in c.args.store.now) name c.args.words.now c.args.text.now.items c.args.text.now.items
-    (no_index (tables_in c.args.store.now) name c.in-Some.place c.in_ok-home.home (sym c.find.ensures ∙ c.in-Some.is) home_is (sym c.index_of.ensures ∙ c.in_default-index_of.is))
+    (no_index (tables_in c.args.store.now) name c.in-Some.place c.in_ok-home.home (sym c.home_of.ensures ∙ c.in-Some.is) home_is (sym c.struct_place.ensures ∙ c.in_default-struct_place.is))
 
 pub put_struct-returns-in_default-get : goal.put_struct-returns-in_default-get
 put_struct-returns-in_default-get k c =
-    let name = name_in c.args.name in
-    let below = place-below c.args.store.now name.home c.find.result c.in-Some.place c.find.ensures c.in-Some.is in
+    let name = c.args.name.now in
+    let below = place-below c.args.store.now name.home c.home_of.result c.in-Some.place c.home_of.ensures c.in-Some.is in
     let home_is = tables-at c.args.store.now c.in-Some.place c.in_ok-home.home below c.in_ok-home.ensures.value in
     puts_missing c.args.depth (tables_in c.args.store.now) name c.args.words.now c.args.text.now.items c.args.text.now.items
-    (no_definition (tables_in c.args.store.now) name c.in-Some.place c.in_ok-home.home (sym c.find.ensures ∙ c.in-Some.is) home_is c.in-Some-index_of.index (sym c.index_of.ensures ∙ c.in-Some-index_of.is)
-    (got_none c.structs.result.now c.in_ok-home.home.structs c.in-Some-index_of.index c.in_default-get.ensures.lookup c.structs.ensures.value))
+    (no_definition (tables_in c.args.store.now) name c.in-Some.place c.in_ok-home.home (sym c.home_of.ensures ∙ c.in-Some.is) home_is c.in-Some-struct_place.index (sym c.struct_place.ensures ∙ c.in-Some-struct_place.is)
+    (got_none c.structs.result.now c.in_ok-home.home.structs c.in-Some-struct_place.index c.in_default-get.ensures.lookup c.structs.ensures.value))
 
 pub put_struct-returns : goal.put_struct-returns
 put_struct-returns k c =
-    let name = name_in c.args.name in
-    let below = place-below c.args.store.now name.home c.find.result c.in-Some.place c.find.ensures c.in-Some.is in
+    let name = c.args.name.now in
+    let below = place-below c.args.store.now name.home c.home_of.result c.in-Some.place c.home_of.ensures c.in-Some.is in
     let home_is = tables-at c.args.store.now c.in-Some.place c.in_ok-home.home below c.in_ok-home.ensures.value in
-    let definition = with_definition (tables_in c.args.store.now) name c.in-Some.place c.in_ok-home.home (sym c.find.ensures ∙ c.in-Some.is) home_is c.in-Some-index_of.index c.in-Some-get.definition.now (sym c.index_of.ensures ∙ c.in-Some-index_of.is)
-    (got_some c.structs.result.now c.in_ok-home.home.structs c.in-Some-index_of.index c.in-Some-get.definition c.in-Some-get.ensures.lookup c.structs.ensures.value) in
+    let definition = with_definition (tables_in c.args.store.now) name c.in-Some.place c.in_ok-home.home (sym c.home_of.ensures ∙ c.in-Some.is) home_is c.in-Some-struct_place.index c.in-Some-get.definition.now (sym c.struct_place.ensures ∙ c.in-Some-struct_place.is)
+    (got_some c.structs.result.now c.in_ok-home.home.structs c.in-Some-struct_place.index c.in-Some-get.definition c.in-Some-get.ensures.lookup c.structs.ensures.value) in
     puts_fields c.args.depth (tables_in c.args.store.now) name c.in_ok-home.home c.in-Some-get.definition.now.fields c.args.words.now c.in_ok-rest.rest c.args.text.now.items c.push.new.self.items c.put_fields.new.text.items c.push-2.new.self.items
     c.if-depth-eq0.false definition c.in_ok-push.ensures.items (rw c.fields.ensures at c.in_ok-rest.ensures) c.in_ok-push-2.ensures.items
 

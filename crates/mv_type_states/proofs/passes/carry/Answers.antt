@@ -1,4 +1,4 @@
-use Rattle.std.proofs.Common.{◌≡◌, ◌++◌, ◌∷◌, [], ◌+◌, drop, reverse, sym, ap, ◌∙◌}
+use Rattle.std.proofs.Common.{◌++◌, ◌∷◌, [], ◌+◌, drop, reverse, ap, ◌∙◌}
 use Rattle.mv_type_states.specs.Sound.{types_each}
 use Rattle.mv_type_states.proofs.BlockLemmas.{carried, listed}
 use Rattle.mv_type_states.proofs.passes.carry.Goals as goal

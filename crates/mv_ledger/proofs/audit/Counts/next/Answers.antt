@@ -1,19 +1,12 @@
-use Rattle.std.proofs.Common.{◌≡◌, [], List, map, sym, ap, ◌∙◌, subst}
-use Rattle.std.specs.Prelude.{All}
+use Rattle.std.proofs.Common.{◌≡◌, [], map, sym, ap, ◌∙◌}
 use Rattle.std.specs.Vec.Iter.{into_iter_items}
 use Rattle.std.proofs.lemmas.List.{nil_from_length}
 use Rattle.mv_ledger.specs.Auditing.{counted_in}
-use Rattle.mv_ledger.specs.declared.tallies.Tally.{Tally}
 use Rattle.mv_linker.specs.Link.{tables_in}
 use Rattle.mv_ledger.specs.View.{tallied}
 use Rattle.mv_ledger.proofs.Places.{had}
-use Rattle.mv_ledger.proofs.Audits.{placed-at, reading-next}
+use Rattle.mv_ledger.proofs.Audits.{reading-next}
 use Rattle.mv_ledger.proofs.audit.Counts.next.Goals as goal
-
-pub counts_of-requires-clause-tallies : goal.counts_of-requires-clause-tallies
-counts_of-requires-clause-tallies c =
-    subst (λ (ts : List Tally). All (λ (t : Tally). t.place ≡ c.modules.self-inside.place) ts) (sym c.at-tallies.ensures)
-    (placed-at c.modules.self-inside.place c.modules.self-inside.tallies.now c.len.ensures.placed)
 
 pub modules-preserved : goal.modules-preserved
 modules-preserved c =

@@ -10,7 +10,7 @@ pub returns-in_err-pop_all-clause-types : goal.returns-in_err-pop_all-clause-typ
 returns-in_err-pop_all-clause-types c =
     let m = c.args.self.now.module.now in
     let d = c.args.self.now.function.now in
-    let known = MatchOption-at_some _ (λ (x : FunctionDefinition). result_tokens m x ≡ Some c.results.result.now) d c.requires c.results.ensures in
+    let known = MatchOption-at_some _ (λ (x : FunctionDefinition). result_tokens m x ≡ Some c.results.result.now) d c.requires.at c.results.ensures in
     let p = err_from_is_err_and c.from_residual.result c.from_residual.ensures.1 in
     rw (p.1, p.2, of_return-results m d c.results.result.now (reverse c.args.stack.now.items) known)
     (alone-refused _ c.results.result.now (reverse c.args.stack.now.items) _ c.in_err-pop_all.ensures.types)
@@ -19,6 +19,6 @@ pub returns-else-is_empty-clause-types : goal.returns-else-is_empty-clause-types
 returns-else-is_empty-clause-types c =
     let m = c.args.self.now.module.now in
     let d = c.args.self.now.function.now in
-    let known = MatchOption-at_some _ (λ (x : FunctionDefinition). result_tokens m x ≡ Some c.results.result.now) d c.requires c.results.ensures in
+    let known = MatchOption-at_some _ (λ (x : FunctionDefinition). result_tokens m x ≡ Some c.results.result.now) d c.requires.at c.results.ensures in
     rw (of_return-results m d c.results.result.now (reverse c.args.stack.now.items) known)
     (refl, alone-left c.results.result.now (reverse c.args.stack.now.items) c.pop_all.new.stack.items c.in_ok-pop_all.ensures.types (full_stack c.pop_all.new.stack c.is_empty.result c.is_empty.ensures c.if-is_empty.false))
