@@ -4,6 +4,7 @@
 --   one_module_handle, one_struct_handle   a module or a struct has one handle
 --   owns-structs                    a module owns the structs that it defines
 --   definition_place, own-definition   a definition is the one that its name stands for
+--   struct-at, function-at          the definition that has a name is the first one with it
 use Rattle.std.proofs.Common.{◌≡◌, ℕ, zero, suc, ◌+◌, ◌<◌, ◌≤◌, Bool, true, false, cond, List, [], ◌∷◌, map, length, refl, sym, ap, subst, ◌∙◌, Option, Some, None, arith, eqb, inl, inr}
 use Rattle.std.specs.Prelude.{slice_get, ◌&&◌, ◌==◌, count_by, option_map, option_and_then}
 use Rattle.std.specs.List.{list_all}
@@ -18,10 +19,11 @@ use Rattle.mv_move_types.specs.declared.tables.ModuleHandle.{ModuleHandle}
 use Rattle.mv_move_types.specs.declared.tables.StructHandle.{StructHandle}
 use Rattle.mv_move_types.specs.Options.{◌>>=◌, find_index}
 use Rattle.mv_move_types.specs.Names.{ModuleName, StructName, same_struct}
-use Rattle.mv_move_types.specs.Module.{Module, StructDefinition, module_name, struct_name, name_of_struct, own_name}
-use Rattle.mv_move_types.specs.Named.{have_one_name, module_named, is_struct, definition_of}
+use Rattle.mv_move_types.specs.declared.tables.FunctionHandle.{FunctionHandle}
+use Rattle.mv_move_types.specs.Module.{Module, StructDefinition, FunctionDefinition, module_name, struct_name, name_of_struct, name_of_function, own_name}
+use Rattle.mv_move_types.specs.Named.{have_one_name, module_named, is_struct, definition_of, function_place}
 use Rattle.mv_bounds.specs.Bounds.{InBounds, below, struct_in, field_in, struct_handle_in, module_handle_in}
-use Rattle.mv_bounds.specs.Definitions.{WellDefined, all_differ, defined_once, struct_home}
+use Rattle.mv_bounds.specs.Definitions.{WellDefined, all_differ, defined_once, struct_home, function_home}
 use Rattle.mv_linker.specs.Sizes.{OwnsStructs}
 use Rattle.mv_linker.proofs.Found.{on_some, then_found, each, find_first, one_place, there_below}
 use Rattle.mv_linker.proofs.NameLemmas.{same_struct-same, same_struct-is, module_place-from}
@@ -219,3 +221,50 @@ own-definition modules place m once home_at bounds defined i d d_at =
       then_found (module_named modules own.0) _ m (Some (m, d.fields)) module_is (then_found (find_index (is_struct m name) m.structs) _ i (Some (m, d.fields)) index (then_found (slice_get m.structs i) _ d (Some (m, d.fields)) d_at refl)),
       index,
     )
+
+abbrev pub function_handle_of : FunctionDefinition → ℕ
+function_handle_of d = d.handle
+
+-- a function definition's handle is of the own module
+own_function : (m : Module) → WellDefined m → (i : ℕ) (d : FunctionDefinition) (handle : FunctionHandle) → slice_get m.functions i ≡ Some d → slice_get m.function_handles d.handle ≡ Some handle → handle.module ≡ m.own
+own_function m defined i d handle at e =
+    let listed : slice_get (map function_handle_of m.functions) i ≡ Some d.handle = slice_get-map function_handle_of m.functions i ∙ ap (option_map function_handle_of) at in
+    let of_own : function_home m d.handle ≡ m.own =
+    defined_own (function_home m) m.own (length m.function_handles) d.handle i (map function_handle_of m.functions) defined.functions (slice_get_within m.function_handles d.handle handle e) listed in
+    sym (ap (λ (x : Option FunctionHandle). option_map_or (λ (f : FunctionHandle). f.module) x 0) e) ∙ of_own
+
+-- two function definitions of one identifier are one
+one_function : (m : Module) → WellDefined m → (i j : ℕ) (d e : FunctionDefinition) (name : List ℕ) → slice_get m.functions i ≡ Some d → slice_get m.functions j ≡ Some e → name_of_function m d ≡ Some name → name_of_function m e ≡ Some name → j ≡ i
+one_function m defined i j d e name d_at e_at d_named e_named =
+    on_some (slice_get m.function_handles d.handle) (λ handle. slice_get m.identifiers handle.name) name d_named (λ x x_is x_named.
+    on_some (slice_get m.function_handles e.handle) (λ handle. slice_get m.identifiers handle.name) name e_named (λ y y_is y_named.
+    let names : y.name ≡ x.name = one_place bytes_eq m.identifiers y.name x.name name name defined.identifiers y_named x_named (bytes-same name) (bytes-same name) in
+    let homes : y.module ≡ x.module = own_function m defined j e y e_at y_is ∙ sym (own_function m defined i d x d_at x_is) in
+    let handles : e.handle ≡ d.handle =
+    one_place (λ (a b : FunctionHandle). (a.module == b.module) && (a.name == b.name)) m.function_handles e.handle d.handle y x defined.function_handles y_is x_is
+    (and_from _ _ (subst (λ (z : ℕ). (y.module == z) ≡ true) homes (eqb-same y.module)) (subst (λ (z : ℕ). (y.name == z) ≡ true) names (eqb-same y.name)))
+    (and_from _ _ (subst (λ (z : ℕ). (z == y.module) ≡ true) homes (eqb-same y.module)) (subst (λ (z : ℕ). (z == y.name) ≡ true) names (eqb-same y.name))) in
+    let d_listed : slice_get (map function_handle_of m.functions) i ≡ Some d.handle = slice_get-map function_handle_of m.functions i ∙ ap (option_map function_handle_of) d_at in
+    let e_listed : slice_get (map function_handle_of m.functions) j ≡ Some d.handle =
+    slice_get-map function_handle_of m.functions j ∙ ap (option_map function_handle_of) e_at ∙ ap (λ x. Some x) handles in
+    defined_alone (function_home m) m.own (length m.function_handles) d.handle j i (map function_handle_of m.functions) defined.functions (slice_get_within m.function_handles d.handle x x_is) e_listed d_listed))
+
+-- an identifier that passes the test is the identifier
+function_named_so : (found : Option (List ℕ)) (name : List ℕ) → option_map_or (bytes_eq name) found false ≡ true → found ≡ Some name
+function_named_so None name e = absurd (both_ways false refl e)
+function_named_so (Some own) name e = ap Some (sym ((bytes_eq-Decides name own).0 e))
+
+-- the first definition with an identifier is the one that has it
+pub function-at : (m : Module) → WellDefined m → (name : List ℕ) (i : ℕ) (d : FunctionDefinition) → slice_get m.functions i ≡ Some d → option_map_or (bytes_eq name) (name_of_function m d) false ≡ true → function_place m name ≡ Some i
+function-at m defined name i d d_at passes =
+    find_first (λ d. option_map_or (bytes_eq name) (name_of_function m d) false) m.functions i d d_at passes
+    (λ j e l e_at too.
+    let same : j ≡ i = one_function m defined i j d e name d_at e_at (function_named_so (name_of_function m d) name passes) (function_named_so (name_of_function m e) name too) in
+    omega (arith, l, same))
+
+-- and that with a name is the one that has it
+pub struct-at : (m : Module) → WellDefined m → (name : StructName) (i : ℕ) (d : StructDefinition) → slice_get m.structs i ≡ Some d → is_struct m name d ≡ true → find_index (is_struct m name) m.structs ≡ Some i
+struct-at m defined name i d d_at passes =
+    let named : struct_name m d.handle ≡ Some name = struct_named_so (name_of_struct m d) name passes in
+    on_some (slice_get m.struct_handles d.handle) (λ handle. module_name m handle.module >>= λ home. slice_get m.identifiers handle.name >>= λ id. Some (named_in home id)) name named
+    (λ handle is e1. definition_place m defined name i d d_at named (slice_get_within m.struct_handles d.handle handle is))

@@ -8,6 +8,7 @@ use Rattle.mv_move_types.specs.AbilitySets.{same_abilities}
 use Rattle.mv_move_types.specs.Module.{Module, StructDefinition, module_name, struct_name}
 use Rattle.mv_move_types.specs.Named.{module_place, declared_in}
 pub use Rattle.mv_linker.specs.Handles.{IsStructIn, IsFunctionIn, IsStructAt, IsFunctionAt, EachAt, AreStructsAt, AreFunctionsAt}
+use Rattle.mv_bounds.specs.Definitions.{WellDefined}
 use Rattle.mv_linker.specs.Link.{tables_in}
 use Rattle.mv_linker.specs.Links.{function_fits, function_named}
 use Rattle.mv_linker.specs.Scope.{with_tables, offered}
@@ -25,12 +26,13 @@ abbrev pub tables_of : Found → Module
 tables_of (New m) = m.now
 tables_of (Kept m) = m
 
--- the module that a handle names, with its place
+-- the module that a handle names, with its place; it is well defined
 pub record IsTarget (modules : List Module) (m : Module) (h : ℕ) (t : Target) : Type 0 where
   pub name : ModuleName
   pub named : module_name m h ≡ Some name
   pub place : module_place modules name ≡ Some t.place
   pub there : slice_get modules t.place ≡ Some (tables_of t.module)
+  pub defined : WellDefined (tables_of t.module)
 
 -- those of all the handles, in order
 pub record AreTargets (modules : List Module) (m : Module) (targets : List Target) : Type 0 where

@@ -3,16 +3,17 @@ ghost use Rattle.std.specs.Prelude.{◌≡◌, ◌<◌, ◌≤◌, ◌++◌, ◌
 ghost use Rattle.std.specs.List.{list_all};
 ghost use Rattle.mv_move_types.specs.Refusals.{IsRefusedIn};
 ghost use Rattle.mv_move_types.specs.Named.{have_one_name as are_of_one_name, is_public as may_be_called};
+ghost use Rattle.mv_bounds.specs.Definitions.{WellDefined};
 ghost use Rattle.mv_linker.specs.Links.{struct_is_there, structs_are_there, function_fits, function_is_there};
 ghost use Rattle.mv_linker.specs.Targets.{modules_in, AreTargets, declared_at, struct_matches, function_matches, IsStructIn, IsFunctionIn, IsStructAt, IsFunctionAt, AreStructsAt, AreFunctionsAt};
 
-use crate::names::{function_place, name_of, struct_name, struct_place};
+use crate::names::{likely_function_place, likely_struct_place, name_of, struct_name};
 use crate::scope::{Scope, is_module};
 use crate::targets::Target;
 use crate::types::{are_same, same_signature};
 use mv_binary_format::{FunctionDefinition, Module};
 use mv_move_types::{Abilities, Definition, FunctionHandle, Refusal, StructHandle, Visibility};
-use std::alloc::Global;
+use std::alloc::{AllocError, Global};
 
 /// Whether two modules have one name.
 fn have_one_name(m: &Module<'_>, n: &Module<'_>) -> bool
@@ -66,7 +67,14 @@ fn abilities_at(m: &Module<'_>, index: usize) -> Option<Abilities>
 }
 
 /// The index of the struct that a handle names, if the module that it is of defines it with these abilities.
-fn struct_in(m: &Module<'_>, h: usize, abilities: Abilities, n: &Module<'_>) -> Option<usize>
+fn struct_in(
+    m: &Module<'_>,
+    h: usize,
+    abilities: Abilities,
+    n: &Module<'_>,
+    likely: usize,
+) -> Option<usize>
+    requires { WellDefined n.now }
     ensures found { IfSome result (IsStructIn m.now h n.now) }
     ensures there { OnSome result (struct_matches m.now h abilities n.now ≡ true) }
     ensures none { IfNone result (struct_matches m.now h abilities n.now ≡ false) }
@@ -74,7 +82,7 @@ fn struct_in(m: &Module<'_>, h: usize, abilities: Abilities, n: &Module<'_>) -> 
     let Some(name) = struct_name(m, h) else {
         return None;
     };
-    let Some(index) = struct_place(n, &name) else {
+    let Some(index) = likely_struct_place(n, &name, likely) else {
         return None;
     };
     let Some(own) = abilities_at(n, index) else {
@@ -103,7 +111,13 @@ fn fits(m: &Module<'_>, handle: FunctionHandle, n: &Module<'_>, d: &FunctionDefi
 }
 
 /// The index of the function that a handle names, if the module that it is of defines it so.
-fn function_in(m: &Module<'_>, handle: FunctionHandle, n: &Module<'_>) -> Option<usize>
+fn function_in(
+    m: &Module<'_>,
+    handle: FunctionHandle,
+    n: &Module<'_>,
+    likely: usize,
+) -> Option<usize>
+    requires { WellDefined n.now }
     ensures found { IfSome result (IsFunctionIn m.now handle n.now) }
     ensures there { OnSome result (function_matches m.now handle n.now ≡ true) }
     ensures none { IfNone result (function_matches m.now handle n.now ≡ false) }
@@ -111,7 +125,7 @@ fn function_in(m: &Module<'_>, handle: FunctionHandle, n: &Module<'_>) -> Option
     let Some(name) = m.identifier(handle.name as usize) else {
         return None;
     };
-    let Some(index) = function_place(n, name) else {
+    let Some(index) = likely_function_place(n, name, likely) else {
         return None;
     };
     let Some(definition) = n.functions().get(index) else {
@@ -147,6 +161,55 @@ fn pushed(v: &mut Vec<Definition>, d: Definition) -> Result<(), Refusal>
     }
 }
 
+/// For each of a module's handles the index of its definition, if the module defines what it names. There a search among the
+/// definitions of the module that the handle is of begins, so that an own handle's definition is found at once. It is for
+/// speed alone: what is found doesn't rest on it.
+#[derive(Drop)]
+struct Likely {
+    places: Vec<u16>,
+}
+
+impl Likely {
+    /// Those of so many handles, none of which has a definition yet.
+    fn of_handles(alloc: Global, count: usize) -> Result<Self, AllocError> {
+        let places = vec![in alloc; 0u16; count]?;
+        Ok(Likely { places })
+    }
+
+    /// Notes the index of the definition of a handle.
+    fn put(&mut self, handle: u16, index: usize) {
+        if let Some(place) = self.places.get_mut(usize::from(handle)) {
+            *place = u16::try_from(index).unwrap_or(0);
+        }
+    }
+
+    /// The index that is known for a handle, or 0.
+    fn at(&self, handle: usize) -> usize {
+        match self.places.get(handle) {
+            Some(place) => usize::from(*place),
+            None => 0,
+        }
+    }
+
+    /// Those of a module's struct handles.
+    fn of_structs(alloc: Global, m: &Module<'_>) -> Result<Self, AllocError> {
+        let mut likely = Likely::of_handles(alloc, m.struct_handles().len())?;
+        for (index, d) in m.structs().iter().enumerate() {
+            likely.put(d.handle(), index);
+        }
+        Ok(likely)
+    }
+
+    /// Those of a module's function handles.
+    fn of_functions(alloc: Global, m: &Module<'_>) -> Result<Self, AllocError> {
+        let mut likely = Likely::of_handles(alloc, m.function_handles().len())?;
+        for (index, d) in m.functions().iter().enumerate() {
+            likely.put(d.handle(), index);
+        }
+        Ok(likely)
+    }
+}
+
 impl<'a> Scope<'a> {
     /// Where the struct of a handle is defined; `Phase(13)`, where it is not there or has other abilities.
     fn structure(
@@ -155,6 +218,7 @@ impl<'a> Scope<'a> {
         targets: &[Target<'_>],
         h: usize,
         handle: StructHandle,
+        likely: usize,
     ) -> Result<Definition, Refusal>
         requires named { AreTargets (modules_in self.now) m.now targets.now }
         requires handle { slice_get m.now.struct_handles h ≡ Some handle }
@@ -167,7 +231,7 @@ impl<'a> Scope<'a> {
             return Err(Refusal::Phase(13));
         };
         let module = target.module.tables();
-        let Some(index) = struct_in(m, h, handle.abilities, module) else {
+        let Some(index) = struct_in(m, h, handle.abilities, module, likely) else {
             return Err(Refusal::Phase(13));
         };
         // For the prover: at most 65,536 structs, so an index fits.
@@ -189,11 +253,12 @@ impl<'a> Scope<'a> {
         ensures refused { IfErr result (IsRefusedIn 13 (IsTrue (structs_are_there (modules_in self.now) m.now 0 m.now.struct_handles))) }
     {
         let mut found = Vec::new(alloc);
+        let likely = Likely::of_structs(alloc, m)?;
         for h in 0..m.struct_handles().len() {
             let Some(handle) = struct_handle(m, h) else {
                 unreachable!();
             };
-            match self.structure(m, targets, h, handle) {
+            match self.structure(m, targets, h, handle, likely.at(h)) {
                 Ok(definition) => pushed(&mut found, definition)?,
                 Err(e) => return Err(e),
             }
@@ -208,6 +273,7 @@ impl<'a> Scope<'a> {
         targets: &[Target<'_>],
         h: usize,
         handle: FunctionHandle,
+        likely: usize,
     ) -> Result<Definition, Refusal>
         requires named { AreTargets (modules_in self.now) m.now targets.now }
         requires handle { slice_get m.now.function_handles h ≡ Some handle }
@@ -220,7 +286,7 @@ impl<'a> Scope<'a> {
             return Err(Refusal::Phase(13));
         };
         let module = target.module.tables();
-        let Some(index) = function_in(m, handle, module) else {
+        let Some(index) = function_in(m, handle, module, likely) else {
             return Err(Refusal::Phase(13));
         };
         // For the prover: at most 256 functions, so an index fits.
@@ -242,11 +308,12 @@ impl<'a> Scope<'a> {
         ensures refused { IfErr result (IsRefusedIn 13 (IsTrue (list_all (function_is_there (modules_in self.now) m.now) m.now.function_handles))) }
     {
         let mut found = Vec::new(alloc);
+        let likely = Likely::of_functions(alloc, m)?;
         for h in 0..m.function_handles().len() {
             let Some(handle) = function_handle(m, h) else {
                 unreachable!();
             };
-            match self.function(m, targets, h, handle) {
+            match self.function(m, targets, h, handle, likely.at(h)) {
                 Ok(definition) => pushed(&mut found, definition)?,
                 Err(e) => return Err(e),
             }

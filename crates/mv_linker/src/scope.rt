@@ -1,7 +1,8 @@
 // A store and a bundle that is to join it, with the place of each module of the bundle.
-ghost use Rattle.std.specs.Prelude.{◌≡◌, ◌+◌, ◌≤◌, true, ◌==◌, is_some, IsTrue, length, option_map, position, IfOk, OnOk};
+ghost use Rattle.std.specs.Prelude.{◌≡◌, ◌+◌, ◌≤◌, true, ◌==◌, is_some, IsTrue, length, option_map, position, IfOk, IfSome, OnOk};
 ghost use Rattle.mv_move_types.specs.Module.{own_name};
 ghost use Rattle.mv_move_types.specs.Named.{is_module as has_this_name};
+ghost use Rattle.mv_bounds.specs.Definitions.{WellDefined};
 ghost use Rattle.mv_linker.specs.Link.{IsStore, tables_in};
 ghost use Rattle.mv_linker.specs.Scope.{offered, with_tables, place_for, places_in, all_named, found_among as found_so, newest_at as newest_so};
 
@@ -69,7 +70,9 @@ pub fn newest_at<'a>(
     place: usize,
     before: Option<&'a Module<'a>>,
 ) -> Option<&'a Module<'a>>
-    ensures { option_map (λ m. m.now) result ≡ newest_so place (offered new.entry.now) places.now (option_map (λ m. m.now) before.entry) }
+    requires { IfSome before (λ m. WellDefined m.now) }
+    ensures value { option_map (λ m. m.now) result ≡ newest_so place (offered new.entry.now) places.now (option_map (λ m. m.now) before.entry) }
+    ensures defined { IfSome result (λ m. WellDefined m.now) }
 {
     match new {
         [] => before,

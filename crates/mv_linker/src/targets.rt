@@ -2,6 +2,7 @@
 ghost use Rattle.std.specs.Prelude.{◌≡◌, ◌<◌, ◌++◌, ◌∷◌, [], Some, length, slice_get, IsTrue, IfOk, IfErr, OnOk};
 ghost use Rattle.mv_move_types.specs.Refusals.{IsRefusedIn};
 ghost use Rattle.mv_move_types.specs.Named.{module_place};
+ghost use Rattle.mv_bounds.specs.Definitions.{WellDefined};
 ghost use Rattle.mv_linker.specs.Links.{module_is_there, modules_are_there};
 ghost use Rattle.mv_linker.specs.Targets.{modules_in, tables_of, IsTarget, AreTargets};
 
@@ -62,7 +63,8 @@ impl<'a> Scope<'a> {
     /// The module at a place.
     pub fn module(&self, place: usize) -> Result<Found<'_>, AllocError>
         requires { place < length (modules_in self.now) }
-        ensures { IfOk result (λ f. slice_get (modules_in self.now) place ≡ Some (tables_of f)) }
+        ensures there { IfOk result (λ f. slice_get (modules_in self.now) place ≡ Some (tables_of f)) }
+        ensures defined { IfOk result (λ f. WellDefined (tables_of f)) }
     {
         match newest_at(self.new, &self.places, place, None) {
             Some(m) => Ok(Found::New(m)),

@@ -3,6 +3,7 @@ use Rattle.std.specs.Option.{option_map_or}
 use Rattle.std.specs.Str.{bytes_eq}
 use Rattle.std.proofs.lemmas.Bool.{leb-true}
 use Rattle.mv_move_types.specs.Module.{Module, FunctionDefinition, name_of_function}
+use Rattle.mv_bounds.specs.Definitions.{WellDefined}
 use Rattle.mv_linker.specs.Targets.{modules_in, tables_of, function_matches, IsFunctionIn, IsFunctionAt}
 use Rattle.mv_linker.proofs.Resolving.{function_nowhere, function_there_is, function_at, target_below}
 use Rattle.mv_linker.proofs.scope.Scope.function.Goals as goal
@@ -20,6 +21,9 @@ returns-in_default-function_in-clause-refused c = (
       let bad : true ≡ false = sym e ∙ is ∙ none in
       cc,
 )
+
+pub function_in-requires : goal.function_in-requires
+function_in-requires c = subst WellDefined (sym c.tables-module.ensures) (c.requires.named.each c.args.handle.module c.in-Some.target.now c.in-Some.ensures.there).defined
 
 pub definition-requires-clause-place : goal.definition-requires-clause-place
 definition-requires-clause-place c =

@@ -1,6 +1,7 @@
 use Rattle.std.proofs.Common.{◌≡◌, ◌<◌, true, false, length, refl, sym, ap, subst, ◌∙◌, arith}
 use Rattle.mv_move_types.specs.Module.{Module}
 use Rattle.mv_move_types.specs.Named.{is_struct}
+use Rattle.mv_bounds.specs.Definitions.{WellDefined}
 use Rattle.mv_linker.specs.Targets.{modules_in, tables_of, struct_matches, IsStructIn, IsStructAt}
 use Rattle.mv_linker.proofs.Resolving.{struct_nowhere, struct_there_is, struct_at, target_below}
 use Rattle.mv_linker.proofs.scope.Scope.structure.Goals as goal
@@ -18,6 +19,9 @@ returns-in_default-struct_in-clause-refused c = (
       let bad : true ≡ false = sym e ∙ is ∙ none in
       cc,
 )
+
+pub struct_in-requires : goal.struct_in-requires
+struct_in-requires c = subst WellDefined (sym c.tables-module.ensures) (c.requires.named.each c.args.handle.module c.in-Some.target.now c.in-Some.ensures.there).defined
 
 pub definition-requires-clause-place : goal.definition-requires-clause-place
 definition-requires-clause-place c =
