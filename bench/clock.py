@@ -11,6 +11,8 @@ from pathlib import Path
 from files import AT_ADDRESS, BLOCKS, FUNCTIONS, ROUNDS_OF_A_LOOP, WORK
 
 STEPS = 10_000_000
+# What the number of a sender is multiplied by: so that addresses ascend, or come in no order.
+ASCENDING, SCATTERED = 1, 0x9E3779B97F4A7C15
 PHASES = ("2", "3 and 4", "5 to 8", "9", "10 to 12", "12")
 STREAMS = (
     "nothing", "helping", "small5", "large5", "small6", "large6", "structs390", "structs3900", "chain400", "chain3600",
@@ -41,9 +43,9 @@ class Clock:
     def prove(self, name, times):
         return min(self.lines(self.bench, "prove", f"{name}.module", str(times)))[0] / 1e9
 
-    def runs(self, bundle, first, run, times, every):
+    def runs(self, bundle, first, run, times, every, stride=SCATTERED):
         """The seconds of each so many runs, one after the other, and their steps."""
-        words = f"{bundle}.bundle", f"{first}.run", f"{run}.run", str(times), str(every)
+        words = f"{bundle}.bundle", f"{first}.run", f"{run}.run", str(times), str(every), str(stride)
         return [(spent / 1e9, steps) for spent, steps in self.lines(self.bench, "run", *words)]
 
     def work(self, name):
@@ -134,7 +136,13 @@ class Clock:
                     best[key] = now if key not in best else min(best[key], now)
         return best
 
-    def mint_behind(self, values):
-        """The least seconds of a mint behind so many, each by an address of no order: of the means of 10,000."""
+    def mint_behind(self, values, stride):
+        """The least seconds of a mint behind so many: of the means of 10,000."""
         before = values // 10_000
-        return min(self.runs("working", "no_step", "mint", before + 5, 10_000)[before:])[0] / 10_000
+        return min(self.runs("working", "no_step", "mint", before + 5, 10_000, stride)[before:])[0] / 10_000
+
+    def plain_insertion(self, values, stride):
+        """The same of an insertion into a plain tree of Rust's library, or None where there is no rustc."""
+        if not self.baseline.exists():
+            return None
+        return min(self.lines(self.baseline, "tree", str(values), str(stride)))[0] / 1e9 / 10_000

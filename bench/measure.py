@@ -4,7 +4,7 @@ import sys
 from pathlib import Path
 
 import files
-from clock import STEPS, Clock
+from clock import ASCENDING, SCATTERED, STEPS, Clock
 from files import BLOCKS, CHAIN, CHAINED, FUNCTIONS, LARGE_FEW, LARGE_MANY, ROUNDS_OF_A_LOOP, STRUCTS, WORK
 from inputs import BEGINNING
 
@@ -120,10 +120,13 @@ def tell_runs(folder, best, clock):
     small, large = best["idle", "small"], best["idle", "large"]
     tell(f"run of no step: {small * 1e6:.2f} us in a module of 3 KB, {large * 1e6:.2f} us in one of 60 KB", "0.6 us or less")
     tell(f"mint: {best['first', 'mint'] * 1e6:.2f} us with a thousand values stored", "0.9 us or less")
-    behind = min(clock.mint_behind(VALUES) for _ in range(3))
-    alone = (behind - best["first", "unpack"]) * 1e9
-    tell(f"MoveTo: {alone:.0f} ns among {VALUES} stored values, as a mint there of {behind * 1e6:.2f} us takes longer than one "
-         f"that takes its coin apart", "250 ns or less")
+    for order, stride in ("that ascend", ASCENDING), ("in no order", SCATTERED):
+        behind = min(clock.mint_behind(VALUES, stride) for _ in range(3))
+        alone = (behind - best["first", "unpack"]) * 1e9
+        plain = clock.plain_insertion(VALUES, stride)
+        beside = f"; an insertion into a plain tree of Rust's library {plain * 1e9:.0f} ns" if plain else ""
+        tell(f"MoveTo: {alone:.0f} ns among {VALUES} values at addresses {order}, as a mint there of {behind * 1e6:.2f} us takes "
+             f"longer than one that takes its coin apart{beside}", "250 ns or less")
     few, many = (clock.memory(files.many_mints(folder, count)) for count in (VALUES // 10, VALUES))
     tell(f"storage: {(many - few) / (VALUES - VALUES // 10):.0f} bytes of memory for each value of one leaf", "100 or less")
 
