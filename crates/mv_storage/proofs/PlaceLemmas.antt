@@ -43,6 +43,11 @@ slice_set-again [] p x y = refl
 slice_set-again (z ∷ xs) zero x y = refl
 slice_set-again (z ∷ xs) (suc p) x y = ap (λ ys. z ∷ ys) (slice_set-again xs p x y)
 
+pub slice_set-read : {X : Type 0} (xs : List X) (p : ℕ) (x : X) → slice_get xs p ≡ Some x → slice_set xs p x ≡ xs
+slice_set-read [] p x e = refl
+slice_set-read (z ∷ xs) zero x e = cc
+slice_set-read (z ∷ xs) (suc p) x e = ap (λ ys. z ∷ ys) (slice_set-read xs p x e)
+
 nat_cases : (p q : ℕ) → (p ≡ q) ⊎ (p ≡ q → ⊥)
 nat_cases p q =
     ⊎_elim
@@ -263,6 +268,11 @@ same-slots m n entries slots q =
     ∙ ap (λ xs. option_and_then (slice_get xs) (get key_cmp m.tree q)) slots
 
 -- ---- what is left to settle, once one slot is
+
+-- the tree and the list are the same
+pub same-settling : (m n : Places) → n.tree ≡ m.tree → n.slots.items ≡ m.slots.items → (q : Key) (r : ℕ) → IsSettling m q r → IsSettling n q r
+same-settling m n tree slots q r (inl e) = inl (ap (λ x. get key_cmp x q) tree ∙ e)
+same-settling m n tree slots q r (inr v) = inr (ap (λ x. get key_cmp x q) tree ∙ v.0, subst (λ (xs : List Slot). IsVacantAt xs r) (sym slots) v.1)
 
 pub wrote-settling : (m n : Places) (p : ℕ) (s t : Slot) → slice_get m.slots.items p ≡ Some s → is_vacant s ≡ false → n.tree ≡ m.tree → n.slots.items ≡ slice_set m.slots.items p t
     → (q : Key) (r : ℕ) → IsSettling m q r → IsSettling n q r

@@ -9,15 +9,16 @@ use Rattle.mv_move_types.specs.declared.tables.Key.{Key}
 use Rattle.mv_machine.specs.State.{same_key}
 use Rattle.mv_machine.specs.Flat.{FlatEntry}
 use Rattle.mv_storage.specs.declared.slot.Slot.{Slot}
+use Rattle.mv_storage.specs.declared.slot.Slot.TheVariants.{Vacant}
 use Rattle.mv_storage.specs.declared.slot.Layer.{Layer}
 use Rattle.mv_storage.specs.declared.slot.Layer.TheVariants.{Committed, Current}
 use Rattle.mv_storage.specs.declared.places.Places.{Places}
 use Rattle.mv_storage.specs.FlatStorage.{words_under}
 use Rattle.mv_storage.specs.Map.{Layers}
-use Rattle.mv_storage.specs.Slots.{key_cmp, of_layer, layer_at, slot_at, is_change, is_vacant, value_at, is_changed, IsSound, AreNoted, ArePlaced, AreSettling, IsSettling, IsTracked, IsSettled, ShowsAt, ShowsSame, layers, seen}
+use Rattle.mv_storage.specs.Slots.{key_cmp, of_layer, layer_at, slot_at, is_change, is_vacant, value_at, is_changed, IsSound, AreNoted, ArePlaced, AreSettling, IsSettling, IsTracked, IsSettled, IsSettledAt, ShowsAt, ShowsSame, layers, seen}
 use Rattle.mv_storage.proofs.Keys.{same_key-is, same_key-refl, same_key-symm, same_key-to}
 use Rattle.mv_storage.proofs.Maps.{bool_cases}
-use Rattle.mv_storage.proofs.PlaceLemmas.{HasAt, HasPlace, Put, place-read, wrote-at, used-not_vacant}
+use Rattle.mv_storage.proofs.PlaceLemmas.{HasAt, HasPlace, Put, place-read, settling-used, wrote-at, removed-at, used-not_vacant, same-sound, same-slots, same-settling, wrote-settling, removed-settling, slice_set-again, slice_set-read}
 use Rattle.mv_storage.proofs.Shown.{shown_of, words_under-shown, shown-same, layers-same}
 
 -- the words under a key are those of the slot under it
@@ -139,14 +140,34 @@ tracked-put m n k s t touched more had is put grows now placed = record {
   placed = placed;
 }
 
-pub tracked-wrote : (m n : Places) (k : Key) (p : ℕ) (s t : Slot) (touched more : List (Key × ℕ)) → IsTracked m touched
-    → get key_cmp m.tree k ≡ Some p → slot_at m k ≡ Some s → is_vacant t ≡ false → n.tree ≡ m.tree → n.slots.items ≡ slice_set m.slots.items p t
-    → ((q : Key) → list_any (λ u. same_key q u.0) touched ≡ true → list_any (λ u. same_key q u.0) more ≡ true)
-    → (is_change s ≡ false → is_change t ≡ true → list_any (λ u. same_key k u.0) more ≡ true)
-    → ArePlaced m.tree more
-    → IsTracked n more
-tracked-wrote m n k p s t touched more had at is used tree slots grows now placed =
-    tracked-put m n k s t touched more had is (wrote-at m n k p t had.sound at used tree slots) grows now (subst (λ (x : BTreeMap Key ℕ). ArePlaced x more) (sym tree) placed)
+-- the code has read s at a key's place, and t stands there now; r is what it has read there at another time
+pub record Wrote (m n : Places) (k : Key) (p : ℕ) (s t : Slot) : Type 0 where
+  pub was : (layer : Layer) → of_layer layer s ≡ value_at layer m k
+  pub shows : (layer : Layer) (o : Option (List ℕ)) → of_layer layer t ≡ o → ShowsAt layer k o m n
+  pub same : (layer : Layer) → of_layer layer t ≡ of_layer layer s → ShowsSame layer m n
+  pub tracked : (r : Slot) (touched more : List (Key × ℕ)) → r ≡ slice_index_or m.slots.items p r → IsTracked m touched
+      → ((q : Key) → list_any (λ u. same_key q u.0) touched ≡ true → list_any (λ u. same_key q u.0) more ≡ true)
+      → (is_change r ≡ false → list_any (λ u. same_key k u.0) more ≡ true)
+      → ((tree : BTreeMap Key ℕ) → get key_cmp tree k ≡ Some p → ArePlaced tree touched → ArePlaced tree more)
+      → IsTracked n more
+
+pub wrote : (m n : Places) (k : Key) (p : ℕ) (s t : Slot) → IsSound m → Some p ≡ get key_cmp m.tree k → s ≡ slice_index_or m.slots.items p s → is_vacant t ≡ false
+    → n.tree ≡ m.tree → n.slots.items ≡ slice_set m.slots.items p t
+    → Wrote m n k p s t
+wrote m n k p s t sound at is used tree slots = record {
+  was = was;
+  shows = λ layer o shown. has-shows layer m n k (Some t) o put.has shown;
+  same = λ layer same. has-same layer m n k (Some t) put.has (same ∙ was layer);
+  tracked = λ r touched more read had grows now placed.
+      tracked-put m n k r t touched more had (slot-read m k p r sound (sym at) read) put grows (λ kept _. now kept)
+      (subst (λ (x : BTreeMap Key ℕ). ArePlaced x more) (sym tree) (placed m.tree (sym at) had.placed));
+}
+  where
+    put : Put m n k t
+    put = wrote-at m n k p t sound (sym at) used tree slots
+
+    was : (layer : Layer) → of_layer layer s ≡ value_at layer m k
+    was layer = ap (layer_at layer) (sym (slot-read m k p s sound (sym at) is))
 
 -- nothing was written
 pub tracked-same : (m n : Places) (touched more : List (Key × ℕ)) → IsTracked m touched → IsSound n → ((q : Key) → slot_at n q ≡ slot_at m q)
@@ -158,18 +179,6 @@ tracked-same m n touched more had sound same grows placed = record {
   noted = noted-same m n touched more same had.noted grows;
   placed = placed;
 }
-
--- what is shown where a slot was written
-pub wrote-shows : (layer : Layer) (m n : Places) (k : Key) (p : ℕ) (t : Slot) (o : Option (List ℕ)) → IsSound m → get key_cmp m.tree k ≡ Some p → is_vacant t ≡ false
-    → n.tree ≡ m.tree → n.slots.items ≡ slice_set m.slots.items p t → of_layer layer t ≡ o
-    → ShowsAt layer k o m n
-wrote-shows layer m n k p t o sound at used tree slots is = has-shows layer m n k (Some t) o (wrote-at m n k p t sound at used tree slots).has is
-
-pub wrote-same : (layer : Layer) (m n : Places) (k : Key) (p : ℕ) (s t : Slot) → IsSound m → get key_cmp m.tree k ≡ Some p → slot_at m k ≡ Some s → is_vacant t ≡ false
-    → n.tree ≡ m.tree → n.slots.items ≡ slice_set m.slots.items p t → of_layer layer t ≡ of_layer layer s
-    → ShowsSame layer m n
-wrote-same layer m n k p s t sound at was used tree slots is =
-    has-same layer m n k (Some t) (wrote-at m n k p t sound at used tree slots).has (is ∙ ap (layer_at layer) (sym was))
 
 -- ---- a key that is new
 
@@ -216,11 +225,8 @@ popped-same ts us vs x n pushed long popped =
     popped ∙ ap (λ i. take i us) short ∙ ap (take (length ts)) pushed ∙ take-all ts (x ∷ [])
 
 -- from slots that are the same
-pub shows-from : (layer : Layer) (m v n : Places) (k : Key) (o : Option (List ℕ)) → ((q : Key) → slot_at v q ≡ slot_at m q) → ShowsAt layer k o v n → ShowsAt layer k o m n
-shows-from layer m v n k o same shows q = shows q ∙ ap (λ x. cond (same_key k q) o (layer_at layer x)) (same q)
-
-pub same-from : (layer : Layer) (m v n : Places) → ((q : Key) → slot_at v q ≡ slot_at m q) → ShowsSame layer v n → ShowsSame layer m n
-same-from layer m v n same shows q = shows q ∙ ap (layer_at layer) (same q)
+pub put-from : (m v n : Places) (k : Key) (t : Slot) → ((q : Key) → slot_at v q ≡ slot_at m q) → Put v n k t → Put m n k t
+put-from m v n k t same put = record { sound = put.sound; has = λ q. put.has q ∙ ap (cond (same_key k q) (Some t)) (same q) }
 
 -- ---- the slots that are left to settle
 
@@ -240,19 +246,70 @@ noted-rest m n rest u noted done others q h =
     or-left (list_any (λ t. same_key q t.0) rest) (same_key q u.0) (sym (list_any-append (λ t. same_key q t.0) rest (u ∷ [])) ∙ noted q had) (same_key-symm q u.0 ∙ off))
     (bool_cases (same_key u.0 q))
 
--- a key whose slot is gone has none
-pub vacant-settled : (m n : Places) (k : Key) (p : ℕ) (s : Slot) → IsSound m → IsSettling m k p → slice_get m.slots.items p ≡ Some s → is_vacant s ≡ true → n.tree ≡ m.tree
-    → is_changed (slot_at n k) ≡ false
-vacant-settled m n k p s sound (inl e) read vacant tree = absurd (used-not_vacant m.slots.items p (sound.used k p e) (s, read, vacant))
-vacant-settled m n k p s sound (inr v) read vacant tree =
-    ap (λ x. is_changed (option_and_then (slice_get n.slots.items) x)) (ap (λ x. get key_cmp x k) tree ∙ v.0)
-
 -- a slot under a key, and those of the others
 pub has-here : (m n : Places) (k : Key) (slot : Option Slot) → HasAt m n k slot → slot_at n k ≡ slot
 has-here m n k slot has = has k ∙ ap (λ b. cond b slot (slot_at m k)) (same_key-refl k)
 
 pub has-off : (m n : Places) (k : Key) (slot : Option Slot) → HasAt m n k slot → (q : Key) → same_key k q ≡ false → slot_at n q ≡ slot_at m q
 has-off m n k slot has q off = has q ∙ ap (λ b. cond b slot (slot_at m q)) off
+
+-- the key was taken out before
+pub settles-none : (layer : Layer) (m n : Places) (k : Key) (p : ℕ) (s : Slot) → IsSound m → IsSettling m k p → s ≡ slice_index_or m.slots.items p s → true ≡ is_vacant s
+    → n.tree ≡ m.tree → n.slots.items ≡ slice_set m.slots.items p s
+    → IsSettledAt layer k m n
+settles-none layer m n k p s sound settling is vacant tree slots = record {
+  sound = same-sound m n sound entries items (subst (IsOrdered key_cmp) (sym tree) sound.ordered);
+  same = λ q. ap (layer_at layer) (same-slots m n entries items q);
+  settled = ap is_changed (same-slots m n entries items k) ∙ gone settling;
+  others = λ q _. same-slots m n entries items q;
+  settling = same-settling m n tree items;
+}
+  where
+    read : slice_get m.slots.items p ≡ Some s
+    read = place-read m k p s sound settling is
+
+    items : n.slots.items ≡ m.slots.items
+    items = slots ∙ slice_set-read m.slots.items p s read
+
+    entries : n.tree.entries ≡ m.tree.entries
+    entries = ap (λ x. x.entries) tree
+
+    gone : IsSettling m k p → is_changed (slot_at m k) ≡ false
+    gone (inl e) = absurd (used-not_vacant m.slots.items p (sound.used k p e) (s, read, sym vacant))
+    gone (inr v) = ap (λ x. is_changed (option_and_then (slice_get m.slots.items) x)) v.0
+
+-- the slot stays
+pub settles-kept : (layer : Layer) (m n : Places) (k : Key) (p : ℕ) (s t : Slot) → IsSound m → IsSettling m k p → s ≡ slice_index_or m.slots.items p s → false ≡ is_vacant s
+    → n.tree ≡ m.tree → n.slots.items ≡ slice_set m.slots.items p t
+    → is_vacant t ≡ false → is_change t ≡ false → of_layer layer t ≡ of_layer layer s
+    → IsSettledAt layer k m n
+settles-kept layer m n k p s t sound settling is stands tree slots used kept same =
+    let read = place-read m k p s sound settling is in
+    let at = settling-used m k p s read (sym stands) settling in
+    let put = wrote-at m n k p t sound at used tree slots in
+    record {
+      sound = put.sound;
+      same = has-same layer m n k (Some t) put.has (same ∙ ap (layer_at layer) (sym (slot-read m k p s sound at is)));
+      settled = ap is_changed (has-here m n k (Some t) put.has) ∙ kept;
+      others = has-off m n k (Some t) put.has;
+      settling = wrote-settling m n p s t read (sym stands) tree slots;
+    }
+
+-- the layer has no value, so the key is taken out
+pub settles-removed : (layer : Layer) (m n : Places) (k : Key) (p : ℕ) (s t : Slot) → IsSound m → IsSettling m k p → s ≡ slice_index_or m.slots.items p s → false ≡ is_vacant s
+    → false ≡ is_some (of_layer layer s) → IsOrdered key_cmp n.tree → HasPlace m n k None → n.slots.items ≡ slice_set (slice_set m.slots.items p t) p (Vacant m.free)
+    → IsSettledAt layer k m n
+settles-removed layer m n k p s t sound settling is stands empty order gets slots =
+    let at = settling-used m k p s (place-read m k p s sound settling is) (sym stands) settling in
+    let once = slots ∙ slice_set-again m.slots.items p t (Vacant m.free) in
+    let gone = removed-at m n k p (Vacant m.free) sound (inl at) order gets once in
+    record {
+      sound = gone.sound;
+      same = has-same layer m n k None gone.has (sym (none_from_test (of_layer layer s) (sym empty)) ∙ ap (layer_at layer) (sym (slot-read m k p s sound at is)));
+      settled = ap is_changed (has-here m n k None gone.has);
+      others = has-off m n k None gone.has;
+      settling = removed-settling m n k p (Vacant m.free) sound at refl gets once;
+    }
 
 -- where no slot is changed, both layers are one
 pub one-layer : (layer : Layer) (slot : Option Slot) → is_changed slot ≡ false → layer_at Committed slot ≡ layer_at layer slot

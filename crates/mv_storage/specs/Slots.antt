@@ -137,6 +137,15 @@ abbrev pub AreSettling : Places → List (Key × ℕ) → Type 0
 AreSettling p [] = Unit {0}
 AreSettling p (t ∷ ts) = IsSettling p t.0 t.1 × AreSettling p ts
 
+-- what settling the slot of one key leaves: the layer shows what it showed, the slot is not a run's change any more, each
+-- other key has the slot that it had, and what is left to settle can be settled
+pub record IsSettledAt (layer : Layer) (key : Key) (old new : Places) : Type 0 where
+  pub sound : IsSound new
+  pub same : ShowsSame layer old new
+  pub settled : is_changed (slot_at new key) ≡ false
+  pub others : (q : Key) → same_key key q ≡ false → slot_at new q ≡ slot_at old q
+  pub settling : (q : Key) (place : ℕ) → IsSettling old q place → IsSettling new q place
+
 -- the slots as a run has them
 pub record IsTracked (p : Places) (touched : List (Key × ℕ)) : Type 0 where
   pub sound : IsSound p

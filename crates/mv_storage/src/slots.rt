@@ -5,7 +5,7 @@ ghost use Rattle.std.specs.BTreeMap.{BTreeMap, get};
 ghost use Rattle.mv_move_types.specs.declared.tables.Key.{Key};
 ghost use Rattle.mv_machine.specs.State.{same_key};
 ghost use Rattle.mv_storage.specs.WordLists.{spliced};
-ghost use Rattle.mv_storage.specs.Slots.{key_cmp, slot_at, value_at, edited, ShowsSame, ShowsAt, is_change, is_changed, IsSound, ArePlaced, IsSettling, IsTracked, IsSettled};
+ghost use Rattle.mv_storage.specs.Slots.{key_cmp, value_at, edited, ShowsSame, ShowsAt, is_change, IsSound, ArePlaced, IsSettling, IsSettledAt, IsTracked, IsSettled};
 ghost use Rattle.mv_storage.specs.declared.slot.Layer.TheVariants.{Committed, Current};
 
 use crate::Value;
@@ -121,11 +121,7 @@ pub(crate) fn settle(places: &mut Places, touched: &mut Vec<(Key, u32)>, layer: 
 fn settle_one(places: &mut Places, key: &Key, place: u32, layer: Layer)
     requires sound { IsSound places.old }
     requires settling { IsSettling places.old key.now place }
-    ensures sound { IsSound places.new }
-    ensures same { ShowsSame layer places.old places.new }
-    ensures settled { is_changed (slot_at places.new key.now) ≡ false }
-    ensures others { (q : Key) → same_key key.now q ≡ false → slot_at places.new q ≡ slot_at places.old q }
-    ensures settling { (q : Key) (other : ℕ) → IsSettling places.old q other → IsSettling places.new q other }
+    ensures { IsSettledAt layer key.now places.old places.new }
 {
     let slot = &mut places.slots[place as usize];
     if slot.is_vacant() {
