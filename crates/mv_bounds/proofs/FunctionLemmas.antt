@@ -57,7 +57,7 @@ pub others_are : (m : Module) (f : ℕ) (d : FunctionDefinition) (h : FunctionHa
 others_are m f d h ts is there = rw is.definition there
 
 -- parameters and other locals are all locals
-tokens_are : (m : Module) (d : FunctionDefinition) (ps os : List Token) → parameter_tokens m d ≡ Some ps → slice_get m.signatures d.locals ≡ Some os → local_tokens m d ≡ Some (ps ++ os)
+pub tokens_are : (m : Module) (d : FunctionDefinition) (ps os : List Token) → parameter_tokens m d ≡ Some ps → slice_get m.signatures d.locals ≡ Some os → local_tokens m d ≡ Some (ps ++ os)
 tokens_are m d ps os parameters others = by_handle (slice_get m.function_handles d.handle) parameters
   where
     by_handle : (o : Option FunctionHandle) → (o >>= λ h. slice_get m.signatures h.parameters) ≡ Some ps

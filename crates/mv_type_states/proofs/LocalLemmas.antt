@@ -1,24 +1,15 @@
 -- A function's locals are its parameters and the others.
 use Rattle.std.proofs.Common.{◌≡◌, ℕ, List, ◌++◌, Option, Some, None, slice_get, IfSome, sym, ap, ◌∙◌}
 use Rattle.std.proofs.lemmas.Option.{MatchOption-at_some}
-use Rattle.mv_move_types.specs.declared.tables.FunctionHandle.{FunctionHandle}
 use Rattle.mv_move_types.specs.declared.token.Token.{Token}
 use Rattle.mv_move_types.specs.Options.{◌>>=◌}
 use Rattle.mv_move_types.specs.Module.{Module, FunctionDefinition, parameter_tokens, local_tokens, local_type}
-
-both : (m : Module) (d : FunctionDefinition) (parameters others : List Token) → parameter_tokens m d ≡ Some parameters → slice_get m.signatures d.locals ≡ Some others → local_tokens m d ≡ Some (parameters ++ others)
-both m d parameters others known rest = by_handle (slice_get m.function_handles d.handle) known
-  where
-    by_handle : (o : Option FunctionHandle) → (o >>= λ handle. slice_get m.signatures handle.parameters) ≡ Some parameters
-        → (o >>= λ handle. slice_get m.signatures handle.parameters >>= λ parameters. slice_get m.signatures d.locals >>= λ others. Some (parameters ++ others)) ≡ Some (parameters ++ others)
-    by_handle None e = cc
-    by_handle (Some handle) e =
-        ap (λ o. o >>= λ parameters. slice_get m.signatures d.locals >>= λ others. Some (parameters ++ others)) e ∙ ap (λ o. o >>= λ others. Some (parameters ++ others)) rest
+use Rattle.mv_bounds.proofs.FunctionLemmas.{tokens_are}
 
 pub local_tokens-are : (m : Module) (f : ℕ) (d : FunctionDefinition) (parameters others : List Token) → slice_get m.functions f ≡ Some d → IfSome (slice_get m.functions f) (λ d. parameter_tokens m d ≡ Some parameters)
     → IfSome (slice_get m.functions f) (λ d. slice_get m.signatures d.locals ≡ Some others) → local_tokens m d ≡ Some (parameters ++ others)
 local_tokens-are m f d parameters others at known rest =
-    both m d parameters others (MatchOption-at_some _ (λ (x : FunctionDefinition). parameter_tokens m x ≡ Some parameters) d at known)
+    tokens_are m d parameters others (MatchOption-at_some _ (λ (x : FunctionDefinition). parameter_tokens m x ≡ Some parameters) d at known)
     (MatchOption-at_some _ (λ (x : FunctionDefinition). slice_get m.signatures x.locals ≡ Some others) d at rest)
 
 -- the type of one of them
