@@ -128,6 +128,11 @@ abbrev pub ArePlaced : BTreeMap Key ℕ → List (Key × ℕ) → Type 0
 ArePlaced tree [] = Unit {0}
 ArePlaced tree (t ∷ ts) = (get key_cmp tree t.0 ≡ Some t.1) × ArePlaced tree ts
 
+-- a key that is remembered with a place has that place
+abbrev pub IsRemembered : BTreeMap Key ℕ → Option (Key × ℕ) → Type 0
+IsRemembered tree None = Unit {0}
+IsRemembered tree (Some t) = get key_cmp tree t.0 ≡ Some t.1
+
 -- a key has this place, or none by now, and the place is free
 abbrev pub IsSettling : Places → Key → ℕ → Type 0
 IsSettling p key place = (get key_cmp p.tree key ≡ Some place) ⊎ ((get key_cmp p.tree key ≡ None) × IsVacantAt p.slots.items place)

@@ -77,17 +77,20 @@ impl Storage {
         Overlay {
             places: self.places,
             touched: self.touched,
+            last: None,
             alloc: self.alloc,
         }
     }
 }
 
 /// Storage that a run changes: a contract sees what is committed, and what the run has made of it by now. What a call costs
-/// grows with the storage only as a search in it does.
+/// grows with the storage only as a search in it does, and the key that was looked up last needs no search.
 #[derive(Drop)]
 pub struct Overlay {
     places: Places,
     touched: Vec<(Key, u32)>,
+    // the key that was looked up last, and its place
+    last: Option<(Key, u32)>,
     alloc: Global,
 }
 
@@ -96,11 +99,11 @@ impl Model for Overlay {
 
     ghost Value = { Layers };
 
-    ghost use Rattle.mv_storage.specs.Slots.{layers, IsTracked};
+    ghost use Rattle.mv_storage.specs.Slots.{layers, IsTracked, IsRemembered};
 
     ghost view = { λ o. layers o.places };
 
-    ghost invariant = { λ o. IsTracked o.places o.touched.items };
+    ghost invariant = { λ o. IsTracked o.places o.touched.items × IsRemembered o.places.tree o.last };
 }
 
 impl Overlay {
@@ -109,11 +112,24 @@ impl Overlay {
         self.alloc
     }
 
-    /// Whether the run sees a value under a key.
-    pub fn exists(&self, key: &Key) -> bool
-        ensures { result ≡ is_some (words_under self.now.current key.now) }
+    /// Remembers where the value under a key is, so that what follows with this key needs no search. Nothing else changes.
+    #[inline]
+    pub fn recall(&mut self, key: &Key)
+        ensures { self.new ≡ self.old }
     {
-        self.find(key).is_some()
+        self.places.recall(&mut self.last, key);
+    }
+
+    /// Whether the run sees a value under a key.
+    #[inline]
+    pub fn exists(&mut self, key: &Key) -> bool
+        ensures found { result ≡ is_some (words_under self.old.current key.now) }
+        ensures same { self.new ≡ self.old }
+    {
+        match self.places.recall(&mut self.last, key) {
+            Some(place) => self.places.slots[place as usize].current().is_some(),
+            None => false,
+        }
     }
 
     // The words that the run sees under a key.
@@ -121,7 +137,7 @@ impl Overlay {
     fn find(&self, key: &Key) -> Option<&[u128]>
         ensures { option_copied result ≡ words_under self.now.current key.now }
     {
-        match self.places.find(key) {
+        match self.places.find_known(&self.last, key) {
             Some(slot) => slot.current(),
             None => None,
         }
@@ -168,6 +184,7 @@ impl Overlay {
         edit_in(
             &mut self.places,
             &mut self.touched,
+            &mut self.last,
             key,
             from,
             new,
@@ -182,7 +199,13 @@ impl Overlay {
         ensures committed { self.new.committed ≡ self.old.committed }
         ensures err { OnErr result (self.new ≡ self.old) }
     {
-        take_from(&mut self.places, &mut self.touched, key, self.alloc)
+        take_from(
+            &mut self.places,
+            &mut self.touched,
+            &mut self.last,
+            key,
+            self.alloc,
+        )
     }
 
     /// Puts a value under a key where the run sees none, and says whether it did; nothing changes where it did not. It fails
@@ -193,7 +216,13 @@ impl Overlay {
         ensures committed { self.new.committed ≡ self.old.committed }
         ensures err { OnErr result (self.new ≡ self.old) }
     {
-        put_into(&mut self.places, &mut self.touched, key, value)
+        put_into(
+            &mut self.places,
+            &mut self.touched,
+            &mut self.last,
+            key,
+            value,
+        )
     }
 
     // The storage that holds one layer.
@@ -204,6 +233,7 @@ impl Overlay {
             mut places,
             mut touched,
             alloc,
+            ..
         } = self;
         settle(&mut places, &mut touched, layer);
         Storage {

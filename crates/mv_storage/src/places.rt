@@ -1,10 +1,10 @@
 // Slots in a list, and the place that each key's slot has there. A place that is free holds the next free one, so that
 // taking a key out takes no memory.
-ghost use Rattle.std.specs.Prelude.{◌≡◌, ◌<◌, length, [], true, None, Some, IfOk, OnOk, OnErr, cond, unwrap_or, option_copied, slice_set};
+ghost use Rattle.std.specs.Prelude.{◌≡◌, ◌<◌, length, [], true, None, Some, MatchOption, IfOk, OnOk, OnErr, cond, unwrap_or, option_copied, slice_set};
 ghost use Rattle.std.specs.BTreeMap.{get, IsOrdered};
 ghost use Rattle.mv_move_types.specs.declared.tables.Key.{Key};
 ghost use Rattle.mv_machine.specs.State.{same_key};
-ghost use Rattle.mv_storage.specs.Slots.{key_cmp, slot_at, IsSound, IsVacantAt};
+ghost use Rattle.mv_storage.specs.Slots.{key_cmp, slot_at, IsSound, IsVacantAt, IsRemembered};
 
 use crate::slot::Slot;
 use mv_move_types::Key;
@@ -55,6 +55,33 @@ impl Places {
             Some(place) => self.slots.get(place as usize),
             None => None,
         }
+    }
+
+    // The slot under a key, of which the place may be remembered.
+    #[inline]
+    pub(crate) fn find_known(&self, last: &Option<(Key, u32)>, key: &Key) -> Option<&Slot>
+        requires { IsRemembered self.now.tree last.now }
+        ensures { option_copied result ≡ slot_at self.now key.now }
+    {
+        match recalled(last, key) {
+            Some(place) => self.slots.get(place as usize),
+            None => self.find(key),
+        }
+    }
+
+    // The place of a key's slot, which is remembered from then on.
+    #[inline]
+    pub(crate) fn recall(&self, last: &mut Option<(Key, u32)>, key: &Key) -> Option<u32>
+        requires { IsRemembered self.now.tree last.old }
+        ensures remembered { IsRemembered self.now.tree last.new }
+        ensures place { result ≡ get key_cmp self.now.tree key.now }
+    {
+        if let Some(place) = recalled(last, key) {
+            return Some(place);
+        }
+        let place = self.place(key)?;
+        *last = Some((*key, place));
+        Some(place)
     }
 
     // Whether a place is free.
@@ -113,6 +140,20 @@ impl Places {
         self.slots[place as usize] = Slot::Vacant(self.free);
         self.free = place;
     }
+}
+
+// The place that is remembered, if it is this key's.
+#[inline(always)]
+pub(crate) fn recalled(last: &Option<(Key, u32)>, key: &Key) -> Option<u32>
+    ensures { MatchOption result (Unit {0}) (λ place. last.now ≡ Some (key.now, place)) }
+{
+    let Some((known, place)) = last else {
+        return None;
+    };
+    if known.address == key.address && known.place == key.place && known.index == key.index {
+        return Some(*place);
+    }
+    None
 }
 
 // Gives a key a place if it has none, and tells the one that it had. It fails only where memory runs out, and nothing

@@ -1,15 +1,16 @@
-// What a run does to the slots of keys, and the keys of those that it has changed, each with its place.
+// What a run does to the slots of keys, and the keys of those that it has changed, each with its place. The key that was
+// looked up last is remembered with its place, so that no search is needed as long as it is the same key.
 ghost use Rattle.std.specs.Prelude.{◌≡◌, ℕ, None, Some, IfOk, OnOk, OnErr, false, true, cond, not, is_some, option_and_then};
 ghost use Rattle.std.specs.List.{list_any};
 ghost use Rattle.std.specs.BTreeMap.{BTreeMap, get};
 ghost use Rattle.mv_move_types.specs.declared.tables.Key.{Key};
 ghost use Rattle.mv_machine.specs.State.{same_key};
 ghost use Rattle.mv_storage.specs.WordLists.{spliced};
-ghost use Rattle.mv_storage.specs.Slots.{key_cmp, value_at, edited, ShowsSame, ShowsAt, is_change, IsSound, ArePlaced, IsSettling, IsSettledAt, IsTracked, IsSettled};
+ghost use Rattle.mv_storage.specs.Slots.{key_cmp, value_at, edited, ShowsSame, ShowsAt, is_change, IsSound, ArePlaced, IsRemembered, IsSettling, IsSettledAt, IsTracked, IsSettled};
 ghost use Rattle.mv_storage.specs.declared.slot.Layer.TheVariants.{Committed, Current};
 
 use crate::Value;
-use crate::places::{Places, enter};
+use crate::places::{Places, enter, recalled};
 use crate::slot::{Layer, Slot};
 use mv_move_types::Key;
 use std::alloc::{AllocError, Global};
@@ -31,17 +32,20 @@ fn note(slot: &Slot, touched: &mut Vec<(Key, u32)>, key: Key, place: u32) -> Res
 pub(crate) fn take_from(
     places: &mut Places,
     touched: &mut Vec<(Key, u32)>,
+    last: &mut Option<(Key, u32)>,
     key: &Key,
     alloc: Global,
 ) -> Result<Option<Value>, AllocError>
-    requires { IsTracked places.old touched.old.items }
+    requires tracked { IsTracked places.old touched.old.items }
+    requires remembered { IsRemembered places.old.tree last.old }
     ensures tracked { IsTracked places.new touched.new.items }
+    ensures remembered { IsRemembered places.new.tree last.new }
     ensures value { IfOk result (λ v. v ≡ value_at Current places.old key.now) }
     ensures current { OnOk result (ShowsAt Current key.now None places.old places.new) }
     ensures committed { ShowsSame Committed places.old places.new }
     ensures err { OnErr result (ShowsSame Current places.old places.new) }
 {
-    let Some(place) = places.place(key) else {
+    let Some(place) = places.recall(last, key) else {
         return Ok(None);
     };
     note(&places.slots[place as usize], touched, *key, place)?;
@@ -52,35 +56,65 @@ pub(crate) fn take_from(
 pub(crate) fn edit_in(
     places: &mut Places,
     touched: &mut Vec<(Key, u32)>,
+    last: &mut Option<(Key, u32)>,
     key: &Key,
     from: usize,
     new: &[u128],
     alloc: Global,
 ) -> Result<bool, AllocError>
-    requires { IsTracked places.old touched.old.items }
+    requires tracked { IsTracked places.old touched.old.items }
+    requires remembered { IsRemembered places.old.tree last.old }
     ensures tracked { IsTracked places.new touched.new.items }
+    ensures remembered { IsRemembered places.new.tree last.new }
     ensures done { IfOk result (λ done. done ≡ is_some (option_and_then (spliced from new.now) (value_at Current places.old key.now))) }
     ensures current { OnOk result (ShowsAt Current key.now (edited from new.now (value_at Current places.old key.now)) places.old places.new) }
     ensures committed { ShowsSame Committed places.old places.new }
     ensures err { OnErr result (ShowsSame Current places.old places.new) }
 {
-    let Some(place) = places.place(key) else {
+    let Some(place) = places.recall(last, key) else {
         return Ok(false);
     };
     note(&places.slots[place as usize], touched, *key, place)?;
     places.slots[place as usize].edit(from, new, alloc)
 }
 
-// Puts a value under a key where the run sees none, and says whether it did. All that may fail is done first.
+// Puts a value under a key where the run sees none, and says whether it did.
 #[inline]
 pub(crate) fn put_into(
     places: &mut Places,
     touched: &mut Vec<(Key, u32)>,
+    last: &mut Option<(Key, u32)>,
     key: Key,
     value: Value,
 ) -> Result<bool, AllocError>
-    requires { IsTracked places.old touched.old.items }
+    requires tracked { IsTracked places.old touched.old.items }
+    requires remembered { IsRemembered places.old.tree last.old }
     ensures tracked { IsTracked places.new touched.new.items }
+    ensures remembered { IsRemembered places.new.tree last.new }
+    ensures done { IfOk result (λ done. done ≡ not (is_some (value_at Current places.old key))) }
+    ensures current { IfOk result (λ done. ShowsAt Current key (cond done (Some value) (value_at Current places.old key)) places.old places.new) }
+    ensures committed { ShowsSame Committed places.old places.new }
+    ensures err { OnErr result (ShowsSame Current places.old places.new) }
+{
+    if let Some(place) = recalled(last, &key) {
+        return Ok(places.slots[place as usize].put(value));
+    }
+    put_new(places, touched, last, key, value)
+}
+
+// The same for a key that isn't remembered. All that may fail is done first.
+#[inline]
+fn put_new(
+    places: &mut Places,
+    touched: &mut Vec<(Key, u32)>,
+    last: &mut Option<(Key, u32)>,
+    key: Key,
+    value: Value,
+) -> Result<bool, AllocError>
+    requires tracked { IsTracked places.old touched.old.items }
+    requires remembered { IsRemembered places.old.tree last.old }
+    ensures tracked { IsTracked places.new touched.new.items }
+    ensures remembered { IsRemembered places.new.tree last.new }
     ensures done { IfOk result (λ done. done ≡ not (is_some (value_at Current places.old key))) }
     ensures current { IfOk result (λ done. ShowsAt Current key (cond done (Some value) (value_at Current places.old key)) places.old places.new) }
     ensures committed { ShowsSame Committed places.old places.new }
@@ -92,10 +126,12 @@ pub(crate) fn put_into(
     match enter(&mut places.tree, key, fresh) {
         Ok(None) => {
             places.fill(fresh, Slot::added(value));
+            *last = Some((key, fresh));
             Ok(true)
         }
         Ok(Some(place)) => {
             touched.pop();
+            *last = Some((key, place));
             Ok(places.slots[place as usize].put(value))
         }
         Err(error) => {

@@ -160,15 +160,91 @@ fn places_are_used_again(rt: HostRuntime) -> Result<(), Fail> {
     let alloc = rt.alloc();
     let mut places = Places::new(alloc);
     let mut touched = Vec::new(alloc);
-    assert!(rt; put_into(&mut places, &mut touched, FIRST, Value::leaf(5))?);
-    assert!(rt; put_into(&mut places, &mut touched, SECOND, Value::leaf(6))?);
+    assert!(rt; put_into(&mut places, &mut touched, &mut None, FIRST, Value::leaf(5))?);
+    assert!(rt; put_into(&mut places, &mut touched, &mut None, SECOND, Value::leaf(6))?);
     settle(&mut places, &mut touched, Layer::Committed);
     assert_eq!(rt; places.slots.len(), 2);
-    assert!(rt; put_into(&mut places, &mut touched, SECOND, Value::leaf(7))?);
-    assert!(rt; put_into(&mut places, &mut touched, FIRST, Value::leaf(8))?);
+    assert!(rt; put_into(&mut places, &mut touched, &mut None, SECOND, Value::leaf(7))?);
+    assert!(rt; put_into(&mut places, &mut touched, &mut None, FIRST, Value::leaf(8))?);
     settle(&mut places, &mut touched, Layer::Current);
     assert_eq!(rt; places.slots.len(), 2);
     let first = places.find(&FIRST);
     assert!(rt; first.is_some_and(|slot| slot.committed() == Some([8].as_slice())));
+    Ok(())
+}
+
+// Keys that differ in the address, the place or the index alone.
+const NEIGHBOURS: [Key; 4] = [
+    FIRST,
+    SECOND,
+    Key {
+        address: 7,
+        place: 1,
+        index: 0,
+    },
+    Key {
+        address: 8,
+        place: 0,
+        index: 0,
+    },
+];
+
+// What a run reads of a value of one leaf.
+fn word(overlay: &mut Overlay, key: &Key) -> Option<u128> {
+    overlay.recall(key);
+    match overlay.view(key, 0, 1) {
+        Some([word]) => Some(*word),
+        _ => None,
+    }
+}
+
+// Each key has its own value, whichever was looked up before it.
+#[test]
+fn key_after_another(rt: HostRuntime) -> Result<(), Fail> {
+    let alloc = rt.alloc();
+    let mut overlay = Storage::new(alloc).overlay();
+    for i in 0..NEIGHBOURS.len() {
+        assert!(rt; overlay.put(NEIGHBOURS[i], Value::leaf(i as u128))?);
+    }
+    for i in 0..NEIGHBOURS.len() {
+        for j in 0..NEIGHBOURS.len() {
+            let (one, other) = (&NEIGHBOURS[i], &NEIGHBOURS[j]);
+            assert_eq!(rt; word(&mut overlay, one), Some(i as u128));
+            assert_eq!(rt; word(&mut overlay, other), Some(j as u128));
+            assert!(rt; overlay.edit(other, 0, [j as u128].as_slice())?);
+            assert!(rt; overlay.edit(one, 0, [i as u128].as_slice())?);
+            assert!(rt; overlay.exists(other));
+        }
+    }
+    Ok(())
+}
+
+// A key that is read, edited, taken and put in turn, with another between.
+#[test]
+fn key_again(rt: HostRuntime) -> Result<(), Fail> {
+    let alloc = rt.alloc();
+    let mut storage = Storage::new(alloc);
+    assert!(rt; run(&mut storage, alloc, FIRST, Value::leaf(5))?);
+    let mut overlay = storage.overlay();
+    assert_eq!(rt; word(&mut overlay, &FIRST), Some(5));
+    assert!(rt; overlay.edit(&FIRST, 0, [6].as_slice())?);
+    assert!(rt; overlay.take(&FIRST)?.is_some());
+    assert_eq!(rt; word(&mut overlay, &FIRST), None);
+    assert!(rt; !overlay.edit(&FIRST, 0, [7].as_slice())?);
+    assert!(rt; !overlay.exists(&FIRST));
+    assert!(rt; overlay.take(&FIRST)?.is_none());
+    assert!(rt; overlay.put(FIRST, Value::leaf(8))?);
+    assert!(rt; !overlay.put(FIRST, Value::leaf(9))?);
+    assert!(rt; overlay.put(SECOND, Value::leaf(10))?);
+    assert_eq!(rt; word(&mut overlay, &FIRST), Some(8));
+    assert!(rt; overlay.take(&SECOND)?.is_some());
+    assert!(rt; !overlay.put(FIRST, Value::leaf(11))?);
+    // SECOND goes, and its place is given to another key
+    let mut overlay = overlay.commit().overlay();
+    assert!(rt; !overlay.exists(&SECOND));
+    assert!(rt; overlay.put(NEIGHBOURS[2], Value::leaf(12))?);
+    assert_eq!(rt; word(&mut overlay, &SECOND), None);
+    assert_eq!(rt; word(&mut overlay, &FIRST), Some(8));
+    assert_eq!(rt; word(&mut overlay, &NEIGHBOURS[2]), Some(12));
     Ok(())
 }

@@ -15,9 +15,10 @@ returns c =
     let p = c.in-Some.place in
     let t = c.edit.new.self in
     let n : Places = record { tree = m.tree; slots = with_item m.slots p t; free = m.free } in
-    let w = wrote m n c.args.key.now p c.index_mut.result.now t c.requires.sound c.in-Some.ensures c.index_mut.ensures.value c.edit.ensures.used refl refl in
+    let w = wrote m n c.args.key.now p c.index_mut.result.now t c.requires.tracked.sound c.in-Some.ensures.place c.index_mut.ensures.value c.edit.ensures.used refl refl in
     record {
-      tracked = w.tracked c.index.result.now c.args.touched.now.items c.note.new.touched.items c.index.ensures c.requires c.note.ensures.kept c.in_ok-note.ensures.noted c.note.ensures.placed;
+      tracked = w.tracked c.index.result.now c.args.touched.now.items c.note.new.touched.items c.index.ensures c.requires.tracked c.note.ensures.kept c.in_ok-note.ensures.noted c.note.ensures.placed;
+      remembered = c.recall.ensures.remembered;
       done = IfOk-weaker c.edit.result _ _ (λ done e. e ∙ ap (λ o. is_some (option_and_then (spliced c.args.from c.args.new.now) o)) (w.was Current)) c.edit.ensures.done;
       current = on_ok_weaker c.edit.result (λ e. w.shows Current _ (e ∙ ap (edited c.args.from c.args.new.now) (w.was Current))) c.edit.ensures.current;
       committed = w.same Committed c.edit.ensures.committed;

@@ -13,9 +13,10 @@ returns c =
     let p = c.in-Some.place in
     let t = c.take.new.self in
     let n : Places = record { tree = m.tree; slots = with_item m.slots p t; free = m.free } in
-    let w = wrote m n c.args.key.now p c.index_mut.result.now t c.requires.sound c.in-Some.ensures c.index_mut.ensures.value c.take.ensures.used refl refl in
+    let w = wrote m n c.args.key.now p c.index_mut.result.now t c.requires.tracked.sound c.in-Some.ensures.place c.index_mut.ensures.value c.take.ensures.used refl refl in
     record {
-      tracked = w.tracked c.index.result.now c.args.touched.now.items c.note.new.touched.items c.index.ensures c.requires c.note.ensures.kept c.in_ok-note.ensures.noted c.note.ensures.placed;
+      tracked = w.tracked c.index.result.now c.args.touched.now.items c.note.new.touched.items c.index.ensures c.requires.tracked c.note.ensures.kept c.in_ok-note.ensures.noted c.note.ensures.placed;
+      remembered = c.recall.ensures.remembered;
       value = IfOk-weaker c.take.result _ _ (λ v e. e ∙ w.was Current) c.take.ensures.value;
       current = on_ok_weaker c.take.result (w.shows Current None) c.take.ensures.gone;
       committed = w.same Committed c.take.ensures.committed;

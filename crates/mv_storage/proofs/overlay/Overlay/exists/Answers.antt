@@ -1,0 +1,26 @@
+use Rattle.std.proofs.Common.{◌≡◌, ap, refl, sym, ◌∙◌, Bor, Option, Some, None, is_some, option_copied, slice_get}
+use Rattle.std.specs.Option.{option_and_then}
+use Rattle.mv_storage.specs.Slots.{slot_at}
+use Rattle.mv_storage.specs.declared.slot.Layer.TheVariants.{Current}
+use Rattle.mv_storage.proofs.Steps.{reads, slot-read}
+use Rattle.mv_storage.proofs.overlay.Overlay.exists.Goals as goal
+use Rattle.mv_storage.proofs.overlay.Overlay.exists.Goals.{in-Some, in-None}
+
+is_some-copied : {X : Type 0} (o : Option (Bor X)) → is_some o ≡ is_some (option_copied o)
+is_some-copied None = refl
+is_some-copied (Some x) = refl
+
+pub returns-clause-found : goal.returns-clause-found
+returns-clause-found c =
+    let m = c.self.inside.places in
+    let k = c.args.key.now in
+    let tracked = c.self.invariant.0 in
+    elim c.match-recall.branch [
+      | in-Some w ↦
+          let s = w.index.result.now in
+          let is : slot_at m k ≡ Some s = slot-read m k w.in-Some.place s tracked.sound (sym w.in-Some.ensures.place) w.index.ensures in
+          rw (← c.self.view_is) (w.result-is ∙ w.is_some.ensures ∙ is_some-copied w.current.result ∙ ap is_some (w.current.ensures ∙ sym (reads Current m k (Some s) tracked.sound.ordered (sym is))))
+      | in-None w ↦
+          let none : slot_at m k ≡ None = ap (option_and_then (slice_get m.slots.items)) (sym c.recall.ensures.place ∙ w.in-None.is) in
+          rw (← c.self.view_is) (w.result-is ∙ ap is_some (sym (reads Current m k None tracked.sound.ordered (sym none))))
+    ]
