@@ -1,2 +1,5 @@
 pub mod Lists
 pub mod Pieces
+pub mod Counts
+pub mod Tallied
+pub mod Below

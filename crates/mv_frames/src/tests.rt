@@ -1,4 +1,8 @@
-use crate::{Halt, Words};
+ghost use Rattle.std.specs.Prelude.{◌<◌, length};
+ghost use Rattle.mv_frames.specs.Counters.{IsClear};
+
+use crate::{Counters, Halt, StructTally, Words};
+use mv_move_types::Definition;
 use std::test::Fail;
 
 #[test]
@@ -56,5 +60,68 @@ fn words_past_their_first_room(rt: HostRuntime) -> Result<(), Fail> {
     assert_eq!(rt; words.len(), 30);
     assert!(rt; matches!(words.pop(), Ok(1)));
     assert!(rt; matches!(words.pop(), Ok(0)));
+    Ok(())
+}
+
+// The struct at an index of the module at a place.
+fn of(place: u16, index: u16) -> Definition {
+    Definition { place, index }
+}
+
+// A tally of it.
+fn tally(place: u16, index: u16, packs: u64, unpacks: u64) -> StructTally {
+    StructTally {
+        place,
+        index,
+        packs,
+        unpacks,
+    }
+}
+
+// Counts values made and taken apart.
+fn counted(counters: &mut Counters, values: &[(bool, Definition)]) -> Result<(), Halt>
+    requires clear { IsClear counters.old }
+    requires few { length values.now < 100 }
+{
+    for value in values {
+        counters.count(value.0, value.1)?;
+    }
+    Ok(())
+}
+
+#[test]
+fn counts_of_several_structs(rt: HostRuntime) -> Result<(), Fail> {
+    let (made, apart) = (true, false);
+    let values = [
+        (made, of(2, 5)),
+        (made, of(0, 0)),
+        (apart, of(2, 5)),
+        (made, of(2, 5)),
+        (apart, of(2, 3)),
+        (apart, of(0, 0)),
+        (apart, of(0, 0)),
+    ];
+    let wanted = [tally(2, 3, 0, 1), tally(0, 0, 1, 2), tally(2, 5, 2, 1)];
+    let mut counters = Counters::new(rt.alloc());
+    assert!(rt; counted(&mut counters, values.as_slice()).is_ok());
+    assert_eq!(rt; counters.take(rt.alloc())?.as_slice(), wanted.as_slice());
+    assert!(rt; counters.take(rt.alloc())?.is_empty());
+    assert!(rt; counted(&mut counters, values.as_slice()).is_ok());
+    assert_eq!(rt; counters.take(rt.alloc())?.as_slice(), wanted.as_slice());
+    Ok(())
+}
+
+#[test]
+fn counts_where_room_was_made(rt: HostRuntime) -> Result<(), Fail> {
+    let values = [(true, of(1, 1)), (false, of(0, 2)), (true, of(3, 0))];
+    let wanted = [tally(3, 0, 1, 0), tally(0, 2, 0, 1), tally(1, 1, 1, 0)];
+    let mut counters = Counters::new(rt.alloc());
+    assert!(rt; counters.make_room(1, 2).is_ok());
+    assert!(rt; counters.make_room(0, 3).is_ok());
+    assert!(rt; counters.make_room(1, 1).is_ok());
+    assert!(rt; counted(&mut counters, values.as_slice()).is_ok());
+    assert!(rt; counters.make_room(3, 4).is_ok());
+    assert_eq!(rt; counters.take(rt.alloc())?.as_slice(), wanted.as_slice());
+    assert!(rt; counters.take(rt.alloc())?.is_empty());
     Ok(())
 }

@@ -1,12 +1,20 @@
--- The module that a store has at a place: its structs' names stand for its own definitions.
-use Rattle.std.proofs.Common.{◌≡◌, ℕ, List, subst, Some}
+-- The modules and structs that a store has at a place: a struct's name stands for its module's own definition, at one place and one index.
+use Rattle.std.proofs.Common.{◌≡◌, ℕ, true, false, List, Option, Some, sym, ap, ap₂, ◌∙◌, subst}
 use Rattle.std.specs.Prelude.{slice_get}
-use Rattle.mv_move_types.specs.Module.{Module, StructDefinition}
+use Rattle.std.specs.Option.{option_map_or}
+use Rattle.std.proofs.lemmas.Option.{same_Some}
+use Rattle.mv_move_types.specs.declared.tables.Field.{Field}
+use Rattle.mv_move_types.specs.Names.{ModuleName, StructName, same_module}
+use Rattle.mv_move_types.specs.Module.{Module, StructDefinition, name_at, name_of_struct, own_name}
+use Rattle.mv_move_types.specs.Named.{is_struct, definition_of}
+use Rattle.mv_move_types.specs.Options.{find_index}
 use Rattle.mv_move_types.specs.Published.{PublishedModule}
 use Rattle.mv_bounds.specs.Bounds.{InBounds}
 use Rattle.mv_bounds.specs.Definitions.{WellDefined}
-use Rattle.mv_linker.specs.Link.{IsStore, IsPublishable, tables_in}
-use Rattle.mv_linker.proofs.OwnDefinitions.{own-definition}
+use Rattle.mv_linker.specs.Link.{IsStore, IsPublishable, tables_in, have_one_name}
+use Rattle.mv_linker.proofs.Found.{on_some, one_place}
+use Rattle.mv_linker.proofs.NameLemmas.{same_module-same}
+use Rattle.mv_linker.proofs.OwnDefinitions.{own-definition, own_name-some}
 use Rattle.mv_interpreter.specs.Owned.{IsOwn}
 use Rattle.mv_interpreter.proofs.Lists.{mapped_at, All-at}
 
@@ -18,3 +26,39 @@ own_of_store published place m store at i d d_at =
     let sound = subst (λ (x : Module). InBounds x × WellDefined x) p.2 (passed.sound.bounds, passed.sound.defined) in
     let stands = own-definition (tables_in published) place m store.once at sound.0 sound.1 i d d_at in
     record { name = stands.0; named = stands.1; index = stands.3; definition = stands.2 }
+
+module _ (published : List PublishedModule) (store : IsStore published) where
+  -- a module of the store has a name
+  own_there : (place : ℕ) (m : Module) → slice_get (tables_in published) place ≡ Some m → (name : ModuleName) × (own_name m ≡ Some name)
+  own_there place m at =
+      let p = mapped_at (λ (p : PublishedModule). p.tables) published place m at in
+      let passed : IsPublishable p.0 = All-at IsPublishable published place p.0 store.passed p.1 in
+      subst (λ (x : Module). (name : ModuleName) × (own_name x ≡ Some name)) p.2 (own_name-some p.0.tables passed.sound.bounds)
+
+  -- a module stands at one place
+  place_of : (p q : ℕ) (m : Module) → slice_get (tables_in published) p ≡ Some m → slice_get (tables_in published) q ≡ Some m → p ≡ q
+  place_of p q m p_is q_is =
+      let own = own_there p m p_is in
+      let same : have_one_name m m ≡ true =
+      subst (λ (x : Option ModuleName). option_map_or (λ name. option_map_or (λ other. same_module other name) x false) x false ≡ true) (sym own.1) (same_module-same own.0) in
+      one_place have_one_name (tables_in published) p q m m store.once p_is q_is same same
+
+  -- a struct stands at one place and one index
+  pub index_of : (p q i j : ℕ) (name : StructName) → name_at (tables_in published) p i ≡ Some name → name_at (tables_in published) q j ≡ Some name → (p ≡ q) × (i ≡ j)
+  index_of p q i j name e g =
+      on_some (slice_get (tables_in published) p) _ name e (λ m m_is e1.
+      on_some (slice_get m.structs i) _ name e1 (λ d d_is e2.
+      on_some (slice_get (tables_in published) q) _ name g (λ n n_is g1.
+      on_some (slice_get n.structs j) _ name g1 (λ f f_is g2.
+      one m n d f m_is n_is e2 g2 (own_of_store published p m store m_is i d d_is) (own_of_store published q n store n_is j f f_is)))))
+    where
+      one : (m n : Module) (d f : StructDefinition) → slice_get (tables_in published) p ≡ Some m → slice_get (tables_in published) q ≡ Some n
+          → name_of_struct m d ≡ Some name → name_of_struct n f ≡ Some name → IsOwn (tables_in published) m i d → IsOwn (tables_in published) n j f → (p ≡ q) × (i ≡ j)
+      one m n d f m_is n_is e2 g2 left right =
+          let first : left.name ≡ name = same_Some left.name name (sym left.named ∙ e2) in
+          let second : right.name ≡ name = same_Some right.name name (sym right.named ∙ g2) in
+          let names : left.name ≡ right.name = first ∙ sym second in
+          let found : (m, d.fields) ≡ (n, f.fields) = same_Some (m, d.fields) (n, f.fields) (sym left.definition ∙ ap (definition_of (tables_in published)) names ∙ right.definition) in
+          let modules : m ≡ n = ap (λ (x : Module × List Field). x.0) found in
+          let indices : i ≡ j = same_Some i j (sym left.index ∙ ap₂ (λ (x : Module) (y : StructName). find_index (is_struct x y) x.structs) modules names ∙ right.index) in
+          (place_of p q m m_is (n_is ∙ ap Some (sym modules)), indices)

@@ -1,4 +1,5 @@
 pub mod Edits
+pub mod Counting
 pub mod Turning
 pub mod Typing
 pub mod Flat

@@ -1,4 +1,5 @@
 use crate::linked::{Cut, run_linked};
+use mv_frames::{Counters, StructTally};
 use mv_linker::{Callee, Code, Identifiers, Op};
 use mv_machine::{Ending, Kind, Stop};
 use mv_move_types::{Definition, Key, Width};
@@ -12,6 +13,14 @@ const KEY: Key = Key {
     address: 9,
     place: 0,
     index: 3,
+};
+
+// One value made, and none taken apart.
+const MADE: StructTally = StructTally {
+    place: 0,
+    index: 3,
+    packs: 1,
+    unpacks: 0,
 };
 
 // The sum of the numbers below ten, and an abort with it.
@@ -102,29 +111,32 @@ fn loop_that_aborts(rt: HostRuntime) -> Result<(), Fail> {
     let alloc = rt.alloc();
     let codes = codes(alloc)?;
     let mut overlay = Storage::new(alloc).overlay();
+    let mut counters = Counters::new(alloc);
     let result = run_linked(
         codes.as_slice(),
         &mut overlay,
+        &mut counters,
         function(0),
         [].as_slice(),
         2,
         1000,
     );
     assert!(rt; matches!(result, Ok(_)));
-    if let Ok((finish, tally)) = result {
+    if let Ok(finish) = result {
         assert!(rt; matches!(finish.ending, Ending::Aborted(Kind::Code, 45)));
         assert_eq!(rt; finish.steps, 136);
-        assert!(rt; tally.is_empty());
     }
+    assert!(rt; counters.take(alloc)?.is_empty());
     let result = run_linked(
         codes.as_slice(),
         &mut overlay,
+        &mut counters,
         function(0),
         [].as_slice(),
         2,
         135,
     );
-    if let Ok((finish, _)) = result {
+    if let Ok(finish) = result {
         assert!(rt; matches!(finish.ending, Ending::Exhausted(Stop::Steps)));
         assert_eq!(rt; finish.steps, 135);
     }
@@ -136,20 +148,23 @@ fn call_that_stores(rt: HostRuntime) -> Result<(), Fail> {
     let alloc = rt.alloc();
     let codes = codes(alloc)?;
     let mut overlay = Storage::new(alloc).overlay();
+    let mut counters = Counters::new(alloc);
     let result = run_linked(
         codes.as_slice(),
         &mut overlay,
+        &mut counters,
         function(1),
         [9].as_slice(),
         0,
         1000,
     );
     assert!(rt; matches!(result, Ok(_)));
-    if let Ok((finish, tally)) = result {
+    if let Ok(finish) = result {
         assert!(rt; matches!(finish.ending, Ending::Returned));
         assert_eq!(rt; finish.steps, 20);
-        assert_eq!(rt; tally.len(), 1);
     }
+    let tally = counters.take(alloc)?;
+    assert_eq!(rt; tally.as_slice(), [MADE].as_slice());
     let storage = overlay.commit();
     assert!(rt;
         storage
@@ -160,12 +175,13 @@ fn call_that_stores(rt: HostRuntime) -> Result<(), Fail> {
     let result = run_linked(
         codes.as_slice(),
         &mut overlay,
+        &mut counters,
         function(1),
         [9].as_slice(),
         0,
         1000,
     );
-    if let Ok((finish, _)) = result {
+    if let Ok(finish) = result {
         assert!(rt; matches!(finish.ending, Ending::Aborted(Kind::Exists, 0)));
         assert_eq!(rt; finish.steps, 4);
     }
@@ -177,22 +193,26 @@ fn calls_without_end(rt: HostRuntime) -> Result<(), Fail> {
     let alloc = rt.alloc();
     let codes = codes(alloc)?;
     let mut overlay = Storage::new(alloc).overlay();
+    let mut counters = Counters::new(alloc);
     let result = run_linked(
         codes.as_slice(),
         &mut overlay,
+        &mut counters,
         function(3),
         [].as_slice(),
         1,
         1000,
     );
     assert!(rt; matches!(result, Ok(_)));
-    if let Ok((finish, _)) = result {
+    if let Ok(finish) = result {
         assert!(rt; matches!(finish.ending, Ending::Exhausted(Stop::Frames)));
         assert_eq!(rt; finish.steps, 256);
     }
+    assert!(rt; counters.take(alloc)?.is_empty());
     let result = run_linked(
         codes.as_slice(),
         &mut overlay,
+        &mut counters,
         function(4),
         [].as_slice(),
         1,

@@ -17,6 +17,7 @@ use Rattle.mv_move_types.specs.Named.{is_module, is_struct, have_one_name, modul
 use Rattle.mv_move_types.specs.Published.{PublishedModule, has_name_of, with_module, with_modules}
 use Rattle.mv_linker.specs.Upgrades.{same_fields, same_struct_definition, structs_stay, function_stays, may_replace}
 use Rattle.mv_linker.specs.Link.{IsStore, tables_in, are_compatible}
+use Rattle.mv_linker.specs.Scarce.{is_scarce_struct}
 use Rattle.mv_linker.proofs.Upgraded.{same_abilities-is}
 use Rattle.mv_linker.proofs.NameLemmas.{same_module-same, is_module-is}
 use Rattle.mv_linker.proofs.Found.{each, on_some, then_found}
@@ -24,7 +25,7 @@ use Rattle.mv_interpreter.specs.Owned.{IsOwn}
 use Rattle.mv_interpreter.proofs.Lists.{mapped_at}
 use Rattle.mv_interpreter.proofs.Homes.{own_of_store}
 use Rattle.mv_ledger.specs.declared.tallies.Tally.{Tally}
-use Rattle.mv_ledger.specs.View.{AreScarce, is_scarce_struct, scarce_indices}
+use Rattle.mv_ledger.specs.View.{AreScarce, scarce_indices}
 use Rattle.mv_ledger.proofs.Stores.{one_own}
 use Rattle.mv_ledger.proofs.Places.{had}
 

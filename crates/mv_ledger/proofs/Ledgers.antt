@@ -6,6 +6,8 @@ use Rattle.mv_move_types.specs.declared.refusal.Refusal.{Refusal}
 use Rattle.mv_move_types.specs.Published.{PublishedModule}
 use Rattle.mv_machine.specs.Flat.{FlatEntry}
 use Rattle.mv_linker.specs.Link.{IsStore, tables_in}
+use Rattle.mv_frames.specs.Counters.{AreSameCounts, IsClear}
+use Rattle.mv_frames.specs.declared.counters.Count.{Count}
 use Rattle.mv_interpreter.specs.Runs.{IsFineWords}
 use Rattle.mv_ledger.specs.declared.tallies.Tally.{Tally}
 use Rattle.mv_ledger.specs.View.{state_of, view_of, all_of, IsLedger, IsNamed, IsSmall, AreScarce}
@@ -17,66 +19,89 @@ use Rattle.mv_ledger.proofs.Accepted.Sound.{empty_sound}
 use Rattle.mv_ledger.proofs.Replying.{sound_with}
 
 -- nothing published, stored or run
-no_ledger : IsLedger [] [] [] 0
-no_ledger = record {
+no_ledger : (counters : List (List Count)) → IsClear counters → IsLedger [] [] [] counters 0
+no_ledger counters clear = record {
   few = omega arith;
   fine = All-nil (IsFineWords []);
   placed = refl;
   scarce = tt;
   named = All-nil (IsNamed []);
   small = All-nil (IsSmall 0);
+  clear = clear;
   counted = omega arith;
   sound = empty_sound;
 }
 
-pub ledger-new : (published : List PublishedModule) (stored : List FlatEntry) (tallies : List (List Tally)) → published ≡ [] → stored ≡ [] → tallies ≡ [] → IsLedger published stored tallies 0
-ledger-new published stored tallies none nothing no_tally =
-    subst (λ (ps : List PublishedModule). IsLedger ps stored tallies 0) (sym none)
-    (subst (λ (es : List FlatEntry). IsLedger [] es tallies 0) (sym nothing) (subst (λ (tss : List (List Tally)). IsLedger [] [] tss 0) (sym no_tally) no_ledger))
+pub ledger-new : (published : List PublishedModule) (stored : List FlatEntry) (tallies : List (List Tally)) (counters : List (List Count)) → published ≡ [] → stored ≡ [] → tallies ≡ [] → IsClear counters → IsLedger published stored tallies counters 0
+ledger-new published stored tallies counters none nothing no_tally clear =
+    subst (λ (ps : List PublishedModule). IsLedger ps stored tallies counters 0) (sym none)
+    (subst (λ (es : List FlatEntry). IsLedger [] es tallies counters 0) (sym nothing) (subst (λ (tss : List (List Tally)). IsLedger [] [] tss counters 0) (sym no_tally) (no_ledger counters clear)))
+
+-- counters stay clear where no count changes
+still-clear : (counters counted : List (List Count)) → AreSameCounts counters counted → IsClear counters → IsClear counted
+still-clear counters counted counts clear d = counts d ∙ clear d
+
+-- a ledger with other counters that are clear
+with_counters : (published : List PublishedModule) (stored : List FlatEntry) (tallies : List (List Tally)) (counters counted : List (List Count)) (runs : ℕ) → IsClear counted → IsLedger published stored tallies counters runs
+    → IsLedger published stored tallies counted runs
+with_counters published stored tallies counters counted runs clear is = record {
+  few = is.few;
+  fine = is.fine;
+  placed = is.placed;
+  scarce = is.scarce;
+  named = is.named;
+  small = is.small;
+  clear = clear;
+  counted = is.counted;
+  sound = is.sound;
+}
 
 -- a ledger whose modules and tallies changed as a publish record's answer says
-pub ledger-published : {T E : Type 0} (r : Result T E) (old new : List PublishedModule) (stored : List FlatEntry) (before after : List (List Tally)) (runs : ℕ)
+pub ledger-published : {T E : Type 0} (r : Result T E) (old new : List PublishedModule) (stored : List FlatEntry) (before after : List (List Tally)) (counters counted : List (List Count)) (runs : ℕ)
     → OnOk r (length new ≤ 4096) → OnOk r (All (IsFineWords (tables_in old)) stored → All (IsFineWords (tables_in new)) stored) → OnErr r (new ≡ old) → OnErr r (after ≡ before)
     → length after ≡ length new → AreScarce (tables_in new) after → OnOk r (All (IsNamed (tables_in new)) (all_of after)) → All (IsSmall runs) (all_of after)
-    → OnOk r (IsSoundLedger (state_of (view_of new stored (all_of after) runs))) → IsLedger old stored before runs → IsLedger new stored after runs
-ledger-published (Ok x) old new stored before after runs room stays kept same placed scarce named small sound is = record {
+    → OnOk r (IsSoundLedger (state_of (view_of new stored (all_of after) runs))) → AreSameCounts counters counted → IsLedger old stored before counters runs → IsLedger new stored after counted runs
+ledger-published (Ok x) old new stored before after counters counted runs room stays kept same placed scarce named small sound counts is = record {
   few = room;
   fine = stays is.fine;
   placed = placed;
   scarce = scarce;
   named = named;
   small = small;
+  clear = still-clear counters counted counts is.clear;
   counted = is.counted;
   sound = sound;
 }
-ledger-published (Err e) old new stored before after runs room stays kept same placed scarce named small sound is =
-    subst (λ (l : List PublishedModule). IsLedger l stored after runs) (sym kept) (subst (λ (tss : List (List Tally)). IsLedger old stored tss runs) (sym same) is)
+ledger-published (Err e) old new stored before after counters counted runs room stays kept same placed scarce named small sound counts is =
+    subst (λ (l : List PublishedModule). IsLedger l stored after counted runs) (sym kept) (subst (λ (tss : List (List Tally)). IsLedger old stored tss counted runs) (sym same) (with_counters old stored before counters counted runs (still-clear counters counted counts is.clear) is))
 
 -- a ledger whose storage and tallies a run changed
-pub ledger-run : (published : List PublishedModule) (old new : List FlatEntry) (before after : List (List Tally)) (runs : ℕ) → All (IsFineWords (tables_in published)) new → length after ≡ length before
+pub ledger-run : (published : List PublishedModule) (old new : List FlatEntry) (before after : List (List Tally)) (counters counted : List (List Count)) (runs : ℕ) → All (IsFineWords (tables_in published)) new → length after ≡ length before
     → AreScarce (tables_in published) after → All (IsNamed (tables_in published)) (all_of after) → (All (IsSmall runs) (all_of before) → All (IsSmall (runs + 1)) (all_of after)) → runs < 4294967296
-    → IsSoundLedger (state_of (view_of published new (all_of after) (runs + 1))) → IsLedger published old before runs → IsLedger published new after (runs + 1)
-ledger-run published old new before after runs fine placed scarce named small few sound is = record {
+    → IsSoundLedger (state_of (view_of published new (all_of after) (runs + 1))) → IsClear counted → IsLedger published old before counters runs → IsLedger published new after counted (runs + 1)
+ledger-run published old new before after counters counted runs fine placed scarce named small few sound clear is = record {
   few = is.few;
   fine = fine;
   placed = placed ∙ is.placed;
   scarce = scarce;
   named = named;
   small = small is.small;
+  clear = clear;
   counted = omega (arith, few);
   sound = sound;
 }
 
 -- memory ran out in a run
-pub ledger-kept : (published : List PublishedModule) (old new : List FlatEntry) (before after : List (List Tally)) (runs : ℕ) → new ≡ old → length after ≡ length before → AreScarce (tables_in published) after → all_of after ≡ all_of before → IsLedger published old before runs
-    → IsLedger published new after runs
-ledger-kept published old new before after runs p placed scarce same is = record {
+pub ledger-kept : (published : List PublishedModule) (old new : List FlatEntry) (before after : List (List Tally)) (counters counted : List (List Count)) (runs : ℕ) → new ≡ old → length after ≡ length before → AreScarce (tables_in published) after → all_of after ≡ all_of before
+    → IsClear counted → IsLedger published old before counters runs → IsLedger published new after counted runs
+ledger-kept published old new before after counters counted runs p placed scarce same clear is = record {
   few = is.few;
   fine = subst (λ (es : List FlatEntry). All (IsFineWords (tables_in published)) es) (sym p) is.fine;
   placed = placed ∙ is.placed;
   scarce = scarce;
   named = subst (λ (ts : List Tally). All (IsNamed (tables_in published)) ts) (sym same) is.named;
   small = subst (λ (ts : List Tally). All (IsSmall runs) ts) (sym same) is.small;
+  clear = clear;
   counted = is.counted;
   sound =
       subst (λ (es : List FlatEntry). IsSoundLedger (state_of (view_of published es (all_of after) runs))) (sym p)

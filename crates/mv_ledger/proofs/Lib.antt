@@ -8,6 +8,8 @@ pub mod Phases
 pub mod Replying
 pub mod ShapesOfArguments
 pub mod Shapes
+pub mod ScarceTallies
+pub mod TalliesFound
 pub mod TalliesAfter
 pub mod TalliesAdding
 pub mod TalliesByModule

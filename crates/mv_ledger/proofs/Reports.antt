@@ -14,12 +14,13 @@ use Rattle.mv_machine.specs.State.{Storage}
 use Rattle.mv_machine.specs.Lines.{Tallied, Refused as ToldRefused, Told as ToldLines, audit_lines, audit_json, end_line, json_line}
 use Rattle.mv_machine.specs.Ledger.{Format, Publish, Run, Show, Audit, BadRun, Bad, shown, audited}
 use Rattle.mv_linker.specs.Link.{IsPublishable, tables_in}
+use Rattle.mv_linker.specs.Scarce.{is_scarce_struct}
 use Rattle.mv_ledger.specs.declared.tallies.Tally.{Tally}
 use Rattle.mv_ledger.specs.RecordText.{IsShapeless, format_text}
 use Rattle.mv_ledger.specs.Answering.{Replies}
 use Rattle.mv_ledger.specs.Formats.{IsNoFormat}
 use Rattle.mv_ledger.specs.Auditing.{stored_of, count_line, count_object, audit_from, counts_json}
-use Rattle.mv_ledger.specs.View.{LedgerView, state_of, all_of, AreScarce, scarce_indices, is_scarce_struct}
+use Rattle.mv_ledger.specs.View.{LedgerView, state_of, all_of, AreScarce, scarce_indices}
 use Rattle.mv_ledger.specs.Accepted.SoundLedger.{IsSoundLedger}
 use Rattle.mv_ledger.proofs.Accepted.Records.{answers_record}
 use Rattle.mv_ledger.proofs.Counting.Ended.{counts-tallied}

@@ -1,5 +1,5 @@
 -- What a run leaves is what the machine's run asks for.
-use Rattle.std.proofs.Common.{◌≡◌, Option, Some, ℕ, ◌+◌, ◌*◌, ◌^◌, ◌≤◌, List, map, sym, ap, ap₂, ◌∙◌, arith}
+use Rattle.std.proofs.Common.{◌≡◌, true, Option, Some, ℕ, ◌+◌, ◌*◌, ◌^◌, ◌≤◌, List, map, sym, ap, ap₂, ◌∙◌, arith}
 use Rattle.std.specs.Prelude.{All}
 use Rattle.std.proofs.lemmas.List.Elements.{All-weaker}
 use Rattle.mv_move_types.specs.Module.{Module}
@@ -12,8 +12,9 @@ use Rattle.mv_machine.specs.Lines.{Tallied, Reply as Told}
 use Rattle.mv_machine.specs.Run.{RunOutcome, run, Returned, Aborted, Exhausted, Faulted}
 use Rattle.mv_machine.specs.Ledger.{LedgerState, settled}
 use Rattle.mv_storage.specs.Map.{Layers}
-use Rattle.mv_linker.specs.Link.{IsStore, tables_in}
-use Rattle.mv_interpreter.specs.declared.StructTally.{StructTally}
+use Rattle.mv_linker.specs.Link.{tables_in}
+use Rattle.mv_linker.specs.Scarce.{is_scarce_in}
+use Rattle.mv_frames.specs.declared.counters.StructTally.{StructTally}
 use Rattle.mv_interpreter.specs.declared.Arg.{Arg}
 use Rattle.mv_interpreter.specs.Runs.{Agrees, call_of}
 use Rattle.mv_ledger.specs.declared.executing.Call.{Call}
@@ -60,14 +61,14 @@ module _ (published : List PublishedModule) (call : Call) (stored new : List Fla
   told_as t u s x p q = ap₂ telling (sym p) (sym q)
 
   -- a run that returned leaves its storage, and the tallies with its own
-  pub settled-returned : (outcome : Outcome) (tally : List StructTally) (layers : Layers) → IsStore published → All (IsNamed modules) before → Agrees modules (run_of published stored call) outcome tally layers → outcome.ending ≡ HasReturned
+  pub settled-returned : (outcome : Outcome) (tally : List StructTally) (layers : Layers) → All (IsNamed modules) before → All (λ t. is_scarce_in modules t.place t.index ≡ true) before → Agrees modules (run_of published stored call) outcome tally layers → outcome.ending ≡ HasReturned
       → new ≡ layers.current → after ≡ map (tally_after tally) before → IsSettled published call (told (Ran outcome)) stored new before after
-  settled-returned outcome tally layers store named agrees ended new_is after_is = λ runs. by_outcome runs (run_of published stored call) agrees
+  settled-returned outcome tally layers named scarce agrees ended new_is after_is = λ runs. by_outcome runs (run_of published stored call) agrees
     where
       by_outcome : (runs : ℕ) (o : RunOutcome) → Agrees modules o outcome tally layers → settled (state_of (view_of published stored before runs)) o ≡ Some (told_ending outcome.ending outcome.steps, state_of (view_of published new after (runs + 1)))
       by_outcome runs (Returned steps storage events) h =
           told_as _ _ _ _ (ap (λ (x : Outcome). told_ending x.ending x.steps) h.0)
-          (ap₂ (after_runs runs) (ap (storage_of modules) new_is ∙ sym h.1) (ap (map (tallied modules)) after_is ∙ tallies-after published tally events before store named h.2))
+          (ap₂ (after_runs runs) (ap (storage_of modules) new_is ∙ sym h.1) (ap (map (tallied modules)) after_is ∙ tallies-after published tally events before named scarce h.2))
       by_outcome runs (Aborted kind n steps) h = let clash : HasAborted kind n ≡ HasReturned = sym (ap (λ (x : Outcome). x.ending) h) ∙ ended in absurd cc
       by_outcome runs (Exhausted stop steps) h = let clash : HasExhausted stop ≡ HasReturned = sym (ap (λ (x : Outcome). x.ending) h) ∙ ended in absurd cc
       by_outcome runs (Faulted fault steps) h = absurd h

@@ -1,7 +1,8 @@
 -- A run's tally as it is added, entry by entry, each to the tallies of its module alone.
-use Rattle.std.proofs.Common.{◌≡◌, ℕ, zero, suc, ◌+◌, ◌-◌, ◌^◌, ◌<◌, ◌≤◌, Bool, true, false, cond, List, [], ◌∷◌, ◌++◌, map, length, take, get_or, refl, sym, ap, ap₂, ◌∙◌, subst, arith}
+use Rattle.std.proofs.Common.{◌≡◌, ℕ, zero, suc, ◌+◌, ◌-◌, ◌^◌, ◌<◌, ◌≤◌, Bool, true, false, cond, List, [], ◌∷◌, ◌++◌, map, length, take, get_or, refl, sym, ap, ap₂, ◌∙◌, subst, arith, zero-add}
 use Rattle.std.specs.Prelude.{◌==◌, ◌&&◌, All, slice_set}
 use Rattle.std.specs.List.{sum_by}
+use Rattle.std.specs.List.Sorted.{IsStrictlyIncreasing}
 use Rattle.std.specs.declared.vec.Vec.{Vec}
 use Rattle.std.specs.Vec.{with_items}
 use Rattle.std.specs.declared.alloc.Global.{Global}
@@ -9,16 +10,15 @@ use Rattle.std.proofs.lemmas.Bool.{eqb-true}
 use Rattle.std.proofs.lemmas.List.{get_or-map, length-map, map-append, map-set, with_items_is}
 use Rattle.std.proofs.lemmas.List.Elements.{All-nil, All-cons, All-head, All-tail, All-map, All-weaker}
 use Rattle.std.proofs.lemmas.List.Sums.{sum_by-cons, sum_by_more}
-use Rattle.mv_interpreter.specs.declared.StructTally.{StructTally}
-use Rattle.mv_interpreter.specs.Runs.{is_tally_at}
+use Rattle.mv_frames.specs.Counters.{is_tally_at}
+use Rattle.mv_frames.specs.declared.counters.StructTally.{StructTally}
+use Rattle.mv_interpreter.specs.Runs.{AtMost}
 use Rattle.mv_ledger.specs.declared.tallies.Tally.{Tally}
-use Rattle.mv_ledger.specs.Tallying.{tally_after, HasRoomFor, HasRoomLeft}
+use Rattle.mv_ledger.specs.Tallying.{tally_after, AreInOrder, HasRoomLeft, IsRoomFor}
 use Rattle.mv_ledger.specs.View.{all_of, ArePlaced}
-use Rattle.mv_ledger.proofs.TalliesAdding.{packs-fit, unpacks-fit}
-
--- a tally with other counts
-abbrev with_counts : Tally → ℕ → ℕ → Tally
-with_counts t m n = record t { packs = m; unpacks = n }
+use Rattle.mv_ledger.proofs.TalliesAdding.{entry-fits}
+use Rattle.mv_ledger.proofs.TalliesAfter.{map-then}
+use Rattle.mv_ledger.proofs.TalliesFound.{tally-other, with_counts}
 
 -- a run without entries leaves a tally
 tally-first : (t : Tally) → t ≡ tally_after [] t
@@ -46,25 +46,19 @@ tally-more run i d t h = ap₂ (with_counts t) (one (λ u. cond (is_tally_at t.p
     one : (f : StructTally → ℕ) (old : ℕ) → old + sum_by f (take i run) + sum_by f (get_or run i d ∷ []) ≡ old + sum_by f (take (i + 1) run)
     one f old = sum old (sum_by f (take i run)) (f (get_or run i d)) _ _ (sum_by-cons f (get_or run i d) []) (sum_by_more f run i d h)
 
--- an entry leaves the tallies of other modules
-tally-other : (e : StructTally) (t : Tally) → (e.place ≡ t.place → ⊥) → tally_after (e ∷ []) t ≡ t
-tally-other e t other = ap₂ (with_counts t) (one e.packs t.packs) (one e.unpacks t.unpacks)
+-- an entry of another module
+other-place : (e : StructTally) (t : Tally) → (e.place ≡ t.place → ⊥) → is_tally_at t.place t.index e ≡ false
+other-place e t other = by_case (e.place == t.place) refl
   where
-    not_here : (b : Bool) → (e.place == t.place) ≡ b → (n : ℕ) → cond (b && (e.index == t.index)) n 0 ≡ 0
-    not_here true is n = absurd (other (eqb-true e.place t.place is))
-    not_here false is n = refl
-
-    sum : (a c alone : ℕ) → alone ≡ c + 0 → c ≡ 0 → a + alone ≡ a
-    sum a c alone p q = omega arith
-
-    one : (n old : ℕ) → old + sum_by (λ (u : StructTally). cond (is_tally_at t.place t.index u) n 0) (e ∷ []) ≡ old
-    one n old = sum old _ _ (sum_by-cons (λ (u : StructTally). cond (is_tally_at t.place t.index u) n 0) e []) (not_here (e.place == t.place) refl n)
+    by_case : (b : Bool) → (e.place == t.place) ≡ b → (b && (e.index == t.index)) ≡ false
+    by_case true is = absurd (other (eqb-true e.place t.place is))
+    by_case false is = refl
 
 -- all the tallies of a list of other modules
 tallies-other : (e : StructTally) (place : ℕ) (ts : List Tally) → (e.place ≡ place → ⊥) → All (λ t. t.place ≡ place) ts → map (tally_after (e ∷ [])) ts ≡ ts
 tallies-other e place [] other placed = refl
 tallies-other e place (t ∷ ts) other placed =
-    ap₂ (λ x xs. x ∷ xs) (tally-other e t (λ is. other (is ∙ All-head (λ (t : Tally). t.place ≡ place) t ts placed)))
+    ap₂ (λ x xs. x ∷ xs) (tally-other e t (other-place e t (λ is. other (is ∙ All-head (λ (t : Tally). t.place ≡ place) t ts placed))))
     (tallies-other e place ts other (All-tail (λ (t : Tally). t.place ≡ place) t ts placed))
 
 -- an entry of a place before these modules
@@ -86,6 +80,13 @@ entry-at e place p [] d placed h is = absurd (omega (arith, h))
 entry-at e place zero (ts ∷ tss) d placed h is = ap (λ xs. map (tally_after (e ∷ [])) ts ∷ xs) (entry-before e (place + 1) tss placed.1 (omega (arith, is)))
 entry-at e place (suc p) (ts ∷ tss) d placed h is =
     ap₂ (λ x xs. x ∷ xs) (tallies-other e place ts (λ same. omega (arith, is, same)) placed.0) (entry-at e (place + 1) p tss d placed.1 (omega (arith, h)) (omega (arith, is)))
+
+-- the tallies of one of these modules are of its place
+placed-there : (place : ℕ) (tss : List (List Tally)) (p : ℕ) (d : List Tally) → ArePlaced place tss → p < length tss → All (λ t. t.place ≡ place + p) (get_or tss p d)
+placed-there place [] p d placed h = absurd (omega (arith, h))
+placed-there place (ts ∷ tss) zero d placed h = let same : place ≡ place + 0 = omega arith in subst (λ (k : ℕ). All (λ t. t.place ≡ k) ts) same placed.0
+placed-there place (ts ∷ tss) (suc p) d placed h =
+    let same : place + 1 + p ≡ place + suc p = omega arith in subst (λ (k : ℕ). All (λ t. t.place ≡ k) (get_or tss p d)) same (placed-there (place + 1) tss p d placed.1 (omega (arith, h)))
 
 -- tallies stay with their modules
 pub placed-after : (run : List StructTally) (place : ℕ) (tss : List (List Tally)) → ArePlaced place tss → ArePlaced place (map (map (tally_after run)) tss)
@@ -155,18 +156,30 @@ module _ (run : List StructTally) (i : ℕ) (d e : StructTally) (old : List (Lis
       ∙ sym (entry-at e 0 e.place (lists vs) [] placed-so short (omega arith))
       ∙ next-is
 
-  -- and there is room in them
-  pub room-at : All HasRoomLeft (all_of old) → sum_by (λ t. t.packs + t.unpacks) run ≤ 2 ^ 64 - 1 → (v : Vec Tally Global) → e.place < length vs → v ≡ get_or vs e.place v → All (HasRoomFor e) v.items
-  room-at room few v near v_is =
-      let short : e.place < length (lists vs) = omega (arith, near, length-map vs (λ v. v.items)) in
-      let here : v.items ≡ get_or (lists vs) e.place [] = ap (λ v. v.items) v_is ∙ sym (get_or-map (λ v. v.items) vs e.place v [] near) in
-      let each : All (HasRoomFor e) (map (tally_after (take i run)) (all_of old)) =
-      All-map (HasRoomFor e) (tally_after (take i run)) (all_of old) (All-weaker HasRoomLeft (λ t. HasRoomFor e (tally_after (take i run) t)) one (all_of old) room) in
-      let whole : All (HasRoomFor e) (all_of (lists vs)) = subst (λ (ts : List Tally). All (HasRoomFor e) ts) (sym (ap all_of is ∙ all-map (tally_after (take i run)) old)) each in
-      subst (λ (ts : List Tally). All (HasRoomFor e) ts) (sym here) (all-at (HasRoomFor e) (lists vs) e.place [] whole short)
+  -- which are of its place
+  here-is : (v : Vec Tally Global) → e.place < length vs → v ≡ get_or vs e.place v → v.items ≡ get_or (lists vs) e.place []
+  here-is v near v_is = ap (λ v. v.items) v_is ∙ sym (get_or-map (λ v. v.items) vs e.place v [] near)
+
+  short-is : e.place < length vs → e.place < length (lists vs)
+  short-is near = omega (arith, near, length-map vs (λ v. v.items))
+
+  pub placed-at : (v : Vec Tally Global) → e.place < length vs → v ≡ get_or vs e.place v → All (λ t. t.place ≡ e.place) v.items
+  placed-at v near v_is = subst (λ (ts : List Tally). All (λ t. t.place ≡ e.place) ts) (sym (here-is v near v_is))
+      (subst (λ (p : ℕ). All (λ t. t.place ≡ p) (get_or (lists vs) e.place [])) (zero-add e.place) (placed-there 0 (lists vs) e.place [] placed-so (short-is near)))
+
+  -- stand by ascending index
+  pub ordered-at : All AreInOrder old → (v : Vec Tally Global) → e.place < length vs → v ≡ get_or vs e.place v → AreInOrder v.items
+  ordered-at ordered v near v_is =
+      let all : All AreInOrder (lists vs) = subst (λ (tss : List (List Tally)). All AreInOrder tss) (sym is) (All-map AreInOrder (map (tally_after (take i run))) old (All-weaker AreInOrder (λ ts. AreInOrder (map (tally_after (take i run)) ts)) one old ordered)) in
+      subst AreInOrder (sym (here-is v near v_is)) (all e.place [] (short-is near))
     where
-      one : (t : Tally) → HasRoomLeft t → HasRoomFor e (tally_after (take i run) t)
-      one t left = (
-        packs-fit run i d t (tally_after (take i run) t) h left few refl e.packs (ap (λ (u : StructTally). u.packs) e_is),
-        unpacks-fit run i d t (tally_after (take i run) t) h left few refl e.unpacks (ap (λ (u : StructTally). u.unpacks) e_is),
-      )
+      one : (ts : List Tally) → AreInOrder ts → AreInOrder (map (tally_after (take i run)) ts)
+      one ts up = subst IsStrictlyIncreasing (sym (map-then (tally_after (take i run)) (λ (t : Tally). t.index) ts)) up
+
+  -- and have room for it
+  pub room-at : All HasRoomLeft (all_of old) → AtMost (2 ^ 64 - 1) run → (v : Vec Tally Global) → e.place < length vs → v ≡ get_or vs e.place v → All (IsRoomFor e) v.items
+  room-at room few v near v_is =
+      let each : All (IsRoomFor e) (map (tally_after (take i run)) (all_of old)) =
+      All-map (IsRoomFor e) (tally_after (take i run)) (all_of old) (All-weaker HasRoomLeft (λ t. IsRoomFor e (tally_after (take i run) t)) (λ t left own. entry-fits run i d e t h e_is few left own) (all_of old) room) in
+      let whole : All (IsRoomFor e) (all_of (lists vs)) = subst (λ (ts : List Tally). All (IsRoomFor e) ts) (sym (ap all_of is ∙ all-map (tally_after (take i run)) old)) each in
+      subst (λ (ts : List Tally). All (IsRoomFor e) ts) (sym (here-is v near v_is)) (all-at (IsRoomFor e) (lists vs) e.place [] whole (short-is near))

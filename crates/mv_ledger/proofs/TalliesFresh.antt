@@ -13,12 +13,13 @@ use Rattle.mv_move_types.specs.Module.{Module, StructDefinition, name_at, name_o
 use Rattle.mv_bounds.specs.Bounds.{InBounds, below, struct_in, field_in, struct_handle_in}
 use Rattle.mv_machine.specs.Lines.{Tallied}
 use Rattle.mv_machine.specs.Ledger.{scarce_name, untouched_tally}
+use Rattle.mv_linker.specs.Scarce.{is_scarce_struct}
 use Rattle.mv_linker.proofs.Found.{then_found, there_below, each}
+use Rattle.mv_linker.proofs.OwnDefinitions.{module_there}
 use Rattle.mv_interpreter.specs.Flat.Agreement.{nameless}
 use Rattle.mv_ledger.specs.declared.tallies.Tally.{Tally}
-use Rattle.mv_ledger.specs.View.{IsNamed, tallied}
-use Rattle.mv_ledger.specs.Tallying.{is_scarce_struct, scarce_indices, fresh_tally}
-use Rattle.mv_ledger.proofs.TalliesAfter.{module_there}
+use Rattle.mv_ledger.specs.View.{IsNamed, scarce_indices, tallied}
+use Rattle.mv_ledger.specs.Tallying.{fresh_tally}
 
 module _ (m : Module) where
   -- the indices of the first so many structs that are scarce

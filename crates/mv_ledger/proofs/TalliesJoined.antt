@@ -1,29 +1,32 @@
 -- The tallies after a bundle: each struct with neither copy nor drop has the one that it had, or an empty one.
 use Rattle.std.proofs.Common.{◌≡◌, ℕ, zero, suc, ◌+◌, ◌*◌, ◌^◌, ◌<◌, ◌≤◌, Bool, true, false, cond, List, [], ◌∷◌, ◌++◌, map, length, drop, Option, Some, None, option_map, refl, sym, ap, ap₂, ◌∙◌, subst, arith, zero-add}
 use Rattle.std.specs.Prelude.{◌==◌, ◌&&◌, All, IsSome, slice_get, unwrap_or, filter_map, find}
-use Rattle.std.specs.List.{filter, enumerate_from}
-use Rattle.std.specs.Option.{option_map_or}
-use Rattle.std.proofs.lemmas.Bool.{eq-eqb, eqb-true}
+use Rattle.std.specs.Cmp.{first_so, second_so}
+use Rattle.std.proofs.lemmas.Bool.{and_from, eq-eqb, eqb-true}
+use Rattle.std.proofs.lemmas.Bool.Decides.{same_from_decides}
+use Rattle.std.proofs.lemmas.Option.{same_Some}
 use Rattle.std.proofs.lemmas.List.{map-append, length-map}
 use Rattle.std.proofs.Math.Seq.{drop-append_seam}
 use Rattle.std.proofs.lemmas.List.Elements.{All-nil, All-cons, All-head, All-tail, All-append, All-map, All-weaker}
 use Rattle.mv_move_types.specs.Names.{StructName, same_struct}
-use Rattle.mv_move_types.specs.Module.{Module, StructDefinition, name_at}
+use Rattle.mv_move_types.specs.Module.{Module, name_at}
 use Rattle.mv_move_types.specs.Published.{PublishedModule}
 use Rattle.mv_bounds.specs.Bounds.{InBounds}
 use Rattle.mv_machine.specs.Lines.{Tallied}
 use Rattle.mv_machine.specs.Ledger.{scarce_name, scarce_structs, tally_of, untouched_tally}
 use Rattle.mv_linker.specs.Link.{IsStore, IsPublishable, tables_in}
+use Rattle.mv_linker.proofs.NameLemmas.{same_struct-same, same_struct-is}
 use Rattle.mv_linker.proofs.Found.{then_found, some-of}
-use Rattle.mv_interpreter.specs.declared.StructTally.{StructTally}
+use Rattle.mv_interpreter.proofs.Homes.{index_of}
 use Rattle.mv_interpreter.proofs.Lists.{mapped_at, All-at}
 use Rattle.mv_interpreter.specs.Flat.Agreement.{nameless}
 use Rattle.mv_ledger.specs.declared.tallies.Tally.{Tally}
-use Rattle.mv_ledger.specs.View.{all_of, ArePlaced, AreScarce, IsNamed, IsSmall, tallied, is_scarce_struct, scarce_indices}
+use Rattle.mv_ledger.specs.View.{all_of, ArePlaced, AreScarce, IsNamed, IsSmall, tallied, scarce_indices}
 use Rattle.mv_ledger.specs.Tallying.{AddsTallies, fresh_tally, tallies_at}
 use Rattle.mv_ledger.proofs.Places.{had, EachIs}
-use Rattle.mv_ledger.proofs.Heirs.{Inherits, had-first, name-stays, indices_from}
-use Rattle.mv_ledger.proofs.TalliesAfter.{map-where, map-then, tally_is}
+use Rattle.mv_ledger.proofs.Heirs.{Inherits, had-first, name-stays}
+use Rattle.mv_ledger.proofs.ScarceTallies.{All-back, Ascends, ascend-from}
+use Rattle.mv_ledger.proofs.TalliesAfter.{map-where, map-then}
 use Rattle.mv_ledger.proofs.TalliesFresh.{struct_there, fresh-tallied, fresh-named, AreThere}
 
 -- ---- what is found first
@@ -90,30 +93,6 @@ found-at place index (ts ∷ tss) (suc k) placed =
     find-after (λ (t : Tally). t.place ≡ place) (stands_at (place + suc k) index) (not-there (place + suc k) index place (λ e. omega (arith, e))) ts (all_of tss) placed.0
     ∙ ap (λ (n : ℕ). find (stands_at n index) (all_of tss)) same ∙ found-at (place + 1) index tss k placed.1
 
--- ---- indices ascend
-
-abbrev Ascends : List ℕ → Type 0
-Ascends [] = Unit {0}
-Ascends (x ∷ xs) = All (λ y. x < y) xs × Ascends xs
-
-least-from : (m : Module) (k : ℕ) (ds : List StructDefinition) → All (λ y. k ≤ y) (indices_from k m ds)
-least-from m k [] = All-nil (λ y. k ≤ y)
-least-from m k (d ∷ ds) = by_case (is_scarce_struct m d) (All-weaker (λ y. k + 1 ≤ y) (λ y. k ≤ y) (λ y h. omega (arith, h)) (indices_from (k + 1) m ds) (least-from m (k + 1) ds))
-  where
-    by_case : (b : Bool) → All (λ y. k ≤ y) (indices_from (k + 1) m ds)
-        → All (λ y. k ≤ y) (map (λ (p : ℕ × StructDefinition). p.0) (cond b ((k, d) ∷ filter (λ p. is_scarce_struct m p.1) (enumerate_from (k + 1) ds)) (filter (λ p. is_scarce_struct m p.1) (enumerate_from (k + 1) ds))))
-    by_case true rest = All-cons (λ y. k ≤ y) k (indices_from (k + 1) m ds) (omega arith) rest
-    by_case false rest = rest
-
-ascend-from : (m : Module) (k : ℕ) (ds : List StructDefinition) → Ascends (indices_from k m ds)
-ascend-from m k [] = tt
-ascend-from m k (d ∷ ds) = by_case (is_scarce_struct m d) (ascend-from m (k + 1) ds)
-  where
-    by_case : (b : Bool) → Ascends (indices_from (k + 1) m ds)
-        → Ascends (map (λ (p : ℕ × StructDefinition). p.0) (cond b ((k, d) ∷ filter (λ p. is_scarce_struct m p.1) (enumerate_from (k + 1) ds)) (filter (λ p. is_scarce_struct m p.1) (enumerate_from (k + 1) ds))))
-    by_case true rest = (All-weaker (λ y. k + 1 ≤ y) (λ y. k < y) (λ y h. omega (arith, h)) (indices_from (k + 1) m ds) (least-from m (k + 1) ds), rest)
-    by_case false rest = rest
-
 -- ---- a module's tallies by its structs
 
 module _ {B : Type 0} (g : Tally → B) (place : ℕ) where
@@ -131,10 +110,6 @@ module _ {B : Type 0} (g : Tally → B) (place : ℕ) where
       other y far = sym (ap (λ (b : Bool). unwrap_or (option_map g (cond b (Some t) (find (λ (u : Tally). u.index == y) ts))) (g (fresh_tally place y))) (apart t.index y (λ same. omega (arith, far, same))))
 
 -- ---- lists
-
-All-back : {A B : Type 0} (P : B → Type 0) (f : A → B) (xs : List A) → All P (map f xs) → All (λ x. P (f x)) xs
-All-back P f [] all = All-nil (λ x. P (f x))
-All-back P f (x ∷ xs) all = All-cons (λ x. P (f x)) x xs (All-head P (f x) (map f xs) all) (All-back P f xs (All-tail P (f x) (map f xs) all))
 
 All-second : {A : Type 0} (P : A → Type 0) (xs ys : List A) → All P (xs ++ ys) → All P ys
 All-second P [] ys all = all
@@ -168,10 +143,22 @@ module _ (new : List PublishedModule) (store : IsStore new) (tss : List (List Ta
   by_place : (place index : ℕ) (name : StructName) → name_at (tables_in new) place index ≡ Some name → (t : Tally) → IsNamed (tables_in new) t → same_struct (tallied (tables_in new) t).struct name ≡ stands_at place index t
   by_place place index name at t h =
       let own = some-of (name_at (tables_in new) t.place t.index) h in
-      let entry : StructTally = record { place = t.place; index = t.index; packs = 0; unpacks = 0 } in
       ap (λ (o : Option StructName). same_struct (unwrap_or o nameless) name) own.1
-      ∙ ap (λ (o : Option StructName). option_map_or (λ own. same_struct own name) o false) (sym own.1)
-      ∙ sym (tally_is new store place index name at entry)
+      ∙ same_from_decides {P = (t.place ≡ place) × (t.index ≡ index)} (same_struct own.0 name) (stands_at place index t) (named_so own.0 own.1, there_so own.0 own.1) (here, here_so)
+    where
+      named_so : (own : StructName) → name_at (tables_in new) t.place t.index ≡ Some own → same_struct own name ≡ true → (t.place ≡ place) × (t.index ≡ index)
+      named_so own is e = index_of new store t.place place t.index index name (is ∙ ap Some (same_struct-is own name e)) at
+
+      there_so : (own : StructName) → name_at (tables_in new) t.place t.index ≡ Some own → (t.place ≡ place) × (t.index ≡ index) → same_struct own name ≡ true
+      there_so own is e =
+          let same : name ≡ own = same_Some name own (sym at ∙ sym (ap₂ (name_at (tables_in new)) e.0 e.1) ∙ is) in
+          subst (λ (n : StructName). same_struct own n ≡ true) (sym same) (same_struct-same own)
+
+      here : stands_at place index t ≡ true → (t.place ≡ place) × (t.index ≡ index)
+      here e = (eqb-true t.place place (first_so (t.place == place) (t.index == index) e), eqb-true t.index index (second_so (t.place == place) (t.index == index) e))
+
+      here_so : (t.place ≡ place) × (t.index ≡ index) → stands_at place index t ≡ true
+      here_so e = and_from (t.place == place) (t.index == index) (eq-eqb t.place place e.0) (eq-eqb t.index index e.1)
 
   -- the tally of a struct of the store
   old-tally : (place index : ℕ) → IsSome (name_at (tables_in new) place index) → tally_of olds (name_of place index) ≡ resolved (tallied (tables_in new)) place (had tss place) index

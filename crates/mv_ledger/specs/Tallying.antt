@@ -1,18 +1,18 @@
 -- The tallies after a bundle, and after a run.
-use Rattle.std.specs.Prelude.{◌≡◌, ℕ, ◌+◌, ◌^◌, ◌<◌, ◌≤◌, nat_lt, All, Bool, cond, List, [], ◌∷◌, ◌++◌, map, drop, length, option_and_then, unwrap_or, slice_get, fold}
-use Rattle.std.specs.List.{sum_by, list_any}
+use Rattle.std.specs.Prelude.{◌≡◌, ℕ, ◌+◌, ◌^◌, ◌<◌, ◌≤◌, nat_lt, All, Bool, true, cond, List, [], ◌∷◌, ◌++◌, map, drop, length, option_and_then, unwrap_or, slice_get, fold}
+use Rattle.std.specs.List.{list_any}
+use Rattle.std.specs.List.Sorted.{IsStrictlyIncreasing}
 use Rattle.mv_move_types.specs.Module.{Module, own_name}
 use Rattle.mv_move_types.specs.Named.{have_one_name, module_place}
 use Rattle.mv_move_types.specs.Published.{PublishedModule}
 use Rattle.mv_machine.specs.Ledger.{scarce_structs, tally_of}
 use Rattle.mv_linker.specs.Link.{tables_in}
 use Rattle.mv_linker.specs.Stored.{with_at}
-use Rattle.mv_interpreter.specs.Runs.{is_tally_at}
-use Rattle.mv_interpreter.specs.declared.StructTally.{StructTally}
+use Rattle.mv_frames.specs.Counters.{is_tally_at, packs_at, unpacks_at}
+use Rattle.mv_frames.specs.declared.counters.StructTally.{StructTally}
 use Rattle.mv_ledger.specs.declared.tallies.Tally.{Tally}
 use Rattle.mv_ledger.specs.declared.tallies.Placed.{Placed}
-pub use Rattle.mv_ledger.specs.View.{is_scarce_struct, scarce_indices}
-use Rattle.mv_ledger.specs.View.{tallied}
+use Rattle.mv_ledger.specs.View.{scarce_indices, tallied}
 
 -- each struct with neither copy nor drop has the tally that it had, or an empty one
 abbrev pub AddsTallies : List PublishedModule → List PublishedModule → List Tally → List Tally → Type 0
@@ -56,14 +56,6 @@ ArePlacedFor old tss next (m ∷ ms) (p ∷ ps) =
     × (p.tallies.items ≡ tallies_at p.place m (unwrap_or (slice_get tss p.place) []))
     × ArePlacedFor old tss (cond (is_published old m) next (next + 1)) ms ps
 
--- how often a run made values of the struct at a place and an index
-abbrev pub packs_at : ℕ → ℕ → List StructTally → ℕ
-packs_at place index = sum_by (λ t. cond (is_tally_at place index t) t.packs 0)
-
--- how often it took them apart
-abbrev pub unpacks_at : ℕ → ℕ → List StructTally → ℕ
-unpacks_at place index = sum_by (λ t. cond (is_tally_at place index t) t.unpacks 0)
-
 -- a tally with what a run did
 abbrev pub tally_after : List StructTally → Tally → Tally
 tally_after run t = record t { packs = t.packs + packs_at t.place t.index run; unpacks = t.unpacks + unpacks_at t.place t.index run }
@@ -75,3 +67,11 @@ HasRoomLeft t = (t.packs + 2 ^ 64 < 2 ^ 128) × (t.unpacks + 2 ^ 64 < 2 ^ 128)
 -- a tally has room in 128 bits for what a run did with values of one struct
 abbrev pub HasRoomFor : StructTally → Tally → Type 0
 HasRoomFor e t = (t.packs + e.packs < 2 ^ 128) × (t.unpacks + e.unpacks < 2 ^ 128)
+
+-- it has, if it is that struct's
+abbrev pub IsRoomFor : StructTally → Tally → Type 0
+IsRoomFor e t = is_tally_at t.place t.index e ≡ true → HasRoomFor e t
+
+-- tallies of one module stand by ascending index
+abbrev pub AreInOrder : List Tally → Type 0
+AreInOrder ts = IsStrictlyIncreasing (map (λ t. t.index) ts)

@@ -1,14 +1,15 @@
 -- What a ledger holds, and the machine's state that it stands for.
-use Rattle.std.specs.Prelude.{Bool, false, not, ◌&&◌, ◌≡◌, ℕ, ◌+◌, ◌*◌, ◌^◌, ◌≤◌, List, [], ◌∷◌, map, length, All, IsSome, unwrap_or}
+use Rattle.std.specs.Prelude.{◌≡◌, ℕ, ◌+◌, ◌*◌, ◌^◌, ◌≤◌, List, [], ◌∷◌, map, length, All, IsSome, unwrap_or}
 use Rattle.std.specs.List.{flat_map, filter, enumerate_from}
-use Rattle.std.specs.Option.{option_map_or}
-use Rattle.mv_move_types.specs.declared.token.Abilities.{Abilities}
-use Rattle.mv_move_types.specs.Module.{Module, StructDefinition, struct_abilities, name_at}
+use Rattle.mv_move_types.specs.Module.{Module, name_at}
 use Rattle.mv_move_types.specs.Published.{PublishedModule}
 use Rattle.mv_machine.specs.Flat.{FlatEntry, storage_of}
 use Rattle.mv_machine.specs.Lines.{Tallied}
 use Rattle.mv_machine.specs.Ledger.{LedgerState}
 use Rattle.mv_linker.specs.Link.{tables_in}
+use Rattle.mv_linker.specs.Scarce.{is_scarce_struct}
+use Rattle.mv_frames.specs.Counters.{IsClear}
+use Rattle.mv_frames.specs.declared.counters.Count.{Count}
 use Rattle.mv_interpreter.specs.Runs.{IsFineWords}
 use Rattle.mv_interpreter.specs.Flat.Agreement.{nameless}
 use Rattle.mv_ledger.specs.declared.tallies.Tally.{Tally}
@@ -47,10 +48,6 @@ abbrev pub ArePlaced : ℕ → List (List Tally) → Type 0
 ArePlaced place [] = Unit {0}
 ArePlaced place (ts ∷ tss) = All (λ t. t.place ≡ place) ts × ArePlaced (place + 1) tss
 
--- whether a struct of a module has neither copy nor drop
-abbrev pub is_scarce_struct : Module → StructDefinition → Bool
-is_scarce_struct m d = option_map_or (λ (a : Abilities). not a.copy && not a.drop) (struct_abilities m d) false
-
 -- the indices, ascending, of a module's structs with neither copy nor drop
 abbrev pub scarce_indices : Module → List ℕ
 scarce_indices m = map (λ p. p.0) (filter (λ p. is_scarce_struct m p.1) (enumerate_from 0 m.structs))
@@ -76,14 +73,15 @@ AreScarce (m ∷ ms) [] = ⊥
 AreScarce (m ∷ ms) (ts ∷ tss) = (map (λ t. t.index) ts ≡ scarce_indices m) × AreScarce ms tss
 
 -- A ledger's modules and runs are within their limits, each stored value is one of its key's struct, and each tally one of a
--- struct in its range; each module has the tallies of its structs with neither copy nor drop; and the machine's ledger that it
--- stands for is sound.
-pub record IsLedger (published : List PublishedModule) (stored : List FlatEntry) (tallies : List (List Tally)) (runs : ℕ) : Type 0 where
+-- struct in its range; each module has the tallies of its structs with neither copy nor drop; the counters that runs count in
+-- are zero; and the machine's ledger that it stands for is sound.
+pub record IsLedger (published : List PublishedModule) (stored : List FlatEntry) (tallies : List (List Tally)) (counters : List (List Count)) (runs : ℕ) : Type 0 where
   pub few : length published ≤ 4096
   pub fine : All (IsFineWords (tables_in published)) stored
   pub placed : length tallies ≡ length published
   pub scarce : AreScarce (tables_in published) tallies
   pub named : All (IsNamed (tables_in published)) (all_of tallies)
   pub small : All (IsSmall runs) (all_of tallies)
+  pub clear : IsClear counters
   pub counted : runs ≤ 4294967296
   pub sound : IsSoundLedger (state_of (view_of published stored (all_of tallies) runs))

@@ -3,6 +3,7 @@ ghost use Rattle.std.specs.Prelude.{◌≡◌, ◌<◌, ◌≤◌, ◌+◌, ℕ,
 ghost use Rattle.std.specs.List.{list_all};
 ghost use Rattle.mv_machine.specs.Ledger.{is_argument, are_arguments, with_signer as with_sender};
 ghost use Rattle.mv_linker.specs.Link.{IsStore, tables_in};
+ghost use Rattle.mv_frames.specs.Counters.{IsClear};
 ghost use Rattle.mv_interpreter.specs.declared.Arg.{Arg as Argument};
 ghost use Rattle.mv_interpreter.specs.Runs.{IsCall, IsFineWords, number_fits, arg_value};
 ghost use Rattle.mv_ledger.specs.Changes.{RunsTo};
@@ -15,6 +16,7 @@ ghost use Rattle.mv_ledger.specs.View.{all_of, IsNamed, IsSmall, AreScarce};
 use crate::Reply;
 use crate::payload::RunRecord;
 use crate::tallies::Tallies;
+use mv_frames::Counters;
 use mv_interpreter::{Arg, RunError, run};
 use mv_linker::Store;
 use mv_machine::Ending;
@@ -148,12 +150,14 @@ pub fn admitted(store: &Store, runs: u64, asked: RunRecord<'_>) -> Result<Call, 
     })
 }
 
-/// Runs a call. A run that returns keeps what it made of the storage, and its tally is added; any other leaves both.
+/// Runs a call. A run that returns keeps what it made of the storage, and its tally is added; any other leaves both. The
+/// counters are zero again after each.
 pub fn execute(
     alloc: Global,
     store: &Store,
     storage: &mut Storage,
     tallies: &mut Tallies,
+    counters: &mut Counters,
     call: &Call,
 ) -> Reply
     requires store { IsStore store.now }
@@ -163,6 +167,8 @@ pub fn execute(
     requires named { All (IsNamed (tables_in store.now)) (all_of tallies.old) }
     requires room { All HasRoomLeft (all_of tallies.old) }
     requires scarce { AreScarce (tables_in store.now) tallies.old }
+    requires clear { IsClear counters.old }
+    ensures clear { IsClear counters.new }
     ensures scarce { AreScarce (tables_in store.now) tallies.new }
     ensures stored { All (IsFineWords (tables_in store.now)) storage.new }
     ensures placed { length tallies.new ≡ length tallies.old }
@@ -171,10 +177,13 @@ pub fn execute(
     ensures settled { IsSettled store.now call.now (told result) storage.old storage.new (all_of tallies.old) (all_of tallies.new) }
     ensures kept { RunsTo (told result) storage.old storage.new (all_of tallies.old) (all_of tallies.new) }
 {
+    // For the prover: each tally stands with its module.
+    let _modules = tallies.len();
     let mut overlay = mem::replace(storage, Storage::new(alloc)).overlay();
     match run(
         store,
         &mut overlay,
+        counters,
         call.function,
         &call.arguments,
         call.budget,

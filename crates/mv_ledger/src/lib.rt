@@ -25,6 +25,7 @@ pub use laws::{
     each_record_is_well, every_count_is_tallied, every_run_conserves, every_run_is_own_work,
 };
 pub use lines::Lines;
+use mv_frames::Counters;
 use mv_linker::Store;
 use mv_machine::Outcome;
 use mv_move_types::Refusal;
@@ -59,7 +60,7 @@ impl Reply {
 }
 
 /// The published modules, the stored values, the tallies of the structs with neither copy nor drop, and the number of runs
-/// had. Its model is what it holds, with values as their
+/// had; and the counters that each run counts in, which are zero between runs. Its model is what it holds, with values as their
 /// words; `state_of` is the state of the machine's ledger that it stands for, which is sound.
 #[derive(Drop)]
 pub struct Ledger {
@@ -67,6 +68,7 @@ pub struct Ledger {
     store: Store,
     storage: Storage,
     tallies: Tallies,
+    counters: Counters,
     runs: u64,
 }
 
@@ -77,7 +79,7 @@ impl Model for Ledger {
 
     ghost view = { λ l. view_of l.store l.storage (all_of l.tallies) l.runs };
 
-    ghost invariant = { λ l. IsLedger l.store l.storage l.tallies l.runs };
+    ghost invariant = { λ l. IsLedger l.store l.storage l.tallies l.counters l.runs };
 }
 
 impl Ledger {
@@ -90,6 +92,7 @@ impl Ledger {
             store: Store::new(alloc),
             storage: Storage::new(alloc),
             tallies: Tallies::new(alloc),
+            counters: Counters::new(alloc),
             runs: 0,
         }
     }
@@ -110,7 +113,13 @@ impl Ledger {
     pub fn publish(&mut self, payload: &[u8]) -> Reply
         ensures { Replies 1 payload.now (told result) self.old self.new }
     {
-        match publishing::publish(self.alloc, &mut self.store, &mut self.tallies, payload) {
+        match publishing::publish(
+            self.alloc,
+            &mut self.store,
+            &mut self.tallies,
+            &mut self.counters,
+            payload,
+        ) {
             Ok(count) => Reply::Published(count),
             Err(Refusal::Phase(phase)) => Reply::Refused(phase),
             Err(Refusal::Memory) => Reply::Memory,
@@ -133,6 +142,7 @@ impl Ledger {
                     &self.store,
                     &mut self.storage,
                     &mut self.tallies,
+                    &mut self.counters,
                     &call,
                 );
                 if reply.is_told() {

@@ -7,6 +7,7 @@ ghost use Rattle.mv_move_types.specs.Published.{with_modules};
 ghost use Rattle.mv_certificate.specs.Certificate.{Certificate};
 ghost use Rattle.mv_linker.specs.Link.{IsStore, tables_in};
 ghost use Rattle.mv_linker.specs.News.{AreTexts, published_of};
+ghost use Rattle.mv_frames.specs.Counters.{AreSameCounts};
 ghost use Rattle.mv_ledger.specs.Asking.{offer_of, offers_of};
 ghost use Rattle.mv_ledger.specs.Publishing.{Passes, AllPass, IsRefusedOffer, IsRefusedAmong};
 ghost use Rattle.mv_ledger.specs.Judging.{IsAcceptedBy, IsRefusedBy};
@@ -16,6 +17,7 @@ ghost use Rattle.mv_ledger.specs.View.{all_of, ArePlaced, IsNamed, IsSmall, AreS
 use crate::payload::{Offered, read_bundle};
 use crate::tallies::{Placed, Tallies, scarce_structs};
 use mv_binary_format::Module;
+use mv_frames::Counters;
 use mv_linker::{New, Store, link, name_of};
 use mv_move_types::Refusal;
 use std::alloc::{AllocError, Global};
@@ -62,17 +64,19 @@ fn all_verified<'a>(alloc: Global, offers: &[Offered<'a>]) -> Result<Vec<New<'a>
 }
 
 /// Where each of these modules is to stand, with its tallies: in the place of the published one of its name, whose tallies it
-/// keeps, or in the next place.
+/// keeps, or in the next place. The counters get room for its structs, up to the last one with neither copy nor drop.
 fn placed(
     alloc: Global,
     store: &Store,
     tallies: &Tallies,
+    counters: &mut Counters,
     news: &[New<'_>],
 ) -> Result<Vec<Placed>, AllocError>
     requires few { length store.now + length news.now < 65536 }
     requires all { length tallies.now ≡ length store.now }
     ensures placed { IfOk result (λ v. ArePlacedFor (tables_in store.now) tallies.now (length store.now) (tables_in (published_of news.now)) v.items) }
     ensures theirs { ArePlaced 0 tallies.now }
+    ensures counts { AreSameCounts counters.old counters.new }
 {
     let mut all = Vec::new(alloc);
     let mut next = tallies.len();
@@ -81,6 +85,9 @@ fn placed(
         let found = place_of(store, module);
         let place = found.unwrap_or(next);
         let structs = scarce_structs(alloc, module)?;
+        if let Some(last) = structs.last() {
+            counters.make_room(place as u16, usize::from(*last) + 1)?;
+        }
         all.push(Placed {
             place,
             tallies: tallies.extended(alloc, place, &structs)?,
@@ -109,7 +116,7 @@ fn is_too_much(placed: &[Placed], count: usize) -> bool
 }
 
 /// Publishes the bundle that a payload has, and says how many modules it has: they join the store, and each of their structs
-/// with neither copy nor drop has the tally that it had, or an empty one.
+/// with neither copy nor drop has the tally that it had, or an empty one. What is counted stays.
 ///
 /// # Errors
 ///
@@ -119,6 +126,7 @@ pub fn publish(
     alloc: Global,
     store: &mut Store,
     tallies: &mut Tallies,
+    counters: &mut Counters,
     payload: &[u8],
 ) -> Result<u64, Refusal>
     requires few { length store.old ≤ 4096 }
@@ -130,6 +138,7 @@ pub fn publish(
     ensures room { OnOk result (length store.new ≤ 4096) }
     ensures err { OnErr result (store.new ≡ store.old) }
     ensures kept { OnErr result (tallies.new ≡ tallies.old) }
+    ensures counts { AreSameCounts counters.old counters.new }
     ensures accepted { IfOk result (λ n. IsAcceptedBy n store.old payload.now store.new) }
     ensures refused { IfErr result (IsRefusedBy store.old payload.now) }
     ensures placed { length tallies.new ≡ length store.new }
@@ -145,7 +154,7 @@ pub fn publish(
     };
     let news = all_verified(alloc, &bundle.offers)?;
     let published = store.len();
-    let placed = placed(alloc, store, tallies, &news)?;
+    let placed = placed(alloc, store, tallies, counters, &news)?;
     let count = news.len();
     let linked = link(store, Some(bundle.sender), news)?;
     if is_too_much(&placed, published) {

@@ -1,15 +1,16 @@
 // Tallies of the structs with neither copy nor drop.
-ghost use Rattle.std.specs.Prelude.{◌≡◌, ◌+◌, ◌-◌, ◌^◌, ◌<◌, ◌≤◌, [], ◌∷◌, ◌++◌, All, length, map, drop, slice_get, unwrap_or, IfOk, OnOk, OnErr};
+ghost use Rattle.std.specs.Prelude.{◌≡◌, ◌+◌, ◌-◌, ◌^◌, ◌<◌, ◌≤◌, [], ◌∷◌, ◌++◌, All, true, length, map, drop, slice_get, unwrap_or, IfOk, OnOk, OnErr};
 ghost use Rattle.std.specs.Vec.{vec_len, vec_capacity};
 ghost use Rattle.mv_move_types.specs.Published.{with_modules};
 ghost use Rattle.mv_linker.specs.Stored.{IsLinkedTo, with_at};
-ghost use Rattle.std.specs.List.{sum_by};
-ghost use Rattle.mv_ledger.specs.Tallying.{is_scarce_struct, scarce_indices, fresh_tally, tally_after, with_placed, AreWithin, HasRoomFor, HasRoomLeft};
-ghost use Rattle.mv_ledger.specs.View.{all_of, ArePlaced};
+ghost use Rattle.mv_frames.specs.Counters.{is_tally_at};
+ghost use Rattle.mv_interpreter.specs.Runs.{AtMost};
+ghost use Rattle.mv_ledger.specs.Tallying.{fresh_tally, tally_after, with_placed, AreWithin, AreInOrder, HasRoomFor, HasRoomLeft, IsRoomFor};
+ghost use Rattle.mv_ledger.specs.View.{all_of, ArePlaced, scarce_indices};
 
-use mv_binary_format::{Module, StructDefinition};
-use mv_interpreter::StructTally;
-use mv_linker::{Linked, Store, add};
+use mv_binary_format::Module;
+use mv_frames::StructTally;
+use mv_linker::{Linked, Store, add, is_scarce};
 use std::alloc::{AllocError, Global};
 use std::marker::Model;
 
@@ -21,16 +22,6 @@ pub struct Tally {
     pub index: u16,
     pub packs: u128,
     pub unpacks: u128,
-}
-
-/// Whether a struct is declared with neither copy nor drop.
-fn is_scarce(m: &Module<'_>, d: &StructDefinition) -> bool
-    ensures { result ≡ is_scarce_struct m.now d.now }
-{
-    match m.struct_handles().get(d.handle() as usize) {
-        Some(handle) => !handle.abilities.copy && !handle.abilities.drop,
-        None => false,
-    }
 }
 
 /// The indices of a module's structs with neither copy nor drop.
@@ -65,24 +56,25 @@ pub struct Placed {
     pub tallies: Vec<Tally>,
 }
 
-/// Adds what a run did with values of one struct, if the tally is of that struct.
+/// Adds what a run did with values of a struct to that struct's tally.
 fn add_to(tally: &mut Tally, entry: &StructTally)
-    requires { HasRoomFor entry.now tally.old }
+    requires own { is_tally_at tally.old.place tally.old.index entry.now ≡ true }
+    requires room { HasRoomFor entry.now tally.old }
     ensures { tally.new ≡ tally_after (entry.now ∷ []) tally.old }
 {
-    if entry.place == tally.place && entry.index == tally.index {
-        tally.packs += u128::from(entry.packs);
-        tally.unpacks += u128::from(entry.unpacks);
-    }
+    tally.packs += u128::from(entry.packs);
+    tally.unpacks += u128::from(entry.unpacks);
 }
 
-/// Adds what a run did with values of one struct, to that struct's tally.
+/// Adds what a run did with values of one struct to that struct's tally, which is searched for among those of its module.
 fn add_entry(tallies: &mut [Tally], entry: &StructTally)
-    requires { All (HasRoomFor entry.now) tallies.old }
+    requires placed { All (λ t. t.place ≡ entry.now.place) tallies.old }
+    requires ordered { AreInOrder tallies.old }
+    requires room { All (IsRoomFor entry.now) tallies.old }
     ensures { tallies.new ≡ map (tally_after (entry.now ∷ [])) tallies.old }
 {
-    for tally in tallies.iter_mut() {
-        add_to(tally, entry);
+    if let Ok(found) = tallies.binary_search_by_key(&entry.index, |tally| tally.index) {
+        add_to(&mut tallies[found], entry);
     }
 }
 
@@ -100,7 +92,7 @@ fn put(modules: &mut Vec<Vec<Tally>>, one: Placed)
 }
 
 /// The tallies of each module's structs with neither copy nor drop, module by module in the order of publication. Its
-/// model is the list of each module's list. To add a run only the tallies of those modules are read whose structs it made
+/// model is the list of each module's list. To add a run only the tallies of those structs are looked up whose values it made
 /// or took apart, however many there are.
 #[derive(Drop)]
 pub struct Tallies {
@@ -191,7 +183,8 @@ impl Tallies {
     /// Adds what a run did to each tally.
     pub fn add_run(&mut self, run: &[StructTally])
         requires room { All HasRoomLeft (all_of self.old) }
-        requires few { sum_by (λ t. t.packs + t.unpacks) run.now ≤ 2 ^ 64 - 1 }
+        requires ordered { All AreInOrder self.old }
+        requires few { AtMost (2 ^ 64 - 1) run.now }
         ensures { self.new ≡ map (map (tally_after run.now)) self.old }
     {
         for entry in run {

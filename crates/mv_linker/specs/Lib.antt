@@ -14,6 +14,7 @@ pub mod Order
 pub mod Ordering
 pub mod Relinked
 pub mod Resolved
+pub mod Scarce
 pub mod Scope
 pub mod Sizes
 pub mod Sizing

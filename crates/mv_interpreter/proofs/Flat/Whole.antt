@@ -100,7 +100,7 @@ first_represented modules storage call c store sized stored =
         );
         storage = refl;
         steps = refl;
-        tally = tt;
+        tally = refl;
       },
     )
   where

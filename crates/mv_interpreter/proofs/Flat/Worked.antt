@@ -19,7 +19,7 @@ use Rattle.mv_machine.specs.StepReferences.{own_field, borrow_field, read_refere
 use Rattle.mv_machine.specs.StepGlobals.{exists, borrow_global, move_from}
 use Rattle.mv_machine.specs.StepControl.{callee, call, branch_if, abort}
 use Rattle.mv_type_states.specs.TypeRules.{types_after}
-use Rattle.mv_linker.specs.Operations.{Discard, Push, BorrowLocal, BorrowInside, Load, Store, Read, Write, Sum, Tally, PutStored, Leave, Enter, GiveUp}
+use Rattle.mv_linker.specs.Operations.{Discard, Push, BorrowLocal, BorrowInside, Load, Store, Read, Write, Sum, Skip, Tally, PutStored, Leave, Enter, GiveUp}
 use Rattle.mv_linker.specs.Linked.{linked, program_of}
 use Rattle.mv_interpreter.specs.Flat.FlatStep.{apply}
 use Rattle.mv_interpreter.specs.Flat.FlatRun.{FlatReturned, FlatAborted, flat_turns, flat_run}
@@ -71,7 +71,7 @@ flat_pairs_aborts : flat_run (pairs ∷ []) (program_of (pairs ∷ [])) [] adds.
 unfolding computes
 flat_pairs_aborts = refl
 
-pairs_linked : program_of (pairs ∷ []) ≡ ((Push 3 ∷ Push 4 ∷ Tally true (record { place = 0; index = 0 }) ∷ Store 1 2 ∷ BorrowLocal 1 ∷ Enter (record { place = 0; index = 1 }) 2 2 ∷ Load 1 2 ∷ Tally false (record { place = 0; index = 0 }) ∷ Store 0 1 ∷ Discard 1 ∷ Load 0 1 ∷ GiveUp ∷ [])
+pairs_linked : program_of (pairs ∷ []) ≡ ((Push 3 ∷ Push 4 ∷ Skip ∷ Store 1 2 ∷ BorrowLocal 1 ∷ Enter (record { place = 0; index = 1 }) 2 2 ∷ Load 1 2 ∷ Skip ∷ Store 0 1 ∷ Discard 1 ∷ Load 0 1 ∷ GiveUp ∷ [])
     ∷ (Load 0 2 ∷ BorrowInside 1 ∷ Store 2 2 ∷ Load 2 2 ∷ Read 1 ∷ Push 5 ∷ Sum U64 ∷ Load 2 2 ∷ Write 1 ∷ Leave 0 ∷ []) ∷ []) ∷ []
 unfolding computes
 pairs_linked = refl

@@ -1,19 +1,21 @@
-use Rattle.std.proofs.Common.{◌≡◌, ◌+◌, ◌^◌, ◌≤◌, List, map, rules, sym, ap, ◌∙◌, subst, arith}
+use Rattle.std.proofs.Common.{◌≡◌, ◌+◌, List, map, rules, sym, ap, ◌∙◌, subst}
 use Rattle.std.specs.Prelude.{All}
-use Rattle.std.specs.List.{sum_by}
 use Rattle.mv_machine.specs.declared.Ending.TheVariants.{Returned}
 use Rattle.mv_machine.specs.Flat.{FlatEntry}
 use Rattle.mv_machine.specs.Run.{RunOutcome}
 use Rattle.mv_linker.specs.Link.{tables_in}
-use Rattle.mv_interpreter.specs.declared.StructTally.{StructTally}
 use Rattle.mv_interpreter.specs.Runs.{IsFineWords, Agrees}
 use Rattle.mv_ledger.specs.declared.tallies.Tally.{Tally}
 use Rattle.mv_ledger.specs.Tallying.{tally_after}
 use Rattle.mv_ledger.specs.View.{all_of, IsNamed, IsSmall, AreScarce}
 use Rattle.mv_ledger.proofs.StoredRuns.{run-same, tallied-after, settled-returned, settled-kept, small-kept}
+use Rattle.mv_ledger.proofs.ScarceTallies.{all-scarce, scarce-ordered}
 use Rattle.mv_ledger.proofs.TalliesAfter.{named-after, small-after, scarce-after}
 use Rattle.mv_ledger.proofs.executing.execute.Goals as goal
 use Rattle.mv_ledger.proofs.executing.execute.Goals.{then-eq, else-eq}
+
+pub add_run-requires-clause-ordered : goal.add_run-requires-clause-ordered
+add_run-requires-clause-ordered c = scarce-ordered (tables_in c.args.store.now) c.args.tallies.now c.requires.scarce
 
 pub returns-after-eq-clause-stored : goal.returns-after-eq-clause-stored
 returns-after-eq-clause-stored c =
@@ -48,8 +50,7 @@ returns-after-eq-clause-small c = λ runs small.
       | then-eq w ↦
           let after : all_of c.if-eq.tallies ≡ map (tally_after c.in-Ok.tally.items) (all_of c.args.tallies.now) =
           ap all_of w.tallies-is ∙ tallied-after c.in-Ok.tally.items w.deref-then-eq.result.now c.args.tallies.now w.add_run.new.self w.add_run.ensures w.deref-then-eq.ensures.value in
-          let few : sum_by (λ (t : StructTally). t.packs + t.unpacks) c.in-Ok.tally.items ≤ 2 ^ 64 = omega (arith, c.in-Ok.ensures.few) in
-          subst (λ (ts : List Tally). All (IsSmall (runs + 1)) ts) (sym after) (small-after runs c.in-Ok.tally.items (all_of c.args.tallies.now) few small)
+          subst (λ (ts : List Tally). All (IsSmall (runs + 1)) ts) (sym after) (small-after runs c.in-Ok.tally.items (all_of c.args.tallies.now) c.in-Ok.ensures.few small)
       | else-eq w ↦ rw w.tallies-is (small-kept runs (all_of c.args.tallies.now) small)
     ]
 
@@ -72,7 +73,8 @@ returns-after-eq-clause-settled c =
           (run-same c.args.store.now c.args.call.now c.args.storage.now c.if-eq.storage (all_of c.args.tallies.now) (all_of c.if-eq.tallies) c.overlay-overlay.result.current c.deref.result.now (c.overlay-overlay.ensures.current ∙ c.replace.ensures.value) c.deref.ensures.value) c.in-Ok.ensures.machine in
           let ended : c.in-Ok.outcome.ending ≡ Returned = search rules in
           let e : c.if-eq.storage ≡ c.run.new.o.current = cc in
-          settled-returned c.args.store.now c.args.call.now c.args.storage.now c.if-eq.storage (all_of c.args.tallies.now) (all_of c.if-eq.tallies) c.in-Ok.outcome c.in-Ok.tally.items c.run.new.o c.requires.store c.requires.named agrees ended e after
+          settled-returned c.args.store.now c.args.call.now c.args.storage.now c.if-eq.storage (all_of c.args.tallies.now) (all_of c.if-eq.tallies) c.in-Ok.outcome c.in-Ok.tally.items c.run.new.o c.requires.named
+          (all-scarce (tables_in c.args.store.now) c.args.tallies.now c.requires.scarce c.len-modules.ensures.placed) agrees ended e after
       | else-eq w ↦
           let agrees = subst (λ (o : RunOutcome). Agrees (tables_in c.args.store.now) o c.in-Ok.outcome c.in-Ok.tally.items c.run.new.o)
           (run-same c.args.store.now c.args.call.now c.args.storage.now c.if-eq.storage (all_of c.args.tallies.now) (all_of c.if-eq.tallies) c.overlay-overlay.result.current c.deref.result.now (c.overlay-overlay.ensures.current ∙ c.replace.ensures.value) c.deref.ensures.value) c.in-Ok.ensures.machine in

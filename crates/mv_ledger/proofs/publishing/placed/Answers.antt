@@ -1,13 +1,21 @@
-use Rattle.std.proofs.Common.{◌≡◌, ◌+◌, cond, Bool, sym, ap, ◌∙◌}
+use Rattle.std.proofs.Common.{◌≡◌, ◌+◌, ◌<◌, List, cond, Bool, sym, ap, ◌∙◌, arith}
 use Rattle.std.specs.Prelude.{is_none}
 use Rattle.mv_linker.specs.declared.New.{New}
+use Rattle.mv_frames.specs.Counters.{AreSameCounts, count_of}
+use Rattle.mv_frames.specs.declared.counters.Count.{Count}
 use Rattle.mv_ledger.proofs.Placing.{placing-more, placing-low, none-so}
 use Rattle.mv_ledger.proofs.publishing.placed.Goals as goal
-use Rattle.mv_ledger.proofs.publishing.placed.Goals.{then-is_none, else-is_none}
+use Rattle.mv_ledger.proofs.publishing.placed.Goals.{in-Some+in_ok-make_room, in_default, then-is_none, else-is_none}
+
+pub overflow_cast-place : goal.overflow_cast-place
+overflow_cast-place c =
+    let low : c.unwrap_or-place.result < 65536 = placing-low c.args.store.now c.args.tallies.now c.args.news.now c.each.new-index c.each.all.items c.each.next c.module-module.result.now c.place_of-found.result c.each.invariant.0 c.each-test.true c.requires.few
+    c.place_of-found.ensures c.unwrap_or-place.result c.unwrap_or-place.ensures in
+    omega (arith, low)
 
 pub extended-requires : goal.extended-requires
 extended-requires c =
-    placing-low c.args.store.now c.args.tallies.now c.args.news.now c.each.new-index c.each.all.items c.each.next c.module-module.result.now c.place_of-found.result c.each.invariant c.each-test.true c.requires.few c.place_of-found.ensures
+    placing-low c.args.store.now c.args.tallies.now c.args.news.now c.each.new-index c.each.all.items c.each.next c.module-module.result.now c.place_of-found.result c.each.invariant.0 c.each-test.true c.requires.few c.place_of-found.ensures
     c.unwrap_or-place.result c.unwrap_or-place.ensures
 
 pub each-preserved : goal.each-preserved
@@ -17,7 +25,14 @@ each-preserved c =
       | then-is_none w ↦ w.next-is ∙ ap (λ (b : Bool). cond b (c.each.next + 1) c.each.next) (sym w.if-is_none.true ∙ none-so c.place_of-found.result c.is_none.result c.is_none.ensures)
       | else-is_none w ↦ w.next-is ∙ ap (λ (b : Bool). cond b (c.each.next + 1) c.each.next) (sym w.if-is_none.false ∙ none-so c.place_of-found.result c.is_none.result c.is_none.ensures)
     ] in
-    placing-more c.args.store.now c.args.tallies.now c.args.news.now c.each.new-index c.each.all.items c.each.next c.module-module.result.now c.place_of-found.result
-    c.new-item.result c.push.new.self.items (record { place = c.unwrap_or-place.result; tallies = c.in_ok-extended.field-0 }) c.deref.result.now
-    c.each.invariant c.each-test.true (c.module-module.ensures.value ∙ ap (λ (n : New). n.module) c.new-item.is) c.place_of-found.ensures c.unwrap_or-place.ensures
-    c.in_ok-extended.ensures (c.deref.ensures.value ∙ c.in_ok-structs.ensures) c.in_ok-push.ensures.items c.if-is_none.next next
+    let counts : AreSameCounts c.args.counters.now c.match-last.counters = λ d.
+    elim c.match-last.branch [
+      | in-Some+in_ok-make_room w ↦ ap (λ (tables : List (List Count)). count_of tables d) w.counters-is ∙ w.make_room.ensures d ∙ c.each.invariant.1 d
+      | in_default w ↦ ap (λ (tables : List (List Count)). count_of tables d) w.counters-is ∙ c.each.invariant.1 d
+    ] in (
+      placing-more c.args.store.now c.args.tallies.now c.args.news.now c.each.new-index c.each.all.items c.each.next c.module-module.result.now c.place_of-found.result
+          c.new-item.result c.push.new.self.items (record { place = c.unwrap_or-place.result; tallies = c.in_ok-extended.field-0 }) c.deref-in-each.result.now
+          c.each.invariant.0 c.each-test.true (c.module-module.ensures.value ∙ ap (λ (n : New). n.module) c.new-item.is) c.place_of-found.ensures c.unwrap_or-place.ensures
+          c.in_ok-extended.ensures (c.deref-in-each.ensures.value ∙ c.in_ok-structs.ensures) c.in_ok-push.ensures.items c.if-is_none.next next,
+      counts,
+    )

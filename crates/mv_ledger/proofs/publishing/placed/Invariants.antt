@@ -1,5 +1,6 @@
+use Rattle.mv_frames.specs.Counters.{AreSameCounts}
 use Rattle.mv_ledger.proofs.Placing.{IsPlacing}
 use Rattle.mv_ledger.proofs.publishing.placed.Given as goal
 
 abbrev pub invariant-each : goal.invariant-each
-invariant-each l = IsPlacing l.store l.tallies l.news l.new-index l.all.items l.next
+invariant-each l = IsPlacing l.store l.tallies l.news l.new-index l.all.items l.next × AreSameCounts l.fn.counters l.counters

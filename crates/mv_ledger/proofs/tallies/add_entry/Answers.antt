@@ -1,8 +1,29 @@
-use Rattle.std.proofs.Common.{[], ◌∷◌}
-use Rattle.mv_ledger.specs.Tallying.{tally_after}
-use Rattle.mv_ledger.proofs.TalliesAdding.{changed-more}
+use Rattle.std.proofs.Common.{rules}
+use Rattle.std.proofs.lemmas.List.Sorted.{answers_always}
+use Rattle.mv_ledger.specs.declared.tallies.Tally.{Tally}
+use Rattle.mv_ledger.proofs.TalliesFound.{found-own, found-room, found-alone, none-own}
 use Rattle.mv_ledger.proofs.tallies.add_entry.Goals as goal
 
-pub loop-tally-preserved : goal.loop-tally-preserved
-loop-tally-preserved c =
-    changed-more (tally_after (c.args.entry.now ∷ [])) c.args.tallies.now c.loop-tally.tallies c.loop-tally.tally-index _ _ c.loop-tally-test.true c.loop-tally.invariant c.add_to.ensures
+-- no tally
+abbrev none : Tally
+none = record { place = 0; index = 0; packs = 0; unpacks = 0 }
+
+pub add_to-requires-clause-own : goal.add_to-requires-clause-own
+add_to-requires-clause-own c =
+    found-own c.args.entry.now c.args.tallies.now c.requires.placed c.requires.ordered none c.in-Ok.found c.in-Ok.ensures.bound
+    (c.in-Ok.ensures.position (λ (t : Tally). t.index) (answers_always _ _ _ (λ f a r g called. search rules)))
+
+pub add_to-requires-clause-room : goal.add_to-requires-clause-room
+add_to-requires-clause-room c =
+    found-room c.args.entry.now c.args.tallies.now c.requires.placed c.requires.ordered none c.in-Ok.found c.in-Ok.ensures.bound
+    (c.in-Ok.ensures.position (λ (t : Tally). t.index) (answers_always _ _ _ (λ f a r g called. search rules))) c.requires.room
+
+pub returns-in-Ok : goal.returns-in-Ok
+returns-in-Ok c =
+    found-alone c.args.entry.now c.args.tallies.now c.requires.placed c.requires.ordered none c.in-Ok.found c.in-Ok.ensures.bound
+    (c.in-Ok.ensures.position (λ (t : Tally). t.index) (answers_always _ _ _ (λ f a r g called. search rules))) c.add_to.new.tally c.add_to.ensures
+
+pub returns-in_default : goal.returns-in_default
+returns-in_default c =
+    none-own c.args.entry.now c.args.tallies.now c.requires.placed c.requires.ordered none c.in_default.field-0
+    (c.in_default.ensures.position (λ (t : Tally). t.index) (answers_always _ _ _ (λ f a r g called. search rules)))
