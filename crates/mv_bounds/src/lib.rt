@@ -19,7 +19,7 @@ use duplicates::well_defined;
 use indices::in_bounds;
 use mv_binary_format::Module;
 use mv_move_types::{Instruction, Refusal};
-use places::function_places;
+pub use places::{function_places, struct_places};
 use std::alloc::Global;
 use std::marker::Model;
 

@@ -12,8 +12,9 @@ use crate::scope::{Scope, is_module};
 use crate::targets::Target;
 use crate::types::{are_same, same_signature};
 use mv_binary_format::{FunctionDefinition, Module};
+use mv_bounds::{function_places, struct_places};
 use mv_move_types::{Abilities, Definition, FunctionHandle, Refusal, StructHandle, Visibility};
-use std::alloc::{AllocError, Global};
+use std::alloc::Global;
 
 /// Whether two modules have one name.
 fn have_one_name(m: &Module<'_>, n: &Module<'_>) -> bool
@@ -72,7 +73,7 @@ fn struct_in(
     h: usize,
     abilities: Abilities,
     n: &Module<'_>,
-    likely: usize,
+    likely: Option<usize>,
 ) -> Option<usize>
     requires { WellDefined n.now }
     ensures found { IfSome result (IsStructIn m.now h n.now) }
@@ -115,7 +116,7 @@ fn function_in(
     m: &Module<'_>,
     handle: FunctionHandle,
     n: &Module<'_>,
-    likely: usize,
+    likely: Option<usize>,
 ) -> Option<usize>
     requires { WellDefined n.now }
     ensures found { IfSome result (IsFunctionIn m.now handle n.now) }
@@ -161,55 +162,6 @@ fn pushed(v: &mut Vec<Definition>, d: Definition) -> Result<(), Refusal>
     }
 }
 
-/// For each of a module's handles the index of its definition, if the module defines what it names. There a search among the
-/// definitions of the module that the handle is of begins, so that an own handle's definition is found at once. It is for
-/// speed alone: what is found doesn't rest on it.
-#[derive(Drop)]
-struct Likely {
-    places: Vec<u16>,
-}
-
-impl Likely {
-    /// Those of so many handles, none of which has a definition yet.
-    fn of_handles(alloc: Global, count: usize) -> Result<Self, AllocError> {
-        let places = vec![in alloc; 0u16; count]?;
-        Ok(Likely { places })
-    }
-
-    /// Notes the index of the definition of a handle.
-    fn put(&mut self, handle: u16, index: usize) {
-        if let Some(place) = self.places.get_mut(usize::from(handle)) {
-            *place = u16::try_from(index).unwrap_or(0);
-        }
-    }
-
-    /// The index that is known for a handle, or 0.
-    fn at(&self, handle: usize) -> usize {
-        match self.places.get(handle) {
-            Some(place) => usize::from(*place),
-            None => 0,
-        }
-    }
-
-    /// Those of a module's struct handles.
-    fn of_structs(alloc: Global, m: &Module<'_>) -> Result<Self, AllocError> {
-        let mut likely = Likely::of_handles(alloc, m.struct_handles().len())?;
-        for (index, d) in m.structs().iter().enumerate() {
-            likely.put(d.handle(), index);
-        }
-        Ok(likely)
-    }
-
-    /// Those of a module's function handles.
-    fn of_functions(alloc: Global, m: &Module<'_>) -> Result<Self, AllocError> {
-        let mut likely = Likely::of_handles(alloc, m.function_handles().len())?;
-        for (index, d) in m.functions().iter().enumerate() {
-            likely.put(d.handle(), index);
-        }
-        Ok(likely)
-    }
-}
-
 impl<'a> Scope<'a> {
     /// Where the struct of a handle is defined; `Phase(13)`, where it is not there or has other abilities.
     fn structure(
@@ -218,7 +170,7 @@ impl<'a> Scope<'a> {
         targets: &[Target<'_>],
         h: usize,
         handle: StructHandle,
-        likely: usize,
+        likely: Option<usize>,
     ) -> Result<Definition, Refusal>
         requires named { AreTargets (modules_in self.now) m.now targets.now }
         requires handle { slice_get m.now.struct_handles h ≡ Some handle }
@@ -253,12 +205,13 @@ impl<'a> Scope<'a> {
         ensures refused { IfErr result (IsRefusedIn 13 (IsTrue (structs_are_there (modules_in self.now) m.now 0 m.now.struct_handles))) }
     {
         let mut found = Vec::new(alloc);
-        let likely = Likely::of_structs(alloc, m)?;
+        // A search for an own handle's definition begins with it. This is for speed alone.
+        let own = struct_places(alloc, m)?;
         for h in 0..m.struct_handles().len() {
             let Some(handle) = struct_handle(m, h) else {
                 unreachable!();
             };
-            match self.structure(m, targets, h, handle, likely.at(h)) {
+            match self.structure(m, targets, h, handle, own[h]) {
                 Ok(definition) => pushed(&mut found, definition)?,
                 Err(e) => return Err(e),
             }
@@ -273,7 +226,7 @@ impl<'a> Scope<'a> {
         targets: &[Target<'_>],
         h: usize,
         handle: FunctionHandle,
-        likely: usize,
+        likely: Option<usize>,
     ) -> Result<Definition, Refusal>
         requires named { AreTargets (modules_in self.now) m.now targets.now }
         requires handle { slice_get m.now.function_handles h ≡ Some handle }
@@ -308,12 +261,13 @@ impl<'a> Scope<'a> {
         ensures refused { IfErr result (IsRefusedIn 13 (IsTrue (list_all (function_is_there (modules_in self.now) m.now) m.now.function_handles))) }
     {
         let mut found = Vec::new(alloc);
-        let likely = Likely::of_functions(alloc, m)?;
+        // A search for an own handle's definition begins with it. This is for speed alone.
+        let own = function_places(alloc, m)?;
         for h in 0..m.function_handles().len() {
             let Some(handle) = function_handle(m, h) else {
                 unreachable!();
             };
-            match self.function(m, targets, h, handle, likely.at(h)) {
+            match self.function(m, targets, h, handle, own[h]) {
                 Ok(definition) => pushed(&mut found, definition)?,
                 Err(e) => return Err(e),
             }

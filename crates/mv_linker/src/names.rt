@@ -141,14 +141,20 @@ pub fn struct_place(m: &Module<'_>, name: &StructName<'_>) -> Option<usize>
     first_struct(m, name)
 }
 
-/// The same, where no two definitions have one name: that at a likely index is tried before the others.
-pub fn likely_struct_place(m: &Module<'_>, name: &StructName<'_>, likely: usize) -> Option<usize>
+/// The same, where no two definitions have one name: that at a likely index, if one is given, is tried before the others.
+pub fn likely_struct_place(
+    m: &Module<'_>,
+    name: &StructName<'_>,
+    likely: Option<usize>,
+) -> Option<usize>
     requires { WellDefined m.now }
     ensures { result ≡ find_index (is_struct m.now name.now) m.now.structs }
 {
-    if let Some(d) = m.structs().get(likely) {
-        if is_named(m, name, d) {
-            return Some(likely);
+    if let Some(index) = likely {
+        if let Some(d) = m.structs().get(index) {
+            if is_named(m, name, d) {
+                return Some(index);
+            }
         }
     }
     struct_place(m, name)
@@ -188,14 +194,17 @@ pub fn function_place(m: &Module<'_>, name: &[u8]) -> Option<usize>
     first_function(m, name)
 }
 
-/// The same, where no two definitions have one identifier: that at a likely index is tried before the others.
-pub fn likely_function_place(m: &Module<'_>, name: &[u8], likely: usize) -> Option<usize>
+/// The same, where no two definitions have one identifier: that at a likely index, if one is given, is tried before the
+/// others.
+pub fn likely_function_place(m: &Module<'_>, name: &[u8], likely: Option<usize>) -> Option<usize>
     requires { WellDefined m.now }
     ensures { result ≡ place_of_function m.now name.now }
 {
-    if let Some(d) = m.functions().get(likely) {
-        if has_identifier(m, name, d) {
-            return Some(likely);
+    if let Some(index) = likely {
+        if let Some(d) = m.functions().get(index) {
+            if has_identifier(m, name, d) {
+                return Some(index);
+            }
         }
     }
     function_place(m, name)

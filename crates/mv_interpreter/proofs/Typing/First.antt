@@ -4,7 +4,7 @@ use Rattle.mv_move_types.specs.Module.{Module}
 use Rattle.mv_machine.specs.State.{Storage, State, root_value}
 use Rattle.mv_machine.specs.Live.{references}
 use Rattle.mv_machine.specs.Step.{entered_frame}
-use Rattle.mv_machine.specs.Run.{FunctionCall, first_state, run}
+use Rattle.mv_machine.specs.Run.{FunctionCall, first_state}
 use Rattle.mv_interpreter.specs.Typing.HasType.{Roots}
 use Rattle.mv_interpreter.specs.Typing.StateTyped.{StateTyped, StorageTyped}
 pub use Rattle.mv_interpreter.specs.Typing.CallTyped.{Nowhere, CallTyped}

@@ -1,31 +1,22 @@
 -- Each struct value is made and taken apart by code of the struct's own module.
 use Rattle.std.proofs.Common.{◌≡◌, ℕ, List, Some, Ok, refl, sym, subst}
-use Rattle.std.specs.Prelude.{slice_get}
-use Rattle.mv_move_types.specs.Names.{same_module}
-use Rattle.mv_move_types.specs.Module.{Module, own_name, struct_name}
+use Rattle.mv_move_types.specs.Module.{Module}
 use Rattle.mv_machine.specs.Value.{Value, Root, Local, Stored, Place}
 use Rattle.mv_machine.specs.State.{Storage, State, with_root, with_place}
 use Rattle.mv_machine.specs.Step.{Here, Turn, Goes, Returns, OwnStruct, with_stack}
 use Rattle.mv_machine.specs.StepStructs.{own_struct}
 use Rattle.mv_machine.specs.Run.{FunctionCall, run}
-use Rattle.mv_machine.proofs.Laws.{on_need}
+use Rattle.mv_machine.proofs.Laws.{own_struct-own}
 use Rattle.mv_linker.proofs.NameLemmas.{same_module-is}
 use Rattle.mv_ledger.specs.Counting.Headline.{IsOwnWork}
 use Rattle.mv_ledger.specs.Counting.Effects.{Effect, Restacked, MovedLocal, StoredLocal, Packed, Unpacked, Written, MovedFrom, MovedTo, Called, Resumed, Ends, Went, Left}
 use Rattle.mv_ledger.specs.Counting.Returns.{AtReturn}
-use Rattle.mv_ledger.proofs.Counting.Binds.{on_some, WhereOk, place-written}
+use Rattle.mv_ledger.proofs.Counting.Binds.{place-written}
 use Rattle.mv_ledger.proofs.Counting.Runs.{step-stepped, run-keeps}
 
 -- the struct that an instruction names is of the module at work
-pub own_struct-own : (h : Here) (i : ℕ) (s : OwnStruct) → own_struct h i ≡ Ok s → s.own ≡ s.name.home
-unfolding own_struct
-own_struct-own h i s e =
-    on_some (slice_get h.home.structs i) _ _ s e (λ d d_is e1.
-    on_some (slice_get h.home.struct_handles d.handle) _ _ s e1 (λ handle handle_is e2.
-    on_some (struct_name h.home d.handle) _ _ s e2 (λ name name_is e3.
-    on_some (own_name h.home) _ _ s e3 (λ own own_is e4.
-    on_need (same_module name.home own) _ _ s e4 (λ met e5.
-    subst (WhereOk (λ (x : OwnStruct). x.own ≡ x.name.home)) e5 (sym (same_module-is name.home own met)))))))
+own_is : (h : Here) (i : ℕ) (s : OwnStruct) → own_struct h i ≡ Ok s → s.own ≡ s.name.home
+own_is h i s e = sym (same_module-is s.name.home s.own (own_struct-own h i s e))
 
 -- a write at a root changes no tally
 pub with_root-tally : (s : State) (r : Root) (v : Value) → (with_root s r v).tally ≡ s.tally
@@ -42,8 +33,8 @@ effect-own : (h : Here) (next : State) → Effect h next → IsOwnWork h.state.t
 effect-own h _ (Restacked taken given rest s d a) own = own
 effect-own h _ (MovedLocal l v e) own = own
 effect-own h _ (StoredLocal l old v below s e d) own = own
-effect-own h _ (Packed i struct taken rest tags struct_is s tags_are typed) own = (own_struct-own h i struct struct_is, own)
-effect-own h _ (Unpacked i struct fields below struct_is s) own = (own_struct-own h i struct struct_is, own)
+effect-own h _ (Packed i struct taken rest tags struct_is s tags_are typed) own = (own_is h i struct struct_is, own)
+effect-own h _ (Unpacked i struct fields below struct_is s) own = (own_is h i struct struct_is, own)
 effect-own h _ (Written r new old below tag next s old_is tag_is typed d next_is) own =
     subst IsOwnWork (sym (with_place-tally (with_stack h.state below) next r.place new next_is)) own
 effect-own h _ (MovedFrom key a v below s e) own = own
