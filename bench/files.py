@@ -18,6 +18,7 @@ ROUNDS_OF_A_LOOP = (10, 20, 40)
 WORK = {
     "sums": "arithmetic loop", "calls": "calls, 200 deep", "moves1": "moves of a struct of 1 leaf",
     "moves8": "moves of a struct of 8 leaves", "moves64": "moves of a struct of 64 leaves",
+    "coins": "values of an asset made and taken apart",
     "writes": "writes of a field by a local reference", "holds": "writes of a stored field by a reference kept",
     "reads": "reads of a stored field by its address", "stores": "writes of a stored field by its address",
 }

@@ -169,6 +169,7 @@ SUMS = """again: CopyLoc 0; LdU64 1000000000; Lt; BrFalse done; CopyLoc 0; LdU64
 DEEP = "CopyLoc 0; LdU64 0; Eq; BrTrue done; CopyLoc 0; CopyLoc 0; LdU64 1; Sub; Call deep; Add; Ret; done: LdU64 1; Ret"
 MOVES = "MoveLoc 1; StLoc 2; MoveLoc 2; StLoc 1;" * 16
 WRITES = "LdU64 5; CopyLoc 2; MutBorrowField S8.f3; WriteRef;" * 16
+COINS = "LdU64 5; Pack Coin; Unpack Coin; Pop;" * 16
 STORED_READS = "CopyLoc 0; ImmBorrowGlobal Coin; ImmBorrowField Coin.v; ReadRef; Pop;" * 16
 STORED_WRITES = "LdU64 5; CopyLoc 0; MutBorrowGlobal Coin; MutBorrowField Coin.v; WriteRef;" * 16
 
@@ -191,6 +192,7 @@ def working():
         m.function(f"moves{struct[1:]}", "u64", "", f"{struct}; {struct}", code)
     code = f"{made['S8']} StLoc 1; MutBorrowLoc 1; StLoc 2; again: {WRITES} Branch again"
     m.function("writes", "u64", "", "S8; &mut S8", code)
+    m.function("coins", "u64", "", "", f"again: {COINS} Branch again")
     m.function("reads", "address", "", "", f"again: {STORED_READS} Branch again", "Coin")
     m.function("stores", "address", "", "", f"again: {STORED_WRITES} Branch again", "Coin")
     m.function("holds", "address", "", "&mut Coin", f"""MoveLoc 0; MutBorrowGlobal Coin; StLoc 1;
