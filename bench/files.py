@@ -3,7 +3,7 @@
 import subprocess
 
 import inputs
-from inputs import publish, record, run, u64
+from inputs import model, publish, record, run, u64
 
 # How many modules there are of each kind, and how many stand in a chain.
 CHAINED, CHAIN = 4_000, 100
@@ -80,7 +80,8 @@ def streams(folder, bundles):
     chain = [(1, payload) for payload in chained(folder)]
     empty = [(1, publish((inputs.Module(f"E{n}").bytes(), b""))) for n in range(CHAINED)]
     certificate_of_large = bundles["large5"][1]
-    texts = (inputs.all_families(inputs.LARGE, 5, f"L{n}").bytes() for n in range(LARGE_MANY))
+    renamed = inputs.all_families(inputs.LARGE, 5)
+    texts = (renamed.renamed(f"L{n}") for n in range(LARGE_MANY))
     large = [(1, publish((text, certificate_of_large))) for text in texts]
     mints = published("working") + [(2, run("mint", 100, u64(7), sender=1000 + n)) for n in range(10_000)]
     out = {"nothing": [], "helping": published("helping")}
@@ -101,7 +102,7 @@ def streams(folder, bundles):
 
 def runs():
     """The payloads of the runs that are measured in one process, without their budgets."""
-    at = b"\5" + inputs.address(OWNER)
+    at = model.Value(model.ADDRESS, inputs.address(OWNER))
     arguments = {name: at if name in AT_ADDRESS else u64(0) for name in WORK}
     return {name: lambda budget, name=name: run(name, budget, arguments[name]) for name in WORK}
 

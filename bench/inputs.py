@@ -1,9 +1,89 @@
-"""The modules, payloads and streams of the measurements."""
+"""The modules, payloads and streams of the measurements. Modules are text, as docs/TEXT.md has it."""
 
-from assembler import COPY, DROP, KEY, STORE, Module, address, name, number, sized
+import sys
+from pathlib import Path
 
-ASSET = STORE | KEY
-PLAIN = COPY | DROP | STORE
+sys.path.insert(0, str(Path(__file__).resolve().parent.parent / "tools"))
+
+from movetext import model, writer
+from movetext.assembler import Assembler
+from movetext.stream_parser import parse
+
+ASSET = "has store, key"
+DROP = "has drop"
+PLAIN = "has copy, drop, store"
+NONE = ""
+
+
+def listed(text):
+    return [part.strip() for part in text.split(";") if part.strip()]
+
+
+def numbered(types, first=0):
+    """Locals of these types, with their numbers as names."""
+    return [f"l{first + n}: {kind}" for n, kind in enumerate(listed(types))]
+
+
+class Module:
+    """A module's text in the making, by default that of the one called M of version 5 at the address 1. A list of types has a
+    semicolon between two, and so have instructions; locals go by their numbers. It may have more of something than there
+    may be."""
+
+    def __init__(self, own="M", version=5):
+        self.head = f"module 0x1::{own} version {version}"
+        self.imports, self.items = {}, []
+        self.assembled = None
+
+    def add_names(self, names):
+        """Names that stand first among the identifiers, whether anything has them or not."""
+        self.items.append(f"tables {{ identifiers {{ {'; '.join(names)} }} }}")
+
+    def add_import(self, module, item):
+        self.imports.setdefault(module, []).append(item)
+
+    def foreign_struct(self, module, own, abilities):
+        self.add_import(module, f"struct {own} {abilities}")
+
+    def foreign_function(self, module, own, parameters, results):
+        self.add_import(module, f"{own}({', '.join(listed(parameters))}): ({', '.join(listed(results))})")
+
+    def struct(self, own, abilities, fields):
+        """A struct with fields such as `a: u64`."""
+        self.items.append(f"struct {own} {abilities} {{ {', '.join(listed(fields))} }}")
+
+    def function(self, own, parameters, results, locals_, code, acquires="", entry=True):
+        """A public function."""
+        taken = numbered(parameters)
+        front = f"public {'entry ' if entry else ''}{own}({', '.join(taken)}): ({', '.join(listed(results))})"
+        front += f" acquires {acquires}" if acquires else ""
+        self.items.append("\n".join([front + " {", *(f"let {one}" for one in numbered(locals_, len(taken))), code, "}"]))
+
+    def text(self):
+        imports = ["\n".join([f"import 0x1::{name} {{", *items, "}"]) for name, items in self.imports.items()]
+        return "\n".join([self.head + " {", *imports, *self.items, "}"])
+
+    def tables(self):
+        """The module that the text says."""
+        if self.assembled is None:
+            assembler = Assembler(parse(self.text(), keeps_limits=False))
+            self.assembled = assembler.module()
+            assert self.assembled, [error.message for error in assembler.errors]
+        return self.assembled
+
+    def bytes(self):
+        return writer.write_module(self.tables())
+
+    def renamed(self, own):
+        """The bytes of the module under another name."""
+        tables = self.tables()
+        tables.identifiers[tables.module_handles[tables.own].name] = own
+        return writer.write_module(tables)
+
+    @property
+    def instructions(self):
+        """How many instructions the module has."""
+        return sum(len(function.code) for function in self.tables().functions)
+
 
 # Where there are many edges, so many instructions come before the first state that has them.
 BEGINNING = 220
@@ -14,7 +94,7 @@ SMALL, LARGE = 4, 42
 # The instructions of each family: what a function begins with, what it repeats, and what it ends with.
 NUMBERS = "CopyLoc 0; StLoc 2;", """CopyLoc 2; CopyLoc 1; Add; LdU64 {n}; Sub; LdU64 3; Mul; LdU64 7; Mod; LdU64 2; Div;
     CopyLoc 1; BitOr; LdU64 255; BitAnd; LdU64 5; Xor; LdU8 2; Shl; LdU8 1; Shr; StLoc 2; CopyLoc 2; CastU128;
-    LdU128 18446744073709551616; Lt; CopyLoc 2; LdConst u64:{n}; Gt; Or; LdTrue; And; Not; LdFalse; Eq; Pop; CopyLoc 2;
+    LdU128 18446744073709551616; Lt; CopyLoc 2; LdConst {n}u64; Gt; Or; LdTrue; And; Not; LdFalse; Eq; Pop; CopyLoc 2;
     CopyLoc 1; Le; CopyLoc 2; CopyLoc 1; Ge; Neq; Pop; CopyLoc 2; LdU64 255; BitAnd; CastU8; CastU64; Pop;
     {six}""", "MoveLoc 2; Ret"
 
@@ -22,7 +102,7 @@ NUMBERS = "CopyLoc 0; StLoc 2;", """CopyLoc 2; CopyLoc 1; Add; LdU64 {n}; Sub; L
 SIX = "LdU16 1; LdU16 2; Add; CastU32; LdU32 3; Mul; CastU16; CastU64; Pop;"
 
 CONTROL = "LdU64 0; StLoc 1;", """again{k}: CopyLoc 1; CopyLoc 0; Lt; BrFalse done{k}; CopyLoc 1; CopyLoc 0; LdU64 1; Add;
-    Call numbers{n}; Call help; Pop; CopyLoc 1; LdU64 1; Add; StLoc 1; Nop; Branch again{k}; done{k}: CopyLoc 0; LdU64 1000; Gt;
+    Call numbers{n}; Call B::help; Pop; CopyLoc 1; LdU64 1; Add; StLoc 1; Nop; Branch again{k}; done{k}: CopyLoc 0; LdU64 1000; Gt;
     BrFalse fine{k}; LdU64 {n}; Abort; fine{k}:""", "Ret"
 
 STRUCTS = "", """CopyLoc 0; LdU128 {n}; LdTrue; Pack P{n}; StLoc 1; CopyLoc 1; CopyLoc 1; Eq; Pop; CopyLoc 1; Unpack P{n}; Pop;
@@ -61,7 +141,7 @@ def all_families(units, version, own="M"):
     for n in range(units):
         m.struct(f"P{n}", PLAIN, "a: u64; b: u128; c: bool")
         m.struct(f"R{n}", ASSET, f"p: P{n}; n: u64; who: address")
-        m.struct(f"D{n}", 0, "v: u64")
+        m.struct(f"D{n}", NONE, "v: u64")
         m.function(f"numbers{n}", "u64; u64", "u64", "u64", family(NUMBERS, n, version), entry=False)
         m.function(f"control{n}", "u64", "", "u64", family(CONTROL, n, version))
         m.function(f"structs{n}", "u64", "", f"P{n}; P{n}", family(STRUCTS, n, version))
@@ -112,8 +192,9 @@ def many_edges(count):
 
 
 def many_structs(count):
-    """A module with so many structs and nothing else, some 14 bytes each."""
+    """A module with so many structs and nothing else, some 14 bytes each. The fields' name stands first: its index is one byte."""
     m = Module()
+    m.add_names(["v"])
     for n in range(count):
         m.struct(f"S{n:x}", PLAIN, "v: u64")
     return m
@@ -146,8 +227,8 @@ def link_of_a_chain(n, length):
     before = n % length != 0
     if before:
         m.foreign_struct(f"M{n - 1}", f"Coin{n - 1}", ASSET)
-        m.foreign_function(f"M{n - 1}", f"make{n - 1}", "u64", f"Coin{n - 1}")
-        m.foreign_function(f"M{n - 1}", f"value{n - 1}", f"&Coin{n - 1}", "u64")
+        m.foreign_function(f"M{n - 1}", f"make{n - 1}", "u64", f"M{n - 1}::Coin{n - 1}")
+        m.foreign_function(f"M{n - 1}", f"value{n - 1}", f"&M{n - 1}::Coin{n - 1}", "u64")
     own = f"Coin{n}"
     m.struct(own, ASSET, "v: u64; w: u64")
     m.function(f"make{n}", "u64", own, "", f"CopyLoc 0; MoveLoc 0; Pack {own}; Ret", entry=False)
@@ -156,8 +237,8 @@ def link_of_a_chain(n, length):
     m.function("burn", "address", "", "", f"MoveLoc 0; MoveFrom {own}; Unpack {own}; Pop; Pop; Ret", own)
     m.function("set", "address; u64", "", "", f"""CopyLoc 1; CopyLoc 0; MutBorrowGlobal {own}; MutBorrowField {own}.w; WriteRef;
         Ret""", own)
-    of_before = f"CopyLoc 0; Call value{n - 1}; StLoc 1; CopyLoc 1; Pop;" if before else ""
-    m.function("sum", f"&Coin{n - 1}" if before else "&u64", "u64", "u64", f"""{of_before} LdU64 0; StLoc 1; again: CopyLoc 1;
+    of_before = f"CopyLoc 0; Call M{n - 1}::value{n - 1}; StLoc 1; CopyLoc 1; Pop;" if before else ""
+    m.function("sum", f"&M{n - 1}::Coin{n - 1}" if before else "&u64", "u64", "u64", f"""{of_before} LdU64 0; StLoc 1; again: CopyLoc 1;
         LdU64 100; Lt; BrFalse done; CopyLoc 1; LdU64 3; Mul; LdU64 1; Add; LdU64 1000003; Mod; StLoc 1; Branch again;
         done: {"CopyLoc 1; LdU64 7; Xor; LdU64 5; Add; LdU64 9; Mul; LdU64 11; Mod; StLoc 1; " * 5}
         CopyLoc 1; Ret""", entry=False)
@@ -209,20 +290,25 @@ def large_working():
     return m
 
 
+def address(n):
+    return n.to_bytes(model.ADDRESS_BYTES, "big")
+
+
 def publish(*bundle):
     """The payload of a publish record, of modules with their certificates."""
-    return address(1) + number(len(bundle)) + b"".join(sized(text) + sized(certificate) for text, certificate in bundle)
+    offers = [model.Offer(module, certificate) for module, certificate in bundle]
+    return writer.write_payload(model.Publish(address(1), offers))[1]
 
 
 def u64(value):
-    return b"\3" + value.to_bytes(8, "little")
+    return model.Value(model.U64, value)
 
 
 def run(function, budget, *arguments, sender=0, module="M"):
-    """The payload of a run record; arguments come with their tokens."""
-    called = address(sender) + address(1) + name(module) + name(function) + number(budget)
-    return called + number(len(arguments)) + b"".join(arguments)
+    """The payload of a run record."""
+    record = model.Run(address(sender), address(1), module, function, budget, list(arguments))
+    return writer.write_payload(record)[1]
 
 
 def record(kind, payload):
-    return bytes([kind]) + sized(payload)
+    return writer.write_record(model.RawRecord(kind, payload))

@@ -11,3 +11,5 @@ pub mod Digits
 pub mod Texts
 pub mod Verdicts
 pub mod Proved
+pub mod Endings
+pub mod Beginnings

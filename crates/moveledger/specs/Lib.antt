@@ -11,3 +11,4 @@ pub mod Hexadecimal
 pub mod Checking
 pub mod Proving
 pub mod Printing
+pub mod Authoring

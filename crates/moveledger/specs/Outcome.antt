@@ -5,7 +5,9 @@ use Rattle.std.specs.Io.KnownBytes.{Appends, Consumes}
 use Rattle.mv_ledger.specs.View.{LedgerView}
 use Rattle.moveledger.specs.Records.{Record, AreRecords, AreWhole, NoWhole, Begins}
 use Rattle.mv_machine.specs.Lines.{numbered}
-use Rattle.moveledger.specs.Headline.{Step, Reports, Tells}
+use Rattle.moveledger.specs.Headline.{Headline, Step, Reports, Tells}
+use Rattle.moveledger.specs.declared.status.End.{End}
+use Rattle.moveledger.specs.declared.status.End.TheVariants.{Done, Read, Write, Memory, Words, Refused, TooComplex}
 
 -- the bytes that are known to be left
 abbrev pub left_of : Option (List ℕ) → List ℕ
@@ -48,3 +50,14 @@ pub record StopsReading (given gives : Option (List ℕ)) (held holds : Option (
   pub cut : NoWhole part
   pub written : Appends held holds text
   pub report : Reports 1 old records text new
+
+-- What an end says of an input that was answered. Where it is a failed write, what the writer holds may be the whole report,
+-- of which a part couldn't be written out.
+abbrev pub Ends : End → (given gives held holds : Option (List ℕ)) → (old new : LedgerView) → Type 0
+Ends Done given gives held holds old new = (n : ℕ) × Headline given held holds old new n
+Ends Read given gives held holds old new = StopsReading given gives held holds old new
+Ends Write given gives held holds old new = Stops given held holds old new ⊎ ((n : ℕ) × Headline given held holds old new n)
+Ends Memory given gives held holds old new = Stops given held holds old new
+Ends Words given gives held holds old new = ⊥
+Ends (Refused phase) given gives held holds old new = ⊥
+Ends TooComplex given gives held holds old new = ⊥

@@ -5,6 +5,7 @@ ghost use Rattle.moveledger.specs.Headline.{Headline};
 ghost use Rattle.moveledger.specs.Outcome.{Stops, StopsReading};
 
 use crate::answering::{answer, write_reply};
+use crate::pacing::{AfterRecord, Gathering};
 use crate::reading::{Next, next_record};
 use mv_ledger::{Ledger, Reply};
 use std::alloc::AllocError;
@@ -59,6 +60,24 @@ pub fn engine<R: Read, W: Write>(
     ensures read { result ≡ Err EngineError.Read → StopsReading (R.remaining reader.old)
         (R.remaining reader.new) (W.contents writer.old) (W.contents writer.new) ledger.old ledger.new }
 {
+    answer_all(reader, writer, ledger, &mut Gathering)
+}
+
+/// As `engine`, and does what is wanted after each whole record, before the next is read. Where that fails, it ends with
+/// `Write`.
+pub fn answer_all<R: Read, W: Write, A: AfterRecord<R, W>>(
+    reader: &mut R,
+    writer: &mut W,
+    ledger: &mut Ledger,
+    after: &mut A,
+) -> Result<u64, EngineError>
+    ensures ok { IfOk result (λ n. Headline (R.remaining reader.old)
+        (W.contents writer.old) (W.contents writer.new) ledger.old ledger.new n) }
+    ensures err { IfErr result (λ _. Stops (R.remaining reader.old)
+        (W.contents writer.old) (W.contents writer.new) ledger.old ledger.new) }
+    ensures read { result ≡ Err EngineError.Read → StopsReading (R.remaining reader.old)
+        (R.remaining reader.new) (W.contents writer.old) (W.contents writer.new) ledger.old ledger.new }
+{
     let alloc = ledger.allocator();
     for n in 0..u64::MAX {
         match next_record(alloc, reader)? {
@@ -69,6 +88,7 @@ pub fn engine<R: Read, W: Write>(
             }
             Next::Record(kind, payload) => {
                 answer(alloc, writer, ledger, n + 1, kind, &payload)?;
+                after.answered(n + 1, reader, writer)?;
             }
         }
     }

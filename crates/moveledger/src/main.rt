@@ -3,14 +3,18 @@
 #![tactic(auto)]
 
 mod answering;
+mod authoring;
 mod checking;
 mod command;
 mod engine;
+mod meter;
 mod modules;
+mod pacing;
 mod printing;
 mod program;
 mod proving;
 mod reading;
+mod reporting;
 mod status;
 #[cfg(test)]
 mod tests;

@@ -1,22 +1,17 @@
 // The program: its command line, its files, and what it prints.
-use crate::answering::write_text;
-use crate::checking::check_text;
+ghost use Rattle.std.specs.Prelude.{◌≡◌, IfOk, IfSome, None};
+ghost use Rattle.std.specs.Fs.{file_type, metadata_len, IsFile};
+
+use crate::authoring::{check_module, prove_module};
 use crate::command::{LineError, Task, command, not_text};
-use crate::engine::engine;
-use crate::printing::{checked_line, proved_line};
-use crate::proving::prove_text;
-use crate::status::{End, end_of, end_of_check, end_of_proof, fault_text};
+use crate::meter::{Counted, Meter, Report, Screen};
+use crate::pacing::{Gathering, Prompt};
+use crate::reporting::report;
+use crate::status::{End, fault_text};
 use mv_ledger::Ledger;
-use std::alloc::AllocError;
 use std::env;
-use std::fs::File;
-use std::io::{self, BufReader, BufWriter, ErrorKind, Read, Write};
-
-/// The most bytes that are read of a module's file: one more than a module may have.
-const MODULE_READ: u64 = 65_537;
-
-/// The most bytes that are read of the file of a certificate's text: one more than its digits and a line end.
-const TEXT_READ: u64 = 2_097_154;
+use std::fs::{self, File, Metadata};
+use std::io::{self, BufReader, BufWriter, ErrorKind, IsTerminal, Read, Write};
 
 /// Runs the program, and says how it ended. A fault has its line on standard error.
 pub fn run(rt: &HostRuntime) -> End {
@@ -65,69 +60,77 @@ fn refused(rt: &HostRuntime, error: LineError) -> End {
     }
 }
 
-/// Answers the records of a file, and writes the report to standard output, many lines at a time.
+/// The name of standard input.
+const STANDARD_INPUT: &str = "-";
+
+/// Where standard input is found by a name, to see what it is.
+const STANDARD_INPUT_FILE: &str = "/dev/stdin";
+
+/// Answers the records of a file, and writes the report to standard output.
 fn apply(rt: &HostRuntime, path: &str) -> End {
+    let mut ledger = Ledger::new(rt.alloc());
+    if path == STANDARD_INPUT {
+        let size = regular_size(fs::metadata(rt, STANDARD_INPUT_FILE));
+        return apply_to(rt, rt.stdin(), size, &mut ledger);
+    }
     let Ok(file) = File::open(rt, path) else {
         return End::Read;
     };
-    let Ok(mut reader) = BufReader::new(rt.alloc(), file) else {
+    let size = regular_size(file.metadata());
+    apply_to(rt, file, size, &mut ledger)
+}
+
+/// How many bytes a regular file has; None of anything else.
+fn regular_size(metadata: io::Result<Metadata>) -> Option<u64>
+    ensures some { IfSome result (λ size. IfOk metadata (λ m. IsFile (file_type m) × (size ≡ metadata_len m))) }
+    ensures none { result ≡ None → IfOk metadata (λ m. ¬ IsFile (file_type m)) }
+{
+    match metadata {
+        Ok(found) if found.is_file() => Some(found.len()),
+        _ => None,
+    }
+}
+
+/// Answers the records that a source gives. Of a regular file, of this size, many lines are written at a time, and where
+/// standard error is a terminal it shows how far a long run is. Of anything else each record's lines are written before the
+/// next record is waited for.
+fn apply_to<R: Read + Drop>(
+    rt: &HostRuntime,
+    source: R,
+    size: Option<u64>,
+    ledger: &mut Ledger,
+) -> End {
+    let screen = Screen::new(rt);
+    let Ok(mut reader) = BufReader::new(rt.alloc(), source) else {
         return End::Memory;
     };
-    let Ok(mut writer) = BufWriter::new(rt.alloc(), io::writer(rt)) else {
+    let Ok(mut writer) = BufWriter::new(rt.alloc(), Report::new(&screen)) else {
         return End::Memory;
     };
-    let mut ledger = Ledger::new(rt.alloc());
-    let answered = engine(&mut reader, &mut writer, &mut ledger);
-    let is_flushed = writer.flush().is_ok();
-    end_of(answered, is_flushed)
+    let end = match size {
+        None => report(&mut reader, &mut writer, ledger, &mut Prompt),
+        Some(total) if rt.stderr().is_terminal() => {
+            let mut meter = Meter::new(&screen, total);
+            report(&mut Counted::new(reader), &mut writer, ledger, &mut meter)
+        }
+        Some(_) => report(&mut reader, &mut writer, ledger, &mut Gathering),
+    };
+    screen.erase();
+    end
 }
 
 /// Prints a certificate for the module of a file, or why there is none.
 fn prove(rt: &HostRuntime, path: &str) -> End {
-    let module = match first_bytes(rt, path, MODULE_READ) {
-        Ok(module) => module,
-        Err(end) => return end,
-    };
-    let proved = prove_text(rt.alloc(), &module);
-    let end = end_of_proof(&proved);
-    printed(rt, end, proved_line(rt.alloc(), proved))
+    match File::open(rt, path) {
+        Ok(module) => prove_module(rt.alloc(), module, &mut io::writer(rt)),
+        Err(_) => End::Read,
+    }
 }
 
 /// Checks the module of a file with the text of a certificate in another, and prints what comes of it.
 fn check(rt: &HostRuntime, path: &str, certificate: &str) -> End {
-    let module = match first_bytes(rt, path, MODULE_READ) {
-        Ok(module) => module,
-        Err(end) => return end,
+    let (Ok(module), Ok(text)) = (File::open(rt, path), File::open(rt, certificate)) else {
+        return End::Read;
     };
-    let text = match first_bytes(rt, certificate, TEXT_READ) {
-        Ok(text) => text,
-        Err(end) => return end,
-    };
-    let checked = check_text(rt.alloc(), &module, &text);
-    let end = end_of_check(checked);
-    printed(rt, end, checked_line(rt.alloc(), checked))
-}
-
-/// The first bytes of a file, at most so many.
-fn first_bytes(rt: &HostRuntime, path: &str, most: u64) -> Result<Vec<u8>, End> {
-    let Ok(file) = File::open(rt, path) else {
-        return Err(End::Read);
-    };
-    let mut bytes = Vec::new(rt.alloc());
-    match file.take(most).read_to_end(&mut bytes) {
-        Ok(_) => Ok(bytes),
-        Err(e) if e.kind() == ErrorKind::OutOfMemory => Err(End::Memory),
-        Err(_) => Err(End::Read),
-    }
-}
-
-/// Writes a line to standard output. The end is then this one, unless that failed.
-fn printed(rt: &HostRuntime, end: End, line: Result<String, AllocError>) -> End {
-    let Ok(line) = line else {
-        return End::Memory;
-    };
-    match write_text(&mut io::writer(rt), line.as_bytes()) {
-        Ok(()) => end,
-        Err(_) => End::Write,
-    }
+    check_module(rt.alloc(), module, text, &mut io::writer(rt))
 }

@@ -1,24 +1,19 @@
 // Inputs through the engine, and the reports that come out.
 
 mod altered;
-mod assembler;
 mod authoring;
 mod fakes;
-mod limits;
+mod libraries;
 mod line;
 mod rows;
-mod stream;
 
 use crate::engine::{EngineError, engine};
-use assembler::{EMPTY, assembled};
 use fakes::{Pieces, Room};
 use mv_ledger::Ledger;
-use rows::{coins, control, counts, references};
+use rows::{Row, rows};
 use std::alloc::Global;
 use std::io::ErrorKind;
-use std::process::Abort;
 use std::test::Fail;
-use stream::{Record, Row, decoded, input};
 
 const MANY: usize = usize::MAX;
 
@@ -109,47 +104,33 @@ fn in_pieces(alloc: Global, bytes: &[u8], each: usize) -> Result<(u64, Vec<u8>),
     Ok((count, writer.taken))
 }
 
-// Tries that the inputs of rows are answered as wanted, however many bytes a reader gives and a writer takes in a call.
-fn answered_as_wanted(rt: &impl Abort, alloc: Global, rows: &[Row]) -> Result<(), Fail> {
-    for row in rows {
-        let bytes = input(alloc, row.records)?;
+// However many bytes a reader gives and a writer takes in a call.
+#[test]
+fn rows_are_answered_as_wanted(rt: HostRuntime) -> Result<(), Fail> {
+    for row in &rows(rt.alloc())? {
+        let bytes = row.input(rt.alloc())?;
+        let wanted = row.report(rt.alloc())?;
         for each in [MANY, 7, 1] {
-            let (count, written) = in_pieces(alloc, &bytes, each)?;
-            assert_eq!(rt; written.as_slice(), row.report.as_bytes(), "{}", row.shows);
-            assert_eq!(rt; count, row.records.len() as u64, "{}", row.shows);
+            let (count, written) = in_pieces(rt.alloc(), &bytes, each)?;
+            assert_eq!(rt; written.as_slice(), wanted.as_bytes(), "{}", row.shows);
+            assert_eq!(rt; count, row.count() as u64, "{}", row.shows);
         }
     }
     Ok(())
 }
 
-// The bytes of the example's stream, and of a module with nothing in it.
-const MINTED: [&str; 6] = [
-    "017a000000000000000000000000000000010163",
-    "a11ceb0b0500000008010002020204030605050b04070f0e081d100a2d050c320f000000010c000003010000",
-    "00020c03014d04436f696e0176046d696e740000000000000000000000000000000100020102030001040000050e000b",
-    "0112002d0002000401010100",
-    "02320000000000000000000000000000000100000000000000000000000000000001",
-    "014d046d696e746401030700000000000000",
-];
-
-const NAMED: &str =
-    "a11ceb0b05000000030100020702020804100000014d0000000000000000000000000000000100";
-
-#[test]
-fn values_are_assembled(rt: HostRuntime) -> Result<(), Fail> {
-    let minted = decoded(rt.alloc(), &MINTED)?;
-    let records = input(rt.alloc(), coins::MINTED.records)?;
-    assert_eq!(rt; records.as_slice(), minted.as_slice());
-    let named = decoded(rt.alloc(), &[NAMED])?;
-    let module = assembled(rt.alloc(), &EMPTY)?;
-    assert_eq!(rt; module.as_slice(), named.as_slice());
-    Ok(())
+// The row that shows this: its bytes, and the report on them.
+fn row_that_shows(alloc: Global, shows: &str) -> Result<(Vec<u8>, String), Fail> {
+    let row = Row::that_shows(shows).ok_or("no row shows this")?;
+    Ok((row.input(alloc)?, row.report(alloc)?))
 }
+
+const MINTED_TWICE: &str = "a coin exists when it is minted again";
 
 // A record that is said to have 33,554,432 bytes and has five: no read asks for more than a piece of it.
 #[test]
 fn long_payloads_are_read_in_pieces(rt: HostRuntime) -> Result<(), Fail> {
-    let bytes = decoded(rt.alloc(), &["0180808010", "0102030405"])?;
+    let bytes = hex::decode(rt.alloc(), "01808080100102030405")?;
     let mut reader = whole(bytes.as_slice());
     let mut writer = room(rt.alloc());
     let mut ledger = Ledger::new(rt.alloc());
@@ -180,16 +161,12 @@ fn read_until(
 
 #[test]
 fn failed_reads_end_it(rt: HostRuntime) -> Result<(), Fail> {
-    let row = coins::MINTED_TWICE;
-    let bytes = input(rt.alloc(), row.records)?;
+    let (bytes, report) = row_that_shows(rt.alloc(), MINTED_TWICE)?;
     for (until, length) in [(0, 0), (123, 0), (124, 14), (125, 14), (176, 27)] {
         for error in KINDS {
             let (result, written) = read_until(rt.alloc(), &bytes, until, error);
             assert_eq!(rt; result, Err(EngineError::Read));
-            assert_eq!(rt;
-                Some(written.as_slice()),
-                row.report.as_bytes().get(..length)
-            );
+            assert_eq!(rt; Some(written.as_slice()), report.as_bytes().get(..length));
         }
     }
     Ok(())
@@ -214,13 +191,12 @@ fn written_until(
 
 #[test]
 fn failed_writes_end_it(rt: HostRuntime) -> Result<(), Fail> {
-    let row = coins::MINTED_TWICE;
-    let bytes = input(rt.alloc(), row.records)?;
+    let (bytes, report) = row_that_shows(rt.alloc(), MINTED_TWICE)?;
     for left in [0, 3, 16] {
         for error in FULL {
             let (result, written) = written_until(rt.alloc(), &bytes, left, error);
             assert_eq!(rt; result, Err(EngineError::Write));
-            assert_eq!(rt; Some(written.as_slice()), row.report.as_bytes().get(..left));
+            assert_eq!(rt; Some(written.as_slice()), report.as_bytes().get(..left));
         }
     }
     Ok(())
@@ -230,7 +206,7 @@ fn failed_writes_end_it(rt: HostRuntime) -> Result<(), Fail> {
 
 #[test]
 fn ledgers_go_on_after_failed_reads(rt: HostRuntime) -> Result<(), Fail> {
-    let bytes = input(rt.alloc(), coins::MINTED_TWICE.records)?;
+    let (bytes, _) = row_that_shows(rt.alloc(), MINTED_TWICE)?;
     // It fails within the second record: the module is published, and no coin minted.
     let mut ledger = Ledger::new(rt.alloc());
     let reader = Pieces {
@@ -250,7 +226,7 @@ fn ledgers_go_on_after_failed_reads(rt: HostRuntime) -> Result<(), Fail> {
 
 #[test]
 fn ledgers_go_on_after_failed_writes(rt: HostRuntime) -> Result<(), Fail> {
-    let bytes = input(rt.alloc(), coins::MINTED_TWICE.records)?;
+    let (bytes, _) = row_that_shows(rt.alloc(), MINTED_TWICE)?;
     // It fails within the second line: the coin is minted.
     let mut ledger = Ledger::new(rt.alloc());
     let mut writer = Room {
@@ -266,14 +242,11 @@ fn ledgers_go_on_after_failed_writes(rt: HostRuntime) -> Result<(), Fail> {
 }
 
 // What ledgers do with an input once they have answered the first records of it: the report on these, and that on the input.
-fn after(alloc: Global, first: &[Record<'_>], bytes: &[u8]) -> Option<(Vec<u8>, Vec<u8>)> {
-    let Ok(first) = input(alloc, first) else {
-        return None;
-    };
+fn after(alloc: Global, first: &[u8], bytes: &[u8]) -> Option<(Vec<u8>, Vec<u8>)> {
     let mut ledger = Ledger::new(alloc);
     let mut writer = room(alloc);
     let mut writer_again = room(alloc);
-    if answered(whole(&first), &mut writer, &mut ledger).is_err() {
+    if answered(whole(first), &mut writer, &mut ledger).is_err() {
         return None;
     }
     match answered(whole(bytes), &mut writer_again, &mut ledger) {
@@ -286,11 +259,11 @@ fn after(alloc: Global, first: &[Record<'_>], bytes: &[u8]) -> Option<(Vec<u8>, 
 // of their report, with all lines of those before the last. It is true where an allocation fails again.
 fn is_left_by_some(alloc: Global, row: &Row, bytes: &[u8], written: &[u8], again: &[u8]) -> bool {
     let mut before = Vec::new(alloc);
-    for count in 0..=row.records.len() {
-        let Some(first) = row.records.get(..count) else {
-            return false;
+    for count in 0..=row.count() {
+        let Ok(first) = row.first(alloc, count) else {
+            return true;
         };
-        let Some((report, report_again)) = after(alloc, first, bytes) else {
+        let Some((report, report_again)) = after(alloc, &first, bytes) else {
             return true;
         };
         let is_written = written.starts_with(&before) && report.starts_with(written);
@@ -302,23 +275,25 @@ fn is_left_by_some(alloc: Global, row: &Row, bytes: &[u8], written: &[u8], again
     false
 }
 
-// The rows whose requests for memory are refused.
-const STARVED: [Row; 6] = [
-    coins::MINTED,
-    coins::SHOWN,
-    coins::BURNT,
-    references::WRITTEN,
-    control::DEEP,
-    counts::VAULTS,
+// What the rows show whose requests for memory are refused.
+const STARVED: [&str; 6] = [
+    "a coin is minted: mint(s: signer, v: u64) stores it",
+    "a coin is counted and shown",
+    "a coin is burnt once, and its module published again: burn(a: address) takes it out of the storage and apart",
+    "a loop writes through a reference to a local: g(n: u64) keeps it n times round",
+    "256 calls are within one another at most, and an input is cut: down(n: u64) calls itself with the number before, to 0",
+    "coins within a vault are counted: put(s: signer) stores a vault with coins of 1 and 2",
 ];
 
 // With any one request for memory refused, which scripts/refuse-each-growth tries for each: what was written is a prefix
 // of the report, and the ledger is as the records whose lines were written left it, or one more.
 #[test]
 fn ledgers_stand_where_memory_runs_out(rt: HostRuntime) -> Result<(), Fail> {
-    for row in &STARVED {
-        let (Ok(bytes), Some(mut writer), Some(mut writer_again)) = (
-            input(rt.alloc(), row.records),
+    for shows in STARVED {
+        let row = Row::that_shows(shows).ok_or("no row shows this")?;
+        let (Ok(bytes), Ok(report), Some(mut writer), Some(mut writer_again)) = (
+            row.input(rt.alloc()),
+            row.report(rt.alloc()),
             roomy(rt.alloc()),
             roomy(rt.alloc()),
         ) else {
@@ -328,16 +303,15 @@ fn ledgers_stand_where_memory_runs_out(rt: HostRuntime) -> Result<(), Fail> {
         let result = answered(whole(&bytes), &mut writer, &mut ledger);
         let written = writer.taken.as_slice();
         let Err(error) = result else {
-            assert_eq!(rt; written, row.report.as_bytes(), "{}", row.shows);
+            assert_eq!(rt; written, report.as_bytes(), "{shows}");
             continue;
         };
         assert_eq!(rt; error, EngineError::Memory);
         if answered(whole(&bytes), &mut writer_again, &mut ledger).is_ok() {
             let again = writer_again.taken.as_slice();
             assert!(rt;
-                is_left_by_some(rt.alloc(), row, &bytes, written, again),
-                "{}",
-                row.shows
+                is_left_by_some(rt.alloc(), &row, &bytes, written, again),
+                "{shows}"
             );
         }
     }

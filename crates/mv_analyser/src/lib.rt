@@ -90,6 +90,3 @@ pub fn prove(alloc: Global, m: &Typed<'_>) -> Result<Cert, ProveError>
 {
     find(alloc, m)
 }
-
-#[cfg(test)]
-mod tests;

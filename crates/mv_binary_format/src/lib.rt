@@ -57,6 +57,3 @@ fn read<'a>(alloc: Global, bytes: &'a [u8]) -> Result<Module<'a>, Refusal>
     modules_are_read_by_text();
     Module::read(alloc, version, own, tables)
 }
-
-#[cfg(test)]
-mod tests;

@@ -59,21 +59,3 @@ pub fn rename(alloc: Global, old: Node, new: Node, s: &mut Edges) -> Result<(), 
     *s = edges.rename(alloc, old, new)?;
     Ok(())
 }
-
-#[cfg(test)]
-mod tests {
-    use super::*;
-    use std::test::Fail;
-
-    #[test]
-    fn lends_a_local(rt: HostRuntime) -> Result<(), Fail> {
-        let alloc = rt.alloc();
-        let mut s = Edges::new(alloc);
-        assert!(rt; lend(alloc, true, Node::Own(1), Node::Temp(0), &mut s).is_ok());
-        assert_eq!(rt; s.len(), 1);
-        assert_eq!(rt; s.get(0).ok_or("first")?.to(), Node::Temp(0));
-        // the need fails
-        assert!(rt; lend(alloc, false, Node::Own(1), Node::Temp(1), &mut s).is_err());
-        Ok(())
-    }
-}

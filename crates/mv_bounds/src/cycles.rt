@@ -89,22 +89,3 @@ pub fn is_acyclic(alloc: Global, graph: &[Vec<usize>]) -> Result<bool, AllocErro
     }
     Ok(all_marked(&removed))
 }
-
-#[cfg(test)]
-mod tests {
-    use super::*;
-    use std::test::Fail;
-
-    #[test]
-    fn cycles_are_found(rt: HostRuntime) -> Result<(), Fail> {
-        let alloc = rt.alloc();
-        let mut graph = Vec::new(alloc);
-        graph.push(vec![in alloc; 1usize, 2, 2]?)?;
-        graph.push(vec![in alloc; 2usize]?)?;
-        graph.push(vec![in alloc; 3usize]?)?;
-        assert!(rt; is_acyclic(alloc, &graph)?, "node 3 is not there");
-        graph.push(vec![in alloc; 1usize]?)?;
-        assert!(rt; !is_acyclic(alloc, &graph)?, "1, 2 and 3 are a cycle");
-        Ok(())
-    }
-}

@@ -317,35 +317,3 @@ pub fn well_defined(alloc: Global, m: &Module) -> Result<bool, AllocError>
             && are_finite(alloc, m)?,
     )
 }
-
-#[cfg(test)]
-mod tests {
-    use super::*;
-    use std::test::Fail;
-
-    #[test]
-    fn repeats_are_found(rt: HostRuntime) -> Result<(), Fail> {
-        assert!(rt; all_distinct(rt.alloc(), &[3u16, 1, 2])?);
-        assert!(rt; !all_distinct(rt.alloc(), &[3u16, 1, 3])?);
-        Ok(())
-    }
-
-    #[test]
-    fn own_handles_are_defined_once(rt: HostRuntime) -> Result<(), Fail> {
-        let homes = [0, 1, 0];
-        assert!(rt; defined_once(rt.alloc(), &homes, 0, &[2, 0])?);
-        assert!(rt;
-            !defined_once(rt.alloc(), &homes, 0, &[2])?,
-            "one has no definition"
-        );
-        assert!(rt;
-            !defined_once(rt.alloc(), &homes, 0, &[2, 0, 1])?,
-            "one is another module's"
-        );
-        assert!(rt;
-            !defined_once(rt.alloc(), &homes, 0, &[2, 0, 2])?,
-            "one is defined twice"
-        );
-        Ok(())
-    }
-}

@@ -109,6 +109,3 @@ pub fn check<'a>(alloc: Global, m: Typed<'a>, c: &Cert) -> Result<Verified<'a>, 
         tops: m.into_tops(alloc)?,
     })
 }
-
-#[cfg(test)]
-mod tests;

@@ -1,5 +1,5 @@
 -- In a module whose indices are in bounds branches lead into the code.
-use Rattle.std.proofs.Common.{◌≡◌, ℕ, ◌<◌, Bool, true, false, ◌&&◌, nat_lt, List, [], ◌∷◌, length, get_or, slice_get, Some, All, refl, subst, arith, zero, suc}
+use Rattle.std.proofs.Common.{◌≡◌, ℕ, ◌<◌, Bool, true, false, ◌&&◌, List, [], ◌∷◌, length, get_or, slice_get, Some, All, refl, subst, arith, zero, suc}
 use Rattle.std.specs.List.{list_all}
 use Rattle.std.proofs.lemmas.Bool.{ltb-true}
 use Rattle.std.proofs.lemmas.List.Elements.{All-nil, All-cons}
@@ -41,8 +41,3 @@ branches-inside m f d bounds at k c h =
     let code : list_all (instruction_in m (local_count m d) (length d.code)) d.code ≡ true =
     and_right (below d.handle m.function_handles && below d.locals m.signatures && list_all (λ i. below i m.structs) d.acquires) (list_all (instruction_in m (local_count m d) (length d.code)) d.code) here in
     targets-inside m (local_count m d) (length d.code) (get_or d.code k c) (all_at (instruction_in m (local_count m d) (length d.code)) d.code code k c h)
-
--- so they do by this test of the code
-pub BranchesInside-from_test : (code : List Instruction) → list_all (λ c. list_all (λ t. nat_lt t (length code)) (targets c)) code ≡ true → BranchesInside code
-BranchesInside-from_test code e k c h j d within =
-    ltb-true (get_or (targets (get_or code k c)) j d) (length code) (all_at (λ t. nat_lt t (length code)) (targets (get_or code k c)) (all_at (λ i. list_all (λ t. nat_lt t (length code)) (targets i)) code e k c h) j d within)

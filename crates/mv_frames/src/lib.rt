@@ -4,8 +4,6 @@
 mod counters;
 mod frame;
 mod halt;
-#[cfg(test)]
-mod tests;
 mod words;
 
 pub use counters::{Count, Counters, StructTally};

@@ -26,9 +26,5 @@ pub mod Store
 pub mod Addresses
 pub mod Whole
 pub mod Fine
-pub mod Abilities
-pub mod Untouched
-pub mod Clean
-pub mod Cleaned
 pub mod Admitted
 pub mod TypedCalls

@@ -1,14 +1,12 @@
 -- What stands at the places that a run record's names lead to.
-use Rattle.std.proofs.Common.{◌≡◌, ℕ, zero, suc, ◌<◌, false, List, [], ◌∷◌, length, Option, Some, None, get_or, refl, sym, ap, ◌∙◌, arith}
+use Rattle.std.proofs.Common.{◌≡◌, ℕ, zero, suc, ◌<◌, List, [], ◌∷◌, length, Option, Some, None, get_or, refl, sym, ap, ◌∙◌, arith}
 use Rattle.std.specs.Prelude.{slice_get, IfSome}
 use Rattle.std.specs.Borrow.{Bor}
 use Rattle.std.specs.Slice.{IsItemAt}
 use Rattle.std.proofs.lemmas.Option.{slice_get_past}
-use Rattle.std.specs.Option.{option_map_or}
-use Rattle.std.specs.Str.{bytes_eq}
 use Rattle.mv_move_types.specs.Names.{ModuleName}
-use Rattle.mv_move_types.specs.Module.{Module, name_of_function}
-use Rattle.mv_move_types.specs.Named.{is_module, module_place, function_place}
+use Rattle.mv_move_types.specs.Module.{Module}
+use Rattle.mv_move_types.specs.Named.{is_module, module_place}
 use Rattle.mv_move_types.specs.Published.{PublishedModule}
 use Rattle.mv_linker.specs.Link.{tables_in}
 use Rattle.mv_linker.proofs.Found.{place_below}
@@ -16,10 +14,6 @@ use Rattle.mv_linker.proofs.Found.{place_below}
 tables-length : (published : List PublishedModule) → length (tables_in published) ≡ length published
 tables-length [] = refl
 tables-length (p ∷ published) = ap suc (tables-length published)
-
--- a function that is found is one of its module's
-pub function-below : (m : Module) (name : List ℕ) (k : ℕ) → function_place m name ≡ Some k → k < length m.functions
-function-below m name k is = place_below (λ d. option_map_or (bytes_eq name) (name_of_function m d) false) m.functions k is
 
 -- a module that is found is one of the store's
 pub place-below : (published : List PublishedModule) (name : ModuleName) (o : Option ℕ) (k : ℕ) → o ≡ module_place (tables_in published) name → o ≡ Some k → k < length published

@@ -1,4 +1,3 @@
-pub mod Binds
 pub mod Effects
 pub mod Runs
 pub mod Own

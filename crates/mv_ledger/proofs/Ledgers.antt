@@ -10,7 +10,7 @@ use Rattle.mv_frames.specs.Counters.{AreSameCounts, IsClear}
 use Rattle.mv_frames.specs.declared.counters.Count.{Count}
 use Rattle.mv_interpreter.specs.Runs.{IsFineWords}
 use Rattle.mv_ledger.specs.declared.tallies.Tally.{Tally}
-use Rattle.mv_ledger.specs.View.{state_of, view_of, all_of, IsLedger, IsNamed, IsSmall, AreScarce}
+use Rattle.mv_ledger.specs.View.{state_of, view_of, all_of, IsLedger, AreSized, IsNamed, IsSmall, AreScarce}
 use Rattle.mv_ledger.specs.Judging.{IsAcceptedBy}
 use Rattle.mv_ledger.specs.Tallying.{AddsTallies}
 use Rattle.mv_ledger.specs.Accepted.SoundLedger.{IsSoundLedger}
@@ -22,6 +22,7 @@ use Rattle.mv_ledger.proofs.Replying.{sound_with}
 no_ledger : (counters : List (List Count)) → IsClear counters → IsLedger [] [] [] counters 0
 no_ledger counters clear = record {
   few = omega arith;
+  sized = refl;
   fine = All-nil (IsFineWords []);
   placed = refl;
   scarce = tt;
@@ -46,6 +47,7 @@ with_counters : (published : List PublishedModule) (stored : List FlatEntry) (ta
     → IsLedger published stored tallies counted runs
 with_counters published stored tallies counters counted runs clear is = record {
   few = is.few;
+  sized = is.sized;
   fine = is.fine;
   placed = is.placed;
   scarce = is.scarce;
@@ -58,11 +60,12 @@ with_counters published stored tallies counters counted runs clear is = record {
 
 -- a ledger whose modules and tallies changed as a publish record's answer says
 pub ledger-published : {T E : Type 0} (r : Result T E) (old new : List PublishedModule) (stored : List FlatEntry) (before after : List (List Tally)) (counters counted : List (List Count)) (runs : ℕ)
-    → OnOk r (length new ≤ 4096) → OnOk r (All (IsFineWords (tables_in old)) stored → All (IsFineWords (tables_in new)) stored) → OnErr r (new ≡ old) → OnErr r (after ≡ before)
+    → OnOk r (length new ≤ 4096) → OnOk r (AreSized new) → OnOk r (All (IsFineWords (tables_in old)) stored → All (IsFineWords (tables_in new)) stored) → OnErr r (new ≡ old) → OnErr r (after ≡ before)
     → length after ≡ length new → AreScarce (tables_in new) after → OnOk r (All (IsNamed (tables_in new)) (all_of after)) → All (IsSmall runs) (all_of after)
     → OnOk r (IsSoundLedger (state_of (view_of new stored (all_of after) runs))) → AreSameCounts counters counted → IsLedger old stored before counters runs → IsLedger new stored after counted runs
-ledger-published (Ok x) old new stored before after counters counted runs room stays kept same placed scarce named small sound counts is = record {
+ledger-published (Ok x) old new stored before after counters counted runs room sized stays kept same placed scarce named small sound counts is = record {
   few = room;
+  sized = sized;
   fine = stays is.fine;
   placed = placed;
   scarce = scarce;
@@ -72,7 +75,7 @@ ledger-published (Ok x) old new stored before after counters counted runs room s
   counted = is.counted;
   sound = sound;
 }
-ledger-published (Err e) old new stored before after counters counted runs room stays kept same placed scarce named small sound counts is =
+ledger-published (Err e) old new stored before after counters counted runs room sized stays kept same placed scarce named small sound counts is =
     subst (λ (l : List PublishedModule). IsLedger l stored after counted runs) (sym kept) (subst (λ (tss : List (List Tally)). IsLedger old stored tss counted runs) (sym same) (with_counters old stored before counters counted runs (still-clear counters counted counts is.clear) is))
 
 -- a ledger whose storage and tallies a run changed
@@ -81,6 +84,7 @@ pub ledger-run : (published : List PublishedModule) (old new : List FlatEntry) (
     → IsSoundLedger (state_of (view_of published new (all_of after) (runs + 1))) → IsClear counted → IsLedger published old before counters runs → IsLedger published new after counted (runs + 1)
 ledger-run published old new before after counters counted runs fine placed scarce named small few sound clear is = record {
   few = is.few;
+  sized = is.sized;
   fine = fine;
   placed = placed ∙ is.placed;
   scarce = scarce;
@@ -96,6 +100,7 @@ pub ledger-kept : (published : List PublishedModule) (old new : List FlatEntry) 
     → IsClear counted → IsLedger published old before counters runs → IsLedger published new after counted runs
 ledger-kept published old new before after counters counted runs p placed scarce same clear is = record {
   few = is.few;
+  sized = is.sized;
   fine = subst (λ (es : List FlatEntry). All (IsFineWords (tables_in published)) es) (sym p) is.fine;
   placed = placed ∙ is.placed;
   scarce = scarce;

@@ -18,6 +18,7 @@ pub mod TalliesJoined
 pub mod Placing
 pub mod Verifying
 pub mod Joining
+pub mod Sized
 pub mod Admissions
 pub mod AdmissionsAnswered
 pub mod StoredRuns
@@ -30,3 +31,10 @@ pub mod Audits
 pub mod Listed
 pub mod Objects
 pub mod Reports
+pub mod SavedOnce
+pub mod SavedStored
+pub mod Saved
+pub mod SavedFails
+pub mod SavedLoads
+pub mod SavedLimits
+mod SavedRows

@@ -1,5 +1,5 @@
 -- What a run leaves is what the machine's run asks for.
-use Rattle.std.proofs.Common.{◌≡◌, true, Option, Some, ℕ, ◌+◌, ◌*◌, ◌^◌, ◌≤◌, List, map, sym, ap, ap₂, ◌∙◌, arith}
+use Rattle.std.proofs.Common.{◌≡◌, true, Option, Some, ℕ, ◌+◌, ◌*◌, ◌≤◌, List, map, sym, ap, ap₂, ◌∙◌, arith}
 use Rattle.std.specs.Prelude.{All}
 use Rattle.std.proofs.lemmas.List.Elements.{All-weaker}
 use Rattle.mv_move_types.specs.Module.{Module}
@@ -31,7 +31,7 @@ use Rattle.mv_ledger.proofs.TalliesByModule.{all-map}
 pub small-kept : (runs : ℕ) (ts : List Tally) → All (IsSmall runs) ts → All (IsSmall (runs + 1)) ts
 small-kept runs ts small = All-weaker (IsSmall runs) (IsSmall (runs + 1)) one ts small
   where
-    part : (n : ℕ) → n ≤ runs * 2 ^ 64 → n ≤ (runs + 1) * 2 ^ 64
+    part : (n : ℕ) → n ≤ runs * 10000000 → n ≤ (runs + 1) * 10000000
     part n h = omega arith
 
     one : (t : Tally) → IsSmall runs t → IsSmall (runs + 1) t

@@ -55,11 +55,18 @@ tallies-after published run events ts named scarce counted =
     (tally-after published run events counted) ts (λ k d lt. (named k d lt, scarce k d lt))
     ∙ sym (map-then (tallied (tables_in published)) (tally_with events) ts)
 
--- a run adds fewer than 2^64 to each
-pub small-after : (runs : ℕ) (run : List StructTally) (ts : List Tally) → AtMost (2 ^ 64 - 1) run → All (IsSmall runs) ts → All (IsSmall (runs + 1)) (map (tally_after run) ts)
+-- what a run with an admitted budget did is at most what a run may do, and fits in 64 bits
+pub most-after : (budget : ℕ) (run : List StructTally) → AtMost budget run → budget ≤ 10000000 → AtMost 10000000 run × AtMost (2 ^ 64 - 1) run
+most-after budget run few low = (
+  λ place index. (omega (arith, (few place index).0, low), omega (arith, (few place index).1, low)),
+  λ place index. (omega (arith, (few place index).0, low), omega (arith, (few place index).1, low)),
+)
+
+-- a run adds at most 10,000,000 to each
+pub small-after : (runs : ℕ) (run : List StructTally) (ts : List Tally) → AtMost 10000000 run → All (IsSmall runs) ts → All (IsSmall (runs + 1)) (map (tally_after run) ts)
 small-after runs run ts few small = All-map (IsSmall (runs + 1)) (tally_after run) ts (All-weaker (IsSmall runs) (λ t. IsSmall (runs + 1) (tally_after run t)) one ts small)
   where
-    sum : (old more : ℕ) → old ≤ runs * 2 ^ 64 → more ≤ 2 ^ 64 - 1 → old + more ≤ (runs + 1) * 2 ^ 64
+    sum : (old more : ℕ) → old ≤ runs * 10000000 → more ≤ 10000000 → old + more ≤ (runs + 1) * 10000000
     sum old more a b = omega arith
 
     one : (t : Tally) → IsSmall runs t → IsSmall (runs + 1) (tally_after run t)

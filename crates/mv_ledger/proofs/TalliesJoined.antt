@@ -1,5 +1,5 @@
 -- The tallies after a bundle: each struct with neither copy nor drop has the one that it had, or an empty one.
-use Rattle.std.proofs.Common.{◌≡◌, ℕ, zero, suc, ◌+◌, ◌*◌, ◌^◌, ◌<◌, ◌≤◌, Bool, true, false, cond, List, [], ◌∷◌, ◌++◌, map, length, drop, Option, Some, None, option_map, refl, sym, ap, ap₂, ◌∙◌, subst, arith, zero-add}
+use Rattle.std.proofs.Common.{◌≡◌, ℕ, zero, suc, ◌+◌, ◌*◌, ◌<◌, ◌≤◌, Bool, true, false, cond, List, [], ◌∷◌, ◌++◌, map, length, drop, Option, Some, None, option_map, refl, sym, ap, ap₂, ◌∙◌, subst, arith, zero-add}
 use Rattle.std.specs.Prelude.{◌==◌, ◌&&◌, All, IsSome, slice_get, unwrap_or, filter_map, find}
 use Rattle.std.specs.Cmp.{first_so, second_so}
 use Rattle.std.proofs.lemmas.Bool.{and_from, eq-eqb, eqb-true}
@@ -280,7 +280,7 @@ each-small runs tss place (m ∷ ms) (ts ∷ after) e small =
     All-append (IsSmall runs) ts (all_of after)
     (subst (λ (us : List Tally). All (IsSmall runs) us) (sym e.0)
     (All-append (IsSmall runs) (had tss place) (map (fresh_tally place) (drop (length (had tss place)) (scarce_indices m))) (all-had (IsSmall runs) tss place small)
-    (All-map (IsSmall runs) (fresh_tally place) (drop (length (had tss place)) (scarce_indices m)) (λ k d lt. (least (runs * 2 ^ 64), least (runs * 2 ^ 64))))))
+    (All-map (IsSmall runs) (fresh_tally place) (drop (length (had tss place)) (scarce_indices m)) (λ k d lt. (least (runs * 10000000), least (runs * 10000000))))))
     (each-small runs tss (place + 1) ms after e.1 small)
   where
     least : (n : ℕ) → 0 ≤ n

@@ -15,3 +15,6 @@ pub mod Showing
 pub mod Auditing
 pub mod Left
 pub mod Formats
+pub mod SavedText
+pub mod Loading
+pub mod SavedLaws

@@ -44,6 +44,10 @@ pub data FailsAt (o : Offer) : ℕ → Type 0 where
   no_edges : (m : Module) (c : Certificate) → Spells o.text m → IsSound m → IsCertificateText m o.certificate c → IsTrue (all_locals_hold m c) → ¬ IsTrue (all_edges_hold m c) → FailsAt o 11
   no_acquires : (m : Module) (c : Certificate) → Spells o.text m → IsSound m → IsCertificateText m o.certificate c → IsTrue (certificate_holds m c) → ¬ AcquiresHold m → FailsAt o 12
 
+-- a published module as a bundle offers it
+abbrev pub offered : PublishedModule → Offer
+offered p = record { text = p.text; certificate = p.certificate }
+
 -- each offer passes, and these are its module's tables and texts
 abbrev pub AllPass : List Offer → List PublishedModule → Type 0
 AllPass [] [] = Unit {0}

@@ -1,6 +1,6 @@
 -- What a ledger holds, and the machine's state that it stands for.
-use Rattle.std.specs.Prelude.{◌≡◌, ℕ, ◌+◌, ◌*◌, ◌^◌, ◌≤◌, List, [], ◌∷◌, map, length, All, IsSome, unwrap_or}
-use Rattle.std.specs.List.{flat_map, filter, enumerate_from}
+use Rattle.std.specs.Prelude.{◌≡◌, ℕ, ◌+◌, ◌*◌, ◌≤◌, List, [], ◌∷◌, map, length, All, IsSome, IsTrue, unwrap_or}
+use Rattle.std.specs.List.{flat_map, filter, list_all, enumerate_from}
 use Rattle.mv_move_types.specs.Module.{Module, name_at}
 use Rattle.mv_move_types.specs.Published.{PublishedModule}
 use Rattle.mv_machine.specs.Flat.{FlatEntry, storage_of}
@@ -13,6 +13,8 @@ use Rattle.mv_frames.specs.declared.counters.Count.{Count}
 use Rattle.mv_interpreter.specs.Runs.{IsFineWords}
 use Rattle.mv_interpreter.specs.Flat.Agreement.{nameless}
 use Rattle.mv_ledger.specs.declared.tallies.Tally.{Tally}
+use Rattle.mv_ledger.specs.RecordText.{offer_fits}
+use Rattle.mv_ledger.specs.Publishing.{offered}
 use Rattle.mv_ledger.specs.Accepted.SoundLedger.{IsSoundLedger}
 
 -- the published modules, the stored values as their words, the tallies, and the runs had
@@ -61,9 +63,9 @@ view_of published stored tallies runs =
 abbrev pub IsNamed : List Module → Tally → Type 0
 IsNamed modules t = IsSome (name_at modules t.place t.index)
 
--- in so many runs, each made fewer than 2^64 values of the struct and took fewer apart
+-- in so many runs, each of at most 10,000,000 steps, no step made or took apart more than one value of the struct
 abbrev pub IsSmall : ℕ → Tally → Type 0
-IsSmall runs t = (t.packs ≤ runs * 2 ^ 64) × (t.unpacks ≤ runs * 2 ^ 64)
+IsSmall runs t = (t.packs ≤ runs * 10000000) × (t.unpacks ≤ runs * 10000000)
 
 -- each module's list has the tallies of its structs with neither copy nor drop, in order
 abbrev pub AreScarce : List Module → List (List Tally) → Type 0
@@ -72,11 +74,16 @@ AreScarce [] (ts ∷ tss) = ⊥
 AreScarce (m ∷ ms) [] = ⊥
 AreScarce (m ∷ ms) (ts ∷ tss) = (map (λ t. t.index) ts ≡ scarce_indices m) × AreScarce ms tss
 
--- A ledger's modules and runs are within their limits, each stored value is one of its key's struct, and each tally one of a
--- struct in its range; each module has the tallies of its structs with neither copy nor drop; the counters that runs count in
--- are zero; and the machine's ledger that it stands for is sound.
+-- the texts and the certificates that modules came in are bytes, and no longer than those of a bundle
+abbrev pub AreSized : List PublishedModule → Type 0
+AreSized published = IsTrue (list_all offer_fits (map offered published))
+
+-- A ledger's modules, their texts and its runs are within their limits, each stored value is one of its key's struct, and each
+-- tally one of a struct in its range; each module has the tallies of its structs with neither copy nor drop; the counters that
+-- runs count in are zero; and the machine's ledger that it stands for is sound.
 pub record IsLedger (published : List PublishedModule) (stored : List FlatEntry) (tallies : List (List Tally)) (counters : List (List Count)) (runs : ℕ) : Type 0 where
   pub few : length published ≤ 4096
+  pub sized : AreSized published
   pub fine : All (IsFineWords (tables_in published)) stored
   pub placed : length tallies ≡ length published
   pub scarce : AreScarce (tables_in published) tallies

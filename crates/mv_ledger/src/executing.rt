@@ -166,6 +166,7 @@ pub fn execute(
     requires stored { All (IsFineWords (tables_in store.now)) storage.old }
     requires named { All (IsNamed (tables_in store.now)) (all_of tallies.old) }
     requires room { All HasRoomLeft (all_of tallies.old) }
+    requires budget { call.now.budget ≤ 10000000 }
     requires scarce { AreScarce (tables_in store.now) tallies.old }
     requires clear { IsClear counters.old }
     ensures clear { IsClear counters.new }

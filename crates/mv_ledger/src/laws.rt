@@ -1,8 +1,9 @@
-// What holds of each record that is answered, of each run, and of what is stored.
+// What holds of each record that is answered, of each run, of what is stored, and of what is saved and loaded.
 
 ghost use Rattle.mv_ledger.specs.Counting.Headline.{EveryCountIsTallied};
 ghost use Rattle.mv_ledger.specs.Counting.Conservation.{EveryRunIsOwnWork, EveryRunConserves};
 ghost use Rattle.mv_ledger.specs.Accepted.Records.{EachRecordIsWell};
+ghost use Rattle.mv_ledger.specs.SavedLaws.{EachLedgerHasOneText, EachTextHasOneLedger, EachSaveIsLoaded, EachLoadIsSound, EachLoadIsOne, EachLoadIsSaved, EachSecondFormComesBack, NoLoadFails};
 
 /// Whatever a record asks of a sound ledger, its run ends as it should, and the ledger that its answer leaves is balanced and
 /// sound.
@@ -27,3 +28,49 @@ pub fn every_run_conserves()
 pub fn every_count_is_tallied()
     ensures { EveryCountIsTallied }
 {}
+
+/// A ledger has one text of each form.
+pub fn each_ledger_has_one_text()
+    ensures { EachLedgerHasOneText }
+{}
+
+/// A text is of one ledger.
+pub fn each_text_has_one_ledger()
+    ensures { EachTextHasOneLedger }
+{}
+
+/// What is saved of a sound ledger within its limits, in either form, is loaded as that ledger.
+pub fn each_save_is_loaded()
+    ensures { EachSaveIsLoaded }
+{}
+
+/// A ledger that is loaded is sound and within its limits.
+pub fn each_load_is_sound()
+    ensures { EachLoadIsSound }
+{
+    // For the prover: bytes are read as a module exactly where they are a text of it.
+    mv_binary_format::modules_are_read_by_text();
+}
+
+/// Bytes are loaded as one ledger at most.
+pub fn each_load_is_one()
+    ensures { EachLoadIsOne }
+{}
+
+/// Whatever is loaded is, saved again, loaded as what it was.
+pub fn each_load_is_saved()
+    ensures { EachLoadIsSaved }
+{}
+
+/// What is loaded from a text of the second form is saved as that text.
+pub fn each_second_form_comes_back()
+    ensures { EachSecondFormComesBack }
+{}
+
+/// No bytes that are loaded have a reason against them.
+pub fn no_load_fails()
+    ensures { NoLoadFails }
+{
+    // For the prover: bytes are read as a module exactly where they are a text of it.
+    mv_binary_format::modules_are_read_by_text();
+}

@@ -17,12 +17,16 @@ ghost use Rattle.std.specs.Prelude.{◌≡◌, is_some};
 ghost use Rattle.mv_ledger.specs.View.{empty_view, state_of};
 ghost use Rattle.mv_ledger.specs.Answering.{told, told_lines, Replies};
 ghost use Rattle.mv_ledger.specs.Accepted.SoundLedger.{IsSoundLedger};
+ghost use Rattle.mv_ledger.specs.SavedLaws.{IsSavable};
 
 use executing::{Barred, admitted};
 use format::{Format, read_format};
 use json::{json_of_storage, json_of_tallies};
 pub use laws::{
-    each_record_is_well, every_count_is_tallied, every_run_conserves, every_run_is_own_work,
+    each_ledger_has_one_text, each_load_is_one, each_load_is_saved, each_load_is_sound,
+    each_record_is_well, each_save_is_loaded, each_second_form_comes_back,
+    each_text_has_one_ledger, every_count_is_tallied, every_run_conserves, every_run_is_own_work,
+    no_load_fails,
 };
 pub use lines::Lines;
 use mv_frames::Counters;
@@ -107,6 +111,14 @@ impl Ledger {
         ensures { IsSoundLedger (state_of self.now) }
     {
         let _runs = self.runs;
+    }
+
+    /// For the prover: the machine's ledger that it stands for is within the limits of a saved one.
+    pub fn is_savable(&self)
+        ensures { IsSavable (state_of self.now) }
+    {
+        // For the prover: fewer than 2^63 values are stored.
+        let _entries = self.storage.iter();
     }
 
     /// Answers a publish record with this payload.

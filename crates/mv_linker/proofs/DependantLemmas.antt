@@ -3,10 +3,10 @@
 --   apart-placed, apart-unnamed, apart-new   a published module that doesn't have to be linked again
 --   DependantsSoFar   those among the first published modules
 use Rattle.std.proofs.Common.{◌≡◌, ◌⊎◌, ℕ, ◌<◌, ◌≤◌, ◌+◌, ◌++◌, [], ◌∷◌, true, false, List, length, map, Some, slice_get, Contains, refl, sym, ap, subst, ◌∙◌, arith, inl, inr}
-use Rattle.std.specs.Prelude.{All, ◌==◌, is_some, nat_lt, position, IsSome}
+use Rattle.std.specs.Prelude.{All, ◌==◌, is_some, nat_lt, position}
 use Rattle.std.specs.List.{list_any}
 use Rattle.std.specs.Option.{option_map_or}
-use Rattle.std.proofs.lemmas.Bool.{both_ways, cases_eq, cases_lt, ltb-false}
+use Rattle.std.proofs.lemmas.Bool.{cases_eq, cases_lt, ltb-false}
 use Rattle.std.proofs.lemmas.List.{map-append}
 use Rattle.std.proofs.lemmas.List.Elements.{All-nil, All-push, Contains-append_left, Contains-push}
 use Rattle.std.proofs.lemmas.Option.{same_Some, slice_get_within}
@@ -60,14 +60,6 @@ module _ (s : Scope) (joins : Joins s) where
 
   -- ---- published modules that don't have to be linked again
 
-  -- one that is replaced
-  pub apart-placed : (q : ℕ) → IsSome (position (λ p. p == q) s.places.items) → IsApart s q
-  apart-placed q some m at none names = both_ways (is_some (position (λ p. p == q) s.places.items)) (ap is_some none) some
-
-  -- one that names none of the bundle
-  pub apart-unnamed : (q : ℕ) (m : Module) → slice_get (tables_in s.store.now) q ≡ Some m → (NamesBundle s m → ⊥) → IsApart s q
-  apart-unnamed q m at none n there free names = none (subst (λ (x : Module). NamesBundle s x) (same_Some n m (sym there ∙ at)) names)
-
   -- each, where the bundle takes no published module's place
   pub apart-new : list_any (λ p. nat_lt p (length s.store.now)) s.places.items ≡ false → (q : ℕ) → IsApart s q
   apart-new new q m at free (h, some) =
@@ -93,9 +85,6 @@ module _ (s : Scope) (joins : Joins s) where
 pub record DependantsSoFar (s : Scope) (ds : List Dependant) (i : ℕ) : Type 0 where
   pub each : All (IsDependant s) ds
   pub others : (q : ℕ) → q < i → Contains (map (λ (d : Dependant). d.place) ds) q ⊎ IsApart s q
-
-pub none-so_far : (s : Scope) → DependantsSoFar s [] 0
-none-so_far s = record { each = All-nil (IsDependant s); others = λ q low. absurd (omega (arith, low)) }
 
 -- one that is none
 pub next-apart : (s : Scope) (ds : List Dependant) (i : ℕ) → DependantsSoFar s ds i → IsApart s i → DependantsSoFar s ds (i + 1)

@@ -1,5 +1,5 @@
 -- Dependencies by their places: a cycle of modules is a cycle of places.
-use Rattle.std.proofs.Common.{◌≡◌, ◌↔◌, ℕ, ◌+◌, ◌-◌, ◌<◌, ◌≤◌, Bool, true, cond, List, [], ◌∷◌, map, length, take, Some, None, option_map, slice_get, Contains, refl, sym, ap, ◌∙◌, subst, arith, inl, inr, eqb, leb, Bor}
+use Rattle.std.proofs.Common.{◌≡◌, ◌↔◌, ℕ, ◌+◌, ◌-◌, ◌<◌, ◌≤◌, Bool, true, cond, List, [], map, length, take, Some, None, option_map, slice_get, Contains, sym, ap, ◌∙◌, subst, arith, inl, inr, eqb, leb}
 use Rattle.std.specs.Prelude.{not, nat_le}
 use Rattle.std.proofs.lemmas.Bool.{both_ways, eqb-false, ne_eqb, leb-true, le-leb, cases_lt, false_from_ne_true, not-true}
 use Rattle.std.proofs.lemmas.Option.{same_Some, slice_get_within, slice_get-map, cond_some}
@@ -179,8 +179,3 @@ module _ (modules : List Module) (base : ℕ) (graph : List (List ℕ)) (g : IsD
 
   pub ordered-acyclic : (b : Bool) → (b ≡ true) ↔ IsAcyclic edges → (b ≡ true) ↔ IsOrdered modules
   ordered-acyclic b both = ((λ h. ordered_from (both.0 h)), (λ h. both.1 (acyclic_from h)))
-
--- what references lead to
-pub map-now : (f : List ℕ → List ℕ) (ds : List (Bor (List ℕ))) → map (λ (d : Bor (List ℕ)). f d.now) ds ≡ map f (map (λ (d : Bor (List ℕ)). d.now) ds)
-map-now f [] = refl
-map-now f (d ∷ ds) = ap (λ xs. f d.now ∷ xs) (map-now f ds)

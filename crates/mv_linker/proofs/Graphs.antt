@@ -1,10 +1,10 @@
 -- Graphs of dependencies: of all modules, of modules after others, and where a store grows.
-use Rattle.std.proofs.Common.{◌≡◌, ℕ, zero, suc, ◌+◌, ◌<◌, true, false, List, [], ◌∷◌, ◌++◌, length, take, Some, slice_get, Contains, refl, sym, ap, ◌∙◌, subst, arith, inl, inr, ◌⊎◌, length-append}
+use Rattle.std.proofs.Common.{◌≡◌, ℕ, zero, suc, ◌+◌, ◌<◌, true, false, List, [], ◌∷◌, ◌++◌, length, take, Some, slice_get, refl, sym, ap, ◌∙◌, subst, arith, inl, inr, ◌⊎◌, length-append}
 use Rattle.std.specs.List.{list_any}
 use Rattle.std.specs.Option.{option_map_or}
 use Rattle.std.specs.Cmp.{first_so, second_so}
-use Rattle.std.proofs.lemmas.Bool.{cases_order, both_ways, false_from_ne_true, or_cases}
-use Rattle.std.proofs.lemmas.Option.{same_Some, slice_get_within}
+use Rattle.std.proofs.lemmas.Bool.{cases_order, both_ways, or_cases}
+use Rattle.std.proofs.lemmas.Option.{slice_get_within}
 use Rattle.mv_move_types.specs.Names.{ModuleName}
 use Rattle.mv_move_types.specs.Module.{Module, own_name, module_name}
 use Rattle.mv_move_types.specs.Named.{is_module, have_one_name}
@@ -12,8 +12,8 @@ use Rattle.mv_bounds.specs.Definitions.{all_differ}
 use Rattle.mv_bounds.proofs.PlaceLemmas.{slice_get-first}
 use Rattle.mv_linker.specs.Links.{Links, Reaches, directly, further, modules_are_there}
 use Rattle.mv_linker.specs.Order.{AreDependencies, IsDependencyGraph}
-use Rattle.mv_linker.proofs.Found.{there_at, each}
-use Rattle.mv_linker.proofs.NameLemmas.{is_module-is, have_one_name-from, have_one_name-is, name_at_one, depends_on-is, depends_on-from}
+use Rattle.mv_linker.proofs.Found.{each}
+use Rattle.mv_linker.proofs.NameLemmas.{is_module-is, name_at_one, depends_on-is}
 
 abbrev EachDepends : List Module → ℕ → List (List ℕ) → Type 0
 EachDepends modules base graph = (i : ℕ) (m : Module) (places : List ℕ) → slice_get modules (base + i) ≡ Some m → slice_get graph i ≡ Some places → AreDependencies modules m places
@@ -70,37 +70,4 @@ appended-graph old new graph links once len deps =
           let same = name_at_one (old ++ new) names.name j there.0 n there.1 once f (slice_get-first old new there.0 inside ∙ there.2) names.own there.3 in
           omega (arith, same, inside);
       ordered = λ m r. links.ordered m (subst (λ (l : List Module). Reaches l m m) (take-append old new) r);
-    }
-
--- where the old modules' names stand in their places, a module that names old ones depends on the same places
-pub dependencies-stay : (old result : List Module) (m : Module) (places : List ℕ) → ((i : ℕ) (n : Module) → slice_get old i ≡ Some n → (n' : Module) × (slice_get result i ≡ Some n') × (own_name n' ≡ own_name n))
-    → modules_are_there old m (length m.module_handles) ≡ true → all_differ have_one_name result ≡ true → AreDependencies old m places → AreDependencies result m places
-dependencies-stay old result m places stays all once deps =
-    record {
-      there = λ j has.
-          let at = there_at old j (deps.there j has) in
-          let new = stays j at.0 at.1 in
-          slice_get_within result j new.0 new.1;
-      each = λ j n f. (
-        λ has.
-            let at = there_at old j (deps.there j has) in
-            let new = stays j at.0 at.1 in
-            let same : own_name n ≡ own_name at.0 = ap own_name (same_Some n new.0 (sym f ∙ new.1)) ∙ new.2 in
-            let d = depends_on-is m at.0 ((deps.each j at.0 at.1).0 has) in
-            depends_on-from m n d.1.name d.1.handle d.1.below d.1.named (same ∙ d.1.own)
-            (false_from_ne_true (have_one_name m n) (λ one.
-            let names = have_one_name-is m n one in
-            both_ways (have_one_name m at.0) d.0 (have_one_name-from m at.0 names.0 names.1 (sym same ∙ names.2)))),
-        λ depends.
-            let d = depends_on-is m n depends in
-            let old_one = named_there old m (length m.module_handles) d.1.handle d.1.name all d.1.below d.1.named in
-            let new = stays old_one.0 old_one.1 old_one.2 in
-            let place : j ≡ old_one.0 = name_at_one result d.1.name j old_one.0 n new.0 once f new.1 d.1.own (new.2 ∙ old_one.3) in
-            let apart : have_one_name m old_one.1 ≡ false = false_from_ne_true (have_one_name m old_one.1) (λ one.
-            let names = have_one_name-is m old_one.1 one in
-            let same : d.1.name ≡ names.0 = same_Some d.1.name names.0 (sym old_one.3 ∙ names.2) in
-            both_ways (have_one_name m n) d.0 (have_one_name-from m n d.1.name (names.1 ∙ ap (λ x. Some x) (sym same)) d.1.own)) in
-            subst (λ (k : ℕ). Contains places k) (sym place)
-            ((deps.each old_one.0 old_one.1 old_one.2).1 (depends_on-from m old_one.1 d.1.name d.1.handle d.1.below d.1.named old_one.3 apart)),
-      );
     }

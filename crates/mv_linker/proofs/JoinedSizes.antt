@@ -7,7 +7,7 @@ use Rattle.mv_linker.specs.Links.{Links, struct_is_small}
 use Rattle.mv_linker.specs.Scope.{with_tables}
 use Rattle.mv_linker.specs.Upgrades.{structs_stay, function_stays}
 use Rattle.mv_linker.specs.Sizes.{Keeps, AreSmall}
-use Rattle.mv_linker.proofs.Members.{all-among, among-all, at-among, named-so, among-result, bundle-there, follower}
+use Rattle.mv_linker.proofs.Members.{all-among, among-all, at-among, named-so, among-result, follower}
 use Rattle.mv_linker.proofs.OwnDefinitions.{owns-structs}
 use Rattle.mv_linker.proofs.SizesStay.{small-stays}
 use Rattle.mv_linker.proofs.StillThere.{Joining}
@@ -40,8 +40,3 @@ module _ (old ns : List Module) (j : Joining old ns) where
             let at = at-among old m stays.0 in
             small-stays old (with_tables old ns) keeps-joined links.structs at.0 m at.1 (all-among (λ m. list_all (struct_is_small old m) m.structs) old m links.small stays.0)
       ])
-
-  pub small-bundle : AreSmall (with_tables old ns) (with_tables old ns) → AreSmall (with_tables old ns) ns
-  small-bundle small =
-      among-all (λ m. list_all (struct_is_small (with_tables old ns) m) m.structs) ns (λ m a.
-      all-among (λ m. list_all (struct_is_small (with_tables old ns) m) m.structs) (with_tables old ns) m small (bundle-there old ns m j.apart a))

@@ -48,10 +48,6 @@ pub refused_by : (P Q : Type 0) (e : Refusal) → (Q → P) → IsRefusedIn 13 P
 refused_by P Q (Phase p) f r = (r.0, λ q. r.1 (f q))
 refused_by P Q Memory f r = r
 
-pub refused_memory : (P : Type 0) (e : Refusal) → e ≡ Memory → IsRefusedIn 13 P e
-refused_memory P (Phase p) e = absurd cc
-refused_memory P Memory e = tt
-
 -- ---- structs and functions
 
 module _ (modules : List Module) (m : Module) (targets : List Target) (named : AreTargets modules m targets) where

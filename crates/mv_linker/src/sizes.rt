@@ -196,34 +196,3 @@ pub fn sizes_of(
         None => Err(Refusal::Phase(13)),
     }
 }
-
-#[cfg(test)]
-mod tests {
-    use super::*;
-    use mv_move_types::LeafKind;
-    use std::test::Fail;
-
-    #[test]
-    fn sizes_are_summed(rt: HostRuntime) -> Result<(), Fail> {
-        let alloc = rt.alloc();
-        let leaf = Field {
-            name: 0,
-            token: Token::Plain(ValueType::OfLeaf(LeafKind::Boolean)),
-        };
-        let held = Field {
-            name: 1,
-            token: Token::Plain(ValueType::OfStruct(0)),
-        };
-        let rows: Vec<Vec<Option<Size>>> = Vec::new(alloc);
-        for (nesting, leaves, fits) in [(7, 255, true), (8, 255, false), (1, 256, false)] {
-            let defined = [Defined::Published(Size { leaves, nesting })];
-            let size = size_of_struct(&rows, &defined, &[held, leaf]);
-            assert_eq!(rt; size.is_some(), fits);
-            assert_eq!(rt; size.map_or(256, |s| s.leaves), 256);
-            assert_eq!(rt; size.map_or(8, |s| s.nesting), 8);
-        }
-        let known = size_of_struct(&rows, &[Defined::Bundled(0, 0)], &[held]);
-        assert!(rt; known.is_none(), "nothing is known of it yet");
-        Ok(())
-    }
-}

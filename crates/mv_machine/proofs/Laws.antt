@@ -1,16 +1,13 @@
 -- First laws of the machine: how its rules are taken apart, and what a whole run keeps.
-use Rattle.std.proofs.Common.{◌≡◌, ℕ, zero, suc, ◌+◌, ◌≤◌, Bool, true, false, cond, List, [], ◌∷◌, ◌++◌, Some, None, Result, Ok, Err, refl, sym, ap₂, eqb, subst, arith}
+use Rattle.std.proofs.Common.{◌≡◌, ℕ, zero, suc, ◌+◌, ◌≤◌, Bool, true, false, List, [], ◌∷◌, ◌++◌, Result, Ok, Err, refl, sym, ap₂, eqb, subst, arith}
 use Rattle.std.specs.Cmp.{first_so, second_so}
 use Rattle.std.proofs.lemmas.Bool.{eqb-true}
-use Rattle.mv_move_types.specs.declared.tables.Key.{Key}
 use Rattle.mv_move_types.specs.Results.{◌>>=◌, ◌>>◌, need}
-use Rattle.mv_move_types.specs.Names.{StructName, same_module}
+use Rattle.mv_move_types.specs.Names.{same_module}
 use Rattle.mv_move_types.specs.Module.{Module, own_name, struct_name}
-use Rattle.mv_machine.specs.Value.{Value}
-use Rattle.mv_machine.specs.State.{Storage, State, same_key, key_before, stored_at, with_stored}
+use Rattle.mv_machine.specs.State.{State}
 use Rattle.mv_move_types.specs.Paths.{begins}
 use Rattle.mv_machine.specs.Typing.{Failure, Aborts, Faults, LinkageFault, entry, linked}
-use Rattle.mv_machine.specs.Count.{count, count_in}
 use Rattle.mv_machine.specs.Step.{Here, Turn, Goes, Returns, OwnStruct, own_struct, step}
 use Rattle.mv_machine.specs.Run.{RunOutcome, Returned, Aborted, Exhausted, Faulted, goes_with, follows, turns}
 
@@ -71,15 +68,3 @@ begins-more (x ∷ xs) [] h = absurd cc
 begins-more (x ∷ xs) (y ∷ ys) h =
     let rest = begins-more xs ys (second_so (eqb x y) (begins xs ys) h) in
     (rest.0, ap₂ (λ (a : ℕ) (as' : List ℕ). a ∷ as') (sym (eqb-true x y (first_so (eqb x y) (begins xs ys) h))) rest.1)
-
--- one more stored value counts for itself
-pub count-with_stored : (es : Storage) (key : Key) (v : Value) (name : StructName) → stored_at es key ≡ None → count (with_stored es key v) name ≡ count_in name v + count es name
-count-with_stored [] key v name h = omega arith
-count-with_stored (e ∷ es) key v name h =
-    by_case (same_key e.key key) (key_before key e.key) (count-with_stored es key v name) h
-  where
-    by_case : (same before : Bool) → (stored_at es key ≡ None → count (with_stored es key v) name ≡ count_in name v + count es name) → cond same (Some e.value) (stored_at es key) ≡ None →
-        count (cond same (record { key = key; value = v } ∷ es) (cond before (record { key = key; value = v } ∷ e ∷ es) (e ∷ with_stored es key v))) name ≡ count_in name v + (count_in name e.value + count es name)
-    by_case true before ih g = absurd cc
-    by_case false true ih g = omega arith
-    by_case false false ih g = let i : count (with_stored es key v) name ≡ count_in name v + count es name = ih g in omega (arith, i)

@@ -17,6 +17,3 @@ pub use writing::{
     write_instruction, write_module_handle, write_signature, write_struct_definition,
     write_struct_handle, write_token,
 };
-
-#[cfg(test)]
-mod tests;

@@ -6,8 +6,6 @@ mod overlay;
 mod places;
 mod slot;
 mod slots;
-#[cfg(test)]
-mod tests;
 mod value;
 
 pub use entries::Entries;

@@ -136,6 +136,3 @@ pub fn check<'a>(alloc: Global, m: Bounded<'a>) -> Result<Typed<'a>, Refusal>
         stacks,
     })
 }
-
-#[cfg(test)]
-mod tests;

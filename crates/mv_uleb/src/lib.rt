@@ -39,25 +39,3 @@ pub fn has_form()
 pub fn stands_by_form()
     ensures { StandsByForm }
 {}
-
-#[cfg(test)]
-mod tests {
-    use super::*;
-    use std::test::Fail;
-
-    #[test]
-    fn reads(rt: HostRuntime) {
-        assert_eq!(rt; read(&[0xE5, 0x8E, 0x26, 0xFF], u64::MAX), Ok((624485, 3)));
-        assert_eq!(rt; read(&[0x80, 0x00], u64::MAX), Err(UlebError::Long));
-        assert_eq!(rt; read(&[0x80], u64::MAX), Err(UlebError::Ends));
-        assert_eq!(rt; read(&[0xE5, 0x8E, 0x26], 624484), Err(UlebError::Range));
-    }
-
-    #[test]
-    fn writes(rt: HostRuntime) -> Result<(), Fail> {
-        let mut out = Vec::new(rt.alloc());
-        write(624485, &mut out)?;
-        assert_eq!(rt; out.as_slice(), [0xE5, 0x8E, 0x26].as_slice());
-        Ok(())
-    }
-}

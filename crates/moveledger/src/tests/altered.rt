@@ -1,9 +1,7 @@
 // A module in which any one byte is another.
 
 use super::report;
-use super::rows::coins::{BURN_AT_1, BURNING_COINS, MINT_7};
-use super::stream::Record::{Audit, Publish};
-use super::stream::input;
+use super::rows::Row;
 use mv_ledger::Ledger;
 use std::alloc::Global;
 use std::ops::Range;
@@ -53,8 +51,8 @@ fn is_well(alloc: Global, bytes: &[u8]) -> Result<bool, Fail> {
 
 // Puts each other byte at each of these places of the module.
 fn altered(rt: &impl Abort, alloc: Global, places: Range<usize>) -> Result<(), Fail> {
-    let records = [Publish(&[BURNING_COINS]), MINT_7, BURN_AT_1, Audit];
-    let mut bytes = input(alloc, &records)?;
+    let row = Row::that_shows("a coin is minted and burnt, and counted").ok_or("no row")?;
+    let mut bytes = row.input(alloc)?;
     for place in places {
         let place = BEFORE.saturating_add(place);
         for turned in 1..=255 {

@@ -1,55 +1,11 @@
-// The command line, and how the program ends.
+// The command line, and how the program ends. The words that are refused stand in scripts/try-exits.
 
-use crate::command::{LineError, Task, command, not_text};
+use crate::command::{Task, command};
 use crate::engine::EngineError;
 use crate::status::{End, end_of, end_of_check, end_of_proof, fault_text, status};
 use mv_analyser::ProveError;
 use mv_move_types::Refusal;
 use std::test::Fail;
-
-// Words that aren't understood or ask for help, and what is said of them, in the form of clap's texts.
-const TEXTS: [(&[&str], &str); 10] = [
-    (
-        &["moveledger"],
-        "error: 'moveledger' requires a subcommand but one was not provided\n  [subcommands: apply, prove, check, help]\n\nUsage: moveledger <COMMAND>\n\nFor more information, try '--help'.\n",
-    ),
-    (
-        &["moveledger", "mint", "first-coin.stream"],
-        "error: unrecognized subcommand 'mint'\n\nUsage: moveledger <COMMAND>\n\nFor more information, try '--help'.\n",
-    ),
-    (
-        &["moveledger", "apply"],
-        "error: the following required arguments were not provided:\n  <FILE>\n\nUsage: moveledger apply <FILE>\n\nFor more information, try '--help'.\n",
-    ),
-    (
-        &["moveledger", "apply", "first-coin.stream", "more"],
-        "error: unexpected argument 'more' found\n\nUsage: moveledger apply <FILE>\n\nFor more information, try '--help'.\n",
-    ),
-    (
-        &["moveledger", "--help"],
-        "Usage: moveledger <COMMAND>\n\nCommands:\n  apply  \n  prove  \n  check  \n  help   Print this message or the help of the given subcommand(s)\n\nOptions:\n  -h, --help  Print help\n",
-    ),
-    (
-        &["moveledger", "apply", "--help"],
-        "Usage: moveledger apply <FILE>\n\nArguments:\n  <FILE>  \n\nOptions:\n  -h, --help  Print help\n",
-    ),
-    (
-        &["moveledger", "prove"],
-        "error: the following required arguments were not provided:\n  <MODULE>\n\nUsage: moveledger prove <MODULE>\n\nFor more information, try '--help'.\n",
-    ),
-    (
-        &["moveledger", "prove", "--help"],
-        "Usage: moveledger prove <MODULE>\n\nArguments:\n  <MODULE>  \n\nOptions:\n  -h, --help  Print help\n",
-    ),
-    (
-        &["moveledger", "check", "coin.module"],
-        "error: the following required arguments were not provided:\n  <CERT>\n\nUsage: moveledger check <MODULE> <CERT>\n\nFor more information, try '--help'.\n",
-    ),
-    (
-        &["moveledger", "check", "--help"],
-        "Usage: moveledger check <MODULE> <CERT>\n\nArguments:\n  <MODULE>  \n  <CERT>    \n\nOptions:\n  -h, --help  Print help\n",
-    ),
-];
 
 #[test]
 fn files_are_applied(rt: HostRuntime) -> Result<(), Fail> {
@@ -67,31 +23,6 @@ fn modules_are_proved_and_checked(rt: HostRuntime) -> Result<(), Fail> {
     let words = ["moveledger", "check", "coin.module", "coin.certificate"];
     let task = command(rt.alloc(), &words)?;
     assert_eq!(rt; task, Task::Check("coin.module", "coin.certificate"));
-    Ok(())
-}
-
-#[test]
-fn other_words_are_refused(rt: HostRuntime) -> Result<(), Fail> {
-    for (words, wanted) in TEXTS {
-        let Err(error) = command(rt.alloc(), words) else {
-            return Err(Fail::from("the words are understood"));
-        };
-        assert!(rt; matches!(error, LineError::Words(_)));
-        let text = format!(in rt.alloc(); "{error}")?;
-        assert_eq!(rt; text.as_str(), wanted);
-    }
-    Ok(())
-}
-
-#[test]
-fn words_that_are_no_text_are_refused(rt: HostRuntime) -> Result<(), Fail> {
-    let error = not_text(rt.alloc());
-    assert!(rt; matches!(error, LineError::Words(_)));
-    let text = format!(in rt.alloc(); "{error}")?;
-    assert_eq!(rt;
-        text.as_str(),
-        "error: invalid UTF-8 was detected in one or more arguments\n\nUsage: moveledger <COMMAND>\n\nFor more information, try '--help'.\n"
-    );
     Ok(())
 }
 

@@ -215,37 +215,3 @@ impl<'d, 'm> Site<'d, 'm> {
         keep(!self.any_holds_result(s), s)
     }
 }
-
-#[cfg(test)]
-mod tests {
-    use super::*;
-    use mv_edges::Label;
-    use mv_move_types::{LeafKind, ValueType};
-    use std::test::Fail;
-
-    #[test]
-    fn ties_a_result_to_what_the_argument_came_from(rt: HostRuntime) -> Result<(), Fail> {
-        let alloc = rt.alloc();
-        let address = ValueType::OfLeaf(LeafKind::Address);
-        let mut s = Edges::new(alloc);
-        s.insert(Edge::new(Node::Own(3), Label::here(alloc), Node::Temp(0)))?;
-        let parameters = [Token::MutableReference(address), Token::Plain(address)];
-        let mutable = nodes_of(alloc, true, 0, &parameters)?;
-        let all = nodes_of(alloc, false, 0, &parameters)?;
-        assert_eq!(rt; mutable.len(), 1);
-        tie(
-            alloc,
-            &mutable,
-            &all,
-            0,
-            &[Token::Reference(address)],
-            &mut s,
-        )?;
-        assert_eq!(rt; s.len(), 1);
-        let only = s.get(0).ok_or("first")?;
-        assert_eq!(rt; only.from(), Node::Own(3));
-        assert_eq!(rt; only.to(), Node::Temp(0));
-        assert!(rt; only.label().is_open());
-        Ok(())
-    }
-}

@@ -1,5 +1,5 @@
 -- Availabilities: what is known of each local is as it is, and what that gives.
-use Rattle.std.proofs.Common.{◌≡◌, ℕ, zero, suc, List, [], ◌∷◌, ◌++◌, map, length, true, refl, sym, ap, subst, Option, Some, None, Ok}
+use Rattle.std.proofs.Common.{◌≡◌, ℕ, zero, suc, List, [], ◌∷◌, ◌++◌, map, length, true, refl, sym, subst, Option, Some, None, Ok}
 use Rattle.std.specs.Prelude.{slice_get, slice_set, replicate}
 use Rattle.std.specs.List.{list_all}
 use Rattle.std.proofs.lemmas.Bool.{and_parts, and_from, true≢false}
@@ -25,12 +25,6 @@ known-at [] (y ∷ xs) l a x k h g = absurd k
 known-at (b ∷ as') [] l a x k h g = absurd k
 known-at (b ∷ as') (y ∷ xs) zero a x k h g = subst (λ z. IsAs a z) (same_Some y x g) (subst (λ z. IsAs z y) (same_Some b a h) k.0)
 known-at (b ∷ as') (y ∷ xs) (suc l) a x k h g = known-at as' xs l a x k.1 h g
-
-pub as-long : (as' : List Availability) (xs : List (Option Value)) → AsKnown as' xs → length as' ≡ length xs
-as-long [] [] k = refl
-as-long [] (y ∷ xs) k = absurd k
-as-long (b ∷ as') [] k = absurd k
-as-long (b ∷ as') (y ∷ xs) k = ap suc (as-long as' xs k.1)
 
 -- a local that is known to be available holds a value
 available-holds : (as' : List Availability) (xs : List (Option Value)) (l : ℕ) (a : Availability) → AsKnown as' xs → slice_get as' l ≡ Some a → is_available a ≡ true → (v : Value) × (slice_get xs l ≡ Some (Some v))

@@ -18,7 +18,7 @@ use Rattle.mv_interpreter.specs.Borrows.Hypotheses.{token_kind, operand_kind, Fi
 use Rattle.mv_interpreter.specs.Borrows.View.{activation, held_as, edges_of, layer_of, alone}
 use Rattle.mv_borrow_graph.proofs.Abstract.Run.{layer, EdgesBelow}
 use Rattle.mv_interpreter.proofs.Borrows.Calls.{call-kept, return-kept}
-use Rattle.mv_interpreter.proofs.Borrows.Transfers.{called, Called, callee-is, tags-long, returned, ReturnedTo}
+use Rattle.mv_machine.proofs.Transfers.{called, Called, callee-is, signature-is, tags-long, returned, ReturnedTo}
 use Rattle.mv_machine.specs.StepParts.{Here, Goes}
 use Rattle.mv_machine.specs.Step.{rule}
 use Rattle.mv_borrow_graph.specs.Abstract.Stack.{Layer, Chain}
@@ -177,6 +177,8 @@ module _ (depends : ℕ → ℕ → Type 0) (through : (a b c : ℕ) → depends
             Sound depends t (record { home = c.home; function = c.definition; frame = t.top; lent = []; types = tu; edges = eu }) (waits stack t.top.entered_with ∷ xs))
         by_called k =
             let ci = callee-is here_at i k.c k.is_callee in
+            let parameters = signature-is here_at.modules here_at.home ci.handle.parameters k.c.parameters ci.are_parameters in
+            let results = signature-is here_at.modules here_at.home ci.handle.results k.c.results ci.are_results in
             let entered : t.top.entered_with ≡ map reference_of k.arguments = ap (λ (f : Frame). f.entered_with) k.top in
             let number : t.top.number ≡ s.entered = ap (λ (f : Frame). f.number) k.top in
             let function : t.top.function ≡ k.c.function = ap (λ (f : Frame). f.function) k.top in
@@ -187,13 +189,13 @@ module _ (depends : ℕ → ℕ → Type 0) (through : (a b c : ℕ) → depends
             let link : IsCall depends x.home x.function (record (s.top) { stack = k.stack }) t.top k.c.definition.acquires = record {
               index = i;
               handle = ci.handle;
-              parameters = ci.parameters;
-              results = ci.results;
+              parameters = parameters.0;
+              results = results.0;
               is_call = at;
               is_handle = ci.is_handle;
-              is_parameters = ci.is_parameters;
-              is_results = ci.is_results;
-              passed = ap length entered ∙ length-map k.arguments reference_of ∙ k.long ∙ sym (tags-long _ ci.parameters k.c.parameters ci.tags);
+              is_parameters = parameters.1;
+              is_results = results.1;
+              passed = ap length entered ∙ length-map k.arguments reference_of ∙ k.long ∙ sym (tags-long _ parameters.0 k.c.parameters parameters.2);
               later = later;
               own = λ same. facts.own k.c k.is_callee (same ∙ ap (λ (d : Definition). d.place) function);
               acquired = facts.acquired;
@@ -206,7 +208,7 @@ module _ (depends : ℕ → ℕ → Type 0) (through : (a b c : ℕ) → depends
                 record {
                   stood = (refl, refl, subst (λ fs. StoodOn t.top.entered_with fs (waits k.stack t.top.entered_with ∷ xs)) (sym k.below) (refl, refl, sound.stood.2));
                   chain = call-kept depends x.home x.function (seen_of (waits k.stack t.top.entered_with)) t.top k.c.definition.acquires x.types types' x.edges edges link refl
-                      (fits-top fits k.stack t.top.entered_with operands) need typing through no_cycle (layers xs) eu k.arguments k.others
+                      (fits-top fits k.stack t.top.entered_with operands) need typing through no_cycle (layers xs) eu k.arguments (length k.others)
                       (ap (λ (f : Frame). f.locals) k.top) (ap (λ (f : Frame). f.stack) k.top) entered
                       (subst (λ (os : List (Option Reference)). Chain depends home_of (layer (record (activation x.function.acquires (alone s.top)) { stack = map held_as os }) (edges_of s.top.function.place x.edges) ∷ layers xs))
                       (sym operands) (subst (λ u. Chain depends home_of (u ∷ layers xs)) top-layer sound.chain));

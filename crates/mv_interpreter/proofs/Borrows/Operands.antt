@@ -1,10 +1,7 @@
 -- The machine's rules taken apart: what they take off the stack and put on it.
-use Rattle.std.proofs.Common.{◌≡◌, ℕ, zero, suc, List, [], ◌∷◌, ◌++◌, map, length, reverse, take, drop, Bool, true, false, not, cond, refl, sym, ◌∙◌, ap, subst, Option, Some, None, Result, Ok, Err, ap₂}
-use Rattle.std.specs.Prelude.{slice_get, nat_le, ok_or, ◌&&◌, option_map, option_and_then, ⊤}
+use Rattle.std.proofs.Common.{◌≡◌, ℕ, zero, suc, List, [], ◌∷◌, ◌++◌, map, reverse, drop, Bool, true, false, refl, sym, ◌∙◌, ap, subst, Option, Some, None, Result, Ok, Err, ap₂}
+use Rattle.std.specs.Prelude.{option_map, option_and_then, ⊤}
 use Rattle.std.proofs.lemmas.Grind.{reverse_onto}
-use Rattle.mv_move_types.specs.declared.token.Width.{Width}
-use Rattle.mv_move_types.specs.declared.token.Width.TheVariants.{U8}
-use Rattle.mv_move_types.specs.declared.token.LeafKind.TheVariants.{Number}
 use Rattle.mv_move_types.specs.Names.{StructName}
 use Rattle.mv_move_types.specs.Module.{Module, struct_name}
 use Rattle.mv_move_types.specs.declared.token.LeafKind.{LeafKind}
@@ -16,22 +13,20 @@ use Rattle.std.specs.Bool.{beq}
 use Rattle.std.specs.Option.{option_map_or}
 use Rattle.std.proofs.lemmas.Bool.{and_parts}
 use Rattle.mv_machine.specs.State.{State, place_value}
-use Rattle.mv_machine.specs.Typing.{linked, LinkageFault, value_type_tag, tag_named, have_tags, plain_tag, Failure, Faults, TypeFault, LostFault, entry, tag_of, has_tag}
+use Rattle.mv_machine.specs.Typing.{linked, LinkageFault, value_type_tag, tag_named, have_tags, plain_tag, Faults, TypeFault, entry, has_tag}
 use Rattle.mv_move_types.specs.Tags.{Tag, LeafTag, ReferenceTag, StructTag, same_tag}
 use Rattle.mv_move_types.specs.AbilitySets.{same_abilities}
 use Rattle.mv_move_types.specs.Named.{declared}
 use Rattle.mv_interpreter.specs.Borrows.Hypotheses.{token_kind, operand_kind, NoneOf, HoldsNone}
 use Rattle.mv_move_types.specs.Results.{for_each, ◌>>=◌, ◌>>◌, need}
 use Rattle.mv_move_types.specs.Options.{◌>>=◌ as ◌>>>◌}
-use Rattle.mv_move_types.specs.Tokens.{same_width}
-use Rattle.mv_machine.specs.Value.{same_value, Reference, Value, Leaf, Struct, Ref, list_of}
+use Rattle.mv_machine.specs.Value.{Value, Leaf, Struct, Ref, list_of}
 use Rattle.mv_machine.specs.Live.{reference_of}
-use Rattle.mv_machine.specs.Numbers.{Operator, fitting}
-use Rattle.mv_machine.specs.StepParts.{is_reference_tag, can_drop, Here, operand, operands, as_number, as_boolean, as_reference, as_fields, truth}
-use Rattle.mv_machine.specs.StepLocals.{held}
-use Rattle.mv_machine.specs.StepNumbers.{binary, comparison, shift, cast, logic, negation, equality}
+use Rattle.mv_machine.specs.StepParts.{Here, operand, as_fields}
 use Rattle.mv_machine.proofs.Laws.{on_bind, on_need}
+use Rattle.mv_machine.proofs.Binds.{ok-is, operand-is}
 use Rattle.mv_interpreter.proofs.Borrows.Kept.{Falls, falls-popped, falls-pushed, falls-then, falls-same}
+use Rattle.mv_machine.proofs.Operations.{GivesLeaf}
 
 -- the same for what lives higher
 pub bind : {A B E : Type 0} {P : Type 1} (r : Result A E) (f : A → Result B E) (y : B) → (r >>= f) ≡ Ok y → ((x : A) → r ≡ Ok x → f x ≡ Ok y → P) → P
@@ -46,35 +41,6 @@ pub some-bind : {A B : Type 0} {P : Type 1} (r : Option A) (f : A → Option B) 
 some-bind (Some x) f y e go = go x refl e
 some-bind None f y e go = absurd cc
 
-pub ok-is : {A E : Type 0} (x y : A) → (let r : Result A E = Ok x in r) ≡ Ok y → x ≡ y
-ok-is x y h = cc
-
-pub found-is : {A E : Type 0} (o : Option A) (d : E) (x : A) → ok_or o d ≡ Ok x → o ≡ Some x
-found-is None d x h = absurd cc
-found-is (Some y) d x h = ap Some (ok-is y x h)
-
-pub operand-is : (s : List Value) (x : Value × List Value) → operand s ≡ Ok x → s ≡ x.0 ∷ x.1
-operand-is [] x h = absurd cc
-operand-is (v ∷ s) x h = ap (λ (y : Value × List Value). y.0 ∷ y.1) (ok-is (v, s) x h)
-
-pub operands-is : (n : ℕ) (s : List Value) (x : List Value × List Value) → operands n s ≡ Ok x → (nat_le n (length s) ≡ true) × (x ≡ (reverse (take n s), drop n s))
-operands-is n s x h = by_case (nat_le n (length s)) h
-  where
-    by_case : (b : Bool) → cond b (Ok (reverse (take n s), drop n s)) (Err (Faults TypeFault)) ≡ Ok x → (b ≡ true) × (x ≡ (reverse (take n s), drop n s))
-    by_case true e = (refl, sym (ok-is (reverse (take n s), drop n s) x e))
-    by_case false e = absurd cc
-
-pub held-is : (h : Here) (l : ℕ) (v : Value) → held h l ≡ Ok v → slice_get h.state.top.locals l ≡ Some (Some v)
-unfolding held
-held-is h l v e =
-    on_bind (entry h.state.top.locals l) _ v e (λ local at e1.
-    found-is (slice_get h.state.top.locals l) _ local at ∙ ap Some (found-is local _ v e1))
-
-pub reference-is : (v : Value) (r : Reference) → as_reference v ≡ Ok r → v ≡ Ref r
-reference-is (Leaf k n) r h = absurd cc
-reference-is (Struct n fs) r h = absurd cc
-reference-is (Ref q) r h = ap Ref (ok-is q r h)
-
 pub fields-are : (name : StructName) (v : Value) (fs : List Value) → as_fields name v ≡ Ok fs → HoldsNone v → NoneOf fs
 fields-are name (Leaf j n) fs h k = absurd cc
 fields-are name (Ref r) fs h k = absurd cc
@@ -85,80 +51,18 @@ fields-are name (Struct own vs) fs h k = on_need (same_tag (StructTag own) (Stru
 pub one-off : (s : List Value) (a : Value × List Value) → operand s ≡ Ok a → Falls (map reference_of s) (map reference_of a.1)
 one-off s a h = falls-popped (map reference_of s) (map reference_of a.1) (reference_of a.0) (ap (map reference_of) (operand-is s a h))
 
-pub two-off : (s : List Value) (a b : Value × List Value) → operand s ≡ Ok a → operand a.1 ≡ Ok b → Falls (map reference_of s) (map reference_of b.1)
-two-off s a b h k = falls-then (map reference_of s) (map reference_of a.1) (map reference_of b.1) (one-off s a h) (one-off a.1 b k)
+taken-falls : (taken rest : List Value) → Falls (map reference_of (taken ++ rest)) (map reference_of rest)
+taken-falls [] rest = falls-same (map reference_of rest)
+taken-falls (v ∷ taken) rest =
+    falls-then (map reference_of (v ∷ taken ++ rest)) (map reference_of (taken ++ rest)) (map reference_of rest)
+    (falls-popped (map reference_of (v ∷ taken ++ rest)) (map reference_of (taken ++ rest)) (reference_of v) refl) (taken-falls taken rest)
 
--- a value that is no reference comes on top
-pub comes : (s t r : List Value) (v : Value) → reference_of v ≡ None → Falls (map reference_of s) (map reference_of t) → (let y : Result (List Value) Failure = Ok (v ∷ t) in y) ≡ Ok r
-    → Falls (map reference_of s) (map reference_of r)
-comes s t r v h f e = subst (λ (x : List Value). Falls (map reference_of s) (map reference_of x)) (ok-is (v ∷ t) r e) (falls-pushed (map reference_of s) (map reference_of t) (reference_of v) h f)
-
-pub binary-falls : (op : Operator) (s r : List Value) → binary op s ≡ Ok r → Falls (map reference_of s) (map reference_of r)
-unfolding binary
-binary-falls op s r e =
-    on_bind (operand s) _ r e (λ right right_is e1.
-    on_bind (operand right.1) _ r e1 (λ left left_is e2.
-    on_bind (as_number right.0) _ r e2 (λ y y_is e3.
-    on_bind (as_number left.0) _ r e3 (λ x x_is e4.
-    on_need (same_width x.0 y.0) (Faults TypeFault) _ r e4 (λ same e5.
-    on_bind (op x.0 x.1 y.1) _ r e5 (λ n n_is e6.
-    comes s left.1 r (Leaf (Number x.0) n) refl (two-off s right left right_is left_is) e6))))))
-
-pub comparison-falls : (test : ℕ → ℕ → Bool) (s r : List Value) → comparison test s ≡ Ok r → Falls (map reference_of s) (map reference_of r)
-unfolding comparison
-comparison-falls test s r e =
-    on_bind (operand s) _ r e (λ right right_is e1.
-    on_bind (operand right.1) _ r e1 (λ left left_is e2.
-    on_bind (as_number right.0) _ r e2 (λ y y_is e3.
-    on_bind (as_number left.0) _ r e3 (λ x x_is e4.
-    on_need (same_width x.0 y.0) (Faults TypeFault) _ r e4 (λ same e5.
-    comes s left.1 r (truth (test x.1 y.1)) refl (two-off s right left right_is left_is) e5)))))
-
-pub shift-falls : (op : Operator) (s r : List Value) → shift op s ≡ Ok r → Falls (map reference_of s) (map reference_of r)
-unfolding shift
-shift-falls op s r e =
-    on_bind (operand s) _ r e (λ right right_is e1.
-    on_bind (operand right.1) _ r e1 (λ left left_is e2.
-    on_bind (as_number right.0) _ r e2 (λ y y_is e3.
-    on_bind (as_number left.0) _ r e3 (λ x x_is e4.
-    on_need (same_width y.0 U8) (Faults TypeFault) _ r e4 (λ same e5.
-    on_bind (op x.0 x.1 y.1) _ r e5 (λ n n_is e6.
-    comes s left.1 r (Leaf (Number x.0) n) refl (two-off s right left right_is left_is) e6))))))
-
-pub cast-falls : (w : Width) (s r : List Value) → cast w s ≡ Ok r → Falls (map reference_of s) (map reference_of r)
-unfolding cast
-cast-falls w s r e =
-    on_bind (operand s) _ r e (λ top top_is e1.
-    on_bind (as_number top.0) _ r e1 (λ x x_is e2.
-    on_bind (fitting w x.1) _ r e2 (λ n n_is e3.
-    comes s top.1 r (Leaf (Number w) n) refl (one-off s top top_is) e3)))
-
-pub logic-falls : (op : Bool → Bool → Bool) (s r : List Value) → logic op s ≡ Ok r → Falls (map reference_of s) (map reference_of r)
-unfolding logic
-logic-falls op s r e =
-    on_bind (operand s) _ r e (λ right right_is e1.
-    on_bind (operand right.1) _ r e1 (λ left left_is e2.
-    on_bind (as_boolean right.0) _ r e2 (λ y y_is e3.
-    on_bind (as_boolean left.0) _ r e3 (λ x x_is e4.
-    comes s left.1 r (truth (op x y)) refl (two-off s right left right_is left_is) e4))))
-
-pub negation-falls : (s r : List Value) → negation s ≡ Ok r → Falls (map reference_of s) (map reference_of r)
-unfolding negation
-negation-falls s r e =
-    on_bind (operand s) _ r e (λ top top_is e1.
-    on_bind (as_boolean top.0) _ r e1 (λ x x_is e2.
-    comes s top.1 r (truth (not x)) refl (one-off s top top_is) e2))
-
-pub equality-falls : (h : Here) (answer : Bool → Bool) (s r : List Value) → equality h answer s ≡ Ok r → Falls (map reference_of s) (map reference_of r)
-unfolding equality
-equality-falls h answer s r e =
-    on_bind (operand s) _ r e (λ right right_is e1.
-    on_bind (operand right.1) _ r e1 (λ left left_is e2.
-    on_bind (ok_or (tag_of h.state left.0) (Faults TypeFault)) _ r e2 (λ tag tag_is e3.
-    on_need (has_tag h.state right.0 tag) (Faults TypeFault) _ r e3 (λ a e4.
-    on_need (not (is_reference_tag tag)) (Faults TypeFault) _ r e4 (λ b e5.
-    on_need (can_drop h left.0 && can_drop h right.0) (Faults LostFault) _ r e5 (λ d e6.
-    comes s left.1 r (truth (answer (same_value left.0 right.0))) refl (two-off s right left right_is left_is) e6))))))
+-- an operator gives no reference
+pub leaf-falls : (h : Here) (s r : List Value) → GivesLeaf h s r → Falls (map reference_of s) (map reference_of r)
+leaf-falls h s r g =
+    subst (λ (x : List Value). Falls (map reference_of x) (map reference_of r)) (sym g.before)
+    (subst (λ (x : List Value). Falls (map reference_of (g.taken ++ g.rest)) (map reference_of x)) (sym g.afterwards)
+    (falls-pushed (map reference_of (g.taken ++ g.rest)) (map reference_of g.rest) (reference_of (Leaf g.kind g.number)) refl (taken-falls g.taken g.rest)))
 
 pub drop-falls : (n : ℕ) (s : List Value) → Falls (map reference_of s) (map reference_of (drop n s))
 drop-falls zero s = falls-same (map reference_of s)

@@ -36,7 +36,7 @@ use Rattle.mv_machine.specs.Step.{rule}
 use Rattle.mv_machine.specs.StepLocals.{copy_local, move_local, store_local, borrow_local, pop, held, local_place, local_tag}
 use Rattle.mv_machine.specs.StepReferences.{borrow_field, write_reference, read_reference, freeze, own_field, lends}
 use Rattle.mv_machine.specs.StepGlobals.{borrow_global, move_from, move_to, exists, keyed_struct, key_at}
-use Rattle.mv_machine.specs.StepNumbers.{constant, constant_value, binary, comparison, shift, cast, logic, negation, equality}
+use Rattle.mv_machine.specs.StepNumbers.{constant, constant_value}
 use Rattle.mv_machine.specs.StepControl.{branch_if, abort}
 use Rattle.mv_borrow_graph.specs.Abstract.Places.{Label as TheLabel, Agrees, AgreesWith, steps}
 use Rattle.mv_borrow_graph.specs.Abstract.Covers.{Node as TheNode, Slot as AtSlot, Own as AtOwn, Glob as AtGlob, Temp as AtTemp}
@@ -56,7 +56,9 @@ use Rattle.mv_interpreter.proofs.Borrows.Edges.{kind_of_node, free_out, free_mut
 use Rattle.mv_interpreter.proofs.Borrows.Mutability.{kinds, kinds-length, operand-plain}
 use Rattle.mv_interpreter.proofs.Borrows.Kept.{Falls, falls-pushed, falls-popped, falls-same, below-from, kept-falls, kept-copy, kept-copy-mutable, kept-move, kept-store, kept-borrow-local, kept-borrow-field, kept-borrow-global, kept-freeze, kept-drop, act, Stand}
 use Rattle.mv_machine.proofs.Laws.{on_bind, on_need}
-use Rattle.mv_interpreter.proofs.Borrows.Operands.{bind, met, some-bind, ok-is, found-is, held-is, operand-is, operands-is, reference-is, fields-are, one-off, none-more, none-reverse, drop-falls, binary-falls, comparison-falls, shift-falls, cast-falls, logic-falls, negation-falls, equality-falls, tag-kind}
+use Rattle.mv_machine.proofs.Binds.{ok-is, found-is, held-is, operand-is, operands-is, reference-is}
+use Rattle.mv_interpreter.proofs.Borrows.Operands.{bind, met, some-bind, fields-are, one-off, none-more, none-reverse, drop-falls, leaf-falls, tag-kind}
+use Rattle.mv_machine.proofs.Operations.{GivesLeaf, binary-gives, comparison-gives, shift-gives, cast-gives, logic-gives, negation-gives, equality-gives}
 
 -- a number is in a list
 abbrev pub Among : ℕ → List ℕ → Type 0
@@ -142,6 +144,10 @@ module _ (depends : ℕ → ℕ → Type 0) (through : (a b c : ℕ) → depends
       calm-gives i r y es' next e g falls =
           bind r _ y e (λ s s_is e1.
           ends i (with_top h.state (record (h.state.top) { stack = s; at = h.state.top.at + 1 })) y es es' e1 (same_Some es es' g) (calm s (h.state.top.at + 1) (falls s s_is), (refl, refl, refl, same-all h.state.below, refl, next)))
+
+      calm-leaf : (i : Instruction) (r : Result (List Value) Failure) (y : Turn) (es' : List Edge) → ((s : List Value) → r ≡ Ok s → GivesLeaf h h.state.top.stack s) → Among (h.state.top.at + 1) (successors h.state.top.at i)
+          → gives h r ≡ Ok y → Some es ≡ Some es' → Kept i es' (Ok y)
+      calm-leaf i r y es' leaf next e g = calm-gives i r y es' next e g (λ s s_is. leaf-falls h h.state.top.stack s (leaf s s_is))
 
       calm-pushes : (i : Instruction) (v : Value) (y : Turn) (es' : List Edge) → Among (h.state.top.at + 1) (successors h.state.top.at i)
           → pushes h v ≡ Ok y → Some es ≡ Some es' → reference_of v ≡ None → Kept i es' (Ok y)
@@ -697,23 +703,23 @@ module _ (depends : ℕ → ℕ → Type 0) (through : (a b c : ℕ) → depends
       step-kept (Unpack i) y es' n q o e g = step-unpack i y es' e g
       step-kept ReadRef y es' n q o e g = step-read y es' e g
       step-kept WriteRef y es' n q o e g = step-write y es' o e g
-      step-kept Add y es' n q o e g = calm-gives Add (binary sum_of h.state.top.stack) y es' (inl refl) e g (λ s k. binary-falls sum_of h.state.top.stack s k)
-      step-kept Sub y es' n q o e g = calm-gives Sub (binary difference_of h.state.top.stack) y es' (inl refl) e g (λ s k. binary-falls difference_of h.state.top.stack s k)
-      step-kept Mul y es' n q o e g = calm-gives Mul (binary product_of h.state.top.stack) y es' (inl refl) e g (λ s k. binary-falls product_of h.state.top.stack s k)
-      step-kept Mod y es' n q o e g = calm-gives Mod (binary remainder_of h.state.top.stack) y es' (inl refl) e g (λ s k. binary-falls remainder_of h.state.top.stack s k)
-      step-kept Div y es' n q o e g = calm-gives Div (binary quotient_of h.state.top.stack) y es' (inl refl) e g (λ s k. binary-falls quotient_of h.state.top.stack s k)
-      step-kept BitOr y es' n q o e g = calm-gives BitOr (binary (λ w x y. Ok (bit_or x y)) h.state.top.stack) y es' (inl refl) e g (λ s k. binary-falls (λ w x y. Ok (bit_or x y)) h.state.top.stack s k)
-      step-kept BitAnd y es' n q o e g = calm-gives BitAnd (binary (λ w x y. Ok (bit_and x y)) h.state.top.stack) y es' (inl refl) e g (λ s k. binary-falls (λ w x y. Ok (bit_and x y)) h.state.top.stack s k)
-      step-kept Xor y es' n q o e g = calm-gives Xor (binary (λ w x y. Ok (bit_xor x y)) h.state.top.stack) y es' (inl refl) e g (λ s k. binary-falls (λ w x y. Ok (bit_xor x y)) h.state.top.stack s k)
-      step-kept Or y es' n q o e g = calm-gives Or (logic ◌||◌ h.state.top.stack) y es' (inl refl) e g (λ s k. logic-falls ◌||◌ h.state.top.stack s k)
-      step-kept And y es' n q o e g = calm-gives And (logic ◌&&◌ h.state.top.stack) y es' (inl refl) e g (λ s k. logic-falls ◌&&◌ h.state.top.stack s k)
-      step-kept Not y es' n q o e g = calm-gives Not (negation h.state.top.stack) y es' (inl refl) e g (λ s k. negation-falls h.state.top.stack s k)
-      step-kept Eq y es' n q o e g = calm-gives Eq (equality h (λ same. same) h.state.top.stack) y es' (inl refl) e g (λ s k. equality-falls h (λ same. same) h.state.top.stack s k)
-      step-kept Neq y es' n q o e g = calm-gives Neq (equality h not h.state.top.stack) y es' (inl refl) e g (λ s k. equality-falls h not h.state.top.stack s k)
-      step-kept Lt y es' n q o e g = calm-gives Lt (comparison nat_lt h.state.top.stack) y es' (inl refl) e g (λ s k. comparison-falls nat_lt h.state.top.stack s k)
-      step-kept Gt y es' n q o e g = calm-gives Gt (comparison (λ x y. nat_lt y x) h.state.top.stack) y es' (inl refl) e g (λ s k. comparison-falls (λ x y. nat_lt y x) h.state.top.stack s k)
-      step-kept Le y es' n q o e g = calm-gives Le (comparison nat_le h.state.top.stack) y es' (inl refl) e g (λ s k. comparison-falls nat_le h.state.top.stack s k)
-      step-kept Ge y es' n q o e g = calm-gives Ge (comparison (λ x y. nat_le y x) h.state.top.stack) y es' (inl refl) e g (λ s k. comparison-falls (λ x y. nat_le y x) h.state.top.stack s k)
+      step-kept Add y es' n q o e g = calm-leaf Add _ y es' (binary-gives h sum_of h.state.top.stack) (inl refl) e g
+      step-kept Sub y es' n q o e g = calm-leaf Sub _ y es' (binary-gives h difference_of h.state.top.stack) (inl refl) e g
+      step-kept Mul y es' n q o e g = calm-leaf Mul _ y es' (binary-gives h product_of h.state.top.stack) (inl refl) e g
+      step-kept Mod y es' n q o e g = calm-leaf Mod _ y es' (binary-gives h remainder_of h.state.top.stack) (inl refl) e g
+      step-kept Div y es' n q o e g = calm-leaf Div _ y es' (binary-gives h quotient_of h.state.top.stack) (inl refl) e g
+      step-kept BitOr y es' n q o e g = calm-leaf BitOr _ y es' (binary-gives h (λ w x y. Ok (bit_or x y)) h.state.top.stack) (inl refl) e g
+      step-kept BitAnd y es' n q o e g = calm-leaf BitAnd _ y es' (binary-gives h (λ w x y. Ok (bit_and x y)) h.state.top.stack) (inl refl) e g
+      step-kept Xor y es' n q o e g = calm-leaf Xor _ y es' (binary-gives h (λ w x y. Ok (bit_xor x y)) h.state.top.stack) (inl refl) e g
+      step-kept Or y es' n q o e g = calm-leaf Or _ y es' (logic-gives h ◌||◌ h.state.top.stack) (inl refl) e g
+      step-kept And y es' n q o e g = calm-leaf And _ y es' (logic-gives h ◌&&◌ h.state.top.stack) (inl refl) e g
+      step-kept Not y es' n q o e g = calm-leaf Not _ y es' (negation-gives h h.state.top.stack) (inl refl) e g
+      step-kept Eq y es' n q o e g = calm-leaf Eq _ y es' (equality-gives h (λ same. same) h.state.top.stack) (inl refl) e g
+      step-kept Neq y es' n q o e g = calm-leaf Neq _ y es' (equality-gives h not h.state.top.stack) (inl refl) e g
+      step-kept Lt y es' n q o e g = calm-leaf Lt _ y es' (comparison-gives h nat_lt h.state.top.stack) (inl refl) e g
+      step-kept Gt y es' n q o e g = calm-leaf Gt _ y es' (comparison-gives h (λ x y. nat_lt y x) h.state.top.stack) (inl refl) e g
+      step-kept Le y es' n q o e g = calm-leaf Le _ y es' (comparison-gives h nat_le h.state.top.stack) (inl refl) e g
+      step-kept Ge y es' n q o e g = calm-leaf Ge _ y es' (comparison-gives h (λ x y. nat_le y x) h.state.top.stack) (inl refl) e g
       step-kept Abort y es' n q o e g = absurd (no-abort y e)
       step-kept Nop y es' n q o e g = stays-here Nop (h.state.top.at + 1) y es' (inl refl) e g
       step-kept (Exists i) y es' n q o e g = step-exists i y es' e g
@@ -722,14 +728,14 @@ module _ (depends : ℕ → ℕ → Type 0) (through : (a b c : ℕ) → depends
       step-kept (MoveFrom i) y es' n q o e g = step-move-from i y es' e g
       step-kept (MoveTo i) y es' n q o e g = step-move-to i y es' e g
       step-kept FreezeRef y es' n q o e g = step-freeze y es' e g
-      step-kept Shl y es' n q o e g = calm-gives Shl (shift shifted_left h.state.top.stack) y es' (inl refl) e g (λ s k. shift-falls shifted_left h.state.top.stack s k)
-      step-kept Shr y es' n q o e g = calm-gives Shr (shift shifted_right h.state.top.stack) y es' (inl refl) e g (λ s k. shift-falls shifted_right h.state.top.stack s k)
+      step-kept Shl y es' n q o e g = calm-leaf Shl _ y es' (shift-gives h shifted_left h.state.top.stack) (inl refl) e g
+      step-kept Shr y es' n q o e g = calm-leaf Shr _ y es' (shift-gives h shifted_right h.state.top.stack) (inl refl) e g
       step-kept (LdU8 k) y es' n q o e g = calm-pushes (LdU8 k) (Leaf (Number U8) k) y es' (inl refl) e g refl
       step-kept (LdU128 k) y es' n q o e g = calm-pushes (LdU128 k) (Leaf (Number U128) k) y es' (inl refl) e g refl
-      step-kept CastU8 y es' n q o e g = calm-gives CastU8 (cast U8 h.state.top.stack) y es' (inl refl) e g (λ s k. cast-falls U8 h.state.top.stack s k)
-      step-kept CastU64 y es' n q o e g = calm-gives CastU64 (cast U64 h.state.top.stack) y es' (inl refl) e g (λ s k. cast-falls U64 h.state.top.stack s k)
-      step-kept CastU128 y es' n q o e g = calm-gives CastU128 (cast U128 h.state.top.stack) y es' (inl refl) e g (λ s k. cast-falls U128 h.state.top.stack s k)
+      step-kept CastU8 y es' n q o e g = calm-leaf CastU8 _ y es' (cast-gives h U8 h.state.top.stack) (inl refl) e g
+      step-kept CastU64 y es' n q o e g = calm-leaf CastU64 _ y es' (cast-gives h U64 h.state.top.stack) (inl refl) e g
+      step-kept CastU128 y es' n q o e g = calm-leaf CastU128 _ y es' (cast-gives h U128 h.state.top.stack) (inl refl) e g
       step-kept (LdU16 k) y es' n q o e g = calm-pushes (LdU16 k) (Leaf (Number U16) k) y es' (inl refl) e g refl
       step-kept (LdU32 k) y es' n q o e g = calm-pushes (LdU32 k) (Leaf (Number U32) k) y es' (inl refl) e g refl
-      step-kept CastU16 y es' n q o e g = calm-gives CastU16 (cast U16 h.state.top.stack) y es' (inl refl) e g (λ s k. cast-falls U16 h.state.top.stack s k)
-      step-kept CastU32 y es' n q o e g = calm-gives CastU32 (cast U32 h.state.top.stack) y es' (inl refl) e g (λ s k. cast-falls U32 h.state.top.stack s k)
+      step-kept CastU16 y es' n q o e g = calm-leaf CastU16 _ y es' (cast-gives h U16 h.state.top.stack) (inl refl) e g
+      step-kept CastU32 y es' n q o e g = calm-leaf CastU32 _ y es' (cast-gives h U32 h.state.top.stack) (inl refl) e g

@@ -1,6 +1,6 @@
 -- A certificate that holds of a module holds of each of its functions; and what is known where a callee begins.
-use Rattle.std.proofs.Common.{◌≡◌, ℕ, zero, suc, ◌+◌, ◌-◌, List, [], ◌∷◌, ◌++◌, map, length, replicate, true, false, refl, sym, ◌∙◌, ap, subst, arith, Bool, Option, Some, None, option_map, Ok, Err, Result}
-use Rattle.std.specs.Prelude.{slice_get, ◌&&◌, ◌||◌, ◌==◌, ⊤}
+use Rattle.std.proofs.Common.{◌≡◌, ℕ, zero, suc, ◌+◌, ◌-◌, List, [], ◌∷◌, ◌++◌, map, length, replicate, true, false, refl, sym, ◌∙◌, ap, subst, arith, Bool, Option, Some, None, option_map, Ok}
+use Rattle.std.specs.Prelude.{slice_get}
 use Rattle.std.specs.Option.{option_map_or}
 use Rattle.std.proofs.lemmas.Bool.{and_parts}
 use Rattle.std.proofs.lemmas.List.{length-append}
@@ -8,22 +8,17 @@ use Rattle.std.proofs.lemmas.Option.{same_Some}
 use Rattle.mv_move_types.specs.declared.tables.FunctionHandle.{FunctionHandle}
 use Rattle.mv_move_types.specs.declared.token.Token.{Token}
 use Rattle.mv_move_types.specs.declared.borrow.Availability.TheVariants.{Available, Unavailable}
-use Rattle.mv_move_types.specs.Module.{Module, FunctionDefinition, local_tokens, parameter_tokens, module_name}
+use Rattle.mv_move_types.specs.Module.{Module, FunctionDefinition, local_tokens, parameter_tokens}
 use Rattle.mv_machine.specs.Value.{Value}
-use Rattle.mv_machine.specs.State.{State}
-use Rattle.mv_machine.specs.Typing.{Failure, Faults, TypeFault, LinkageFault, entry, linked, have_tags}
 use Rattle.mv_move_types.specs.Tags.{Tag, same_tag, same_tags}
-use Rattle.mv_move_types.specs.Named.{module_place, is_public, function_place}
 use Rattle.mv_certificate.specs.Certificate.{Known, known_at_start, Certificate, Stated, flow_holds, locals_hold, edges_hold, each_function}
 use Rattle.mv_locals_safety.specs.LocalsRules.{locals_leq, locals_after}
 use Rattle.mv_edges.specs.Edges.{edges_leq}
 use Rattle.mv_borrow_graph.specs.BorrowRules.{edges_after}
-use Rattle.mv_machine.specs.StepParts.{Here, Turn, Goes, Returns, operands}
-use Rattle.mv_machine.specs.StepControl.{Callee, callee, signature_tags, entered_frame, call}
-use Rattle.mv_machine.proofs.Laws.{on_bind, on_need}
+use Rattle.mv_machine.specs.StepParts.{Here}
+use Rattle.mv_machine.specs.StepControl.{Callee, callee}
 use Rattle.mv_linker.proofs.Found.{on_some}
-use Rattle.mv_interpreter.proofs.Borrows.Operands.{ok-is, found-is}
-use Rattle.mv_interpreter.proofs.Borrows.Transfers.{tags-long}
+use Rattle.mv_machine.proofs.Transfers.{callee-is, signature-is, tags-long}
 use Rattle.mv_interpreter.proofs.Borrows.Available.{known-start}
 use Rattle.mv_interpreter.specs.Borrows.Locals.{AsKnown}
 use Rattle.mv_interpreter.specs.Guided.Facts.{StoreFacts}
@@ -83,73 +78,17 @@ pub record OwnParameters (c : Callee) : Type 0 where
   pub are_parameters : slice_get c.home.signatures handle.parameters ≡ Some parameters
   pub long : length parameters ≡ length c.parameters
 
-tags-there : (modules : List Module) (m : Module) (i : ℕ) (tags : List Tag) → signature_tags modules m i ≡ Ok tags → (ts : List Token) × (slice_get m.signatures i ≡ Some ts) × (length ts ≡ length tags)
-unfolding signature_tags
-tags-there modules m i tags e = on_bind (entry m.signatures i) _ tags e (λ ts ts_is e1. (ts, found-is (slice_get m.signatures i) _ ts ts_is, tags-long _ ts tags e1))
-
 pub own-parameters : (h : Here) (i : ℕ) (c : Callee) → callee h i ≡ Ok c → OwnParameters c
-unfolding callee
 own-parameters h i c e =
-    on_bind (entry h.home.function_handles i) _ c e (λ handle handle_is e1.
-    on_bind (linked (module_name h.home handle.module)) _ c e1 (λ home_name home_name_is e2.
-    on_bind (entry h.home.identifiers handle.name) _ c e2 (λ name name_is e3.
-    on_bind (signature_tags h.modules h.home handle.parameters) _ c e3 (λ parameters parameters_are e4.
-    on_bind (signature_tags h.modules h.home handle.results) _ c e4 (λ results results_are e5.
-    on_bind (linked (module_place h.modules home_name)) _ c e5 (λ place place_is e6.
-    on_bind (entry h.modules place) _ c e6 (λ home home_is e7.
-    on_bind (linked (function_place home name)) _ c e7 (λ index index_is e8.
-    on_bind (entry home.functions index) _ c e8 (λ d d_is e9.
-    on_bind (entry home.function_handles d.handle) _ c e9 (λ own_handle own_handle_is e10.
-    on_bind (signature_tags h.modules home own_handle.parameters) _ c e10 (λ own_parameters own_parameters_are e11.
-    on_bind (signature_tags h.modules home own_handle.results) _ c e11 (λ own_results own_results_are e12.
-    on_need (same_tags parameters own_parameters && same_tags results own_results) (Faults LinkageFault) _ c e12 (λ same e13.
-    on_need ((place == h.state.top.function.place) || is_public d) (Faults LinkageFault) _ c e13 (λ allowed e14.
-    let p = tags-there h.modules home own_handle.parameters own_parameters own_parameters_are in
-    subst OwnParameters (ok-is (record { function = record { place = place; index = index }; home = home; definition = d; parameters = parameters; results = results }) c e14) (record {
-      handle = own_handle;
+    let is = callee-is h i c e in
+    let p = signature-is h.modules c.home is.own.parameters is.own_parameters is.are_own_parameters in
+    record {
+      handle = is.own;
       parameters = p.0;
-      is_handle = found-is (slice_get home.function_handles d.handle) _ own_handle own_handle_is;
+      is_handle = is.is_own;
       are_parameters = p.1;
-      long = p.2 ∙ sym (same-long parameters own_parameters (and_parts (same_tags parameters own_parameters) (same_tags results own_results) same).0);
-    })))))))))))))))
-
--- what a Call enters
-pub record Enters (h : Here) (i : ℕ) (t : State) : Type 0 where
-  pub c : Callee
-  pub is_callee : callee h i ≡ Ok c
-  pub arguments : List Value
-  pub others : List Token
-  pub are_others : slice_get c.home.signatures c.definition.locals ≡ Some others
-  pub long : length arguments ≡ length c.parameters
-  pub top : t.top ≡ entered_frame h.state.entered c.function arguments (length others)
-
-abbrev EntersBy : Here → ℕ → Result Turn Failure → Type 0
-EntersBy h i (Ok (Goes t)) = Enters h i t
-EntersBy h i (Ok (Returns t)) = ⊤
-EntersBy h i (Err e) = ⊤
-
-tagged-long : (s : State) (vs : List Value) (ts : List Tag) → have_tags s vs ts ≡ true → length vs ≡ length ts
-tagged-long s [] [] h = refl
-tagged-long s [] (t ∷ ts) h = absurd cc
-tagged-long s (v ∷ vs) [] h = absurd cc
-tagged-long s (v ∷ vs) (t ∷ ts) h = ap suc (tagged-long s vs ts (and_parts _ (have_tags s vs ts) h).1)
-
-pub enters : (h : Here) (i : ℕ) (t : State) → call h i ≡ Ok (Goes t) → Enters h i t
-unfolding call
-enters h i t e =
-    on_bind (callee h i) _ (Goes t) e (λ c c_is e1.
-    on_bind (operands (length c.parameters) h.state.top.stack) _ (Goes t) e1 (λ taken taken_is e2.
-    on_need (have_tags h.state taken.0 c.parameters) (Faults TypeFault) _ (Goes t) e2 (λ fit e3.
-    on_bind (entry c.home.signatures c.definition.locals) _ (Goes t) e3 (λ others others_are e4.
-    subst (EntersBy h i) e4 (record {
-      c = c;
-      is_callee = c_is;
-      arguments = taken.0;
-      others = others;
-      are_others = found-is (slice_get c.home.signatures c.definition.locals) _ others others_are;
-      long = tagged-long h.state taken.0 c.parameters fit;
-      top = refl;
-    })))))
+      long = tags-long _ p.0 is.own_parameters p.2 ∙ sym (same-long c.parameters is.own_parameters (and_parts (same_tags c.parameters is.own_parameters) (same_tags c.results is.own_results) is.agree).0);
+    }
 
 -- its locals are as known where it begins
 pub entered-known : (m : Module) (d : FunctionDefinition) (start : Known) (handle : FunctionHandle) (parameters others : List Token) (args : List Value) → slice_get m.function_handles d.handle ≡ Some handle → slice_get m.signatures handle.parameters ≡ Some parameters

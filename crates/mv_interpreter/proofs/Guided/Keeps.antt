@@ -25,15 +25,15 @@ use Rattle.mv_machine.specs.StepParts.{Here, Turn, Goes, Returns, operands, may_
 use Rattle.mv_machine.specs.StepControl.{Callee, call, return_results, signature_tags, leaves, holds_frame}
 use Rattle.mv_machine.specs.Step.{rule, step}
 use Rattle.mv_machine.proofs.Laws.{on_bind, on_need}
+use Rattle.mv_machine.proofs.Binds.{ok-is, found-is}
 use Rattle.mv_interpreter.specs.Borrows.Hypotheses.{Fits, token_kind, operand_kind}
 use Rattle.mv_interpreter.specs.Borrows.Stood.{Stood, seen_of, point_of, layers, StoodOn, Sound}
 use Rattle.mv_interpreter.proofs.Borrows.Edges.{then-some}
-use Rattle.mv_interpreter.proofs.Borrows.Operands.{ok-is, found-is}
 use Rattle.mv_interpreter.proofs.Borrows.Same.{SameFrames}
 use Rattle.mv_interpreter.proofs.Borrows.Certified.{edges-below}
 use Rattle.mv_interpreter.proofs.Borrows.Steps.{IsTransfer, Stays, step-kept}
 use Rattle.mv_interpreter.specs.Borrows.Links.{Reaches}
-use Rattle.mv_interpreter.proofs.Borrows.Transfers.{callee-is, ReturnedTo, returned, Called, called}
+use Rattle.mv_machine.proofs.Transfers.{callee-is, ReturnedTo, returned, Called, called}
 use Rattle.mv_interpreter.proofs.Borrows.Invariant.{refit, sound-row, sound-call, sound-return}
 use Rattle.mv_interpreter.proofs.Borrows.Available.{known-above, known-same}
 use Rattle.mv_interpreter.specs.Borrows.Locals.{AsKnown}
@@ -46,7 +46,7 @@ use Rattle.mv_interpreter.proofs.Guided.Results.{callee-agrees, returns-as, fit-
 use Rattle.std.proofs.lemmas.List.{map-append}
 use Rattle.mv_interpreter.proofs.Guided.Working.{Working, worked, working}
 use Rattle.mv_interpreter.proofs.Guided.Rows.{LocalsKnown, RowEnds, rule-ends}
-use Rattle.mv_interpreter.proofs.Guided.Accepted.{flows-at, function-flows, own-parameters, Enters, enters, entered-known}
+use Rattle.mv_interpreter.proofs.Guided.Accepted.{flows-at, function-flows, own-parameters, entered-known}
 use Rattle.mv_interpreter.proofs.Lists.{map-turned}
 
 -- what a turn leads to is as the certificates say
@@ -181,7 +181,7 @@ module _ (depends : ℕ → ℕ → Type 0) (modules : List Module) (certificate
       by_result (Err e) is k = k
       by_result (Ok (Returns t)) is k = tt
       by_result (Ok (Goes t)) is k =
-          let n : Enters h j t = enters h j t is in
+          let n : Called h j t = called h j (Goes t) is in
           let ci = callee-is h j n.c n.is_callee in
           let own = own-parameters h j n.c n.is_callee in
           let fl = function-flows depends modules certificates store n.c.function.place n.c.function.index n.c.home n.c.definition ci.is_home ci.is_function in

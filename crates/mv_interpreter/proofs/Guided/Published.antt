@@ -15,7 +15,7 @@ use Rattle.mv_interpreter.specs.Typing.Accepted.{ModuleAccepted, StoreAccepted}
 use Rattle.mv_interpreter.specs.Guided.Store.{StoreCertified}
 use Rattle.mv_interpreter.specs.Guided.Outcome.{ComesTo}
 use Rattle.mv_interpreter.specs.Guided.Published.{AreCertificates, RunsAreFaultless, StatesHold}
-use Rattle.mv_interpreter.proofs.Borrows.Operands.{ok-is}
+use Rattle.mv_machine.proofs.Binds.{ok-is}
 use Rattle.mv_interpreter.proofs.Typing.First.{begun, first_is}
 use Rattle.mv_interpreter.proofs.Guided.Whole.{run_faultless, run_holds}
 use Rattle.mv_interpreter.proofs.Lists.{All-at}

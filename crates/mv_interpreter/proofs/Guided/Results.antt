@@ -1,6 +1,6 @@
 -- What stays as the types say while a frame waits; results are as the handle of the Call says.
 use Rattle.std.proofs.Common.{◌≡◌, ℕ, zero, suc, List, [], ◌∷◌, ◌++◌, map, length, reverse, take, drop, Bool, true, false, refl, sym, ◌∙◌, ap, ap₂, subst, Option, Some, None, Ok, arith}
-use Rattle.std.specs.Prelude.{slice_get, ◌&&◌, ◌||◌, ◌==◌, option_and_then}
+use Rattle.std.specs.Prelude.{slice_get, ◌==◌, option_and_then}
 use Rattle.std.specs.Bool.{beq}
 use Rattle.std.proofs.lemmas.Bool.{and_parts, eqb-true}
 use Rattle.std.proofs.lemmas.List.{append-nil, reverse-reverse, take-append-drop}
@@ -12,27 +12,29 @@ use Rattle.mv_move_types.specs.declared.token.ValueType.TheVariants.{OfLeaf, OfS
 use Rattle.mv_move_types.specs.declared.token.Token.{Token}
 use Rattle.mv_move_types.specs.declared.token.Token.TheVariants.{Plain, Reference as ReferenceTo, MutableReference as MutableReferenceTo}
 use Rattle.mv_move_types.specs.Results.{for_each}
-use Rattle.mv_move_types.specs.Module.{Module, FunctionDefinition, module_name, struct_name}
+use Rattle.mv_move_types.specs.Module.{Module, FunctionDefinition, struct_name}
 use Rattle.mv_machine.specs.Value.{Value, Reference}
 use Rattle.mv_machine.specs.State.{Frame, State}
 use Rattle.mv_machine.specs.Live.{reference_of}
 use Rattle.mv_machine.specs.Typing.{Faults, TypeFault, LinkageFault, entry, linked, have_tags, tag_named, value_type_tag}
 use Rattle.mv_move_types.specs.Tags.{Tag, LeafTag, StructTag, ReferenceTag, same_tag, same_tags}
-use Rattle.mv_move_types.specs.Named.{module_place, declared, is_public, function_place}
+use Rattle.mv_move_types.specs.Named.{declared}
 use Rattle.mv_move_types.specs.AbilitySets.{same_abilities}
 use Rattle.mv_machine.specs.StepParts.{Here, Goes, operands}
 use Rattle.mv_machine.specs.StepControl.{Callee, callee, signature_tags, return_results}
 use Rattle.mv_machine.proofs.Laws.{on_bind, on_need}
+use Rattle.mv_machine.proofs.Binds.{ok-is, found-is, operands-is}
 use Rattle.mv_borrow_graph.specs.Abstract.Lists.{Value as TheValue, Plain as NoRef, Reference as Held}
 use Rattle.mv_interpreter.specs.Borrows.View.{local_of, held_as}
 use Rattle.mv_interpreter.specs.Borrows.Hypotheses.{Fits, token_kind, operand_kind}
 use Rattle.mv_interpreter.specs.Borrows.Stood.{Stood, seen_of, point_of, StoodOn}
 use Rattle.mv_interpreter.proofs.Borrows.Same.{SameSeen, SameFrames}
-use Rattle.mv_interpreter.proofs.Borrows.Operands.{ok-is, found-is, operands-is, tags-kinds}
+use Rattle.mv_interpreter.proofs.Borrows.Operands.{tags-kinds}
 use Rattle.mv_interpreter.proofs.Borrows.Invariant.{refit}
 use Rattle.mv_interpreter.specs.Guided.Guided.{StoodFit, AllAgree}
 use Rattle.mv_interpreter.proofs.Lists.{map-turned}
 use Rattle.mv_interpreter.proofs.Typing.Tests.{beq-is}
+use Rattle.mv_machine.proofs.Transfers.{callee-is}
 
 -- ---- tags
 
@@ -92,30 +94,13 @@ signature-kinds modules m i tags ts e at =
 -- a callee's results are references where its handle says so
 pub callee-agrees : (h : Here) (j : ℕ) (c : Callee) → callee h j ≡ Ok c → (handle : FunctionHandle) (results : List Token) → slice_get h.home.function_handles j ≡ Some handle → slice_get h.home.signatures handle.results ≡ Some results
     → (own : FunctionHandle) (own_results : List Token) → slice_get c.home.function_handles c.definition.handle ≡ Some own → slice_get c.home.signatures own.results ≡ Some own_results → map token_kind results ≡ map token_kind own_results
-unfolding callee
-callee-agrees h j c e handle results handle_at results_at own own_results =
-    on_bind (entry h.home.function_handles j) _ c e (λ handle1 handle_is e1.
-    on_bind (linked (module_name h.home handle1.module)) _ c e1 (λ home_name home_name_is e2.
-    on_bind (entry h.home.identifiers handle1.name) _ c e2 (λ name name_is e3.
-    on_bind (signature_tags h.modules h.home handle1.parameters) _ c e3 (λ parameters parameters_are e4.
-    on_bind (signature_tags h.modules h.home handle1.results) _ c e4 (λ tags tags_are e5.
-    on_bind (linked (module_place h.modules home_name)) _ c e5 (λ place place_is e6.
-    on_bind (entry h.modules place) _ c e6 (λ home home_is e7.
-    on_bind (linked (function_place home name)) _ c e7 (λ index index_is e8.
-    on_bind (entry home.functions index) _ c e8 (λ d d_is e9.
-    on_bind (entry home.function_handles d.handle) _ c e9 (λ own_handle own_handle_is e10.
-    on_bind (signature_tags h.modules home own_handle.parameters) _ c e10 (λ own_parameters own_parameters_are e11.
-    on_bind (signature_tags h.modules home own_handle.results) _ c e11 (λ own_tags own_tags_are e12.
-    on_need (same_tags parameters own_parameters && same_tags tags own_tags) (Faults LinkageFault) _ c e12 (λ same e13.
-    on_need ((place == h.state.top.function.place) || is_public d) (Faults LinkageFault) _ c e13 (λ allowed e14.
-    let one : handle ≡ handle1 = same_Some handle handle1 (sym handle_at ∙ found-is (slice_get h.home.function_handles j) _ handle1 handle_is) in
-    let left : map token_kind results ≡ map tag_kind tags = signature-kinds h.modules h.home handle1.results tags results tags_are (subst (λ (z : FunctionHandle). slice_get h.home.signatures z.results ≡ Some results) one results_at) in
-    let middle : map tag_kind tags ≡ map tag_kind own_tags = same-kinds-tags tags own_tags (and_parts (same_tags parameters own_parameters) (same_tags tags own_tags) same).1 in
-    subst (λ (z : Callee). slice_get z.home.function_handles z.definition.handle ≡ Some own → slice_get z.home.signatures own.results ≡ Some own_results → map token_kind results ≡ map token_kind own_results)
-    (ok-is (record { function = record { place = place; index = index }; home = home; definition = d; parameters = parameters; results = tags }) c e14)
-    (λ own_at own_results_at.
-    let two : own ≡ own_handle = same_Some own own_handle (sym own_at ∙ found-is (slice_get home.function_handles d.handle) _ own_handle own_handle_is) in
-    left ∙ middle ∙ sym (signature-kinds h.modules home own_handle.results own_tags own_results own_tags_are (subst (λ (z : FunctionHandle). slice_get home.signatures z.results ≡ Some own_results) two own_results_at)))))))))))))))))
+callee-agrees h j c e handle results handle_at results_at own own_results own_at own_results_at =
+    let is = callee-is h j c e in
+    let one : handle ≡ is.handle = same_Some handle is.handle (sym handle_at ∙ is.is_handle) in
+    let two : own ≡ is.own = same_Some own is.own (sym own_at ∙ is.is_own) in
+    signature-kinds h.modules h.home is.handle.results c.results results is.are_results (subst (λ (z : FunctionHandle). slice_get h.home.signatures z.results ≡ Some results) one results_at)
+    ∙ same-kinds-tags c.results is.own_results (and_parts (same_tags c.parameters is.own_parameters) (same_tags c.results is.own_results) is.agree).1
+    ∙ sym (signature-kinds h.modules c.home is.own.results is.own_results own_results is.are_own_results (subst (λ (z : FunctionHandle). slice_get c.home.signatures z.results ≡ Some own_results) two own_results_at))
 
 -- the results of a function that returns are references where its own handle says so
 pub record ReturnsAs (h : Here) : Type 0 where

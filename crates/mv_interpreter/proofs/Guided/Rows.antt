@@ -51,7 +51,7 @@ use Rattle.mv_interpreter.specs.Borrows.Hypotheses.{Fits, NoneInside, token_kind
 use Rattle.mv_interpreter.proofs.Borrows.Edges.{then-some}
 use Rattle.mv_interpreter.proofs.Borrows.Mutability.{kinds-length}
 use Rattle.mv_interpreter.proofs.Borrows.Same.{write-same, plain-tagged}
-use Rattle.mv_interpreter.proofs.Borrows.Operands.{found-is, held-is, operand-is, operands-is, reference-is}
+use Rattle.mv_machine.proofs.Binds.{found-is, held-is, operand-is, operands-is, reference-is}
 use Rattle.mv_interpreter.specs.Borrows.Links.{Reaches}
 use Rattle.mv_interpreter.proofs.Borrows.Free.{in-either, none-frozen, local-free, struct-unfrozen, write-unfrozen, return-unfrozen}
 use Rattle.mv_interpreter.proofs.Borrows.Available.{known-at, known-set, known-same, held-found, needed-holds, overwritten-drops, left-drops}

@@ -67,9 +67,6 @@ leaf_ranges Address n h = h
 leaf_ranges Signer n h = absurd cc
 
 module _ (modules : List Module) (store : StoreAccepted modules) where
-  abbrev Fields : Values → Module × List Field → Type 0
-  Fields vs d = are_of_types modules d.0 d.1 vs ≡ true
-
   -- the table's entry of a defined struct
   by_name : (name : StructName) (d : Module × List Field) → definition_of modules name ≡ Some d → (tags : List Tag) → tokens_named d.0 (map (λ (f : Field). f.token) d.1) ≡ Some tags → fields_by_name modules name ≡ Some tags
   unfolding fields_by_name

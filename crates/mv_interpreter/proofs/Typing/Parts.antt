@@ -24,11 +24,6 @@ module _ {A B : Type 0} (P : B → Type 0) where
   some Q (Ok x) f h go = go x h
   some Q (Err e) f h go = h
 
-  -- the same, with what it gives
-  pub seen : (r : Result A Failure) (f : A → Result B Failure) → Part (λ x. Unit {0}) r → ((x : A) → r ≡ Ok x → Part P (f x)) → Part P (r >>= f)
-  seen (Ok x) f h go = go x refl
-  seen (Err e) f h go = h
-
 module _ {B : Type 0} (P : B → Type 0) where
   -- a test that passes
   pub met : (b : Bool) (e : Failure) (r : Result B Failure) → b ≡ true → Part P r → Part P (need b e >> r)

@@ -12,9 +12,6 @@ use Rattle.mv_interpreter.specs.Typing.StateTyped.{EntryTyped, StorageTyped}
 abbrev pub entry_of : Key → Value → Entry
 entry_of key v = record { key = key; value = v }
 
-apart : {b : Bool} → b ≡ true → b ≡ false → ⊥
-apart p q = cc
-
 -- at the key itself
 pub stored_same : (es : Storage) (key : Key) (v : Value) → stored_at (with_stored es key v) key ≡ Some v
 stored_same [] key v = rw (same_key-refl key) refl

@@ -82,18 +82,6 @@ module _ (table : Table) where
   HaveTypes look (v ∷ vs) [] = ⊥
   HaveTypes look (v ∷ vs) (t ∷ ts) = HasType look v t × HaveTypes look vs ts
 
-  -- a local that is held is of its type
-  abbrev pub LocalHasType : Roots → Option Value → Tag → Type 0
-  LocalHasType look None t = Unit {0}
-  LocalHasType look (Some v) t = HasType look v t
-
-  -- each local is, one for each type
-  abbrev pub LocalsHaveTypes : Roots → List (Option Value) → List Tag → Type 0
-  LocalsHaveTypes look [] [] = Unit {0}
-  LocalsHaveTypes look [] (t ∷ ts) = ⊥
-  LocalsHaveTypes look (v ∷ vs) [] = ⊥
-  LocalsHaveTypes look (v ∷ vs) (t ∷ ts) = LocalHasType look v t × LocalsHaveTypes look vs ts
-
   -- an argument that was lent, if it was a reference, is of its parameter's type, and else that is no reference's
   abbrev pub LentHasType : Roots → Option Reference → Tag → Type 0
   LentHasType look None t = is_reference_tag t ≡ false

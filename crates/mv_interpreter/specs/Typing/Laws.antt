@@ -6,7 +6,6 @@ use Rattle.mv_machine.specs.Typing.{Failure}
 use Rattle.mv_machine.specs.Step.{Turn, step}
 use Rattle.mv_interpreter.specs.Typing.StateTyped.{StateTyped, TurnTyped, Harmless}
 use Rattle.mv_interpreter.specs.Typing.Unreached.{StepGuarded}
-use Rattle.mv_interpreter.specs.Typing.Watched.{StepWatched, Clean}
 use Rattle.mv_interpreter.specs.Typing.Accepted.{StoreAccepted}
 
 -- what a step leads to is typed, and if it fails it is by no fault of types, links or dangling references
@@ -17,7 +16,3 @@ StepTyped modules (Err failure) = Harmless failure
 -- a step from a typed state, where no live reference leads into what it removes
 abbrev pub EveryStepIsTyped : Type 0
 EveryStepIsTyped = (modules : List Module) (s : State) → StoreAccepted modules → StateTyped modules s → StepGuarded modules s → StepTyped modules (step modules s)
-
--- where besides each local that it reads is held, what it drops may be dropped and what it writes is not frozen, it loses nothing and touches nothing frozen
-abbrev pub EveryStepIsClean : Type 0
-EveryStepIsClean = (modules : List Module) (s : State) → StoreAccepted modules → StateTyped modules s → StepGuarded modules s → StepWatched modules s → Clean (step modules s)

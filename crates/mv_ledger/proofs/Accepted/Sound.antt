@@ -23,7 +23,7 @@ use Rattle.mv_ledger.specs.Accepted.SoundLedger.{IsSoundLedger}
 use Rattle.mv_ledger.specs.Accepted.Records.{IsVetted}
 use Rattle.mv_ledger.proofs.Heirs.{Inherits, inherited}
 use Rattle.mv_ledger.proofs.Staying.{storage-stays}
-use Rattle.mv_ledger.proofs.Counting.Binds.{WhereSome}
+use Rattle.mv_machine.proofs.Binds.{WhereSome}
 use Rattle.mv_ledger.proofs.Counting.Admitted.{admitted-entry}
 use Rattle.mv_ledger.proofs.Counting.Declared.{declared-stays}
 use Rattle.mv_ledger.proofs.Counting.Conserved.{run-conserves}

@@ -13,7 +13,7 @@ use Rattle.mv_machine.specs.Run.{FunctionCall}
 use Rattle.mv_machine.specs.Ledger.{LedgerState, RunRequest, modules_of, is_argument, are_arguments, with_signer, admitted}
 use Rattle.mv_machine.proofs.Laws.{on_need}
 use Rattle.mv_ledger.specs.Counting.Conservation.{IsLeaf, IsEntryCall}
-use Rattle.mv_ledger.proofs.Counting.Binds.{on_some, WhereOk}
+use Rattle.mv_machine.proofs.Binds.{on_some, WhereOk}
 
 argument-leaf : (t : Token) (v : Value) → is_argument t v ≡ true → IsLeaf v
 argument-leaf (Plain (OfLeaf k)) (Leaf j n) e = tt

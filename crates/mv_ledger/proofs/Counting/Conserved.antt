@@ -28,7 +28,7 @@ use Rattle.mv_ledger.specs.Counting.Effects.{Effect, Restacked, MovedLocal, Stor
 use Rattle.mv_ledger.specs.Counting.Fine.{IsAbleStore, IsFine, Balances}
 use Rattle.mv_ledger.specs.Counting.Returns.{AtReturn}
 use Rattle.mv_ledger.specs.Counting.Conservation.{IsLeaf, IsEntryCall, IsFineStorage, Conserves}
-use Rattle.mv_ledger.proofs.Counting.Binds.{on_some, place-written, entry-is, WhereOk}
+use Rattle.mv_machine.proofs.Binds.{on_some, place-written, entry-is, WhereOk}
 use Rattle.mv_ledger.proofs.Counting.Counts.{held-entered, held-reverse, kept-entered}
 use Rattle.mv_ledger.proofs.Counting.Keeps.{effect-fine, effect-balances, left-none}
 use Rattle.mv_ledger.proofs.Counting.Packs.{each-get}

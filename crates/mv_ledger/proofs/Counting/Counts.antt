@@ -14,7 +14,7 @@ use Rattle.mv_machine.specs.Count.{count_in, count_in_fields}
 use Rattle.mv_linker.proofs.NameLemmas.{same_struct-is}
 use Rattle.mv_ledger.specs.Counting.Held.{held_in_stack, held_in_local, held_in_locals}
 use Rattle.mv_ledger.specs.Counting.Kept.{Allows, IsKept, AreKept, IsScarce, StackIsKept, LocalIsKept, LocalsAreKept}
-use Rattle.mv_ledger.proofs.Counting.Binds.{map-is, then-is}
+use Rattle.mv_machine.proofs.Binds.{map-is, then-is}
 
 -- the abilities of a struct that is declared
 pub declared-abilities : (modules : List Module) (name : StructName) (fields : Values) (a : Abilities) → declared modules name ≡ Some a → abilities_of modules (Struct name fields) ≡ a

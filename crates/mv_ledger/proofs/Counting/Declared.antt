@@ -16,7 +16,7 @@ use Rattle.mv_linker.proofs.NameLemmas.{same_struct-is}
 use Rattle.mv_linker.proofs.Found.{on_some, then_found}
 use Rattle.mv_ledger.specs.Counting.Kept.{IsKept, AreKept, StorageIsKept}
 use Rattle.mv_ledger.proofs.Heirs.{Inherits, Stayed, tested, found-passes, on_and_then, stayed}
-use Rattle.mv_ledger.proofs.Counting.Binds.{map-is}
+use Rattle.mv_machine.proofs.Binds.{map-is}
 use Rattle.mv_ledger.proofs.Counting.Packs.{HandlesDeclared, each-declared, each-get}
 
 -- the module and the definition that declare a struct

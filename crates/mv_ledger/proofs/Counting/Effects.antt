@@ -1,13 +1,10 @@
 -- Each instruction's rule, as one of the kinds of effect.
 use Rattle.std.proofs.Common.{◌≡◌, ℕ, ◌+◌, Bool, true, false, List, [], ◌∷◌, ◌++◌, Option, Result, Ok, refl, sym, ap, ap₂, subst, ◌∙◌, length, append-nil}
 use Rattle.std.specs.Prelude.{not, ◌&&◌, ◌==◌, nat_lt, nat_le, ok_or, reverse, is_some, slice_get, flat_map, bit_and, bit_or, bit_xor, ◌||◌}
-use Rattle.std.specs.Cmp.{first_so, second_so}
 use Rattle.std.specs.List.{AllByRecursion, list_all, list_any}
 use Rattle.std.proofs.lemmas.Bool.{eqb-true}
-use Rattle.mv_move_types.specs.declared.token.Width.{Width}
 use Rattle.mv_move_types.specs.declared.token.Width.TheVariants.{U8, U16, U32, U64, U128}
-use Rattle.mv_move_types.specs.declared.token.LeafKind.{LeafKind}
-use Rattle.mv_move_types.specs.declared.token.LeafKind.TheVariants.{Boolean, Number, Address, Signer}
+use Rattle.mv_move_types.specs.declared.token.LeafKind.TheVariants.{Boolean, Number}
 use Rattle.mv_move_types.specs.declared.instruction.Instruction.{Instruction}
 use Rattle.mv_move_types.specs.declared.instruction.Instruction.TheVariants.{Pop, Ret, BrTrue, BrFalse, Branch, LdU64, LdConst, LdTrue, LdFalse, CopyLoc, MoveLoc, StLoc, MutBorrowLoc, ImmBorrowLoc, MutBorrowField, ImmBorrowField, Call, Pack, Unpack, ReadRef, WriteRef, Add, Sub, Mul, Mod, Div, BitOr, BitAnd, Xor, Or, And, Not, Eq, Neq, Lt, Gt, Le, Ge, Abort, Nop, Exists, MutBorrowGlobal, ImmBorrowGlobal, MoveFrom, MoveTo, FreezeRef, Shl, Shr, LdU8, LdU128, CastU8, CastU64, CastU128, LdU16, LdU32, CastU16, CastU32}
 use Rattle.mv_move_types.specs.declared.tables.FunctionHandle.{FunctionHandle}
@@ -22,7 +19,7 @@ use Rattle.mv_machine.specs.State.{Frame, place_value, with_place, stored_at}
 use Rattle.mv_machine.specs.Live.{is_frozen_by, live, references, frame_references}
 use Rattle.mv_machine.specs.Typing.{Failure, Faults, LinkageFault, tag_of, has_tag, have_tags, tag_named, entry}
 use Rattle.mv_move_types.specs.Tags.{Tag, StructTag}
-use Rattle.mv_machine.specs.Numbers.{Operator, fitting, sum_of, difference_of, product_of, remainder_of, quotient_of, shifted_left, shifted_right}
+use Rattle.mv_machine.specs.Numbers.{sum_of, difference_of, product_of, remainder_of, quotient_of, shifted_left, shifted_right}
 use Rattle.mv_move_types.specs.Numbers.{leaf_number}
 use Rattle.mv_machine.specs.Step.{Here, Turn, may_drop, as_signer, with_stack, is_reference_tag, local_tag, local_place, key_at, holds_frame, leaves, rule}
 use Rattle.mv_machine.specs.StepLocals.{held, move_local, borrow_local}
@@ -30,7 +27,7 @@ use Rattle.mv_machine.specs.StepStructs.{own_struct, pack}
 use Rattle.mv_machine.specs.StepGlobals.{keyed_struct, move_to}
 use Rattle.mv_machine.specs.StepControl.{signature_tags, return_results}
 use Rattle.mv_machine.specs.StepParts.{can_copy, can_drop, gives, goes_to, pushes}
-use Rattle.mv_machine.specs.StepNumbers.{binary, comparison, shift, cast, logic, negation, constant_value, constant, equality}
+use Rattle.mv_machine.specs.StepNumbers.{constant_value, constant}
 use Rattle.mv_machine.specs.StepLocals.{pop, copy_local, store_local}
 use Rattle.mv_machine.specs.StepStructs.{unpack}
 use Rattle.mv_machine.specs.StepReferences.{own_field, lends, borrow_field, read_reference, write_reference, freeze}
@@ -38,9 +35,9 @@ use Rattle.mv_machine.specs.StepGlobals.{exists, borrow_global, move_from}
 use Rattle.mv_machine.specs.StepControl.{callee, call, branch_if, abort}
 use Rattle.mv_machine.proofs.Laws.{on_bind, on_need}
 use Rattle.mv_linker.proofs.NameLemmas.{same_struct-is}
-use Rattle.mv_interpreter.proofs.Borrows.Operands.{held-is}
 use Rattle.mv_ledger.specs.Counting.Effects.{Appears, a_leaf, a_reference, a_copy, in_local, at_place, Effect, Restacked, MovedLocal, StoredLocal, Packed, Unpacked, Written, MovedFrom, MovedTo, Called, Resumed, Ends, Went, Left}
-use Rattle.mv_ledger.proofs.Counting.Binds.{on_some, on_operand, on_number, on_boolean, on_address, on_reference, on_fields, on_operands, WhereOk, none-is}
+use Rattle.mv_machine.proofs.Binds.{on_some, on_operand, on_number, on_boolean, on_address, on_reference, on_fields, on_operands, WhereOk, none-is, held-is}
+use Rattle.mv_machine.proofs.Operations.{GivesLeaf, drops_leaf, binary-gives, comparison-gives, shift-gives, cast-gives, logic-gives, negation-gives, equality-gives}
 
 -- operands are given for operands
 pub record Trades (h : Here) (stack after : List Value) : Type 0 where
@@ -52,98 +49,19 @@ pub record Trades (h : Here) (stack after : List Value) : Type 0 where
   pub appears : AllByRecursion (Appears h) given
   pub afterwards : after ≡ given ++ rest
 
-leaf_drops : (h : Here) (kind : LeafKind) (n : ℕ) → can_drop h (Leaf kind n) ≡ true
-leaf_drops h Boolean n = refl
-leaf_drops h (Number w) n = refl
-leaf_drops h Address n = refl
-leaf_drops h Signer n = refl
-
--- a leaf may be dropped
-drops_leaf : (h : Here) (v : Value) (kind : LeafKind) (n : ℕ) → v ≡ Leaf kind n → can_drop h v ≡ true
-drops_leaf h v kind n e = subst (λ x. can_drop h x ≡ true) (sym e) (leaf_drops h kind n)
-
 -- a reference may be dropped
 drops_reference : (h : Here) (v : Value) (r : Reference) → v ≡ Ref r → can_drop h v ≡ true
 drops_reference h v r e = subst (λ x. can_drop h x ≡ true) (sym e) refl
 
--- an operand for none, one or two
+-- an operand for none, or for one
 pushed : (h : Here) (stack : List Value) (x : Value) → Appears h x → Trades h stack (x ∷ stack)
 pushed h stack x a = record { taken = []; given = x ∷ []; rest = stack; before = refl; dropped = tt; appears = (a, tt); afterwards = refl }
 
 one : (h : Here) (stack rest : List Value) (v x : Value) → stack ≡ v ∷ rest → can_drop h v ≡ true → Appears h x → Trades h stack (x ∷ rest)
 one h stack rest v x s d a = record { taken = v ∷ []; given = x ∷ []; rest = rest; before = s; dropped = (d, tt); appears = (a, tt); afterwards = refl }
 
-two : (h : Here) (stack below rest : List Value) (v w x : Value) → stack ≡ v ∷ below → below ≡ w ∷ rest → can_drop h v ≡ true → can_drop h w ≡ true → Appears h x → Trades h stack (x ∷ rest)
-two h stack below rest v w x s s2 d d2 a = record {
-  taken = v ∷ w ∷ [];
-  given = x ∷ [];
-  rest = rest;
-  before = s ∙ ap (λ (b : List Value). v ∷ b) s2;
-  dropped = (d, (d2, tt));
-  appears = (a, tt);
-  afterwards = refl;
-}
-
 popped : (h : Here) (stack rest : List Value) (v : Value) → stack ≡ v ∷ rest → can_drop h v ≡ true → Trades h stack rest
 popped h stack rest v s d = record { taken = v ∷ []; given = []; rest = rest; before = s; dropped = (d, tt); appears = tt; afterwards = refl }
-
--- ---- operators
-
-binary-trades : (h : Here) (op : Operator) (stack after : List Value) → binary op stack ≡ Ok after → Trades h stack after
-unfolding binary
-binary-trades h op stack after e =
-    on_operand stack _ after e (λ v below s e1.
-    on_operand below _ after e1 (λ w rest s2 e2.
-    on_number v _ after e2 (λ wy y v_is e3.
-    on_number w _ after e3 (λ wx x w_is e4.
-    on_need (same_width wx wy) _ _ after e4 (λ met e5.
-    on_bind (op wx x y) _ after e5 (λ n n_is e6.
-    subst (WhereOk (Trades h stack)) e6 (two h stack below rest v w _ s s2 (drops_leaf h v _ y v_is) (drops_leaf h w _ x w_is) (a_leaf (Number wx) n))))))))
-
-comparison-trades : (h : Here) (test : ℕ → ℕ → Bool) (stack after : List Value) → comparison test stack ≡ Ok after → Trades h stack after
-unfolding comparison
-comparison-trades h test stack after e =
-    on_operand stack _ after e (λ v below s e1.
-    on_operand below _ after e1 (λ w rest s2 e2.
-    on_number v _ after e2 (λ wy y v_is e3.
-    on_number w _ after e3 (λ wx x w_is e4.
-    on_need (same_width wx wy) _ _ after e4 (λ met e5.
-    subst (WhereOk (Trades h stack)) e5 (two h stack below rest v w _ s s2 (drops_leaf h v _ y v_is) (drops_leaf h w _ x w_is) (a_leaf _ _)))))))
-
-shift-trades : (h : Here) (op : Operator) (stack after : List Value) → shift op stack ≡ Ok after → Trades h stack after
-unfolding shift
-shift-trades h op stack after e =
-    on_operand stack _ after e (λ v below s e1.
-    on_operand below _ after e1 (λ w rest s2 e2.
-    on_number v _ after e2 (λ wy y v_is e3.
-    on_number w _ after e3 (λ wx x w_is e4.
-    on_need (same_width wy U8) _ _ after e4 (λ met e5.
-    on_bind (op wx x y) _ after e5 (λ n n_is e6.
-    subst (WhereOk (Trades h stack)) e6 (two h stack below rest v w _ s s2 (drops_leaf h v _ y v_is) (drops_leaf h w _ x w_is) (a_leaf _ n))))))))
-
-cast-trades : (h : Here) (to : Width) (stack after : List Value) → cast to stack ≡ Ok after → Trades h stack after
-unfolding cast
-cast-trades h to stack after e =
-    on_operand stack _ after e (λ v rest s e1.
-    on_number v _ after e1 (λ w x v_is e2.
-    on_bind (fitting to x) _ after e2 (λ n n_is e3.
-    subst (WhereOk (Trades h stack)) e3 (one h stack rest v _ s (drops_leaf h v _ x v_is) (a_leaf _ n)))))
-
-logic-trades : (h : Here) (op : Bool → Bool → Bool) (stack after : List Value) → logic op stack ≡ Ok after → Trades h stack after
-unfolding logic
-logic-trades h op stack after e =
-    on_operand stack _ after e (λ v below s e1.
-    on_operand below _ after e1 (λ w rest s2 e2.
-    on_boolean v _ after e2 (λ y v_is e3.
-    on_boolean w _ after e3 (λ x w_is e4.
-    subst (WhereOk (Trades h stack)) e4 (two h stack below rest v w _ s s2 (drops_leaf h v _ y v_is) (drops_leaf h w _ x w_is) (a_leaf _ _))))))
-
-negation-trades : (h : Here) (stack after : List Value) → negation stack ≡ Ok after → Trades h stack after
-unfolding negation
-negation-trades h stack after e =
-    on_operand stack _ after e (λ v rest s e1.
-    on_boolean v _ after e1 (λ x v_is e2.
-    subst (WhereOk (Trades h stack)) e2 (one h stack rest v _ s (drops_leaf h v _ x v_is) (a_leaf _ _))))
 
 -- ---- operands
 
@@ -153,17 +71,6 @@ pop-trades h stack after e =
     on_operand stack _ after e (λ v rest s e1.
     on_need (can_drop h v) _ _ after e1 (λ d e2.
     subst (WhereOk (Trades h stack)) e2 (popped h stack rest v s d)))
-
-equality-trades : (h : Here) (answer : Bool → Bool) (stack after : List Value) → equality h answer stack ≡ Ok after → Trades h stack after
-unfolding equality
-equality-trades h answer stack after e =
-    on_operand stack _ after e (λ v below s e1.
-    on_operand below _ after e1 (λ w rest s2 e2.
-    on_some (tag_of h.state w) _ _ after e2 (λ tag tag_is e3.
-    on_need (has_tag h.state v tag) _ _ after e3 (λ same e4.
-    on_need (not (is_reference_tag tag)) _ _ after e4 (λ plain e5.
-    on_need (can_drop h w && can_drop h v) _ _ after e5 (λ d e6.
-    subst (WhereOk (Trades h stack)) e6 (two h stack below rest v w _ s s2 (second_so (can_drop h w) (can_drop h v) d) (first_so (can_drop h w) (can_drop h v) d) (a_leaf _ _))))))))
 
 read-trades : (h : Here) (stack after : List Value) → read_reference h stack ≡ Ok after → Trades h stack after
 unfolding read_reference
@@ -192,6 +99,21 @@ trade-ends h at after t trade e =
 
 gives-ends : (h : Here) (r : Result (List Value) Failure) (t : Turn) → ((after : List Value) → r ≡ Ok after → Trades h h.state.top.stack after) → gives h r ≡ Ok t → Ends h t
 gives-ends h r t trades e = on_bind r _ t e (λ after is e1. trade-ends h (h.state.top.at + 1) after t (trades after is) e1)
+
+-- an operator
+leaf-ends : (h : Here) (r : Result (List Value) Failure) (t : Turn) → ((after : List Value) → r ≡ Ok after → GivesLeaf h h.state.top.stack after) → gives h r ≡ Ok t → Ends h t
+leaf-ends h r t leaf e = gives-ends h r t (λ after is. of_leaf after (leaf after is)) e
+  where
+    of_leaf : (after : List Value) → GivesLeaf h h.state.top.stack after → Trades h h.state.top.stack after
+    of_leaf after g = record {
+      taken = g.taken;
+      given = Leaf g.kind g.number ∷ [];
+      rest = g.rest;
+      before = g.before;
+      dropped = g.dropped;
+      appears = (a_leaf g.kind g.number, tt);
+      afterwards = g.afterwards;
+    }
 
 pushes-ends : (h : Here) (v : Value) (t : Turn) → Appears h v → pushes h v ≡ Ok t → Ends h t
 pushes-ends h v t a e = trade-ends h (h.state.top.at + 1) (v ∷ h.state.top.stack) t (pushed h h.state.top.stack v a) e
@@ -405,23 +327,23 @@ rule-ends (Pack i) h t e = pack-ends h i t e
 rule-ends (Unpack i) h t e = unpack-ends h i t e
 rule-ends ReadRef h t e = gives-ends h _ t (read-trades h h.state.top.stack) e
 rule-ends WriteRef h t e = write-ends h t e
-rule-ends Add h t e = gives-ends h _ t (binary-trades h sum_of h.state.top.stack) e
-rule-ends Sub h t e = gives-ends h _ t (binary-trades h difference_of h.state.top.stack) e
-rule-ends Mul h t e = gives-ends h _ t (binary-trades h product_of h.state.top.stack) e
-rule-ends Mod h t e = gives-ends h _ t (binary-trades h remainder_of h.state.top.stack) e
-rule-ends Div h t e = gives-ends h _ t (binary-trades h quotient_of h.state.top.stack) e
-rule-ends BitOr h t e = gives-ends h _ t (binary-trades h (λ w x y. Ok (bit_or x y)) h.state.top.stack) e
-rule-ends BitAnd h t e = gives-ends h _ t (binary-trades h (λ w x y. Ok (bit_and x y)) h.state.top.stack) e
-rule-ends Xor h t e = gives-ends h _ t (binary-trades h (λ w x y. Ok (bit_xor x y)) h.state.top.stack) e
-rule-ends Or h t e = gives-ends h _ t (logic-trades h ◌||◌ h.state.top.stack) e
-rule-ends And h t e = gives-ends h _ t (logic-trades h ◌&&◌ h.state.top.stack) e
-rule-ends Not h t e = gives-ends h _ t (negation-trades h h.state.top.stack) e
-rule-ends Eq h t e = gives-ends h _ t (equality-trades h (λ same. same) h.state.top.stack) e
-rule-ends Neq h t e = gives-ends h _ t (equality-trades h not h.state.top.stack) e
-rule-ends Lt h t e = gives-ends h _ t (comparison-trades h nat_lt h.state.top.stack) e
-rule-ends Gt h t e = gives-ends h _ t (comparison-trades h (λ x y. nat_lt y x) h.state.top.stack) e
-rule-ends Le h t e = gives-ends h _ t (comparison-trades h nat_le h.state.top.stack) e
-rule-ends Ge h t e = gives-ends h _ t (comparison-trades h (λ x y. nat_le y x) h.state.top.stack) e
+rule-ends Add h t e = leaf-ends h _ t (binary-gives h sum_of h.state.top.stack) e
+rule-ends Sub h t e = leaf-ends h _ t (binary-gives h difference_of h.state.top.stack) e
+rule-ends Mul h t e = leaf-ends h _ t (binary-gives h product_of h.state.top.stack) e
+rule-ends Mod h t e = leaf-ends h _ t (binary-gives h remainder_of h.state.top.stack) e
+rule-ends Div h t e = leaf-ends h _ t (binary-gives h quotient_of h.state.top.stack) e
+rule-ends BitOr h t e = leaf-ends h _ t (binary-gives h (λ w x y. Ok (bit_or x y)) h.state.top.stack) e
+rule-ends BitAnd h t e = leaf-ends h _ t (binary-gives h (λ w x y. Ok (bit_and x y)) h.state.top.stack) e
+rule-ends Xor h t e = leaf-ends h _ t (binary-gives h (λ w x y. Ok (bit_xor x y)) h.state.top.stack) e
+rule-ends Or h t e = leaf-ends h _ t (logic-gives h ◌||◌ h.state.top.stack) e
+rule-ends And h t e = leaf-ends h _ t (logic-gives h ◌&&◌ h.state.top.stack) e
+rule-ends Not h t e = leaf-ends h _ t (negation-gives h h.state.top.stack) e
+rule-ends Eq h t e = leaf-ends h _ t (equality-gives h (λ same. same) h.state.top.stack) e
+rule-ends Neq h t e = leaf-ends h _ t (equality-gives h not h.state.top.stack) e
+rule-ends Lt h t e = leaf-ends h _ t (comparison-gives h nat_lt h.state.top.stack) e
+rule-ends Gt h t e = leaf-ends h _ t (comparison-gives h (λ x y. nat_lt y x) h.state.top.stack) e
+rule-ends Le h t e = leaf-ends h _ t (comparison-gives h nat_le h.state.top.stack) e
+rule-ends Ge h t e = leaf-ends h _ t (comparison-gives h (λ x y. nat_le y x) h.state.top.stack) e
 rule-ends Abort h t e = abort-ends h t e
 rule-ends Nop h t e = stays-ends h _ t e
 rule-ends (Exists i) h t e = exists-ends h i t e
@@ -430,14 +352,14 @@ rule-ends (ImmBorrowGlobal i) h t e = borrow_global-ends false h i t e
 rule-ends (MoveFrom i) h t e = move_from-ends h i t e
 rule-ends (MoveTo i) h t e = move_to-ends h i t e
 rule-ends FreezeRef h t e = gives-ends h _ t (freeze-trades h h.state.top.stack) e
-rule-ends Shl h t e = gives-ends h _ t (shift-trades h shifted_left h.state.top.stack) e
-rule-ends Shr h t e = gives-ends h _ t (shift-trades h shifted_right h.state.top.stack) e
+rule-ends Shl h t e = leaf-ends h _ t (shift-gives h shifted_left h.state.top.stack) e
+rule-ends Shr h t e = leaf-ends h _ t (shift-gives h shifted_right h.state.top.stack) e
 rule-ends (LdU8 n) h t e = pushes-ends h _ t (a_leaf (Number U8) n) e
-rule-ends CastU8 h t e = gives-ends h _ t (cast-trades h U8 h.state.top.stack) e
-rule-ends CastU64 h t e = gives-ends h _ t (cast-trades h U64 h.state.top.stack) e
+rule-ends CastU8 h t e = leaf-ends h _ t (cast-gives h U8 h.state.top.stack) e
+rule-ends CastU64 h t e = leaf-ends h _ t (cast-gives h U64 h.state.top.stack) e
 rule-ends (LdU128 n) h t e = pushes-ends h _ t (a_leaf (Number U128) n) e
-rule-ends CastU128 h t e = gives-ends h _ t (cast-trades h U128 h.state.top.stack) e
+rule-ends CastU128 h t e = leaf-ends h _ t (cast-gives h U128 h.state.top.stack) e
 rule-ends (LdU16 n) h t e = pushes-ends h _ t (a_leaf (Number U16) n) e
-rule-ends CastU16 h t e = gives-ends h _ t (cast-trades h U16 h.state.top.stack) e
+rule-ends CastU16 h t e = leaf-ends h _ t (cast-gives h U16 h.state.top.stack) e
 rule-ends (LdU32 n) h t e = pushes-ends h _ t (a_leaf (Number U32) n) e
-rule-ends CastU32 h t e = gives-ends h _ t (cast-trades h U32 h.state.top.stack) e
+rule-ends CastU32 h t e = leaf-ends h _ t (cast-gives h U32 h.state.top.stack) e

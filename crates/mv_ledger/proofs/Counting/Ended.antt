@@ -12,7 +12,7 @@ use Rattle.mv_machine.specs.Ledger.{LedgerState, Request, Publish, Run, Show, Au
 use Rattle.mv_machine.proofs.Laws.{steps_taken, turns-bound}
 use Rattle.mv_ledger.specs.Counting.Headline.{IsOwnWork, EndsWell, CallEndsWell, RunsWell, EveryCountIsTallied}
 use Rattle.mv_ledger.specs.Counting.Returns.{AtReturn}
-use Rattle.mv_ledger.proofs.Counting.Binds.{on_some, WhereOk}
+use Rattle.mv_machine.proofs.Binds.{on_some, WhereOk}
 use Rattle.mv_ledger.proofs.Counting.Own.{run-own}
 
 outcome-bound : (modules : List Module) (budget : ℕ) (r : Result State Failure) → ((s : State) → r ≡ Ok s → s.steps ≡ 0) → steps_taken (outcome_from modules budget r) ≤ budget

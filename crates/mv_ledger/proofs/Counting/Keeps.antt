@@ -19,7 +19,7 @@ use Rattle.mv_ledger.specs.Counting.Held.{held_in_stack, held_in_local, held_in_
 use Rattle.mv_ledger.specs.Counting.Kept.{IsKept, IsScarce, StackIsKept, LocalIsKept, LocalsAreKept, FramesAreKept}
 use Rattle.mv_ledger.specs.Counting.Effects.{Stands, in_local, at_place, Appears, a_leaf, a_reference, a_copy, Effect, Restacked, MovedLocal, StoredLocal, Packed, Unpacked, Written, MovedFrom, MovedTo, Called, Resumed}
 use Rattle.mv_ledger.specs.Counting.Fine.{IsAbleStore, IsFine, Balances}
-use Rattle.mv_ledger.proofs.Counting.Binds.{then-is, place-written}
+use Rattle.mv_machine.proofs.Binds.{then-is, place-written}
 use Rattle.mv_ledger.proofs.Counting.Counts.{none_in, lacks_copy, lacks_drop, held-append, held-reverse, held-list_of, held-fields_of, held-set, held-entered, kept-append, kept-first, kept-rest, kept-reverse, kept-list_of, kept-set, kept-get, kept-entered, kept-value_at, Replaces, replaces-at}
 use Rattle.mv_ledger.proofs.Counting.Stored.{count-without, count-new, kept-stored_at, kept-without, kept-with, ascending-without, ascending-with}
 use Rattle.mv_ledger.proofs.Counting.Frames.{fine-stack, kept-root, fine-root, held-root}

@@ -11,7 +11,7 @@ use Rattle.mv_linker.proofs.NameLemmas.{same_module-is}
 use Rattle.mv_ledger.specs.Counting.Headline.{IsOwnWork}
 use Rattle.mv_ledger.specs.Counting.Effects.{Effect, Restacked, MovedLocal, StoredLocal, Packed, Unpacked, Written, MovedFrom, MovedTo, Called, Resumed, Ends, Went, Left}
 use Rattle.mv_ledger.specs.Counting.Returns.{AtReturn}
-use Rattle.mv_ledger.proofs.Counting.Binds.{place-written}
+use Rattle.mv_machine.proofs.Binds.{place-written}
 use Rattle.mv_ledger.proofs.Counting.Runs.{step-stepped, run-keeps}
 
 -- the struct that an instruction names is of the module at work

@@ -28,7 +28,7 @@ use Rattle.mv_linker.proofs.Upgraded.{same_abilities-is}
 use Rattle.mv_linker.proofs.Found.{each}
 use Rattle.mv_ledger.specs.Counting.Kept.{Allows, IsKept, AreKept, StackIsKept}
 use Rattle.mv_ledger.specs.Counting.Fine.{IsAbleStore}
-use Rattle.mv_ledger.proofs.Counting.Binds.{on_some, WhereOk}
+use Rattle.mv_machine.proofs.Binds.{on_some, WhereOk}
 use Rattle.mv_ledger.proofs.Counting.Tags.{has_tag-abilities, tag_named-abilities}
 use Rattle.mv_ledger.proofs.Heirs.{tested}
 

@@ -11,7 +11,7 @@ use Rattle.mv_machine.specs.Run.{RunOutcome, FunctionCall, goes_with, follows, t
 use Rattle.mv_machine.proofs.Laws.{on_need}
 use Rattle.mv_ledger.specs.Counting.Effects.{Ends}
 use Rattle.mv_ledger.specs.Counting.Returns.{AtReturn}
-use Rattle.mv_ledger.proofs.Counting.Binds.{on_some, WhereOk}
+use Rattle.mv_machine.proofs.Binds.{on_some, WhereOk}
 use Rattle.mv_ledger.proofs.Counting.Effects.{rule-ends}
 
 -- where a step stands, and what it does

@@ -21,7 +21,7 @@ use Rattle.mv_machine.proofs.Laws.{on_bind, on_need}
 use Rattle.mv_abilities.specs.Abilities.{value_type_abilities, token_abilities}
 use Rattle.mv_linker.proofs.Upgraded.{same_abilities-is}
 use Rattle.mv_linker.proofs.TagTests.{same_tag-is}
-use Rattle.mv_ledger.proofs.Counting.Binds.{on_some, WhereOk, map-is}
+use Rattle.mv_machine.proofs.Binds.{on_some, WhereOk, map-is}
 
 -- the abilities of values of this tag
 abbrev pub tag_abilities : List Module → Tag → Abilities

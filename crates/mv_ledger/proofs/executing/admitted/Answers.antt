@@ -66,10 +66,6 @@ module _ (published : List PublishedModule) (runs : ℕ) (r : RunRequest) where
   types-of : (place index : ℕ) (i : Interface) (tokens : List Token) (f : Finds place index i) → tokens ≡ i.parameters.items → i.is_entry ≡ true → FindsTypes published runs r place f.home index f.definition tokens
   types-of place index i tokens f are entry = record { at = f.found; entry = f.entry ∙ entry; tokens_are = f.tokens ∙ ap (λ ts. Some ts) (sym are) }
 
-  -- an index is small
-  small-index : (p : Option (ℕ × Bor Interface)) (index : ℕ) (i : Bor Interface) → IfSome p (λ q. q.0 < 256) → p ≡ Some (index, i) → index < 256
-  small-index p index i few found = subst (λ (x : Option (ℕ × Bor Interface)). IfSome x (λ q. q.0 < 256)) found few
-
 pub function-requires : goal.function-requires
 function-requires c =
     let some : c.find.result ≡ Some c.in_ok-place.place = hit c.find.result (Rejected 3) c.ok_or.result c.in_ok-place.place c.ok_or.ensures.value c.in_ok-place.was in

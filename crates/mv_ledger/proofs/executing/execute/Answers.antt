@@ -1,21 +1,27 @@
-use Rattle.std.proofs.Common.{◌≡◌, ◌+◌, List, map, rules, sym, ap, ◌∙◌, subst}
+use Rattle.std.proofs.Common.{◌≡◌, ◌+◌, ◌-◌, ◌^◌, List, map, rules, sym, ap, ◌∙◌, subst}
 use Rattle.std.specs.Prelude.{All}
 use Rattle.mv_machine.specs.declared.Ending.TheVariants.{Returned}
 use Rattle.mv_machine.specs.Flat.{FlatEntry}
 use Rattle.mv_machine.specs.Run.{RunOutcome}
 use Rattle.mv_linker.specs.Link.{tables_in}
-use Rattle.mv_interpreter.specs.Runs.{IsFineWords, Agrees}
+use Rattle.mv_frames.specs.declared.counters.StructTally.{StructTally}
+use Rattle.mv_interpreter.specs.Runs.{IsFineWords, Agrees, AtMost}
 use Rattle.mv_ledger.specs.declared.tallies.Tally.{Tally}
 use Rattle.mv_ledger.specs.Tallying.{tally_after}
 use Rattle.mv_ledger.specs.View.{all_of, IsNamed, IsSmall, AreScarce}
 use Rattle.mv_ledger.proofs.StoredRuns.{run-same, tallied-after, settled-returned, settled-kept, small-kept}
 use Rattle.mv_ledger.proofs.ScarceTallies.{all-scarce, scarce-ordered}
-use Rattle.mv_ledger.proofs.TalliesAfter.{named-after, small-after, scarce-after}
+use Rattle.mv_ledger.proofs.TalliesAfter.{named-after, most-after, small-after, scarce-after}
 use Rattle.mv_ledger.proofs.executing.execute.Goals as goal
 use Rattle.mv_ledger.proofs.executing.execute.Goals.{then-eq, else-eq}
 
 pub add_run-requires-clause-ordered : goal.add_run-requires-clause-ordered
 add_run-requires-clause-ordered c = scarce-ordered (tables_in c.args.store.now) c.args.tallies.now c.requires.scarce
+
+pub add_run-requires-clause-few : goal.add_run-requires-clause-few
+add_run-requires-clause-few c =
+    subst (λ (run : List StructTally). AtMost (2 ^ 64 - 1) run) (sym c.deref-then-eq.ensures.value)
+    (most-after c.args.call.now.budget c.in-Ok.tally.items c.in-Ok.ensures.few c.requires.budget).1
 
 pub returns-after-eq-clause-stored : goal.returns-after-eq-clause-stored
 returns-after-eq-clause-stored c =
@@ -50,7 +56,7 @@ returns-after-eq-clause-small c = λ runs small.
       | then-eq w ↦
           let after : all_of c.if-eq.tallies ≡ map (tally_after c.in-Ok.tally.items) (all_of c.args.tallies.now) =
           ap all_of w.tallies-is ∙ tallied-after c.in-Ok.tally.items w.deref-then-eq.result.now c.args.tallies.now w.add_run.new.self w.add_run.ensures w.deref-then-eq.ensures.value in
-          subst (λ (ts : List Tally). All (IsSmall (runs + 1)) ts) (sym after) (small-after runs c.in-Ok.tally.items (all_of c.args.tallies.now) c.in-Ok.ensures.few small)
+          subst (λ (ts : List Tally). All (IsSmall (runs + 1)) ts) (sym after) (small-after runs c.in-Ok.tally.items (all_of c.args.tallies.now) (most-after c.args.call.now.budget c.in-Ok.tally.items c.in-Ok.ensures.few c.requires.budget).0 small)
       | else-eq w ↦ rw w.tallies-is (small-kept runs (all_of c.args.tallies.now) small)
     ]
 

@@ -1,0 +1,14 @@
+use Rattle.std.proofs.Common.{◌+◌, ◌-◌, ◌^◌, arith}
+use Rattle.mv_frames.proofs.Below.{below-clear, below-weaker, below-counted}
+use Rattle.moveledger.proofs.tests.libraries.words.counted.Goals as goal
+
+pub loop-value-init : goal.loop-value-init
+loop-value-init c = below-clear c.args.counters.now c.requires.clear
+
+pub count-requires : goal.count-requires
+count-requires c =
+    below-weaker (c.loop-value.value-index + 1) (2 ^ 64 - 1) c.loop-value.counters (omega (arith, c.requires.few, c.loop-value-test.true)) c.loop-value.invariant
+
+pub loop-value-preserved : goal.loop-value-preserved
+loop-value-preserved c =
+    below-counted (c.loop-value.value-index + 1) _ _ c.loop-value.counters c.count.new.self c.in_ok-count.ensures c.loop-value.invariant

@@ -1,0 +1,197 @@
+// Values in the storage, and an overlay in which a run changes them.
+ghost use Rattle.std.specs.Prelude.{◌≡◌, cond, OnErr, IfOk};
+ghost use Rattle.mv_storage.specs.FlatStorage.{with_words};
+
+use mv_move_types::Key;
+use mv_storage::{Overlay, Storage, Value};
+use std::alloc::{AllocError, Global};
+use std::mem;
+use std::test::Fail;
+
+// Keys that differ in the address, the place or the index alone.
+const FIRST: Key = Key {
+    address: 7,
+    place: 0,
+    index: 0,
+};
+
+const SECOND: Key = Key {
+    address: 7,
+    place: 0,
+    index: 1,
+};
+
+const THIRD: Key = Key {
+    address: 7,
+    place: 1,
+    index: 0,
+};
+
+const FOURTH: Key = Key {
+    address: 8,
+    place: 0,
+    index: 0,
+};
+
+const VALUES: [(Key, u128); 4] = [(FIRST, 0), (SECOND, 1), (THIRD, 2), (FOURTH, 3)];
+
+// What a ledger does: it lends its storage to a run, and keeps what the run has made, or has it back as it was.
+fn run(storage: &mut Storage, alloc: Global, key: Key, value: Value) -> Result<bool, AllocError>
+    ensures ok { IfOk result (λ done. storage.new ≡ cond done (with_words storage.old key value) storage.old) }
+    ensures err { OnErr result (storage.new ≡ storage.old) }
+{
+    let mut overlay = mem::replace(storage, Storage::new(alloc)).overlay();
+    let result = overlay.put(key, value);
+    *storage = match result {
+        Ok(_) => overlay.commit(),
+        Err(_) => overlay.discard(),
+    };
+    result
+}
+
+// A run that edits a value and is given up leaves the storage as it was.
+fn try_out(storage: Storage, key: &Key, new: &[u128]) -> Storage
+    ensures { result ≡ storage }
+{
+    let mut overlay = storage.overlay();
+    let _ = overlay.edit(key, 0, new);
+    overlay.discard()
+}
+
+// Whether a value with these leaves is taken out.
+fn is_taken(overlay: &mut Overlay, key: &Key, words: &[u128]) -> Result<bool, AllocError> {
+    let taken = overlay.take(key)?;
+    Ok(taken.is_some_and(|value| value.as_slice() == words))
+}
+
+// What a run reads of a value of one leaf.
+fn word(overlay: &mut Overlay, key: &Key) -> Option<u128> {
+    overlay.recall(key);
+    match overlay.view(key, 0, 1) {
+        Some([word]) => Some(*word),
+        _ => None,
+    }
+}
+
+#[test]
+fn values_have_their_words(rt: HostRuntime) -> Result<(), Fail> {
+    let alloc = rt.alloc();
+    let value = Value::words([1, 2, 3].to_vec(alloc)?);
+    let copy = value.copy(alloc)?;
+    assert_eq!(rt; copy.as_slice(), [1, 2, 3].as_slice());
+    let mut list = Vec::new(alloc);
+    Value::leaf(9).append_to(&mut list)?;
+    copy.append_to(&mut list)?;
+    assert_eq!(rt; list.as_slice(), [9, 1, 2, 3].as_slice());
+    Ok(())
+}
+
+#[test]
+fn runs_are_kept_and_given_up(rt: HostRuntime) -> Result<(), Fail> {
+    let alloc = rt.alloc();
+    let mut storage = Storage::new(alloc);
+    assert!(rt; run(&mut storage, alloc, FIRST, Value::leaf(5))?);
+    assert!(rt; !run(&mut storage, alloc, FIRST, Value::leaf(6))?);
+    let storage = try_out(storage, &FIRST, &[8]);
+    assert!(rt; storage.get(&SECOND).is_none());
+    let mut overlay = storage.overlay();
+    assert!(rt; is_taken(&mut overlay, &FIRST, &[5])?);
+    assert!(rt; !overlay.exists(&FIRST));
+    assert!(rt; overlay.put(FIRST, Value::leaf(4))?);
+    assert_eq!(rt; overlay.discard().get(&FIRST), Some([5].as_slice()));
+    // What is put and given up.
+    let mut overlay = Storage::new(alloc).overlay();
+    assert!(rt; overlay.put(FIRST, Value::leaf(5))?);
+    assert!(rt; overlay.put(SECOND, Value::words([1, 2].to_vec(alloc)?))?);
+    let storage = overlay.discard();
+    assert!(rt; storage.get(&FIRST).is_none() && storage.get(&SECOND).is_none());
+    assert!(rt; storage.iter().next().is_none());
+    Ok(())
+}
+
+#[test]
+fn values_are_edited_in_place(rt: HostRuntime) -> Result<(), Fail> {
+    let alloc = rt.alloc();
+    let mut storage = Storage::new(alloc);
+    let value = Value::words([1, 2, 3].to_vec(alloc)?);
+    assert!(rt; run(&mut storage, alloc, FIRST, value)?);
+    let mut overlay = storage.overlay();
+    assert!(rt; overlay.edit(&FIRST, 1, &[7, 8])?);
+    assert!(rt; overlay.edit(&FIRST, 0, &[6])?);
+    assert!(rt; !overlay.edit(&FIRST, 2, &[0, 0])?);
+    assert!(rt; !overlay.edit(&SECOND, 0, &[0])?);
+    assert_eq!(rt; overlay.view(&FIRST, 0, 3), Some([6, 7, 8].as_slice()));
+    assert!(rt; overlay.view(&FIRST, 2, 2).is_none());
+    assert!(rt; overlay.key_at(7, 0, 0) == Some(FIRST));
+    assert!(rt; overlay.key_at(7, 65536, 0).is_none());
+    assert_eq!(rt; overlay.commit().get(&FIRST), Some([6, 7, 8].as_slice()));
+    Ok(())
+}
+
+#[test]
+fn values_are_put_and_taken_again(rt: HostRuntime) -> Result<(), Fail> {
+    let alloc = rt.alloc();
+    let mut overlay = Storage::new(alloc).overlay();
+    assert!(rt; overlay.put(FIRST, Value::leaf(5))?);
+    assert!(rt; overlay.put(SECOND, Value::words([1, 2].to_vec(alloc)?))?);
+    assert!(rt; !overlay.put(SECOND, Value::leaf(0))?);
+    assert!(rt; overlay.edit(&FIRST, 0, &[6])?);
+    assert!(rt; overlay.edit(&SECOND, 1, &[9])?);
+    assert!(rt; is_taken(&mut overlay, &FIRST, &[6])?);
+    assert!(rt; overlay.take(&FIRST)?.is_none());
+    assert!(rt; overlay.put(FIRST, Value::leaf(7))?);
+    assert!(rt; is_taken(&mut overlay, &SECOND, &[1, 9])?);
+    let storage = overlay.commit();
+    assert!(rt; storage.get(&SECOND).is_none());
+    assert_eq!(rt; storage.get(&FIRST), Some([7].as_slice()));
+    Ok(())
+}
+
+// Each key has its own value, whichever was looked up before it.
+#[test]
+fn keys_follow_one_another(rt: HostRuntime) -> Result<(), Fail> {
+    let mut overlay = Storage::new(rt.alloc()).overlay();
+    for (key, value) in VALUES {
+        assert!(rt; overlay.put(key, Value::leaf(value))?);
+    }
+    for (one, value) in VALUES {
+        for (other, other_value) in VALUES {
+            assert_eq!(rt; word(&mut overlay, &one), Some(value));
+            assert_eq!(rt; word(&mut overlay, &other), Some(other_value));
+            assert!(rt; overlay.edit(&other, 0, &[other_value])?);
+            assert!(rt; overlay.edit(&one, 0, &[value])?);
+            assert!(rt; overlay.exists(&other));
+        }
+    }
+    Ok(())
+}
+
+// A key that is read, edited, taken and put in turn, with another between.
+#[test]
+fn keys_are_used_again(rt: HostRuntime) -> Result<(), Fail> {
+    let alloc = rt.alloc();
+    let mut storage = Storage::new(alloc);
+    assert!(rt; run(&mut storage, alloc, FIRST, Value::leaf(5))?);
+    let mut overlay = storage.overlay();
+    assert_eq!(rt; word(&mut overlay, &FIRST), Some(5));
+    assert!(rt; overlay.edit(&FIRST, 0, &[6])?);
+    assert!(rt; overlay.take(&FIRST)?.is_some());
+    assert_eq!(rt; word(&mut overlay, &FIRST), None);
+    assert!(rt; !overlay.edit(&FIRST, 0, &[7])?);
+    assert!(rt; !overlay.exists(&FIRST));
+    assert!(rt; overlay.take(&FIRST)?.is_none());
+    assert!(rt; overlay.put(FIRST, Value::leaf(8))?);
+    assert!(rt; !overlay.put(FIRST, Value::leaf(9))?);
+    assert!(rt; overlay.put(SECOND, Value::leaf(10))?);
+    assert_eq!(rt; word(&mut overlay, &FIRST), Some(8));
+    assert!(rt; overlay.take(&SECOND)?.is_some());
+    assert!(rt; !overlay.put(FIRST, Value::leaf(11))?);
+    // The second goes, and its place is given to another key.
+    let mut overlay = overlay.commit().overlay();
+    assert!(rt; !overlay.exists(&SECOND));
+    assert!(rt; overlay.put(THIRD, Value::leaf(12))?);
+    assert_eq!(rt; word(&mut overlay, &SECOND), None);
+    assert_eq!(rt; word(&mut overlay, &FIRST), Some(8));
+    assert_eq!(rt; word(&mut overlay, &THIRD), Some(12));
+    Ok(())
+}

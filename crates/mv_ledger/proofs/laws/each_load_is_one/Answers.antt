@@ -1,0 +1,5 @@
+use Rattle.mv_ledger.proofs.SavedFails.{loads-one}
+use Rattle.mv_ledger.proofs.laws.each_load_is_one.Goals as goal
+
+pub returns : goal.returns
+returns c = loads-one

@@ -1,0 +1,5 @@
+use Rattle.mv_ledger.proofs.SavedFails.{comes-back}
+use Rattle.mv_ledger.proofs.laws.each_second_form_comes_back.Goals as goal
+
+pub returns : goal.returns
+returns c = comes-back

@@ -1,0 +1,299 @@
+"""From a module's text to its tables: each name becomes the index of what it names."""
+
+from typing import Dict, List, Optional, Union
+
+from . import model, syntax
+from .coding import Coder
+from .errors import TextError, unknown
+from .handles import OWN, Names, checked_identifier, entry_text, path_text
+from .model import MUTABLE, REFERENCE, STRUCT, Token
+from .numbers import SIGNATURE_TYPES, TABLE_BYTES
+from .pools import Pool
+from .writer import write_module
+
+LEAVES = {kind: Token(kind) for kind in model.LEAF_NAMES}
+
+
+class Assembler:
+    """A module in the making. Errors are collected, so that all are told."""
+
+    def __init__(self, tree: syntax.Module):
+        self.tree = tree
+        self.listed = tree.tables or syntax.Tables()
+        self.errors: List[TextError] = []
+        self.names = Names()
+        self.structs: Pool[model.StructHandle] = Pool("struct handles")
+        self.functions: Pool[model.FunctionHandle] = Pool("function handles")
+        self.signatures: Pool[model.Signature] = Pool("signatures")
+        self.constants: Pool[model.Constant] = Pool("constants")
+        self.fields: Pool[model.FieldHandle] = Pool("field handles")
+        self.struct_places: Dict[tuple, int] = {}
+        self.function_places: Dict[tuple, int] = {}
+        self.definitions: List[model.StructDefinition] = []
+        self.definition_places: Dict[int, int] = {}
+        self.field_places: List[Dict[str, int]] = []
+        self.bodies: List[model.FunctionDefinition] = []
+
+    def module(self) -> Optional[model.Module]:
+        """The module; None where there are errors. What fails in one step isn't tried in the next ones."""
+        steps = self.add_modules, self.add_structs, self.add_lists, self.add_definitions, self.add_functions, self.add_bodies
+        for step in steps:
+            step()
+            if self.errors:
+                return None
+        names = self.names
+        return model.Module(
+            self.tree.version, names.modules.entries, self.structs.entries, self.functions.entries, self.signatures.entries,
+            self.constants.entries, names.identifiers.entries, names.addresses.entries, self.definitions, self.bodies,
+            self.fields.entries, names.own)
+
+    def each(self, items, act):
+        """Does something with each item, and collects the errors."""
+        for item in items:
+            try:
+                act(item)
+            except TextError as error:
+                self.errors.append(error)
+
+    # Modules.
+
+    def add_modules(self):
+        """Adds the identifiers, addresses and module handles that are listed, and those of the own module and the imports."""
+        names, at = self.names, self.tree.at
+        self.each(self.listed.identifiers, lambda name: names.identifiers.add(checked_identifier(name), name.at))
+        self.each(self.listed.addresses, lambda address: names.addresses.add(address, at))
+        self.each(self.listed.modules, lambda module: names.modules.add(names.handle(module), module.at))
+        self.each([self.tree.name], self.add_own)
+        self.each(self.tree.imports, self.add_import)
+
+    def add_own(self, own: syntax.ModuleName):
+        names = self.names
+        if own.address is None:
+            names.own = own.name.number
+        else:
+            names.own = names.modules.place(names.handle(own), own.at)
+        names.aliases[OWN] = names.own
+
+    def add_import(self, imported: syntax.Import):
+        names = self.names
+        place = names.modules.place(names.handle(imported.module), imported.module.at)
+        if isinstance(imported.alias, syntax.Index):
+            return
+        alias = imported.alias.text
+        if names.aliases.setdefault(alias, place) != place:
+            raise TextError(imported.alias.at, f"a second module goes by `{alias}`; give it another name: `as {alias}2`")
+
+    # Structs.
+
+    def add_structs(self):
+        """Adds the struct handles that are listed, and those of the imports and the own structs."""
+        self.each(self.listed.structs, lambda handle: self.add_struct(handle, is_listed=True))
+        for imported in self.tree.imports:
+            self.each(imported.structs, self.add_struct)
+        self.each(self.tree.structs, self.add_own_struct)
+
+    def add_struct(self, text: syntax.StructHandleText, is_listed: bool = False) -> int:
+        """The index of a struct handle."""
+        path = text.path
+        handle = model.StructHandle(self.names.module(path.module), self.names.identifier(path.name), text.abilities)
+        if is_listed:
+            place = self.structs.add(handle, path.at)
+            self.struct_places.setdefault((handle.module, handle.name), place)
+            return place
+        known = self.struct_places.get((handle.module, handle.name))
+        if known is not None and self.structs.entries[known] != handle:
+            raise TextError(path.name.at, f"a second struct `{entry_text(path.name)}`, with other abilities")
+        place = self.structs.place(handle, path.at)
+        self.struct_places[handle.module, handle.name] = place
+        return place
+
+    def add_own_struct(self, struct: syntax.Struct):
+        if isinstance(struct.name, syntax.Index):
+            handle = struct.name.number
+        else:
+            handle = self.add_struct(syntax.StructHandleText(syntax.Path(None, struct.name, struct.at), struct.abilities))
+            if handle in self.definition_places:
+                raise TextError(struct.name.at, f"a second struct `{struct.name.text}`")
+        self.definition_places.setdefault(handle, len(self.definitions))
+        self.definitions.append(model.StructDefinition(handle))
+        self.field_places.append({})
+        for place, one in reversed(list(enumerate(struct.fields))):
+            self.field_places[-1][entry_text(one.name)] = place
+
+    def add_definitions(self):
+        """Adds the fields of the own structs."""
+        for struct, definition in zip(self.tree.structs, self.definitions):
+            self.each(struct.fields, lambda one, to=definition: to.fields.append(self.field(one)))
+            seen = set()
+            self.each(struct.fields, lambda one, seen=seen: check_field(one, seen))
+
+    def field(self, one: syntax.Variable) -> model.Field:
+        return model.Field(self.names.identifier(one.name), self.token(one.type))
+
+    def token(self, kind: syntax.Type) -> Token:
+        """A type."""
+        if kind.kind in (REFERENCE, MUTABLE):
+            return Token(kind.kind, inner=self.token(kind.inner))
+        if kind.kind != STRUCT:
+            return LEAVES[kind.kind]
+        return Token(STRUCT, struct=self.struct_handle(kind.struct))
+
+    def struct_handle(self, struct: Union[syntax.Path, syntax.Index]) -> int:
+        """The index of the handle of a struct that is named."""
+        if isinstance(struct, syntax.Index):
+            return struct.number
+        module = self.names.module(struct.module)
+        name = self.names.known_identifier(struct.name)
+        place = None if name is None else self.struct_places.get((module, name))
+        if place is None:
+            raise TextError(struct.at, self.no_struct(module, struct))
+        return place
+
+    def no_struct(self, module: int, struct: syntax.Path) -> str:
+        """That there is no struct of a name, and which one was probably meant."""
+        names = self.meant_names(module, struct, self.struct_places)
+        if struct.module is None:
+            return unknown("type", path_text(struct), [*names, *model.LEAF_KINDS])
+        return unknown("struct", path_text(struct), names)
+
+    def meant_names(self, module: int, path: syntax.Path, places: Dict[tuple, int]) -> List[str]:
+        """The names that might be meant by one that nothing has: the same one in another module, or any in this module."""
+        name = entry_text(path.name)
+        prefix = path_text(path)[:-len(name)]
+        own, others = [], []
+        for other, identifier in places:
+            text = self.identifier_text(identifier)
+            if other == module:
+                own.append(prefix + text)
+            elif text == name:
+                others.extend(f"{alias}::{text}" for alias, place in self.names.aliases.items() if place == other)
+        return others or own
+
+    def identifier_text(self, place: int) -> str:
+        names = self.names.identifiers.entries
+        return names[place] if place < len(names) else f"#{place}"
+
+    def definition(self, struct: Union[syntax.Entry, syntax.Path]) -> int:
+        """The index of the definition of a struct of the own module that is named."""
+        if isinstance(struct, syntax.Path) and struct.module is None:
+            struct = struct.name
+        if isinstance(struct, syntax.Index):
+            return struct.number
+        path = struct if isinstance(struct, syntax.Path) else syntax.Path(None, struct, struct.at)
+        place = self.definition_places.get(self.struct_handle(path))
+        if place is None:
+            raise TextError(path.at, f"`{path_text(path)}` is no struct of this module")
+        return place
+
+    # Lists that name structs.
+
+    def add_lists(self):
+        """Adds the signatures, constants and field handles that are listed."""
+        at = self.tree.at
+        self.each(self.listed.signatures, lambda types: self.signatures.add(self.types(types, at), at))
+        self.each(self.listed.constants, lambda constant: self.constants.add(self.constant(constant), constant.at))
+        self.each(self.listed.fields, lambda path: self.fields.add(self.field_handle(path), path.at))
+
+    def types(self, types: List[syntax.Type], at: int) -> model.Signature:
+        if len(types) > SIGNATURE_TYPES:
+            raise TextError(types[SIGNATURE_TYPES].at, f"a signature has at most {SIGNATURE_TYPES} types")
+        return tuple(map(self.token, types))
+
+    def signature(self, types: Union[List[syntax.Type], syntax.Index], at: int) -> int:
+        """The index of a signature."""
+        return types.number if isinstance(types, syntax.Index) else self.signatures.place(self.types(types, at), at)
+
+    def constant(self, literal: syntax.Literal) -> model.Constant:
+        return model.Constant(self.token(literal.type), literal.data)
+
+    def field_handle(self, path: syntax.FieldPath) -> model.FieldHandle:
+        """A field of an own struct."""
+        struct = self.definition(path.struct)
+        if isinstance(path.field, syntax.Index):
+            return model.FieldHandle(struct, path.field.number)
+        places = self.field_places[struct] if struct < len(self.field_places) else {}
+        place = places.get(path.field.text)
+        if place is None:
+            raise TextError(path.field.at, unknown("field", path.field.text, places, f" in `{entry_text(path.struct)}`"))
+        return model.FieldHandle(struct, place)
+
+    # Functions.
+
+    def add_functions(self):
+        """Adds the function handles that are listed, and those of the imports and the own functions."""
+        self.each(self.listed.functions, lambda handle: self.add_function(handle, is_listed=True))
+        for imported in self.tree.imports:
+            self.each(imported.functions, self.add_function)
+        self.each(self.tree.functions, self.add_own_function)
+
+    def add_function(self, text: syntax.FunctionHandleText, is_listed: bool = False) -> int:
+        """The index of a function handle."""
+        path = text.path
+        module, name = self.names.module(path.module), self.names.identifier(path.name)
+        known = self.function_places.get((module, name))
+        if not is_listed and known is not None:
+            self.check_signatures(text, self.functions.entries[known])
+            return known
+        parameters, results = self.signature(text.parameters, path.at), self.signature(text.results, path.at)
+        place = self.functions.add(model.FunctionHandle(module, name, parameters, results), path.at)
+        self.function_places.setdefault((module, name), place)
+        return place
+
+    def check_signatures(self, text: syntax.FunctionHandleText, handle: model.FunctionHandle):
+        """Fails where a function that is named has other signatures than its handle."""
+        for types, place in (text.parameters, handle.parameters), (text.results, handle.results):
+            known = model.entry(self.signatures.entries, place)
+            if known is not None and self.types(types, text.path.at) != known:
+                raise TextError(text.path.name.at, f"a second function `{entry_text(text.path.name)}`, with other types")
+
+    def add_own_function(self, function: syntax.Function):
+        body = model.FunctionDefinition(0, function.is_public, function.is_entry)
+        self.bodies.append(body)
+        if isinstance(function.name, syntax.Index):
+            body.handle = function.name.number
+            return
+        types = [one.type for one in function.parameters]
+        path = syntax.Path(None, function.name, function.at)
+        body.handle = self.add_function(syntax.FunctionHandleText(path, types, function.results))
+        if any(other.handle == body.handle for other in self.bodies[:-1]):
+            raise TextError(function.name.at, f"a second function `{function.name.text}`")
+
+    def function(self, path: syntax.Path) -> int:
+        """The index of the handle of a function that is named."""
+        if path.module is None and isinstance(path.name, syntax.Index):
+            return path.name.number
+        module, name = self.names.module(path.module), self.names.known_identifier(path.name)
+        place = None if name is None else self.function_places.get((module, name))
+        if place is None:
+            names = self.meant_names(module, path, self.function_places)
+            raise TextError(path.at, unknown("function", path_text(path), names))
+        return place
+
+    def add_bodies(self):
+        """Adds what the functions acquire, their other locals and their code."""
+        for function, body in zip(self.tree.functions, self.bodies):
+            self.each(function.acquires, lambda struct, to=body: to.acquires.append(self.definition(struct)))
+            coder = Coder(self, function, body)
+            self.each([function], coder.add_locals)
+            coder.add_code()
+
+
+def check_field(one: syntax.Variable, seen: set):
+    """Fails where a struct has two fields of a name."""
+    name = entry_text(one.name)
+    if name in seen and isinstance(one.name, syntax.Name):
+        raise TextError(one.name.at, f"a second field `{name}`")
+    seen.add(name)
+
+
+def assembled(tree: syntax.Module, errors: List[TextError]) -> bytes:
+    """A module's bytes. Its errors are put at the end of those that are given; with any, the bytes mean nothing."""
+    assembler = Assembler(tree)
+    module = assembler.module()
+    if module is None:
+        errors.extend(assembler.errors)
+        return b""
+    data = write_module(module)
+    if len(data) > TABLE_BYTES:
+        errors.append(TextError(tree.at, f"the module has {len(data)} bytes, more than {TABLE_BYTES}"))
+    return data

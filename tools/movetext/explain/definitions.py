@@ -1,0 +1,84 @@
+"""Phase 4: entries that are equal, definitions, fields, and structs that contain themselves."""
+
+from .. import model
+from .chains import chain_back
+from .subject import ENTRY_WORDS
+
+PHASE = 4
+
+# The tables that have no two equal entries, and their words.
+DIFFERENT = {
+    model.MODULE_HANDLES: "module handles", model.SIGNATURES: "signatures", model.CONSTANTS: "constants",
+    model.IDENTIFIERS: "identifiers", model.ADDRESSES: "addresses", model.FIELD_HANDLES: "field handles",
+}
+
+# The tables of handles of which no two have one module and name, with the definitions of the own ones.
+DEFINED = {model.STRUCT_HANDLES: ("struct handles", model.STRUCTS),
+           model.FUNCTION_HANDLES: ("function handles", model.FUNCTIONS)}
+
+
+def check(subject):
+    """Raises the first failure."""
+    for kind, words in DIFFERENT.items():
+        check_different(subject, kind, subject.module.table(kind), f"no two equal {words}")
+    for kind, (words, _) in DEFINED.items():
+        named = [(handle.module, handle.name) for handle in subject.module.table(kind)]
+        check_different(subject, kind, named, f"no two {words} of one module and name")
+    for kind, (_, definitions) in DEFINED.items():
+        check_definitions(subject, kind, definitions)
+    for index, definition in enumerate(subject.module.structs):
+        check_fields(subject, index, definition)
+    check_cycles(subject)
+
+
+def check_different(subject, kind, entries, rule):
+    """Wants entries that differ."""
+    seen = {}
+    for index, one in enumerate(entries):
+        if one in seen:
+            subject.fail_entry(PHASE, kind, index, f"{rule}: {ENTRY_WORDS[kind]} {seen[one]} is the same")
+        seen[one] = index
+
+
+def check_definitions(subject, kind, definitions):
+    """Wants each own handle of a kind defined once, and no other."""
+    module, found = subject.module, {}
+    for index, definition in enumerate(module.table(definitions)):
+        handle = definition.handle
+        if module.table(kind)[handle].module != module.own:
+            where = subject.names.module_text(module.table(kind)[handle].module)
+            subject.fail_entry(PHASE, definitions, index,
+                               f"definitions use handles of the own module: {ENTRY_WORDS[kind]} {handle} is of {where}")
+        if handle in found:
+            subject.fail_entry(PHASE, definitions, index, "each own handle is defined exactly once: "
+                               f"{ENTRY_WORDS[definitions]} {found[handle]} has {ENTRY_WORDS[kind]} {handle} too")
+        found[handle] = index
+    for handle, one in enumerate(module.table(kind)):
+        if one.module == module.own and handle not in found:
+            subject.fail_entry(PHASE, kind, handle, "each own handle is defined exactly once: no definition has it")
+
+
+def check_fields(subject, index, definition):
+    if not definition.fields:
+        subject.fail_entry(PHASE, model.STRUCTS, index, "each struct has a field: it has none")
+    names = [one.name for one in definition.fields]
+    for position, name in enumerate(names):
+        first = names.index(name)
+        if first != position:
+            subject.fail_entry(PHASE, model.STRUCTS, index, f"field names of a struct differ: fields {first} and {position} "
+                               f"are both called `{subject.module.identifier(name)}`")
+
+
+def held_structs(subject, index):
+    """The own struct definitions that a struct has as fields."""
+    module = subject.module
+    handles = [one.type.struct for one in module.structs[index].fields if one.type.kind == model.STRUCT]
+    return [subject.names.definition_places[handle] for handle in handles if module.is_own_struct(handle)]
+
+
+def check_cycles(subject):
+    """Wants no struct that contains itself by a chain of fields."""
+    chain = chain_back(range(len(subject.module.structs)), lambda struct: held_structs(subject, struct))
+    if chain:
+        names = ", which has a ".join(f"`{subject.module.definition_name(one)}`" for one in chain)
+        subject.fail_entry(PHASE, model.STRUCTS, chain[0], f"no struct contains itself by a chain of fields: {names}")

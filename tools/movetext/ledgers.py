@@ -1,0 +1,189 @@
+"""Saved ledgers of both forms from bytes."""
+
+from dataclasses import dataclass, field
+from typing import List
+
+from . import model, numbers
+from .cursor import Cursor, Fault, Stop
+from .model import COPY, DROP, KEY, LEDGER_MAGIC, Ledger, Module, Offer, Stored, Tally
+from .reader import read_module
+
+# How deep structs may lie in one another, and how many leaves and structs a value may have, before its leaves aren't looked
+# for any more. The linker refuses far smaller ones.
+MOST_NESTED = 64
+MOST_PARTS = 10_000
+
+
+@dataclass
+class LedgerReading:
+    """What was read of a saved ledger: its parts as far as they go, its modules, where each stands, and the faults found."""
+
+    ledger: Ledger
+    modules: List[Module] = field(default_factory=list)
+    module_offsets: List[int] = field(default_factory=list)
+    certificate_offsets: List[int] = field(default_factory=list)
+    faults: List[Fault] = field(default_factory=list)
+
+
+def read_ledger(data):
+    """What bytes are as a saved ledger: a LedgerReading, or None where they don't begin as one."""
+    form = next((form for form, magic in LEDGER_MAGIC.items() if data[:4] == magic), None)
+    if form is None:
+        return None
+    reading = LedgerReading(Ledger(form))
+    cursor = Cursor(data, 4, faults=reading.faults)
+    try:
+        read_parts(cursor, reading)
+        if not cursor.is_at_end:
+            cursor.fault(cursor.at, f"{cursor.left()} after the last stored value")
+    except Stop:
+        pass
+    return reading
+
+
+def read_parts(cursor, reading):
+    """Runs, modules, tallies and stored values."""
+    ledger = reading.ledger
+    ledger.runs = cursor.number(numbers.RUN_COUNT, "the number of runs")
+    for _ in range(cursor.number(numbers.STORE_MODULES, "the number of modules")):
+        read_offer(cursor, reading)
+    structs = Structs(reading.modules)
+    ledger.scarce, ledger.keys = structs.scarce(), structs.keys()
+    for _ in ledger.scarce:
+        ledger.tallies.append(read_tally(cursor, ledger.form))
+    if ledger.form == 1:
+        read_first_form(cursor, ledger, structs)
+    else:
+        read_second_form(cursor, ledger, structs)
+
+
+def read_offer(cursor, reading):
+    """A module and its certificate; what follows can't be read where the module is none."""
+    size = cursor.number(numbers.TABLE_BYTES, "a module's length")
+    at = cursor.at
+    data = cursor.bytes(size, "a module")
+    size = cursor.number(numbers.CERTIFICATE_BYTES, "a certificate's length")
+    reading.module_offsets.append(at)
+    reading.certificate_offsets.append(cursor.at)
+    reading.ledger.offers.append(Offer(data, cursor.bytes(size, "a certificate")))
+    module = read_module(data)
+    if not module.is_module:
+        first = module.faults[0]
+        cursor.stop(at + first.offset, f"module {len(reading.modules)}: {first.reason}")
+    reading.modules.append(module.module)
+
+
+def read_tally(cursor, form):
+    if form == 2:
+        packed = cursor.number(numbers.TALLY, "how many values were packed")
+        return Tally(packed, cursor.number(numbers.TALLY, "how many values were unpacked"))
+    packed = cursor.bytes(16, "how many values were packed")
+    unpacked = cursor.bytes(16, "how many values were unpacked")
+    return Tally(int.from_bytes(packed, "little"), int.from_bytes(unpacked, "little"))
+
+
+def read_first_form(cursor, ledger, structs):
+    """The stored values, which ascend by address, place and struct definition."""
+    before = None
+    for _ in range(cursor.number(numbers.STORED_COUNT, "the number of stored values")):
+        at = cursor.at
+        address = cursor.address("a stored value's address")
+        place = cursor.index("the place of a stored value's module")
+        struct = cursor.index("a stored value's struct definition")
+        if (place, struct) not in ledger.keys:
+            cursor.stop(at, f"no struct with key has the place {place} and the definition {struct}")
+        if before is not None and (address, place, struct) <= before:
+            cursor.fault(at, "a stored value isn't above the one before it")
+        before = address, place, struct
+        read_stored(cursor, ledger, structs, *before)
+
+
+def read_second_form(cursor, ledger, structs):
+    """For each struct with key its stored values, which ascend by address."""
+    for place, struct in ledger.keys:
+        before = None
+        for _ in range(cursor.number(numbers.STORED_COUNT, "the number of a struct's stored values")):
+            at = cursor.at
+            address = cursor.address("a stored value's address")
+            if before is not None and address <= before:
+                cursor.fault(at, "a stored value isn't above the one before it")
+            before = address
+            read_stored(cursor, ledger, structs, address, place, struct)
+
+
+def read_stored(cursor, ledger, structs, address, place, struct):
+    leaves = structs.leaves(place, struct)
+    if leaves is None:
+        cursor.stop(cursor.at, f"the leaves of struct definition {struct} of module {place} aren't known")
+    stored = Stored(address, place, struct)
+    ledger.stored.append(stored)
+    for kind in leaves:
+        stored.leaves.append(cursor.value(kind, "a stored value's leaf"))
+
+
+class Structs:
+    """The struct definitions of modules that link to one another by address and name."""
+
+    def __init__(self, modules):
+        self.modules = modules
+        self.by_name = {}
+        self.known = {}
+        for place, module in enumerate(modules):
+            for index in range(len(module.structs)):
+                self.by_name.setdefault(self.full_name(module, module.structs[index].handle), (place, index))
+
+    @staticmethod
+    def full_name(module, struct_handle):
+        """A struct's address, module and name, by its handle in a module."""
+        handle = model.entry(module.struct_handles, struct_handle)
+        if handle is None:
+            return None
+        return module.address_of(handle.module), module.module_name(handle.module), module.identifier(handle.name)
+
+    def which(self, wanted):
+        """The place and definition index of each struct whose abilities are wanted, in order."""
+        found = []
+        for place, module in enumerate(self.modules):
+            for index in range(len(module.structs)):
+                handle = module.definition_handle(index)
+                if handle is not None and wanted(handle.abilities):
+                    found.append((place, index))
+        return found
+
+    def scarce(self):
+        """The structs with neither copy nor drop, of which tallies are kept."""
+        return self.which(lambda abilities: not abilities & (COPY | DROP))
+
+    def keys(self):
+        """The structs with key, of which values are stored."""
+        return self.which(lambda abilities: abilities & KEY)
+
+    def definition(self, module, struct_handle):
+        """The place and definition index of the struct that a handle of a module names, or None."""
+        return self.by_name.get(self.full_name(module, struct_handle))
+
+    def leaves(self, place, struct, depth=0):
+        """The kinds of a struct's leaves in order, or None where they aren't known."""
+        return self.parts(place, struct, depth)[0]
+
+    def parts(self, place, struct, depth):
+        """A struct's leaves, or None, and how many leaves and structs it has."""
+        if (place, struct) not in self.known:
+            self.known[place, struct] = self.parts_of(place, struct, depth)
+        return self.known[place, struct]
+
+    def parts_of(self, place, struct, depth):
+        module = self.modules[place]
+        found, count = [], 1
+        for one in module.structs[struct].fields:
+            inner, size = [one.type.kind], 1
+            if one.type.kind == model.STRUCT:
+                key = self.definition(module, one.type.struct)
+                inner, size = self.parts(*key, depth + 1) if key and depth < MOST_NESTED else (None, 0)
+            elif one.type.kind not in model.LEAF_WIDTHS:
+                inner = None
+            count += size
+            if inner is None or count > MOST_PARTS:
+                return None, 0
+            found += inner
+        return found, count

@@ -1,0 +1,69 @@
+"""ULEB128 numbers: seven bits a byte, the lowest group first, the high bit set on all bytes but the last."""
+
+# The greatest numbers that a text may hold at a place, by docs/FORMATS.md.
+INDEX = 65_535
+TABLE_COUNT = 255
+TABLE_BYTES = 65_536
+SIGNATURE_TYPES = 64
+IDENTIFIER_BYTES = 128
+STRUCT_FIELDS = 32
+ABILITY_BITS = 15
+INSTRUCTION_COUNT = 4_096
+FUNCTION_COUNT = 256
+EDGE_COUNT = 1_024
+POSITION_COUNT = 8
+POSITION = 31
+RECORD_BYTES = 33_554_432
+BUNDLE_MODULES = 16
+CERTIFICATE_BYTES = 1_048_576
+ARGUMENT_COUNT = 16
+BUDGET = 18_446_744_073_709_551_615
+RUN_COUNT = 4_294_967_296
+STORE_MODULES = 4_096
+TALLY = 42_949_672_960_000_000
+STORED_COUNT = 18_446_744_073_709_551_615
+
+SMALL = [bytes([value]) for value in range(128)]
+
+
+class NumberError(Exception):
+    """Bytes at a place that are no number: `reason` says why, `offset` where the number begins."""
+
+    def __init__(self, offset, reason):
+        super().__init__(reason)
+        self.offset = offset
+        self.reason = reason
+
+
+def write_number(value):
+    """The shortest ULEB128 bytes of a number."""
+    if value < 128:
+        return SMALL[value]
+    out = bytearray()
+    while value > 127:
+        out.append(value & 127 | 128)
+        value >>= 7
+    out.append(value)
+    return bytes(out)
+
+
+def read_number(data, offset, end, greatest):
+    """The number at `offset` of the bytes before `end`, and the offset after it; NumberError where there is none."""
+    value = shift = 0
+    at = offset
+    while True:
+        if at >= end:
+            raise NumberError(offset, "the bytes end within a number" if at > offset else "the bytes end before a number")
+        byte = data[at]
+        at += 1
+        value |= (byte & 127) << shift
+        if byte < 128:
+            break
+        shift += 7
+        if shift >= 70:
+            raise NumberError(offset, "a number has more than ten bytes")
+    if byte == 0 and shift:
+        raise NumberError(offset, f"the number {value} is written in {at - offset} bytes, longer than its shortest form")
+    if value > greatest:
+        raise NumberError(offset, f"the number {value} is greater than {greatest}")
+    return value, at

@@ -1,0 +1,82 @@
+"""The tables that a module's text gives: how each begins, entry by entry."""
+
+from . import scanner, syntax
+from .code_parser import CodeParser
+from .errors import unknown
+
+
+class TableParser(CodeParser):
+    """The tables of a module."""
+
+    def __init__(self, words, keeps_limits=True):
+        super().__init__(words, keeps_limits)
+        self.table_entries = {
+            "modules": self.module_handle, "structs": self.struct_handle, "functions": self.function_handle,
+            "signatures": self.types, "constants": self.literal, "identifiers": self.identifier, "addresses": self.address,
+            "fields": self.field_path,
+        }
+
+    def tables(self) -> syntax.Tables:
+        """How tables begin."""
+        self.expect_word("tables")
+        tables, seen = syntax.Tables(), set()
+        self.open_brace()
+        while not self.accept("}"):
+            self.table(tables, seen)
+            self.skip_ends()
+        return tables
+
+    def table(self, tables: syntax.Tables, seen: set):
+        """How a table begins."""
+        start, kind = self.start, self.text
+        read_entry = self.table_entries.get(kind)
+        if self.kind != scanner.NAME:
+            self.wanted("a table's name or `}`")
+        if read_entry is None:
+            self.fail(unknown("table", kind, self.table_entries))
+        if kind in seen:
+            self.fail(f"a second table `{kind}`", start)
+        seen.add(kind)
+        self.at += 1
+        entries = getattr(tables, kind)
+        self.in_braces(lambda: entries.append(read_entry()), "an entry")
+
+    def module_handle(self) -> syntax.ModuleName:
+        return self.module_name()
+
+    def struct_handle(self) -> syntax.StructHandleText:
+        path = self.path("a struct")
+        return syntax.StructHandleText(path, self.abilities())
+
+    def function_handle(self) -> syntax.FunctionHandleText:
+        """A function's name, and its signatures or their indices."""
+        path = self.path("a function")
+        if self.kind == scanner.INDEX:
+            parameters = self.index()
+        else:
+            parameters = self.types()
+        results = []
+        if self.accept(":"):
+            results = self.index_or_results()
+        return syntax.FunctionHandleText(path, parameters, results)
+
+    def index_or_results(self):
+        """The index of a signature, or types."""
+        if self.kind == scanner.INDEX:
+            return self.index()
+        return self.types() if self.is_mark("(") else [self.type()]
+
+    def literal(self) -> syntax.Literal:
+        constant = self.constant()
+        if isinstance(constant, syntax.Index):
+            self.fail("wanted a value, or a type and bytes", constant.at)
+        return constant
+
+    def identifier(self) -> syntax.Name:
+        return self.name("an identifier")
+
+    def field_path(self) -> syntax.FieldPath:
+        path = self.field()
+        if isinstance(path, syntax.Index):
+            self.fail("wanted a struct and a field, as `Coin.value`", path.at)
+        return path
