@@ -4,6 +4,7 @@ import sys
 from pathlib import Path
 
 import files
+import saved
 from clock import ASCENDING, SCATTERED, STEPS, Clock
 from files import BLOCKS, CHAIN, CHAINED, FUNCTIONS, LARGE_FEW, LARGE_MANY, ROUNDS_OF_A_LOOP, STRUCTS, WORK
 from inputs import BEGINNING
@@ -154,6 +155,7 @@ def main():
     tell_store(folder, best, clock)
     tell_runs(folder, best, clock)
     tell_records(best)
+    saved.tell(clock.program, folder)
 
 
 main()
