@@ -94,4 +94,14 @@ impl Store {
             Err(Refusal::Phase(_)) => unreachable!(),
         }
     }
+
+    /// The bytes that the module at a place was read from, and those of the certificate that it was checked with.
+    pub fn texts(&self, place: usize) -> (&[u8], &[u8])
+        requires { place < length self.now }
+        ensures text { IfSome (slice_get self.now place) (λ p. result.0.now ≡ p.text) }
+        ensures certificate { IfSome (slice_get self.now place) (λ p. result.1.now ≡ p.certificate) }
+    {
+        let texts = &self.modules[place];
+        (texts.module.as_slice(), texts.certificate.as_slice())
+    }
 }
