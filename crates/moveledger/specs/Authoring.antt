@@ -2,7 +2,7 @@
 use Rattle.std.specs.Prelude.{◌≡◌, ℕ, ◌⊎◌, List, Option, Result, Ok, Err, codes, string_bytes, ⊤}
 use Rattle.std.specs.Io.KnownBytes.{Appends}
 use Rattle.moveledger.specs.declared.status.End.{End}
-use Rattle.moveledger.specs.declared.status.End.TheVariants.{Done, Read, Write, Memory, Words, Refused, TooComplex}
+use Rattle.moveledger.specs.declared.status.End.TheVariants.{Done, Read, Write, Memory, Words, Refused, LoadRefused, TooComplex}
 use Rattle.moveledger.specs.Printing.{line, refused_text}
 use Rattle.moveledger.specs.Checking.{FailsCheck, IsAccepted}
 use Rattle.moveledger.specs.Proving.{FailsProof, HasReferences, IsProvedBy}
@@ -20,6 +20,7 @@ ChecksTo bytes text held holds Read = ⊤
 ChecksTo bytes text held holds Write = ⊤
 ChecksTo bytes text held holds Memory = ⊤
 ChecksTo bytes text held holds Words = ⊥
+ChecksTo bytes text held holds (LoadRefused number) = ⊥
 ChecksTo bytes text held holds TooComplex = ⊥
 
 -- where a certificate was to be made for a module
@@ -31,3 +32,4 @@ ProvesTo bytes held holds Read = ⊤
 ProvesTo bytes held holds Write = ⊤
 ProvesTo bytes held holds Memory = ⊤
 ProvesTo bytes held holds Words = ⊥
+ProvesTo bytes held holds (LoadRefused number) = ⊥

@@ -7,6 +7,7 @@ pub mod Progress
 pub mod Answered
 pub mod Line
 pub mod Status
+pub mod Keeping
 pub mod Hexadecimal
 pub mod Checking
 pub mod Proving

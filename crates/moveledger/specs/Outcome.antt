@@ -7,7 +7,7 @@ use Rattle.moveledger.specs.Records.{Record, AreRecords, AreWhole, NoWhole, Begi
 use Rattle.mv_machine.specs.Lines.{numbered}
 use Rattle.moveledger.specs.Headline.{Headline, Step, Reports, Tells}
 use Rattle.moveledger.specs.declared.status.End.{End}
-use Rattle.moveledger.specs.declared.status.End.TheVariants.{Done, Read, Write, Memory, Words, Refused, TooComplex}
+use Rattle.moveledger.specs.declared.status.End.TheVariants.{Done, Read, Write, Memory, Words, Refused, LoadRefused, TooComplex}
 
 -- the bytes that are known to be left
 abbrev pub left_of : Option (List ℕ) → List ℕ
@@ -60,4 +60,5 @@ Ends Write given gives held holds old new = Stops given held holds old new ⊎ (
 Ends Memory given gives held holds old new = Stops given held holds old new
 Ends Words given gives held holds old new = ⊥
 Ends (Refused phase) given gives held holds old new = ⊥
+Ends (LoadRefused number) given gives held holds old new = ⊥
 Ends TooComplex given gives held holds old new = ⊥

@@ -13,6 +13,10 @@ line text = text ++ 10 ∷ []
 abbrev pub refused_text : ℕ → List ℕ
 refused_text phase = codes "refused " ++ decimal phase
 
+-- the number of the reason for which a saved ledger isn't loaded
+abbrev pub load_refused_text : ℕ → List ℕ
+load_refused_text number = codes "load refused " ++ decimal number
+
 -- what is printed where no certificate is made; nothing where an allocation failed
 abbrev pub no_proof_line : ProveError → Option (List ℕ)
 no_proof_line (Refused phase) = Some (line (refused_text phase))

@@ -1,33 +1,21 @@
 // The commands of an author, over what their files give and what they print.
-ghost use Rattle.std.specs.Prelude.{◌≡◌, ◌⊎◌, IfErr, IfOk, IfSome, take, string_bytes};
+ghost use Rattle.std.specs.Prelude.{IfSome, string_bytes};
 ghost use Rattle.moveledger.specs.Authoring.{ChecksTo, Prints, ProvesTo};
 
 use crate::answering::write_text;
 use crate::checking::check_text;
+use crate::inputs::first_bytes;
 use crate::printing::{checked_line, proved_line};
 use crate::proving::prove_text;
 use crate::status::{End, end_of_check, end_of_proof};
 use std::alloc::{AllocError, Global};
-use std::io::{ErrorKind, Read, Write};
+use std::io::{Read, Write};
 
 /// The most bytes that are read of a module's file: one more than a module may have.
 const MODULE_READ: u64 = 65_537;
 
 /// The most bytes that are read of the file of a certificate's text: one more than its digits and a line end.
 const TEXT_READ: u64 = 2_097_154;
-
-/// The first bytes that a reader gives, at most so many.
-fn first_bytes<R: Read + Drop>(alloc: Global, reader: R, most: u64) -> Result<Vec<u8>, End>
-    ensures bytes { IfOk result (λ v. IfSome (R.remaining reader) (λ xs. v.items ≡ take most xs)) }
-    ensures err { IfErr result (λ e. (e ≡ End.Read) ⊎ (e ≡ End.Memory)) }
-{
-    let mut bytes = Vec::new(alloc);
-    match reader.take(most).read_to_end(&mut bytes) {
-        Ok(_) => Ok(bytes),
-        Err(e) if e.kind() == ErrorKind::OutOfMemory => Err(End::Memory),
-        Err(_) => Err(End::Read),
-    }
-}
 
 /// Writes a line. The end is then this one, unless that failed.
 fn printed<W: Write>(writer: &mut W, end: End, made: Result<String, AllocError>) -> End

@@ -7,6 +7,8 @@ mod authoring;
 mod checking;
 mod command;
 mod engine;
+mod inputs;
+mod keeping;
 mod meter;
 mod modules;
 mod pacing;

@@ -1,19 +1,37 @@
 // What the commands of an author print.
 ghost use Rattle.std.specs.Prelude.{◌≡◌, ◌++◌, Some, IfOk, MatchResult, codes, decimal, string_bytes};
-ghost use Rattle.moveledger.specs.Printing.{line, refused_text, no_proof_line, checked_line};
+ghost use Rattle.moveledger.specs.Printing.{line, load_refused_text, refused_text, no_proof_line, checked_line};
 
 use mv_analyser::ProveError;
 use mv_move_types::Refusal;
 use std::alloc::{AllocError, Global};
 
+/// A line with a number in the end.
+fn numbered_line(alloc: Global, words: &str, number: u8) -> Result<String, AllocError>
+    ensures { IfOk result (λ text. string_bytes text ≡ line (words.now ++ decimal number)) }
+{
+    let mut text = String::from_str(alloc, words)?;
+    write!(text, "{number}")?;
+    text.push_str("\n")?;
+    Ok(text)
+}
+
 /// The line of a phase that refuses.
 fn refused_line(alloc: Global, phase: u8) -> Result<String, AllocError>
     ensures { IfOk result (λ text. string_bytes text ≡ line (refused_text phase)) }
 {
-    let mut text = String::from_str(alloc, "refused ")?;
-    write!(text, "{phase}")?;
-    text.push_str("\n")?;
-    Ok(text)
+    numbered_line(alloc, "refused ", phase)
+}
+
+/// What is printed where a saved ledger isn't loaded, for the reason of this number.
+///
+/// # Errors
+///
+/// An allocation failed.
+pub fn load_refused_line(alloc: Global, number: u8) -> Result<String, AllocError>
+    ensures { IfOk result (λ text. string_bytes text ≡ line (load_refused_text number)) }
+{
+    numbered_line(alloc, "load refused ", number)
 }
 
 /// What is printed where no certificate is made.

@@ -1,8 +1,9 @@
 // How the program ends: its fault's line, and its exit status.
 ghost use Rattle.std.specs.Prelude.{◌≡◌, option_map};
-ghost use Rattle.moveledger.specs.Status.{end_after, end_after_check, end_after_proof, fault_line, status_of};
+ghost use Rattle.moveledger.specs.Status.{end_after, end_after_check, end_after_keeping, end_after_proof, fault_line, status_of};
 
 use crate::engine::EngineError;
+use crate::keeping::KeepError;
 use mv_analyser::ProveError;
 use mv_move_types::Refusal;
 
@@ -21,6 +22,8 @@ pub enum End {
     Words,
     /// A module is refused in this phase.
     Refused(u8),
+    /// A saved ledger isn't loaded, for the reason of this number.
+    LoadRefused(u8),
     /// No certificate is made for a module, since the search reaches its limits.
     TooComplex,
 }
@@ -64,19 +67,31 @@ pub fn end_of_check(checked: Result<(), Refusal>) -> End
     }
 }
 
+/// The end after a text was to be kept.
+pub fn end_of_keeping(kept: Result<(), KeepError>) -> End
+    ensures { result ≡ end_after_keeping kept }
+{
+    match kept {
+        Ok(()) => End::Done,
+        Err(KeepError::Write) => End::Write,
+        Err(KeepError::Memory) => End::Memory,
+    }
+}
+
 /// The line of a fault. None where there is none: a command line that isn't understood has clap's text.
 pub fn fault_text(end: &End) -> Option<&'static str>
     ensures { option_map (λ s. s.now) result ≡ fault_line end.now }
 {
     match end {
-        End::Done | End::Words | End::Refused(_) | End::TooComplex => None,
+        End::Done | End::Words | End::Refused(_) | End::LoadRefused(_) | End::TooComplex => None,
         End::Read => Some("fault: read"),
         End::Write => Some("fault: write"),
         End::Memory => Some("fault: memory"),
     }
 }
 
-/// The exit status: 0 done, 1 a fault, 2 a refused command line, 3 a module that is refused or too complex.
+/// The exit status: 0 done, 1 a fault, 2 a refused command line, 3 a module that is refused or too complex, or a saved ledger
+/// that is refused.
 pub fn status(end: &End) -> u8
     ensures { result ≡ status_of end.now }
 {
@@ -84,6 +99,6 @@ pub fn status(end: &End) -> u8
         End::Done => 0,
         End::Read | End::Write | End::Memory => 1,
         End::Words => 2,
-        End::Refused(_) | End::TooComplex => 3,
+        End::Refused(_) | End::LoadRefused(_) | End::TooComplex => 3,
     }
 }

@@ -3,6 +3,7 @@
 mod altered;
 mod authoring;
 mod fakes;
+mod keeping;
 mod libraries;
 mod line;
 mod rows;

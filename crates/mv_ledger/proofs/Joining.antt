@@ -1,5 +1,5 @@
 -- A bundle that may join, and was placed: the store and the tallies after it.
-use Rattle.std.proofs.Common.{◌≡◌, ℕ, suc, cond, ◌+◌, ◌<◌, ◌≤◌, List, [], ◌∷◌, length, Some, refl, sym, ap, ap₂, ◌∙◌, subst, arith}
+use Rattle.std.proofs.Common.{◌≡◌, ℕ, suc, cond, ◌+◌, ◌<◌, ◌≤◌, List, [], ◌∷◌, length, Option, refl, sym, ap, ap₂, ◌∙◌, subst, arith}
 use Rattle.std.specs.Prelude.{All, nat_le, nat_lt, count_by, ◌&&◌, true, false}
 use Rattle.std.specs.List.{list_all}
 use Rattle.std.specs.Cmp.{first_so, second_so}
@@ -33,8 +33,8 @@ placed-length old tss next [] (p ∷ ps) h = absurd h
 placed-length old tss next (m ∷ ms) [] h = absurd h
 placed-length old tss next (m ∷ ms) (p ∷ ps) h = ap suc (placed-length old tss (cond (is_published old m) next (next + 1)) ms ps h.2)
 
-module _ (old bundle : List PublishedModule) (tss : List (List Tally)) (placed : List Placed) (sender : ℕ) (store : IsStore old) (whole : IsStore (with_modules old bundle))
-    (join : MayJoin (Some sender) (tables_in old) (tables_in bundle) (tables_in (with_modules old bundle))) (at : ArePlacedFor (tables_in old) tss (length old) (tables_in bundle) placed)
+module _ (old bundle : List PublishedModule) (tss : List (List Tally)) (placed : List Placed) (sender : Option ℕ) (store : IsStore old) (whole : IsStore (with_modules old bundle))
+    (join : MayJoin sender (tables_in old) (tables_in bundle) (tables_in (with_modules old bundle))) (at : ArePlacedFor (tables_in old) tss (length old) (tables_in bundle) placed)
     (theirs : ArePlaced 0 tss) (scarce : AreScarce (tables_in old) tss) where
   spots : AreSpotted (had tss) old bundle placed
   spots = all-spotted old bundle tss placed join.once at

@@ -48,7 +48,7 @@ sized-whole most lt rest v ok =
     ∙ bytes-whole (length v) v rest refl
 
 -- a module and its certificate at the front
-offer-parts : Parts offer_from offer_text offer_fits
+pub offer-parts : Parts offer_from offer_text offer_fits
 offer-parts bytes rest v ok e =
     on_bind (sized_from 65536 bytes) _ (v, rest) e (λ t t_is e1.
     on_bind (sized_from 1048576 t.1) _ (v, rest) e1 (λ c c_is e2.
@@ -61,7 +61,7 @@ offer-parts bytes rest v ok e =
     (and_from (sized_fits 65536 t.0) (nat_le (length c.0) 1048576) p.1 r.0) r.1)))
 
 -- they are read
-offer-whole : Whole offer_from offer_text offer_fits
+pub offer-whole : Whole offer_from offer_text offer_fits
 offer-whole rest v ok =
     let p = and_parts (sized_fits 65536 v.text && nat_le (length v.certificate) 1048576) (list_all is_byte v.certificate) ok in
     let q = and_parts (sized_fits 65536 v.text) (nat_le (length v.certificate) 1048576) p.0 in

@@ -23,7 +23,7 @@ use Rattle.mv_ledger.specs.RecordText.{leaf_bytes, argument_text, argument_fits}
 use Rattle.mv_ledger.specs.Payloads.{leaf_from, argument_from}
 
 -- a leaf at the front
-leaf-parts : (kind : LeafKind) → Parts (leaf_from kind) (leaf_bytes kind) (leaf_fits kind)
+pub leaf-parts : (kind : LeafKind) → Parts (leaf_from kind) (leaf_bytes kind) (leaf_fits kind)
 leaf-parts Boolean bytes rest v ok e =
     on_bind (byte_from bytes) _ (v, rest) e (λ b b_is e1.
     let p = byte-front b.0 bytes b.1 ok b_is in
@@ -34,7 +34,7 @@ leaf-parts Address bytes rest v ok e = address-parts bytes rest v ok e
 leaf-parts Signer bytes rest v ok e = absurd (none-some (v, rest) e)
 
 -- a leaf is read
-leaf-whole : (kind : LeafKind) → Whole (leaf_from kind) (leaf_bytes kind) (leaf_fits kind)
+pub leaf-whole : (kind : LeafKind) → Whole (leaf_from kind) (leaf_bytes kind) (leaf_fits kind)
 leaf-whole Boolean rest v ok = ap (λ t. then_some t (v, rest)) ok
 leaf-whole (Number w) rest v ok = number_of-whole w v rest (ltb-true v (2 ^ width_bits w) ok)
 leaf-whole Address rest v ok = address-whole rest v ok

@@ -18,3 +18,10 @@ pub mod Formats
 pub mod SavedText
 pub mod Loading
 pub mod SavedLaws
+pub mod Layouts
+pub mod BodyParts
+pub mod LayoutParts
+pub mod LoadedParts
+pub mod Inside
+pub mod CountRows
+pub mod Saving

@@ -1,5 +1,5 @@
 -- Which bytes are loaded, as which ledger, and else the first reason against them.
-use Rattle.std.specs.Prelude.{◌≡◌, ℕ, ◌+◌, ◌*◌, ◌≤◌, IsTrue, List, ◌++◌, map, ⊤}
+use Rattle.std.specs.Prelude.{◌≡◌, ℕ, ◌+◌, ◌*◌, ◌≤◌, IsTrue, List, ◌++◌, map, Option, Some, None, ⊤}
 use Rattle.std.specs.List.{AllByRecursion}
 use Rattle.mv_move_types.specs.Published.{PublishedModule}
 use Rattle.mv_bounds.specs.Definitions.{all_differ}
@@ -9,6 +9,8 @@ use Rattle.mv_linker.specs.Link.{have_one_name, tables_in}
 use Rattle.mv_linker.specs.Links.{Links}
 use Rattle.mv_ledger.specs.Publishing.{AllPass, FailsAmong, offered}
 use Rattle.mv_ledger.specs.SavedText.{Form, head_text, HeadFits, IsSavedText}
+use Rattle.mv_ledger.specs.declared.loading.LoadError.{LoadError}
+use Rattle.mv_ledger.specs.declared.loading.LoadError.TheVariants.{Head, Module, Link, Body, Tally, Memory}
 
 -- the bytes begin with a form, so many runs, and these modules with their certificates
 pub record HasHead (bytes : List ℕ) (form : Form) (runs : ℕ) (offers : List Offer) : Type 0 where
@@ -47,3 +49,21 @@ pub data FailsLoad (bytes : List ℕ) : ℕ → Type 0 where
   no_links : (form : Form) (runs : ℕ) (offers : List Offer) (ps : List PublishedModule) → HasHead bytes form runs offers → AllPass offers ps → ¬ AreLinked ps → FailsLoad bytes 3
   no_body : (form : Form) (runs : ℕ) (offers : List Offer) (ps : List PublishedModule) → HasHead bytes form runs offers → AllPass offers ps → AreLinked ps → ((s : LedgerState) → s.published ≡ ps → IsSavedText form bytes s → ⊥) → FailsLoad bytes 4
   no_tallies : (form : Form) (s : LedgerState) → IsSavedText form bytes s → AllPass (map offered s.published) s.published → AreLinked s.published → ¬ AreTallied s → FailsLoad bytes 5
+
+-- the number of a reason; want of memory has none
+abbrev pub load_number : LoadError → Option ℕ
+load_number Head = Some 1
+load_number Module = Some 2
+load_number Link = Some 3
+load_number Body = Some 4
+load_number Tally = Some 5
+load_number Memory = None
+
+-- the reason that is answered is the first against the bytes, or memory ran out
+abbrev pub IsLoadRefusal : List ℕ → LoadError → Type 0
+IsLoadRefusal bytes Head = FailsLoad bytes 1
+IsLoadRefusal bytes Module = FailsLoad bytes 2
+IsLoadRefusal bytes Link = FailsLoad bytes 3
+IsLoadRefusal bytes Body = FailsLoad bytes 4
+IsLoadRefusal bytes Tally = FailsLoad bytes 5
+IsLoadRefusal bytes Memory = ⊤

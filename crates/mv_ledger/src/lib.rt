@@ -6,18 +6,22 @@ mod executing;
 mod format;
 mod json;
 mod laws;
+mod layouts;
 mod lines;
+mod loading;
 mod payload;
 mod publishing;
+mod saving;
 mod tallies;
 mod texts;
 mod values;
 
-ghost use Rattle.std.specs.Prelude.{◌≡◌, is_some};
+ghost use Rattle.std.specs.Prelude.{◌≡◌, is_some, IfOk};
 ghost use Rattle.mv_ledger.specs.View.{empty_view, state_of};
 ghost use Rattle.mv_ledger.specs.Answering.{told, told_lines, Replies};
 ghost use Rattle.mv_ledger.specs.Accepted.SoundLedger.{IsSoundLedger};
 ghost use Rattle.mv_ledger.specs.SavedLaws.{IsSavable};
+ghost use Rattle.mv_ledger.specs.SavedText.{IsSavedText, Second};
 
 use executing::{Barred, admitted};
 use format::{Format, read_format};
@@ -29,13 +33,14 @@ pub use laws::{
     no_load_fails,
 };
 pub use lines::Lines;
+pub use loading::LoadError;
 use mv_frames::Counters;
 use mv_linker::Store;
 use mv_machine::Outcome;
 use mv_move_types::Refusal;
 use mv_storage::Storage;
 use payload::read_run;
-use std::alloc::Global;
+use std::alloc::{AllocError, Global};
 use std::marker::Model;
 use tallies::Tallies;
 
@@ -200,5 +205,21 @@ impl Ledger {
                 Ok(Lines::of_text(alloc, text))
             }
         }
+    }
+
+    /// The ledger's text, in the second form.
+    ///
+    /// # Errors
+    /// If an allocation failed.
+    pub fn save(&self) -> Result<Vec<u8>, AllocError>
+        ensures { IfOk result (λ v. IsSavedText Second v.items (state_of self.now)) }
+    {
+        saving::text_of(
+            self.alloc,
+            &self.store,
+            &self.storage,
+            &self.tallies,
+            self.runs,
+        )
     }
 }

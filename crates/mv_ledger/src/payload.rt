@@ -75,13 +75,17 @@ fn offer<'a>(reader: &mut Reader<'a>) -> Result<Offered<'a>, Refusal>
     Ok(Offered { text, certificate })
 }
 
-/// Reads the modules of a bundle, from 1 to 16, after their number.
-fn offers<'a>(alloc: Global, reader: &mut Reader<'a>) -> Result<Vec<Offered<'a>>, Refusal>
-    ensures ok { IfOk result (λ v. counted_from 16 offer_from reader.old ≡ Some (offers_of v.items, reader.new)) }
-    ensures refused { result ≡ Err (Refusal.Phase 2) → counted_from 16 offer_from reader.old ≡ None }
+/// Reads modules with their certificates, of which there are at most so many, after their number.
+pub fn offers<'a>(
+    alloc: Global,
+    reader: &mut Reader<'a>,
+    most: u64,
+) -> Result<Vec<Offered<'a>>, Refusal>
+    ensures ok { IfOk result (λ v. counted_from most offer_from reader.old ≡ Some (offers_of v.items, reader.new)) }
+    ensures refused { result ≡ Err (Refusal.Phase 2) → counted_from most offer_from reader.old ≡ None }
     ensures errors { IfErr result (λ e. (e ≡ Refusal.Phase 2) ⊎ (e ≡ Refusal.Memory)) }
 {
-    let count = reader.number(MOST_OFFERS)?;
+    let count = reader.number(most)?;
     let mut all = Vec::new(alloc);
     'each: for _ in 0..count {
         let next = offer(reader)?;
@@ -97,7 +101,7 @@ fn next_bundle<'a>(alloc: Global, reader: &mut Reader<'a>) -> Result<Bundle<'a>,
     ensures errors { IfErr result (λ e. (e ≡ Refusal.Phase 2) ⊎ (e ≡ Refusal.Memory)) }
 {
     let sender = reader.address()?;
-    let offers = offers(alloc, reader)?;
+    let offers = offers(alloc, reader, MOST_OFFERS)?;
     if offers.is_empty() {
         return Err(MALFORMED);
     }
@@ -124,7 +128,7 @@ pub fn read_bundle<'a>(alloc: Global, payload: &'a [u8]) -> Result<Bundle<'a>, R
 }
 
 /// Reads a leaf of a kind.
-fn leaf(reader: &mut Reader<'_>, kind: LeafKind) -> Result<u128, Refusal>
+pub fn leaf(reader: &mut Reader<'_>, kind: LeafKind) -> Result<u128, Refusal>
     ensures ok { IfOk result (λ n. leaf_from kind reader.old ≡ Some (n, reader.new)) }
     ensures range { IfOk result (λ n. IsTrue (number_fits kind n)) }
     ensures refused { result ≡ Err (Refusal.Phase 2) → leaf_from kind reader.old ≡ None }

@@ -51,7 +51,7 @@ fn verified<'a>(alloc: Global, offer: &Offered<'a>) -> Result<New<'a>, Refusal>
 }
 
 /// The offered modules with what they passed, tried one after the other.
-fn all_verified<'a>(alloc: Global, offers: &[Offered<'a>]) -> Result<Vec<New<'a>>, Refusal>
+pub fn all_verified<'a>(alloc: Global, offers: &[Offered<'a>]) -> Result<Vec<New<'a>>, Refusal>
     ensures passed { IfOk result (λ v. AllPass (offers_of offers.now) (published_of v.items)) }
     ensures texts { IfOk result (λ v. AreTexts v.items) }
     ensures refused { IfErr result (IsRefusedAmong (offers_of offers.now)) }
@@ -65,7 +65,7 @@ fn all_verified<'a>(alloc: Global, offers: &[Offered<'a>]) -> Result<Vec<New<'a>
 
 /// Where each of these modules is to stand, with its tallies: in the place of the published one of its name, whose tallies it
 /// keeps, or in the next place. The counters get room for its structs, up to the last one with neither copy nor drop.
-fn placed(
+pub fn placed(
     alloc: Global,
     store: &Store,
     tallies: &Tallies,

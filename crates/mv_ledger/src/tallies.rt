@@ -1,16 +1,22 @@
 // Tallies of the structs with neither copy nor drop.
-ghost use Rattle.std.specs.Prelude.{◌≡◌, ◌+◌, ◌-◌, ◌^◌, ◌<◌, ◌≤◌, [], ◌∷◌, ◌++◌, All, true, length, map, drop, slice_get, unwrap_or, IfOk, OnOk, OnErr};
+ghost use Rattle.std.specs.Prelude.{◌≡◌, ◌+◌, ◌-◌, ◌^◌, ◌<◌, ◌≤◌, [], ◌∷◌, ◌++◌, All, true, length, map, drop, slice_get, unwrap_or, None, Some, IfOk, IfErr, OnOk, OnErr};
 ghost use Rattle.std.specs.Vec.{vec_len, vec_capacity};
 ghost use Rattle.mv_move_types.specs.Published.{with_modules};
 ghost use Rattle.mv_linker.specs.Stored.{IsLinkedTo, with_at};
 ghost use Rattle.mv_frames.specs.Counters.{is_tally_at};
 ghost use Rattle.mv_interpreter.specs.Runs.{AtMost};
+ghost use Rattle.mv_module_text.specs.Parsing.{entries_from};
+ghost use Rattle.mv_ledger.specs.BodyParts.{form_of, counts_of, struct_of, tally_from};
 ghost use Rattle.mv_ledger.specs.Tallying.{fresh_tally, tally_after, with_placed, AreWithin, AreInOrder, HasRoomFor, HasRoomLeft, IsRoomFor};
 ghost use Rattle.mv_ledger.specs.View.{all_of, ArePlaced, scarce_indices};
 
+use crate::loading::head::SavedForm;
+use crate::loading::tallies::read_tallies;
 use mv_binary_format::Module;
 use mv_frames::StructTally;
 use mv_linker::{Linked, Store, add, is_scarce};
+use mv_module_text::Reader;
+use mv_move_types::Refusal;
 use std::alloc::{AllocError, Global};
 use std::marker::Model;
 
@@ -176,6 +182,19 @@ impl Tallies {
         add(store, linked)?;
         for one in placed {
             put(&mut self.modules, one);
+        }
+        Ok(())
+    }
+
+    /// Reads the counts of all tallies, module by module, in place of those that they have.
+    pub fn read(&mut self, reader: &mut Reader<'_>, form: SavedForm) -> Result<(), Refusal>
+        ensures ok { OnOk result (entries_from (tally_from (form_of form)) (length (all_of self.old)) reader.old ≡ Some (map counts_of (all_of self.new), reader.new)) }
+        ensures refused { OnErr result (entries_from (tally_from (form_of form)) (length (all_of self.old)) reader.old ≡ None) }
+        ensures errors { IfErr result (λ e. e ≡ Refusal.Phase 2) }
+        ensures kept { map (map struct_of) self.new ≡ map (map struct_of) self.old }
+    {
+        'each: for tallies in self.modules.iter_mut() {
+            read_tallies(reader, form, tallies)?;
         }
         Ok(())
     }

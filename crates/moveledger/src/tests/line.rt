@@ -2,7 +2,8 @@
 
 use crate::command::{Task, command};
 use crate::engine::EngineError;
-use crate::status::{End, end_of, end_of_check, end_of_proof, fault_text, status};
+use crate::keeping::KeepError;
+use crate::status::{End, end_of, end_of_check, end_of_keeping, end_of_proof, fault_text, status};
 use mv_analyser::ProveError;
 use mv_move_types::Refusal;
 use std::test::Fail;
@@ -35,6 +36,7 @@ fn ends_have_their_line_and_status(rt: HostRuntime) {
         (End::Memory, Some("fault: memory"), 1),
         (End::Words, None, 2),
         (End::Refused(10), None, 3),
+        (End::LoadRefused(5), None, 3),
         (End::TooComplex, None, 3),
     ] {
         assert_eq!(rt; fault_text(&end), line);
@@ -57,6 +59,13 @@ fn ends_follow_what_a_command_made(rt: HostRuntime) {
         (ProveError::Memory, End::Memory),
     ] {
         assert_eq!(rt; end_of_proof(&Err(error)), wanted);
+    }
+    for (kept, wanted) in [
+        (Ok(()), End::Done),
+        (Err(KeepError::Write), End::Write),
+        (Err(KeepError::Memory), End::Memory),
+    ] {
+        assert_eq!(rt; end_of_keeping(kept), wanted);
     }
 }
 

@@ -8,7 +8,7 @@ use Rattle.mv_ledger.proofs.payload.offers.Goals as goal
 
 pub returns-in_err-next-clause-refused : goal.returns-in_err-next-clause-refused
 returns-in_err-next-clause-refused c is =
-    ReadsOn-stops offer_from 16 c.in_ok-count.count c.each.counter c.args.reader.now c.number.new.self (offers_of c.each.all.items) c.each.reader
+    ReadsOn-stops offer_from c.args.most c.in_ok-count.count c.each.counter c.args.reader.now c.number.new.self (offers_of c.each.all.items) c.each.reader
     c.in_ok-count.ensures.reads (omega arith) (c.in_err-next.ensures.refused (ap Err c.in_err-next.ensures.errors)) c.each.invariant
 
 pub each-preserved : goal.each-preserved

@@ -1,4 +1,4 @@
-use Rattle.std.proofs.Common.{◌≤◌, List, length, Err, inl, inr, arith, sym, ap, ◌∙◌, subst}
+use Rattle.std.proofs.Common.{◌≤◌, List, length, Some, Err, inl, inr, arith, sym, ap, ◌∙◌, subst}
 use Rattle.std.proofs.lemmas.List.{length-map}
 use Rattle.std.proofs.lemmas.Result.{err_from_is_err_and}
 use Rattle.mv_move_types.specs.Published.{PublishedModule, with_modules}
@@ -41,7 +41,7 @@ is_too_much-requires c =
 
 pub join-requires-clause-placed : goal.join-requires-clause-placed
 join-requires-clause-placed c =
-    joined-within c.args.store.now (published_of c.in_ok-news.news.items) c.args.tallies.now c.in_ok-placed.placed.items c.in-Ok.bundle.sender c.len-published.ensures.store
+    joined-within c.args.store.now (published_of c.in_ok-news.news.items) c.args.tallies.now c.in_ok-placed.placed.items (Some c.in-Ok.bundle.sender) c.len-published.ensures.store
     (subst (λ (l : List PublishedModule). IsStore (with_modules c.args.store.now l)) c.in_ok-linked.ensures.ok c.in_ok-linked.ensures.linked.whole) c.in_ok-linked.ensures.joins
     (subst (λ (ns : List New). ArePlacedFor (tables_in c.args.store.now) c.args.tallies.now (length c.args.store.now) (tables_in (published_of ns)) c.in_ok-placed.placed.items) c.deref-2.ensures.value c.in_ok-placed.ensures.placed)
     c.in_ok-placed.ensures.theirs c.requires.scarce c.requires.placed
@@ -50,38 +50,38 @@ pub returns-clause-whole : goal.returns-clause-whole
 returns-clause-whole c = subst IsStore (sym c.in_ok-join.ensures.ok) c.in_ok-linked.ensures.linked.whole
 
 pub returns-clause-placed : goal.returns-clause-placed
-returns-clause-placed c = after-length c.args.store.now (published_of c.in_ok-news.news.items) c.args.tallies.now c.in_ok-placed.placed.items c.in-Ok.bundle.sender c.len-published.ensures.store
+returns-clause-placed c = after-length c.args.store.now (published_of c.in_ok-news.news.items) c.args.tallies.now c.in_ok-placed.placed.items (Some c.in-Ok.bundle.sender) c.len-published.ensures.store
     (subst (λ (l : List PublishedModule). IsStore (with_modules c.args.store.now l)) c.in_ok-linked.ensures.ok c.in_ok-linked.ensures.linked.whole) c.in_ok-linked.ensures.joins
     (subst (λ (ns : List New). ArePlacedFor (tables_in c.args.store.now) c.args.tallies.now (length c.args.store.now) (tables_in (published_of ns)) c.in_ok-placed.placed.items) c.deref-2.ensures.value c.in_ok-placed.ensures.placed)
     c.in_ok-placed.ensures.theirs c.requires.scarce c.join.new.store c.join.new.self (c.in_ok-join.ensures.ok ∙ ap (with_modules c.args.store.now) c.in_ok-linked.ensures.ok) c.in_ok-join.ensures.tallied
 
 pub returns-clause-scarce : goal.returns-clause-scarce
-returns-clause-scarce c = after-scarce c.args.store.now (published_of c.in_ok-news.news.items) c.args.tallies.now c.in_ok-placed.placed.items c.in-Ok.bundle.sender c.len-published.ensures.store
+returns-clause-scarce c = after-scarce c.args.store.now (published_of c.in_ok-news.news.items) c.args.tallies.now c.in_ok-placed.placed.items (Some c.in-Ok.bundle.sender) c.len-published.ensures.store
     (subst (λ (l : List PublishedModule). IsStore (with_modules c.args.store.now l)) c.in_ok-linked.ensures.ok c.in_ok-linked.ensures.linked.whole) c.in_ok-linked.ensures.joins
     (subst (λ (ns : List New). ArePlacedFor (tables_in c.args.store.now) c.args.tallies.now (length c.args.store.now) (tables_in (published_of ns)) c.in_ok-placed.placed.items) c.deref-2.ensures.value c.in_ok-placed.ensures.placed)
     c.in_ok-placed.ensures.theirs c.requires.scarce c.join.new.store c.join.new.self (c.in_ok-join.ensures.ok ∙ ap (with_modules c.args.store.now) c.in_ok-linked.ensures.ok) c.in_ok-join.ensures.tallied c.requires.named
 
 pub returns-clause-named : goal.returns-clause-named
-returns-clause-named c = after-named c.args.store.now (published_of c.in_ok-news.news.items) c.args.tallies.now c.in_ok-placed.placed.items c.in-Ok.bundle.sender c.len-published.ensures.store
+returns-clause-named c = after-named c.args.store.now (published_of c.in_ok-news.news.items) c.args.tallies.now c.in_ok-placed.placed.items (Some c.in-Ok.bundle.sender) c.len-published.ensures.store
     (subst (λ (l : List PublishedModule). IsStore (with_modules c.args.store.now l)) c.in_ok-linked.ensures.ok c.in_ok-linked.ensures.linked.whole) c.in_ok-linked.ensures.joins
     (subst (λ (ns : List New). ArePlacedFor (tables_in c.args.store.now) c.args.tallies.now (length c.args.store.now) (tables_in (published_of ns)) c.in_ok-placed.placed.items) c.deref-2.ensures.value c.in_ok-placed.ensures.placed)
     c.in_ok-placed.ensures.theirs c.requires.scarce c.join.new.store c.join.new.self (c.in_ok-join.ensures.ok ∙ ap (with_modules c.args.store.now) c.in_ok-linked.ensures.ok) c.in_ok-join.ensures.tallied c.requires.named
 
 pub returns-clause-small : goal.returns-clause-small
-returns-clause-small c = after-small c.args.store.now (published_of c.in_ok-news.news.items) c.args.tallies.now c.in_ok-placed.placed.items c.in-Ok.bundle.sender c.len-published.ensures.store
+returns-clause-small c = after-small c.args.store.now (published_of c.in_ok-news.news.items) c.args.tallies.now c.in_ok-placed.placed.items (Some c.in-Ok.bundle.sender) c.len-published.ensures.store
     (subst (λ (l : List PublishedModule). IsStore (with_modules c.args.store.now l)) c.in_ok-linked.ensures.ok c.in_ok-linked.ensures.linked.whole) c.in_ok-linked.ensures.joins
     (subst (λ (ns : List New). ArePlacedFor (tables_in c.args.store.now) c.args.tallies.now (length c.args.store.now) (tables_in (published_of ns)) c.in_ok-placed.placed.items) c.deref-2.ensures.value c.in_ok-placed.ensures.placed)
     c.in_ok-placed.ensures.theirs c.requires.scarce c.join.new.store c.join.new.self (c.in_ok-join.ensures.ok ∙ ap (with_modules c.args.store.now) c.in_ok-linked.ensures.ok) c.in_ok-join.ensures.tallied c.requires.named
 
 pub returns-clause-tallied : goal.returns-clause-tallied
-returns-clause-tallied c = after-tallied c.args.store.now (published_of c.in_ok-news.news.items) c.args.tallies.now c.in_ok-placed.placed.items c.in-Ok.bundle.sender c.len-published.ensures.store
+returns-clause-tallied c = after-tallied c.args.store.now (published_of c.in_ok-news.news.items) c.args.tallies.now c.in_ok-placed.placed.items (Some c.in-Ok.bundle.sender) c.len-published.ensures.store
     (subst (λ (l : List PublishedModule). IsStore (with_modules c.args.store.now l)) c.in_ok-linked.ensures.ok c.in_ok-linked.ensures.linked.whole) c.in_ok-linked.ensures.joins
     (subst (λ (ns : List New). ArePlacedFor (tables_in c.args.store.now) c.args.tallies.now (length c.args.store.now) (tables_in (published_of ns)) c.in_ok-placed.placed.items) c.deref-2.ensures.value c.in_ok-placed.ensures.placed)
     c.in_ok-placed.ensures.theirs c.requires.scarce c.join.new.store c.join.new.self (c.in_ok-join.ensures.ok ∙ ap (with_modules c.args.store.now) c.in_ok-linked.ensures.ok) c.in_ok-join.ensures.tallied c.requires.named
 
 pub returns-clause-room : goal.returns-clause-room
 returns-clause-room c =
-    let room = room-for c.args.store.now (published_of c.in_ok-news.news.items) c.args.tallies.now c.in_ok-placed.placed.items c.in-Ok.bundle.sender c.len-published.ensures.store
+    let room = room-for c.args.store.now (published_of c.in_ok-news.news.items) c.args.tallies.now c.in_ok-placed.placed.items (Some c.in-Ok.bundle.sender) c.len-published.ensures.store
     (subst (λ (l : List PublishedModule). IsStore (with_modules c.args.store.now l)) c.in_ok-linked.ensures.ok c.in_ok-linked.ensures.linked.whole) c.in_ok-linked.ensures.joins
     (subst (λ (ns : List New). ArePlacedFor (tables_in c.args.store.now) c.args.tallies.now (length c.args.store.now) (tables_in (published_of ns)) c.in_ok-placed.placed.items) c.deref-2.ensures.value c.in_ok-placed.ensures.placed)
     c.in_ok-placed.ensures.theirs c.requires.scarce
@@ -90,7 +90,7 @@ returns-clause-room c =
 
 pub returns-clause-accepted : goal.returns-clause-accepted
 returns-clause-accepted c =
-    let room = room-for c.args.store.now (published_of c.in_ok-news.news.items) c.args.tallies.now c.in_ok-placed.placed.items c.in-Ok.bundle.sender c.len-published.ensures.store
+    let room = room-for c.args.store.now (published_of c.in_ok-news.news.items) c.args.tallies.now c.in_ok-placed.placed.items (Some c.in-Ok.bundle.sender) c.len-published.ensures.store
     (subst (λ (l : List PublishedModule). IsStore (with_modules c.args.store.now l)) c.in_ok-linked.ensures.ok c.in_ok-linked.ensures.linked.whole) c.in_ok-linked.ensures.joins
     (subst (λ (ns : List New). ArePlacedFor (tables_in c.args.store.now) c.args.tallies.now (length c.args.store.now) (tables_in (published_of ns)) c.in_ok-placed.placed.items) c.deref-2.ensures.value c.in_ok-placed.ensures.placed)
     c.in_ok-placed.ensures.theirs c.requires.scarce
@@ -121,7 +121,7 @@ returns-then-is_too_much-clause-refused c =
     refused_room c.args.store.now c.args.payload.now c.in-Ok.bundle.sender (offers_of c.in-Ok.bundle.offers.items) c.in-Ok.ensures.ok (published_of c.in_ok-news.news.items)
     (subst (λ (xs : List Offered). AllPass (offers_of xs) (published_of c.in_ok-news.news.items)) c.deref.ensures.value c.in_ok-news.ensures.passed)
     c.in_ok-linked.ensures.joins
-    (no-room-for c.args.store.now (published_of c.in_ok-news.news.items) c.args.tallies.now c.in_ok-placed.placed.items c.in-Ok.bundle.sender c.len-published.ensures.store
+    (no-room-for c.args.store.now (published_of c.in_ok-news.news.items) c.args.tallies.now c.in_ok-placed.placed.items (Some c.in-Ok.bundle.sender) c.len-published.ensures.store
     (subst (λ (l : List PublishedModule). IsStore (with_modules c.args.store.now l)) c.in_ok-linked.ensures.ok c.in_ok-linked.ensures.linked.whole) c.in_ok-linked.ensures.joins
     (subst (λ (ns : List New). ArePlacedFor (tables_in c.args.store.now) c.args.tallies.now (length c.args.store.now) (tables_in (published_of ns)) c.in_ok-placed.placed.items) c.deref-2.ensures.value c.in_ok-placed.ensures.placed)
     c.in_ok-placed.ensures.theirs c.requires.scarce

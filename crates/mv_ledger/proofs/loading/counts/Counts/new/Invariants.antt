@@ -1,0 +1,6 @@
+use Rattle.std.proofs.Common.{◌≡◌, map, take}
+use Rattle.mv_ledger.specs.CountRows.{no_counts}
+use Rattle.mv_ledger.proofs.loading.counts.Counts.new.Given as goal
+
+abbrev pub invariant-each : goal.invariant-each
+invariant-each l = map (λ r. r.items) l.rows.items ≡ take l.place (no_counts l.layouts)

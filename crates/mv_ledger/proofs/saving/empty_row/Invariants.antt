@@ -1,0 +1,7 @@
+use Rattle.std.proofs.Common.{◌≡◌, length}
+use Rattle.std.specs.Prelude.{All}
+use Rattle.mv_ledger.specs.Saving.{IsEmpty}
+use Rattle.mv_ledger.proofs.saving.empty_row.Given as goal
+
+abbrev pub invariant-each : goal.invariant-each
+invariant-each l = (length l.row.items ≡ l.index) × All IsEmpty l.row.items

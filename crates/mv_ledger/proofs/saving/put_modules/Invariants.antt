@@ -1,0 +1,9 @@
+use Rattle.std.proofs.Common.{◌≡◌, ◌++◌, map, take, length}
+use Rattle.std.specs.List.{flat_map}
+use Rattle.mv_uleb.specs.Uleb.{uleb}
+use Rattle.mv_ledger.specs.Publishing.{offered}
+use Rattle.mv_ledger.specs.RecordText.{offer_text}
+use Rattle.mv_ledger.proofs.saving.put_modules.Given as goal
+
+abbrev pub invariant-each : goal.invariant-each
+invariant-each l = l.text.items ≡ (l.fn.text.items ++ uleb (length l.store)) ++ flat_map offer_text (map offered (take l.place l.store))

@@ -1,0 +1,11 @@
+use Rattle.std.proofs.Common.{◌≡◌, ◌++◌, List, take}
+use Rattle.std.specs.List.{flat_map}
+use Rattle.mv_machine.specs.Flat.{FlatEntry, storage_of}
+use Rattle.mv_ledger.specs.SavedText.{keyed_from, struct_text}
+use Rattle.mv_ledger.specs.Saving.{sections_of, AreSections}
+use Rattle.mv_ledger.proofs.saving.put_sections.Given as goal
+
+abbrev pub invariant-each : goal.invariant-each
+invariant-each l =
+    (entries : List FlatEntry) → AreSections l.layouts entries (sections_of l.rows)
+    → l.text.items ≡ l.fn.text.items ++ flat_map (struct_text (storage_of l.layouts entries)) (take l.d-index (keyed_from 0 l.layouts))

@@ -1,0 +1,10 @@
+use Rattle.std.proofs.Common.{length}
+use Rattle.mv_ledger.specs.Saving.{sections_of}
+use Rattle.mv_ledger.proofs.Filling.{IsFilled}
+use Rattle.mv_ledger.proofs.saving.sections_in.Given as goal
+
+abbrev pub invariant-each : goal.invariant-each
+invariant-each l = IsFilled l.layouts l.fn.storage l.entries (sections_of l.rows.items)
+
+abbrev pub decreases-each : goal.decreases-each
+decreases-each l = length l.entries

@@ -1,0 +1,39 @@
+-- Counts of the values of structs, module by module.
+--   no_counts modules          zero for each struct of the modules
+--   count_at rows d            the count of the struct at a place and an index
+--   with_count rows d n        the counts with so many more values of that struct
+--   HasRows modules rows       there is a count of each struct
+--   Adds modules n f old new   so often as many values as f says were added for each struct
+use Rattle.std.specs.Prelude.{◌≡◌, ℕ, ◌+◌, ◌-◌, ◌*◌, ◌^◌, ◌<◌, min, List, [], map, length, replicate, Some, slice_set, slice_index_or}
+use Rattle.mv_move_types.specs.declared.tables.Definition.{Definition}
+use Rattle.mv_move_types.specs.Names.{StructName}
+use Rattle.mv_move_types.specs.Module.{Module, name_at}
+
+-- the counts of the structs of the module at a place
+abbrev pub row_at : List (List ℕ) → ℕ → List ℕ
+row_at rows place = slice_index_or rows place []
+
+-- the count of the struct at a place and an index
+abbrev pub count_at : List (List ℕ) → Definition → ℕ
+count_at rows d = slice_index_or (row_at rows d.place) d.index 0
+
+-- a count, at most the greatest one
+abbrev pub capped : ℕ → ℕ
+capped n = min n (2 ^ 128 - 1)
+
+-- zero for each struct of the modules
+abbrev pub no_counts : List Module → List (List ℕ)
+no_counts modules = map (λ m. replicate (length m.structs) 0) modules
+
+-- the counts with so many more values of a struct, if it has one
+abbrev pub with_count : List (List ℕ) → Definition → ℕ → List (List ℕ)
+with_count rows d n = slice_set rows d.place (slice_set (row_at rows d.place) d.index (capped (count_at rows d + n)))
+
+-- there is a count of each struct
+abbrev pub HasRows : List Module → List (List ℕ) → Type 0
+HasRows modules rows = (d : Definition) (name : StructName) → name_at modules d.place d.index ≡ Some name → (d.place < length rows) × (d.index < length (row_at rows d.place))
+
+-- For each struct there are so often as many values more as f says.
+pub record Adds (modules : List Module) (n : ℕ) (f : StructName → ℕ) (old new : List (List ℕ)) : Type 0 where
+  pub rows : HasRows modules old → HasRows modules new
+  pub counts : HasRows modules old → (d : Definition) (name : StructName) → name_at modules d.place d.index ≡ Some name → capped (count_at new d) ≡ capped (count_at old d + n * f name)

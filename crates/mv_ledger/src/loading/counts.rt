@@ -1,0 +1,182 @@
+// The tallies of a saved ledger against what it stores.
+ghost use Rattle.std.specs.Prelude.{◌≡◌, ◌*◌, ◌+◌, ◌↔◌, ◌≤◌, All, IsTrue, IfOk, length, map, slice_set};
+ghost use Rattle.mv_interpreter.specs.Runs.{IsFineWords};
+ghost use Rattle.mv_linker.specs.Link.{tables_in};
+ghost use Rattle.mv_machine.specs.Flat.{storage_of};
+ghost use Rattle.mv_ledger.specs.CountRows.{no_counts, count_at, with_count};
+ghost use Rattle.mv_ledger.specs.LoadedParts.{AreCounted};
+ghost use Rattle.mv_ledger.specs.View.{all_of, tallied, AreScarce, IsNamed};
+
+use crate::layouts::Layouts;
+use crate::tallies::{Tallies, Tally};
+use mv_linker::Store;
+use mv_move_types::Definition;
+use mv_storage::Storage;
+use std::alloc::{AllocError, Global};
+use std::marker::Model;
+
+// How many values of a struct a run makes at most.
+const MOST_PACKS: u128 = 10_000_000;
+
+// How deep a struct is nested at most.
+const MOST_NESTING: usize = 8;
+
+/// Puts a count in place of that at an index, if there is one.
+fn put_count(row: &mut Vec<u128>, index: usize, count: u128)
+    ensures { row.new.items ≡ slice_set row.old.items index count }
+{
+    if let Some(entry) = row.get_mut(index) {
+        *entry = count;
+    }
+}
+
+/// How many values of each struct there are, by the place of its module and its index. Its model is the counts, module by
+/// module.
+#[derive(Drop)]
+struct Counts {
+    rows: Vec<Vec<u128>>,
+}
+
+impl Model for Counts {
+    ghost use Rattle.std.specs.Prelude.{ℕ, List, map};
+
+    ghost Value = { List (List ℕ) };
+
+    ghost view = { λ c. map (λ r. r.items) c.rows.items };
+}
+
+impl Counts {
+    /// None of any struct.
+    fn new(alloc: Global, layouts: &Layouts<'_>) -> Result<Self, AllocError>
+        ensures { IfOk result (λ c. c ≡ no_counts layouts.now) }
+    {
+        let mut rows = Vec::new(alloc);
+        'each: for place in 0..layouts.len() {
+            rows.push(vec![in alloc; 0; layouts.structs(place)]?)?;
+        }
+        Ok(Counts { rows })
+    }
+
+    /// How many there are of the struct at a place and an index.
+    fn at(&self, d: Definition) -> u128
+        ensures { result ≡ count_at self.now d }
+    {
+        let Some(row) = self.rows.get(usize::from(d.place)) else {
+            return 0;
+        };
+        row.get(usize::from(d.index)).copied().unwrap_or(0)
+    }
+
+    /// Counts so many more of it.
+    fn add(&mut self, d: Definition, n: u128)
+        ensures { self.new ≡ with_count self.old d n }
+    {
+        let count = self.at(d).saturating_add(n);
+        if let Some(row) = self.rows.get_mut(usize::from(d.place)) {
+            put_count(row, usize::from(d.index), count);
+        }
+    }
+}
+
+/// Whether a tally is that of a struct of which so many values are stored, after so many runs.
+fn is_counted(tally: &Tally, stored: u128, runs: u64) -> bool
+    ensures { IsTrue result ↔ ((tally.now.packs ≤ 10000000 * runs) × (stored + tally.now.unpacks ≡ tally.now.packs)) }
+{
+    tally.packs <= u128::from(runs) * MOST_PACKS
+        && tally.unpacks <= tally.packs
+        && tally.packs - tally.unpacks == stored
+}
+
+/// Adds so many values of a struct, and so many of each struct inside it, to a depth of nesting.
+#[cycle(inside)]
+fn add_struct(layouts: &Layouts<'_>, depth: usize, d: Definition, n: u128, counts: &mut Counts)
+    ensures { Adds layouts.now n (λ s. structs_under depth layouts.now s d) counts.old counts.new }
+{
+    if depth == 0 {
+        return;
+    }
+    let Some(shape) = layouts.shape(d) else {
+        return;
+    };
+    counts.add(d, n);
+    add_parts(layouts, depth - 1, &shape.fields, n, counts);
+}
+
+/// The same of the structs that fields are made of.
+#[cycle(inside)]
+fn add_parts(layouts: &Layouts<'_>, depth: usize, parts: &[Part], n: u128, counts: &mut Counts)
+    ensures { Adds layouts.now n (λ s. structs_in_parts depth layouts.now s parts.now) counts.old counts.new }
+{
+    'each: for part in parts {
+        if let Part::Struct(d) = part {
+            add_struct(layouts, depth, *d, n, counts);
+        }
+    }
+}
+
+/// How many values are stored under the keys of each struct.
+fn stored_counts(alloc: Global, layouts: &Layouts<'_>, storage: &Storage) -> Result<Counts, AllocError>
+    ensures { IfOk result (λ c. (d : Definition) → IsCounted layouts.now c d (length (under d storage.now))) }
+{
+    let mut counts = Counts::new(alloc, layouts)?;
+    let mut entries = storage.iter();
+    'each: while let Some((key, _)) = entries.next() {
+        counts.add(
+            Definition {
+                place: key.place,
+                index: key.index,
+            },
+            1,
+        );
+    }
+    Ok(counts)
+}
+
+/// How many values of each struct are stored, at any depth: the fields of a struct are gone over once, however many values are
+/// stored of it.
+fn all_counts(alloc: Global, layouts: &Layouts<'_>, storage: &Storage) -> Result<Counts, AllocError>
+    requires { IsTrue (is_fine_storage layouts.now (storage_of layouts.now storage.now)) }
+    ensures { IfOk result (λ c. (d : Definition) (s : StructName) → name_at layouts.now d.place d.index ≡ Some s
+        → count_at c d ≡ capped (count (storage_of layouts.now storage.now) s)) }
+{
+    let stored = stored_counts(alloc, layouts, storage)?;
+    let mut counts = Counts::new(alloc, layouts)?;
+    'each: for d in layouts.keyed() {
+        let n = stored.at(*d);
+        if n > 0 {
+            add_struct(layouts, MOST_NESTING, *d, n, &mut counts);
+        }
+    }
+    Ok(counts)
+}
+
+/// Whether the tallies are those of what is stored after so many runs: of each struct no more values were made than the runs
+/// can have made, and as many are stored, at any depth, as were made and not taken apart.
+pub fn are_tallied(
+    alloc: Global,
+    store: &Store,
+    storage: &Storage,
+    tallies: &Tallies,
+    runs: u64,
+) -> Result<bool, AllocError>
+    requires few { length store.now ≤ 4096 }
+    requires stored { All (IsFineWords (tables_in store.now)) storage.now }
+    requires named { All (IsNamed (tables_in store.now)) (all_of tallies.now) }
+    requires scarce { AreScarce (tables_in store.now) tallies.now }
+    ensures { IfOk result (λ b. IsTrue b ↔ AreCounted runs (storage_of (tables_in store.now) storage.now) (map (tallied (tables_in store.now)) (all_of tallies.now))) }
+{
+    let layouts = Layouts::new(alloc, store)?;
+    let counts = all_counts(alloc, &layouts, storage)?;
+    'modules: for place in 0..tallies.len() {
+        'each: for tally in tallies.at(place) {
+            let stored = counts.at(Definition {
+                place: tally.place,
+                index: tally.index,
+            });
+            if !is_counted(tally, stored, runs) {
+                return Ok(false);
+            }
+        }
+    }
+    Ok(true)
+}

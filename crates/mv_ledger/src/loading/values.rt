@@ -1,0 +1,173 @@
+// Reading the stored values of a saved ledger.
+ghost use Rattle.std.specs.Prelude.{◌≡◌, ◌⊎◌, [], None, Some, Err, IfOk, IfErr, OnOk, option_map};
+ghost use Rattle.mv_move_types.specs.declared.tables.Definition.{Definition as DefinitionAt};
+ghost use Rattle.mv_ledger.specs.BodyParts.{form_of, leaves_from, struct_from, entry_from, is_after, rising_into, group_into, groups_into, storage_into};
+ghost use Rattle.mv_ledger.specs.Layouts.{kinds_under};
+
+use crate::layouts::Layouts;
+use crate::loading::head::SavedForm;
+use crate::payload::leaf;
+use mv_module_text::Reader;
+use mv_move_types::{Definition, Key, LeafKind, Refusal};
+use mv_storage::{Overlay, Storage, Value};
+use std::alloc::Global;
+
+// What the reader refuses malformed bytes with. So do the functions here.
+const MALFORMED: Refusal = Refusal::Phase(2);
+
+/// A value that is to be stored, with its key.
+#[derive(Drop)]
+struct Stored {
+    key: Key,
+    value: Value,
+}
+
+/// Reads leaves of these kinds, one after the other.
+fn leaves(alloc: Global, reader: &mut Reader<'_>, kinds: &[LeafKind]) -> Result<Vec<u128>, Refusal>
+    ensures ok { IfOk result (λ v. leaves_from kinds.now reader.old ≡ Some (v.items, reader.new)) }
+    ensures refused { result ≡ Err (Refusal.Phase 2) → leaves_from kinds.now reader.old ≡ None }
+    ensures errors { IfErr result (λ e. (e ≡ Refusal.Phase 2) ⊎ (e ≡ Refusal.Memory)) }
+{
+    let mut words = Vec::new(alloc);
+    'each: for kind in kinds {
+        let next = leaf(reader, *kind)?;
+        words.push(next).map_err(|_| Refusal::Memory)?;
+    }
+    Ok(words)
+}
+
+/// Reads a value by the kinds of its leaves. A single leaf takes no memory.
+fn value(alloc: Global, reader: &mut Reader<'_>, kinds: &[LeafKind]) -> Result<Value, Refusal>
+    ensures ok { IfOk result (λ v. leaves_from kinds.now reader.old ≡ Some (v, reader.new)) }
+    ensures refused { result ≡ Err (Refusal.Phase 2) → leaves_from kinds.now reader.old ≡ None }
+    ensures errors { IfErr result (λ e. (e ≡ Refusal.Phase 2) ⊎ (e ≡ Refusal.Memory)) }
+{
+    match kinds {
+        [kind] => {
+            let word = leaf(reader, *kind)?;
+            Ok(Value::leaf(word))
+        }
+        _ => {
+            let words = leaves(alloc, reader, kinds)?;
+            Ok(Value::words(words))
+        }
+    }
+}
+
+/// Reads which struct a value is of, unless it is known.
+fn struct_at(reader: &mut Reader<'_>, known: Option<Definition>) -> Result<Definition, Refusal>
+    ensures ok { IfOk result (λ d. struct_from known reader.old ≡ Some (d, reader.new)) }
+    ensures refused { IfErr result (λ e. (e ≡ Refusal.Phase 2) × (struct_from known reader.old ≡ None)) }
+{
+    match known {
+        Some(d) => Ok(d),
+        None => {
+            let place = reader.index()?;
+            let index = reader.index()?;
+            Ok(Definition { place, index })
+        }
+    }
+}
+
+/// Reads a value with its key.
+fn entry(
+    alloc: Global,
+    layouts: &Layouts<'_>,
+    reader: &mut Reader<'_>,
+    known: Option<Definition>,
+) -> Result<Stored, Refusal>
+    ensures ok { IfOk result (λ e. entry_from layouts.now known reader.old ≡ Some (record { key = e.key; words = e.value }, reader.new)) }
+    ensures refused { result ≡ Err (Refusal.Phase 2) → entry_from layouts.now known reader.old ≡ None }
+    ensures errors { IfErr result (λ e. (e ≡ Refusal.Phase 2) ⊎ (e ≡ Refusal.Memory)) }
+{
+    let address = reader.address()?;
+    let at = struct_at(reader, known)?;
+    let Some(kinds) = layouts.kinds(alloc, at)? else {
+        return Err(MALFORMED);
+    };
+    let value = value(alloc, reader, &kinds)?;
+    Ok(Stored {
+        key: Key {
+            address,
+            place: at.place,
+            index: at.index,
+        },
+        value,
+    })
+}
+
+/// Whether a key comes after the last one, if there was one.
+fn follows(last: Option<Key>, key: &Key) -> bool
+    ensures { result ≡ is_after last key.now }
+{
+    match last {
+        None => true,
+        Some(last) => last < *key,
+    }
+}
+
+/// Reads values by ascending key after their number, and puts them into a storage.
+fn group(
+    alloc: Global,
+    layouts: &Layouts<'_>,
+    reader: &mut Reader<'_>,
+    known: Option<Definition>,
+    storage: &mut Overlay,
+) -> Result<(), Refusal>
+    ensures ok { OnOk result (group_into (entry_from layouts.now known) storage.old.current reader.old ≡ Some (storage.new.current, reader.new)) }
+    ensures refused { result ≡ Err (Refusal.Phase 2) → group_into (entry_from layouts.now known) storage.old.current reader.old ≡ None }
+    ensures errors { IfErr result (λ e. (e ≡ Refusal.Phase 2) ⊎ (e ≡ Refusal.Memory)) }
+{
+    let count = reader.number(u64::MAX)?;
+    let mut last = None;
+    'each: for _ in 0..count {
+        let next = entry(alloc, layouts, reader, known)?;
+        if !follows(last, &next.key) {
+            return Err(MALFORMED);
+        }
+        last = Some(next.key);
+        storage.put(next.key, next.value)?;
+    }
+    Ok(())
+}
+
+/// Reads the values of each of these structs, and puts them into a storage.
+fn groups(
+    alloc: Global,
+    layouts: &Layouts<'_>,
+    reader: &mut Reader<'_>,
+    structs: &[Definition],
+    storage: &mut Overlay,
+) -> Result<(), Refusal>
+    ensures ok { OnOk result (groups_into layouts.now structs.now storage.old.current reader.old ≡ Some (storage.new.current, reader.new)) }
+    ensures refused { result ≡ Err (Refusal.Phase 2) → groups_into layouts.now structs.now storage.old.current reader.old ≡ None }
+    ensures errors { IfErr result (λ e. (e ≡ Refusal.Phase 2) ⊎ (e ≡ Refusal.Memory)) }
+{
+    'each: for at in structs {
+        group(alloc, layouts, reader, Some(*at), storage)?;
+    }
+    Ok(())
+}
+
+/// Reads all stored values.
+///
+/// # Errors
+///
+/// The phase of malformed bytes, where no such values stand at the front; `Memory`, where a growth was refused.
+pub fn read_storage(
+    alloc: Global,
+    layouts: &Layouts<'_>,
+    reader: &mut Reader<'_>,
+    form: SavedForm,
+) -> Result<Storage, Refusal>
+    ensures ok { IfOk result (λ s. storage_into layouts.now (form_of form) [] reader.old ≡ Some (s, reader.new)) }
+    ensures refused { result ≡ Err (Refusal.Phase 2) → storage_into layouts.now (form_of form) [] reader.old ≡ None }
+    ensures errors { IfErr result (λ e. (e ≡ Refusal.Phase 2) ⊎ (e ≡ Refusal.Memory)) }
+{
+    let mut storage = Storage::new(alloc).overlay();
+    match form {
+        SavedForm::First => group(alloc, layouts, reader, None, &mut storage)?,
+        SavedForm::Second => groups(alloc, layouts, reader, layouts.keyed(), &mut storage)?,
+    }
+    Ok(storage.commit())
+}
