@@ -115,7 +115,11 @@ fn add_parts(layouts: &Layouts<'_>, depth: usize, parts: &[Part], n: u128, count
 }
 
 /// How many values are stored under the keys of each struct.
-fn stored_counts(alloc: Global, layouts: &Layouts<'_>, storage: &Storage) -> Result<Counts, AllocError>
+fn stored_counts(
+    alloc: Global,
+    layouts: &Layouts<'_>,
+    storage: &Storage,
+) -> Result<Counts, AllocError>
     ensures { IfOk result (λ c. (d : Definition) → IsCounted layouts.now c d (length (under d storage.now))) }
 {
     let mut counts = Counts::new(alloc, layouts)?;
