@@ -13,3 +13,4 @@ pub mod Verdicts
 pub mod Proved
 pub mod Endings
 pub mod Beginnings
+pub mod Unloaded

@@ -8,6 +8,7 @@ pub mod Answered
 pub mod Line
 pub mod Status
 pub mod Keeping
+pub mod Saved
 pub mod Hexadecimal
 pub mod Checking
 pub mod Proving

@@ -1,10 +1,10 @@
 -- The command line, and the task that its matches have.
-use Rattle.std.specs.Prelude.{List, [], true, Option, Some, None, codes, unwrap_or, if◌then◌else◌, ⊤}
+use Rattle.std.specs.Prelude.{List, [], true, Option, Some, None, codes, option_map, unwrap_or, if◌then◌else◌, ⊤}
 use Rattle.std.specs.Str.{bytes_eq}
 use Rattle.clap.specs.Values.{kind_of}
 use Rattle.clap.specs.Words.{App, IsAmong, Kinds, Rule, Row, Text, new_app, new_rule, with_rule, with_subcommand, first_of}
 use Rattle.moveledger.specs.declared.command.Task.{Task}
-use Rattle.moveledger.specs.declared.command.Task.TheVariants.{Apply, Prove, Check}
+use Rattle.moveledger.specs.declared.command.Task.TheVariants.{Apply, Prove, Check, Migrate}
 use Rattle.moveledger.specs.declared.command.LineError.{LineError}
 use Rattle.moveledger.specs.declared.command.LineError.TheVariants.{Words, Memory}
 
@@ -12,9 +12,17 @@ use Rattle.moveledger.specs.declared.command.LineError.TheVariants.{Words, Memor
 abbrev pub name_of : Text → Rule
 name_of name = record (new_rule name) { required = true }
 
--- apply FILE
+-- an option that may be given, with the name of a file
+abbrev pub path_option : Text → Rule
+path_option name = record (new_rule name) { long = Some name; value_names = 1 }
+
+-- apply [--load PATH] [--save PATH] FILE
 abbrev pub apply : App
-apply = with_rule (new_app (codes "apply")) (name_of (codes "FILE"))
+apply = with_rule (with_rule (with_rule (new_app (codes "apply")) (path_option (codes "load"))) (path_option (codes "save"))) (name_of (codes "FILE"))
+
+-- migrate OLD NEW
+abbrev pub migrate : App
+migrate = with_rule (with_rule (new_app (codes "migrate")) (name_of (codes "OLD"))) (name_of (codes "NEW"))
 
 -- prove MODULE
 abbrev pub prove : App
@@ -28,21 +36,27 @@ check = with_rule (with_rule (new_app (codes "check")) (name_of (codes "MODULE")
 abbrev pub required_command : App → App
 required_command a = record a { top = record a.top { subcommand_required = true } }
 
--- moveledger, with one of its three commands
+-- moveledger, with its commands over ledgers
+abbrev pub ledger_commands : App
+ledger_commands = with_subcommand (with_subcommand (required_command (new_app (codes "moveledger"))) apply.top) migrate.top
+
+-- moveledger, with one of its four commands
 abbrev pub moveledger : App
-moveledger = with_subcommand (with_subcommand (with_subcommand (required_command (new_app (codes "moveledger"))) apply.top) prove.top) check.top
+moveledger = with_subcommand (with_subcommand ledger_commands prove.top) check.top
 
 -- a task without where its names lie
 pub data Seen : Type 0 where
-  Applies : Text → Seen
+  Applies : Text → Option Text → Option Text → Seen
   Proves : Text → Seen
   Checks : Text → Text → Seen
+  Migrates : Text → Text → Seen
 
 -- the names of a task
 abbrev pub seen : Task → Seen
-seen (Apply file) = Applies file.now
+seen (Apply file load save) = Applies file.now (option_map (λ s. s.now) load) (option_map (λ s. s.now) save)
 seen (Prove file) = Proves file.now
 seen (Check file certificate) = Checks file.now certificate.now
+seen (Migrate old new) = Migrates old.now new.now
 
 -- what was given under a name
 abbrev pub given_as : Text → List Row → Text
@@ -53,11 +67,12 @@ abbrev pub named_task : Text → List Row → Seen
 named_task name rows =
     if bytes_eq name (codes "prove") then Proves (given_as (codes "MODULE") rows)
     else if bytes_eq name (codes "check") then Checks (given_as (codes "MODULE") rows) (given_as (codes "CERT") rows)
-    else Applies (given_as (codes "FILE") rows)
+    else if bytes_eq name (codes "migrate") then Migrates (given_as (codes "OLD") rows) (given_as (codes "NEW") rows)
+    else Applies (given_as (codes "FILE") rows) (first_of (codes "load") rows) (first_of (codes "save") rows)
 
 -- the task that the matches of a subcommand have
 abbrev pub task_in : Option (Text × List Row) → Seen
-task_in None = Applies []
+task_in None = Applies [] None None
 task_in (Some found) = named_task found.0 found.1
 
 -- where the words are at fault, the error has one of these kinds

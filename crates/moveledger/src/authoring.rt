@@ -18,7 +18,7 @@ const MODULE_READ: u64 = 65_537;
 const TEXT_READ: u64 = 2_097_154;
 
 /// Writes a line. The end is then this one, unless that failed.
-fn printed<W: Write>(writer: &mut W, end: End, made: Result<String, AllocError>) -> End
+pub fn printed<W: Write>(writer: &mut W, end: End, made: Result<String, AllocError>) -> End
     ensures { Prints string_bytes made end (W.contents writer.old) (W.contents writer.new) result }
 {
     let Ok(line) = made else {

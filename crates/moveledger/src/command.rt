@@ -1,8 +1,8 @@
 // The command line.
-ghost use Rattle.std.specs.Prelude.{◌≡◌, [], ◌∷◌, IfOk, IfErr, OnOk, false, map};
-ghost use Rattle.clap.specs.Words.{app_of, fault_of, found_of, rows_of, rule_of, subcommand_of, subcommand_rows_of, takes};
+ghost use Rattle.std.specs.Prelude.{◌≡◌, [], ◌∷◌, IfOk, IfErr, OnOk, false, map, option_map};
+ghost use Rattle.clap.specs.Words.{app_of, fault_of, first_of, found_of, rows_of, rule_of, subcommand_of, subcommand_rows_of, takes};
 ghost use Rattle.clap.specs.declared.builder.Command.TheViews.{out-Command};
-ghost use Rattle.moveledger.specs.Line.{apply, check, given_as, moveledger, name_of, named_task, prove, task_in, seen, IsOfKind, IsWords};
+ghost use Rattle.moveledger.specs.Line.{apply, check, given_as, ledger_commands, migrate, moveledger, name_of, named_task, path_option, prove, task_in, seen, IsOfKind, IsWords};
 
 use clap::error::ErrorKind;
 use clap::{Arg, ArgMatches, Command};
@@ -12,12 +12,21 @@ use thiserror::Error;
 /// What the program is asked to do.
 #[derive(Clone, Copy, Debug, PartialEq, Eq)]
 pub enum Task<'a> {
-    /// Answer the records of this file.
-    Apply(&'a str),
+    /// Answer the records of a file.
+    Apply {
+        /// The file.
+        file: &'a str,
+        /// Where the ledger to begin with is kept; else it is an empty one.
+        load: Option<&'a str>,
+        /// Where the ledger is to be kept in the end.
+        save: Option<&'a str>,
+    },
     /// Print a certificate for the module of this file.
     Prove(&'a str),
     /// Check the module of the first file with the certificate whose text the second one has.
     Check(&'a str, &'a str),
+    /// Write the ledger that the first file keeps, in the form of today, to the second one.
+    Migrate(&'a str, &'a str),
 }
 
 /// Why there is no task.
@@ -39,12 +48,33 @@ fn name_arg<'a>(alloc: Global, name: &'a str) -> Arg<'a>
     Arg::new(alloc, name).required(true)
 }
 
-/// `apply FILE`.
+/// An option that may be given, with the name of a file.
+fn path_option<'a>(alloc: Global, name: &'a str) -> Arg<'a>
+    ensures rule { rule_of result ≡ path_option name.entry.now }
+    ensures local { result.global ≡ false }
+{
+    Arg::new(alloc, name).long(name).value_name("PATH")
+}
+
+/// `apply [--load PATH] [--save PATH] FILE`.
 fn apply_command<'a>(alloc: Global) -> Result<Command<'a>, AllocError>
     ensures app { IfOk result (λ c. app_of c ≡ apply) }
     ensures local { IfOk result (λ c. (out-Command c).has_globals ≡ false) }
 {
-    Command::new(alloc, "apply").arg(name_arg(alloc, "FILE"))
+    Command::new(alloc, "apply")
+        .arg(path_option(alloc, "load"))?
+        .arg(path_option(alloc, "save"))?
+        .arg(name_arg(alloc, "FILE"))
+}
+
+/// `migrate OLD NEW`.
+fn migrate_command<'a>(alloc: Global) -> Result<Command<'a>, AllocError>
+    ensures app { IfOk result (λ c. app_of c ≡ migrate) }
+    ensures local { IfOk result (λ c. (out-Command c).has_globals ≡ false) }
+{
+    Command::new(alloc, "migrate")
+        .arg(name_arg(alloc, "OLD"))?
+        .arg(name_arg(alloc, "NEW"))
 }
 
 /// `prove MODULE`.
@@ -65,13 +95,22 @@ fn check_command<'a>(alloc: Global) -> Result<Command<'a>, AllocError>
         .arg(name_arg(alloc, "CERT"))
 }
 
-/// The program's command line.
-fn definition<'a>(alloc: Global) -> Result<Command<'a>, AllocError>
-    ensures { IfOk result (λ c. app_of c ≡ moveledger) }
+/// The program, with the commands over ledgers.
+fn ledger_commands<'a>(alloc: Global) -> Result<Command<'a>, AllocError>
+    ensures app { IfOk result (λ c. app_of c ≡ ledger_commands) }
+    ensures local { IfOk result (λ c. (out-Command c).has_globals ≡ false) }
 {
     Command::new(alloc, "moveledger")
         .subcommand_required(true)
         .subcommand(apply_command(alloc)?)?
+        .subcommand(migrate_command(alloc)?)
+}
+
+/// The program's command line.
+fn definition<'a>(alloc: Global) -> Result<Command<'a>, AllocError>
+    ensures { IfOk result (λ c. app_of c ≡ moveledger) }
+{
+    ledger_commands(alloc)?
         .subcommand(prove_command(alloc)?)?
         .subcommand(check_command(alloc)?)
 }
@@ -81,6 +120,13 @@ fn given<'a>(matches: &ArgMatches<'a>, id: &str) -> &'a str
     ensures { result.now ≡ given_as id.now (rows_of (found_of matches.now)) }
 {
     matches.get_str(id).unwrap_or("")
+}
+
+/// What was given under the name of an option, if it was.
+fn asked<'a>(matches: &ArgMatches<'a>, id: &str) -> Option<&'a str>
+    ensures { option_map (λ s. s.now) result ≡ first_of id.now (rows_of (found_of matches.now)) }
+{
+    matches.get_str(id)
 }
 
 /// The task of a command by its name, with what was given to it.
@@ -93,7 +139,14 @@ fn named_task<'a>(name: &str, found: &ArgMatches<'a>) -> Task<'a>
     if name == "check" {
         return Task::Check(given(found, "MODULE"), given(found, "CERT"));
     }
-    Task::Apply(given(found, "FILE"))
+    if name == "migrate" {
+        return Task::Migrate(given(found, "OLD"), given(found, "NEW"));
+    }
+    Task::Apply {
+        file: given(found, "FILE"),
+        load: asked(found, "load"),
+        save: asked(found, "save"),
+    }
 }
 
 /// The task that matches have.
@@ -101,7 +154,11 @@ fn task_of<'a>(matches: &ArgMatches<'a>) -> Task<'a>
     ensures { seen result ≡ task_in (subcommand_rows_of matches.now) }
 {
     match matches.subcommand() {
-        None => Task::Apply(""),
+        None => Task::Apply {
+            file: "",
+            load: None,
+            save: None,
+        },
         Some((name, found)) => named_task(name, found),
     }
 }

@@ -17,6 +17,7 @@ mod program;
 mod proving;
 mod reading;
 mod reporting;
+mod saved;
 mod status;
 #[cfg(test)]
 mod tests;

@@ -4,10 +4,12 @@ ghost use Rattle.std.specs.Fs.{file_type, metadata_len, IsFile};
 
 use crate::authoring::{check_module, prove_module};
 use crate::command::{LineError, Task, command, not_text};
+use crate::keeping::keep;
 use crate::meter::{Counted, Meter, Report, Screen};
 use crate::pacing::{Gathering, Prompt};
 use crate::reporting::report;
-use crate::status::{End, fault_text};
+use crate::saved::{loaded, migrated, text_to_keep};
+use crate::status::{End, end_of_keeping, fault_text};
 use mv_ledger::Ledger;
 use std::env;
 use std::fs::{self, File, Metadata};
@@ -42,7 +44,8 @@ fn asked(rt: &HostRuntime) -> End {
         }
     }
     match command(rt.alloc(), words.as_slice()) {
-        Ok(Task::Apply(file)) => apply(rt, file),
+        Ok(Task::Apply { file, load, save }) => apply(rt, file, load, save),
+        Ok(Task::Migrate(old, new)) => migrate(rt, old, new),
         Ok(Task::Prove(module)) => prove(rt, module),
         Ok(Task::Check(module, certificate)) => check(rt, module, certificate),
         Err(error) => refused(rt, error),
@@ -66,18 +69,70 @@ const STANDARD_INPUT: &str = "-";
 /// Where standard input is found by a name, to see what it is.
 const STANDARD_INPUT_FILE: &str = "/dev/stdin";
 
+/// Answers the records of a file by a ledger that is kept in another, or by an empty one, and writes the report to standard
+/// output. Where that ends well, the ledger is put into the place of a file.
+fn apply(rt: &HostRuntime, path: &str, load: Option<&str>, save: Option<&str>) -> End {
+    let begun = match load {
+        None => Ok(Ledger::new(rt.alloc())),
+        Some(kept) => load_file(rt, kept),
+    };
+    let mut ledger = match begun {
+        Ok(ledger) => ledger,
+        Err(end) => return end,
+    };
+    let end = apply_file(rt, path, &mut ledger);
+    match save {
+        None => end,
+        Some(kept) => save_file(rt, kept, end, &ledger),
+    }
+}
+
+/// The ledger that a file keeps; else why it isn't loaded, which is printed.
+fn load_file(rt: &HostRuntime, path: &str) -> Result<Ledger, End> {
+    let Ok(file) = File::open(rt, path) else {
+        return Err(End::Read);
+    };
+    let expected = expected_bytes(regular_size(file.metadata()));
+    loaded(rt.alloc(), file, expected, &mut io::writer(rt))
+}
+
+/// Puts a ledger into the place of a file, if its records ended well.
+fn save_file(rt: &HostRuntime, path: &str, end: End, ledger: &Ledger) -> End {
+    match text_to_keep(end, ledger) {
+        Ok(text) => end_of_keeping(keep(rt, path, &text)),
+        Err(end) => end,
+    }
+}
+
+/// Puts the ledger that one file keeps, in the form of today, into the place of another.
+fn migrate(rt: &HostRuntime, old: &str, new: &str) -> End {
+    let Ok(file) = File::open(rt, old) else {
+        return End::Read;
+    };
+    let expected = expected_bytes(regular_size(file.metadata()));
+    match migrated(rt.alloc(), file, expected, &mut io::writer(rt)) {
+        Ok(text) => end_of_keeping(keep(rt, new, &text)),
+        Err(end) => end,
+    }
+}
+
+/// Room for a file's bytes, and for one more: a read of it then finds the end.
+fn expected_bytes(size: Option<u64>) -> usize {
+    let size = usize::try_from(size.unwrap_or(0)).unwrap_or(0);
+    size.saturating_add(1)
+}
+
 /// Answers the records of a file, and writes the report to standard output.
-fn apply(rt: &HostRuntime, path: &str) -> End {
-    let mut ledger = Ledger::new(rt.alloc());
+fn apply_file(rt: &HostRuntime, path: &str, ledger: &mut Ledger) -> End {
     if path == STANDARD_INPUT {
         let size = regular_size(fs::metadata(rt, STANDARD_INPUT_FILE));
-        return apply_to(rt, rt.stdin(), size, &mut ledger);
+        return apply_to(rt, rt.stdin(), size, ledger);
     }
     let Ok(file) = File::open(rt, path) else {
         return End::Read;
     };
     let size = regular_size(file.metadata());
-    apply_to(rt, file, size, &mut ledger)
+    apply_to(rt, file, size, ledger)
 }
 
 /// How many bytes a regular file has; None of anything else.

@@ -7,6 +7,7 @@ mod keeping;
 mod libraries;
 mod line;
 mod rows;
+mod saved;
 
 use crate::engine::{EngineError, engine};
 use fakes::{Pieces, Room};

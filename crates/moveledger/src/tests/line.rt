@@ -12,7 +12,42 @@ use std::test::Fail;
 fn files_are_applied(rt: HostRuntime) -> Result<(), Fail> {
     let words = ["moveledger", "apply", "first-coin.stream"];
     let task = command(rt.alloc(), &words)?;
-    assert_eq!(rt; task, Task::Apply("first-coin.stream"));
+    let (file, load, save) = ("first-coin.stream", None, None);
+    assert_eq!(rt; task, Task::Apply { file, load, save });
+    Ok(())
+}
+
+#[test]
+fn ledgers_are_loaded_and_saved(rt: HostRuntime) -> Result<(), Fail> {
+    let alloc = rt.alloc();
+    let (file, load, save) = ("-", Some("old.ledger"), Some("new.ledger"));
+    let wanted = Task::Apply { file, load, save };
+    let words = [
+        "moveledger",
+        "apply",
+        "--load",
+        "old.ledger",
+        "--save=new.ledger",
+        "-",
+    ];
+    assert_eq!(rt; command(alloc, &words)?, wanted);
+    let words = [
+        "moveledger",
+        "apply",
+        "-",
+        "--save",
+        "new.ledger",
+        "--load=old.ledger",
+    ];
+    assert_eq!(rt; command(alloc, &words)?, wanted);
+    let words = ["moveledger", "apply", "--save", "new.ledger", "-"];
+    let load = None;
+    assert_eq!(rt; command(alloc, &words)?, Task::Apply { file, load, save });
+    let words = ["moveledger", "migrate", "old.ledger", "new.ledger"];
+    assert_eq!(rt;
+        command(alloc, &words)?,
+        Task::Migrate("old.ledger", "new.ledger")
+    );
     Ok(())
 }
 

@@ -1,0 +1,38 @@
+-- What is printed where a saved ledger is not loaded.
+use Rattle.std.proofs.Common.{◌≡◌, ℕ, List, Option, Some, None, Result, Ok, Err, IfOk, IfSome, inl, inr, subst, sym}
+use Rattle.std.proofs.lemmas.Option.{same_Some}
+use Rattle.std.specs.Io.KnownBytes.{Appends}
+use Rattle.mv_ledger.specs.Loading.{FailsLoad, IsLoadRefusal, load_number}
+use Rattle.mv_ledger.specs.declared.loading.LoadError.{LoadError}
+use Rattle.mv_ledger.specs.declared.loading.LoadError.TheVariants.{Head, Module, Link, Body, Tally, Memory}
+use Rattle.moveledger.specs.Authoring.{Prints}
+use Rattle.moveledger.specs.Printing.{line, load_refused_text}
+use Rattle.moveledger.specs.Saved.{IsNotLoaded}
+use Rattle.moveledger.specs.declared.status.End.{End}
+use Rattle.moveledger.specs.declared.status.End.TheVariants.{LoadRefused}
+
+-- a reason fails by its number
+by-number : (bytes : List ℕ) (error : LoadError) (number : ℕ) → load_number error ≡ Some number → IsLoadRefusal bytes error → FailsLoad bytes number
+by-number bytes Head number n h = subst (FailsLoad bytes) (same_Some _ _ n) h
+by-number bytes Module number n h = subst (FailsLoad bytes) (same_Some _ _ n) h
+by-number bytes Link number n h = subst (FailsLoad bytes) (same_Some _ _ n) h
+by-number bytes Body number n h = subst (FailsLoad bytes) (same_Some _ _ n) h
+by-number bytes Tally number n h = subst (FailsLoad bytes) (same_Some _ _ n) h
+by-number bytes Memory number n h = cc
+
+-- what is printed of a reason with a number
+pub not_loaded-printed : {S A : Type 0} (bytes_of : S → List ℕ) (bytes : List ℕ) (error : LoadError) (number : ℕ) (made : Result S A)
+    (held holds : Option (List ℕ)) (result : End) → load_number error ≡ Some number → IsLoadRefusal bytes error
+    → IfOk made (λ s. bytes_of s ≡ line (load_refused_text number)) → Prints bytes_of made (LoadRefused number) held holds result
+    → IsNotLoaded bytes held holds result
+not_loaded-printed bytes_of bytes error number (Err e) held holds result n h said is = subst (IsNotLoaded bytes held holds) (sym is) tt
+not_loaded-printed bytes_of bytes error number (Ok s) held holds result n h said (inl is) = subst (IsNotLoaded bytes held holds) (sym is) tt
+not_loaded-printed bytes_of bytes error number (Ok s) held holds result n h said (inr p) =
+    subst (IsNotLoaded bytes held holds) (sym p.0) (by-number bytes error number n h, subst (Appends held holds) said p.1)
+
+-- the same of a reader that may not tell what it gives
+pub not_loaded-some : (given : Option (List ℕ)) (bytes : List ℕ) (error : LoadError) (held holds : Option (List ℕ)) (result : End)
+    → IfSome given (λ xs. bytes ≡ xs) → IsLoadRefusal bytes error
+    → ((xs : List ℕ) → IsLoadRefusal xs error → IsNotLoaded xs held holds result) → IfSome given (λ xs. IsNotLoaded xs held holds result)
+not_loaded-some None bytes error held holds result read refused said = tt
+not_loaded-some (Some xs) bytes error held holds result read refused said = said xs (subst (λ (l : List ℕ). IsLoadRefusal l error) read refused)

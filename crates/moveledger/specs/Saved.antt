@@ -1,0 +1,24 @@
+-- How the commands over saved ledgers end, and what they print.
+use Rattle.std.specs.Prelude.{ℕ, List, Option, ⊤}
+use Rattle.std.specs.Io.KnownBytes.{Appends}
+use Rattle.mv_machine.specs.Ledger.{LedgerState}
+use Rattle.mv_ledger.specs.SavedText.{Second, IsSavedText}
+use Rattle.mv_ledger.specs.Loading.{FailsLoad, IsLoaded}
+use Rattle.moveledger.specs.Printing.{line, load_refused_text}
+use Rattle.moveledger.specs.declared.status.End.{End}
+use Rattle.moveledger.specs.declared.status.End.TheVariants.{Done, Read, Write, Memory, Words, Refused, LoadRefused, TooComplex}
+
+-- bytes are not loaded, and the line of the first reason against them is printed; or a read, a write or an allocation failed
+abbrev pub IsNotLoaded : List ℕ → Option (List ℕ) → Option (List ℕ) → End → Type 0
+IsNotLoaded bytes held holds (LoadRefused number) = FailsLoad bytes number × Appends held holds (line (load_refused_text number))
+IsNotLoaded bytes held holds Read = ⊤
+IsNotLoaded bytes held holds Write = ⊤
+IsNotLoaded bytes held holds Memory = ⊤
+IsNotLoaded bytes held holds Done = ⊥
+IsNotLoaded bytes held holds Words = ⊥
+IsNotLoaded bytes held holds (Refused phase) = ⊥
+IsNotLoaded bytes held holds TooComplex = ⊥
+
+-- the second text is that of today of the ledger as which the first one is loaded
+abbrev pub IsMigrated : List ℕ → List ℕ → Type 0
+IsMigrated old new = (s : LedgerState) × (IsLoaded old s × IsSavedText Second new s)

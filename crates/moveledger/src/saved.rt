@@ -1,0 +1,86 @@
+// The commands over saved ledgers, over what their files give and what they print.
+ghost use Rattle.std.specs.Prelude.{◌≡◌, ◌≢◌, ◌⊎◌, List, ℕ, IfErr, IfOk, IfSome, OnOk};
+ghost use Rattle.mv_ledger.specs.Loading.{IsLoadRefusal, IsLoaded};
+ghost use Rattle.mv_ledger.specs.SavedText.{IsSavedText, Second};
+ghost use Rattle.mv_ledger.specs.View.{state_of};
+ghost use Rattle.moveledger.specs.Saved.{IsMigrated, IsNotLoaded};
+
+use crate::authoring::printed;
+use crate::inputs::all_bytes;
+use crate::printing::load_refused_line;
+use crate::status::End;
+use mv_ledger::{Ledger, LoadError};
+use std::alloc::Global;
+use std::io::{Read, Write};
+
+/// The ledger that a reader gives, of which so many bytes are expected. Where it isn't loaded, what there is to say of it is
+/// printed, and how that ended is the error.
+pub fn loaded<R: Read + Drop, W: Write>(
+    alloc: Global,
+    text: R,
+    expected: usize,
+    writer: &mut W,
+) -> Result<Ledger, End>
+    ensures loaded { IfOk result (λ l. IfSome (R.remaining text) (λ bytes. IsLoaded bytes (state_of l))) }
+    ensures silent { OnOk result (W.contents writer.new ≡ W.contents writer.old) }
+    ensures refused { IfErr result (λ end. IfSome (R.remaining text) (λ bytes.
+        IsNotLoaded bytes (W.contents writer.old) (W.contents writer.new) end)) }
+{
+    let bytes = all_bytes(alloc, text, expected)?;
+    match Ledger::load(alloc, &bytes) {
+        Ok(ledger) => Ok(ledger),
+        Err(error) => Err(not_loaded(alloc, writer, error)),
+    }
+}
+
+/// The text that is kept of a ledger after its records, which ended so.
+///
+/// # Errors
+///
+/// That end, if it isn't a good one: nothing is kept then. `Memory` if an allocation failed.
+pub fn text_to_keep(end: End, ledger: &Ledger) -> Result<Vec<u8>, End>
+    ensures kept { IfOk result (λ text. (end ≡ End.Done) × IsSavedText Second text.items (state_of ledger.now)) }
+    ensures fault { IfErr result (λ e. ((end ≢ End.Done) × (e ≡ end)) ⊎ ((end ≡ End.Done) × (e ≡ End.Memory))) }
+{
+    match end {
+        End::Done => match ledger.save() {
+            Ok(text) => Ok(text),
+            Err(_) => Err(End::Memory),
+        },
+        fault => Err(fault),
+    }
+}
+
+/// The text of today of the ledger that a reader gives, of which so many bytes are expected. Where it isn't loaded, it is as
+/// with `loaded`.
+pub fn migrated<R: Read + Drop, W: Write>(
+    alloc: Global,
+    old: R,
+    expected: usize,
+    writer: &mut W,
+) -> Result<Vec<u8>, End>
+    ensures migrated { IfOk result (λ new. IfSome (R.remaining old) (λ bytes. IsMigrated bytes new.items)) }
+    ensures silent { OnOk result (W.contents writer.new ≡ W.contents writer.old) }
+    ensures refused { IfErr result (λ end. IfSome (R.remaining old) (λ bytes.
+        IsNotLoaded bytes (W.contents writer.old) (W.contents writer.new) end)) }
+{
+    let bytes = all_bytes(alloc, old, expected)?;
+    match mv_ledger::migrate(alloc, &bytes) {
+        Ok(new) => Ok(new),
+        Err(error) => Err(not_loaded(alloc, writer, error)),
+    }
+}
+
+/// Prints why a ledger isn't loaded, and says how that ended.
+fn not_loaded<W: Write>(alloc: Global, writer: &mut W, error: LoadError) -> End
+    ensures { (bytes : List ℕ) → IsLoadRefusal bytes error
+        → IsNotLoaded bytes (W.contents writer.old) (W.contents writer.new) result }
+{
+    match error.number() {
+        None => End::Memory,
+        Some(number) => {
+            let line = load_refused_line(alloc, number);
+            printed(writer, End::LoadRefused(number), line)
+        }
+    }
+}
