@@ -46,10 +46,10 @@ none-of f [] = refl
 none-of f (d ∷ ds) = let rest : by_structs f [] ds ≡ 0 = none-of f ds in omega (arith, rest)
 
 -- an entry of another struct
-under-other : (d : Definition) (e : FlatEntry) (es : List FlatEntry) → (struct_under e.key ≡ d → ⊥) → length (under d (e ∷ es)) ≡ length (under d es)
+pub under-other : (d : Definition) (e : FlatEntry) (es : List FlatEntry) → (struct_under e.key ≡ d → ⊥) → length (under d (e ∷ es)) ≡ length (under d es)
 under-other d e es apart = ap (λ (b : Bool). length (cond b (e ∷ under d es) (under d es))) (is-other d e apart)
 
-under-own : (d : Definition) (e : FlatEntry) (es : List FlatEntry) → struct_under e.key ≡ d → length (under d (e ∷ es)) ≡ suc (length (under d es))
+pub under-own : (d : Definition) (e : FlatEntry) (es : List FlatEntry) → struct_under e.key ≡ d → length (under d (e ∷ es)) ≡ suc (length (under d es))
 under-own d e es own = ap (λ (b : Bool). length (cond b (e ∷ under d es) (under d es))) (is-own d e own)
 
 others-same : (f : Definition → ℕ) (e : FlatEntry) (es : List FlatEntry) (ds : List Definition) → IsApart (struct_under e.key) ds → by_structs f (e ∷ es) ds ≡ by_structs f es ds
