@@ -1,8 +1,7 @@
 -- Counts with more values of structs: what is added to them one after the other.
-use Rattle.std.proofs.Common.{◌≡◌, ℕ, zero, suc, ◌+◌, ◌-◌, ◌*◌, ◌^◌, ◌<◌, ◌≤◌, Bool, true, false, cond, List, [], ◌∷◌, ◌++◌, length, take, get_or, Option, Some, None, refl, sym, ap, ap₂, ◌∙◌, subst, arith, inl, inr, ◌⊎◌, ⊎_elim}
+use Rattle.std.proofs.Common.{◌≡◌, ℕ, suc, ◌+◌, ◌-◌, ◌*◌, ◌^◌, ◌<◌, ◌≤◌, Bool, true, false, cond, List, [], ◌∷◌, ◌++◌, length, take, get_or, Option, Some, None, refl, sym, ap, ◌∙◌, subst, arith, ⊎_elim}
 use Rattle.std.specs.Prelude.{min, slice_set}
 use Rattle.std.specs.Option.{option_map_or}
-use Rattle.std.proofs.Math.Nat.{mul-add}
 use Rattle.std.proofs.lemmas.Bool.{cases_eq}
 use Rattle.std.proofs.lemmas.List.{get_or-set_same, get_or-set_other, length-set, take_all, take_more}
 use Rattle.std.proofs.lemmas.Option.{same_Some}
@@ -16,7 +15,7 @@ use Rattle.mv_ledger.specs.declared.layouts.Shape.{Shape}
 use Rattle.mv_ledger.specs.CountRows.{row_at, capped, count_at, with_count, Adds, HasRows}
 use Rattle.mv_ledger.specs.Inside.{structs_under, structs_in_part, structs_in_parts, structs_within}
 use Rattle.mv_ledger.specs.LayoutParts.{IsOfStore, IsShapeAt}
-use Rattle.mv_ledger.proofs.LayoutParts.{HasStructs, structs-there, shapeless-name}
+use Rattle.mv_ledger.proofs.LayoutParts.{structs-there, shapeless-name}
 
 -- ---- numbers up to a greatest one
 

@@ -1,5 +1,5 @@
 -- How many values of a struct are stored, at any depth, from how many values are stored of each struct with key.
-use Rattle.std.proofs.Common.{◌≡◌, ℕ, suc, ◌+◌, ◌*◌, Bool, true, false, cond, List, [], ◌∷◌, length, Option, refl, ap, ap₂, sym, ◌∙◌, subst, arith, inl, inr}
+use Rattle.std.proofs.Common.{◌≡◌, ℕ, suc, ◌+◌, ◌*◌, Bool, true, cond, List, [], ◌∷◌, length, Option, refl, ap, ap₂, sym, ◌∙◌, subst, arith, inl, inr}
 use Rattle.std.specs.List.{AllByRecursion}
 use Rattle.std.specs.Option.{option_map_or}
 use Rattle.mv_move_types.specs.declared.tables.Definition.{Definition}
@@ -11,7 +11,7 @@ use Rattle.mv_machine.specs.State.{Storage}
 use Rattle.mv_machine.specs.Typed.{is_fine_storage}
 use Rattle.mv_ledger.specs.Inside.{structs_within, structs_under}
 use Rattle.mv_ledger.specs.SavedText.{keyed_from}
-use Rattle.mv_ledger.proofs.BodyLookups.{is_of, under}
+use Rattle.mv_ledger.proofs.BodyLookups.{under}
 use Rattle.mv_ledger.proofs.BodyEntries.{struct_under}
 use Rattle.mv_ledger.proofs.BodyGroups.{is-own, is-other, Among, IsApart, Distinct, apart-among}
 use Rattle.mv_ledger.proofs.BodyKeyed.{keyed-distinct, keyed-among}

@@ -1,5 +1,5 @@
 -- The values that are stored, counted one after the other under their structs, and then struct by struct at any depth.
-use Rattle.std.proofs.Common.{◌≡◌, ℕ, zero, suc, ◌+◌, ◌*◌, ◌-◌, ◌^◌, ◌<◌, ◌≤◌, Bool, true, false, List, [], ◌∷◌, ◌++◌, length, take, get_or, Option, Some, None, refl, sym, ap, ap₂, ◌∙◌, subst, arith}
+use Rattle.std.proofs.Common.{◌≡◌, ℕ, suc, ◌+◌, ◌*◌, ◌-◌, ◌^◌, ◌<◌, ◌≤◌, Bool, true, false, List, [], ◌∷◌, ◌++◌, length, take, get_or, Option, Some, None, refl, sym, ap, ◌∙◌, subst, arith}
 use Rattle.std.specs.Prelude.{All, min, replicate, slice_get}
 use Rattle.std.specs.Option.{option_map_or}
 use Rattle.std.proofs.lemmas.List.{get_or-replicate, length-map, length-replicate, take_all, take_more}
@@ -10,7 +10,7 @@ use Rattle.mv_move_types.specs.Module.{Module, name_at, name_of_struct}
 use Rattle.mv_move_types.specs.Published.{PublishedModule}
 use Rattle.mv_binary_format.proofs.Back.{filter-shorter}
 use Rattle.mv_machine.specs.Count.{count}
-use Rattle.mv_machine.specs.Flat.{FlatEntry, flat_storage, storage_of}
+use Rattle.mv_machine.specs.Flat.{FlatEntry, storage_of}
 use Rattle.mv_linker.specs.Link.{IsStore, tables_in}
 use Rattle.mv_linker.proofs.Found.{on_some}
 use Rattle.mv_interpreter.specs.Runs.{IsFineWords}
@@ -25,7 +25,7 @@ use Rattle.mv_ledger.proofs.Accepted.Stores.{accepted_store}
 use Rattle.mv_ledger.proofs.Adding.{own-count, other-count, rows-kept}
 use Rattle.mv_ledger.proofs.BodyEntries.{struct_under}
 use Rattle.mv_ledger.proofs.BodyGroups.{own-is, is-own}
-use Rattle.mv_ledger.proofs.BodyLookups.{is_of, under}
+use Rattle.mv_ledger.proofs.BodyLookups.{is_of}
 use Rattle.mv_ledger.proofs.BodyStorage.{store-sized}
 use Rattle.mv_ledger.proofs.Counted.{row-is}
 use Rattle.mv_ledger.proofs.CountedStorage.{by_structs, count-by_structs, under-own, under-other}

@@ -1,11 +1,9 @@
 -- Tallies against the counts of what is stored.
-use Rattle.std.proofs.Common.{◌≡◌, ℕ, zero, suc, ◌+◌, ◌*◌, ◌-◌, ◌^◌, ◌<◌, ◌≤◌, List, [], ◌∷◌, ◌++◌, map, length, take, Option, Some, None, refl, sym, ap, ◌∙◌, subst, arith, add-one}
+use Rattle.std.proofs.Common.{◌≡◌, ℕ, zero, suc, ◌+◌, ◌*◌, ◌-◌, ◌^◌, ◌<◌, ◌≤◌, List, [], ◌∷◌, ◌++◌, map, length, take, sym, ap, ◌∙◌, subst, arith, add-one}
 use Rattle.std.specs.Prelude.{All, min, slice_get, unwrap_or}
 use Rattle.std.specs.List.{AllByRecursion}
 use Rattle.std.proofs.lemmas.List.{take_all}
 use Rattle.std.proofs.lemmas.List.Elements.{All-head, All-tail}
-use Rattle.mv_move_types.specs.declared.tables.Definition.{Definition}
-use Rattle.mv_move_types.specs.Names.{StructName}
 use Rattle.mv_move_types.specs.Module.{Module, name_at}
 use Rattle.mv_machine.specs.Count.{count}
 use Rattle.mv_machine.specs.Flat.{FlatEntry, storage_of}

@@ -6,7 +6,7 @@ use Rattle.std.specs.Prelude.{ℕ, zero, suc, ◌+◌, cond, List, [], ◌∷◌
 use Rattle.std.specs.Option.{option_map_or}
 use Rattle.mv_move_types.specs.declared.tables.Definition.{Definition}
 use Rattle.mv_move_types.specs.declared.tables.Field.{Field}
-use Rattle.mv_move_types.specs.declared.token.ValueType.TheVariants.{OfLeaf, OfStruct}
+use Rattle.mv_move_types.specs.declared.token.ValueType.TheVariants.{OfStruct}
 use Rattle.mv_move_types.specs.declared.token.Token.{Token}
 use Rattle.mv_move_types.specs.declared.token.Token.TheVariants.{Plain}
 use Rattle.mv_move_types.specs.Names.{StructName, same_struct}
