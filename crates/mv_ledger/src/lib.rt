@@ -33,7 +33,7 @@ pub use laws::{
     no_load_fails,
 };
 pub use lines::Lines;
-pub use loading::LoadError;
+pub use loading::{LoadError, migrate};
 use mv_frames::Counters;
 use mv_linker::Store;
 use mv_machine::Outcome;
