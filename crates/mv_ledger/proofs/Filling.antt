@@ -1,5 +1,5 @@
 -- What is stored, as it is put into the sections of its structs.
-use Rattle.std.proofs.Common.{◌≡◌, ℕ, suc, ◌+◌, ◌<◌, ◌≤◌, ◌^◌, Bool, true, false, cond, List, [], ◌∷◌, ◌++◌, map, length, refl, sym, ap, ap₂, ◌∙◌, subst, arith, Option, Some, None, slice_get, append-nil, append_assoc, length-append}
+use Rattle.std.proofs.Common.{◌≡◌, ℕ, suc, ◌+◌, ◌<◌, ◌≤◌, ◌^◌, Bool, true, false, cond, List, [], ◌∷◌, ◌++◌, length, refl, sym, ap, ap₂, ◌∙◌, subst, arith, Option, Some, None, slice_get, append-nil, append_assoc, length-append}
 use Rattle.std.specs.Prelude.{◌&&◌, ◌==◌, All, IsSome, IfSome}
 use Rattle.std.specs.List.{filter, flat_map, list_all}
 use Rattle.std.specs.Option.{option_map_or}
@@ -8,7 +8,7 @@ use Rattle.std.proofs.lemmas.Bool.{eqb-true}
 use Rattle.std.proofs.lemmas.List.{map-append}
 use Rattle.std.proofs.lemmas.List.Concat.{flat_map-append}
 use Rattle.std.proofs.lemmas.List.Elements.{All-nil, All-cons, All-head, All-tail, filter-append}
-use Rattle.std.proofs.lemmas.Option.{same_Some, none-some}
+use Rattle.std.proofs.lemmas.Option.{same_Some}
 use Rattle.mv_move_types.specs.declared.tables.Definition.{Definition}
 use Rattle.mv_move_types.specs.declared.token.Abilities.{Abilities}
 use Rattle.mv_move_types.specs.declared.token.LeafKind.{LeafKind}
@@ -17,8 +17,8 @@ use Rattle.mv_move_types.specs.Module.{Module, name_at}
 use Rattle.mv_move_types.specs.Published.{PublishedModule}
 use Rattle.mv_module_text.specs.Entries.{address_text}
 use Rattle.mv_module_text.specs.Fits.{address_fits}
-use Rattle.mv_machine.specs.State.{Entry, Storage}
-use Rattle.mv_machine.specs.Flat.{FlatEntry, flat, flat_storage, storage_of, value_under}
+use Rattle.mv_machine.specs.State.{Entry}
+use Rattle.mv_machine.specs.Flat.{FlatEntry, flat, storage_of, value_under}
 use Rattle.mv_machine.specs.Typed.{abilities_at, is_fine_entry, is_of_struct}
 use Rattle.mv_linker.specs.Link.{IsStore, tables_in}
 use Rattle.mv_linker.proofs.Found.{on_some, some-of, then_found}

@@ -1,20 +1,18 @@
 -- Of what the fields of structs are made, and the kinds of their leaves.
-use Rattle.std.proofs.Common.{◌≡◌, ◌≢◌, ℕ, zero, suc, ◌+◌, ◌-◌, ◌<◌, Bool, true, false, List, [], ◌∷◌, ◌++◌, map, length, take, get_or, refl, sym, ap, ap₂, ◌∙◌, subst, arith, Option, Some, None, option_map, append_assoc, append-nil, slice_get}
-use Rattle.std.specs.Prelude.{nat_le, IsTrue}
-use Rattle.std.specs.List.{AllZip, list_all, flat_map, enumerate_from}
+use Rattle.std.proofs.Common.{◌≡◌, ◌≢◌, ℕ, zero, suc, ◌+◌, ◌-◌, ◌<◌, Bool, true, false, List, [], ◌∷◌, ◌++◌, length, take, refl, sym, ap, ap₂, ◌∙◌, subst, arith, Option, Some, None, option_map, append_assoc, append-nil, slice_get}
+use Rattle.std.specs.Prelude.{nat_le}
+use Rattle.std.specs.List.{list_all}
 use Rattle.std.specs.Option.{option_map_or}
 use Rattle.std.specs.declared.vec.Vec.{Vec}
 use Rattle.std.specs.declared.alloc.Global.{Global}
 use Rattle.std.proofs.lemmas.List.{take_more, length-take-le, length-map}
-use Rattle.std.proofs.lemmas.Option.{same_Some, none-some, slice_get_within, get_or_from_slice_get}
+use Rattle.std.proofs.lemmas.Option.{none-some, slice_get_within, get_or_from_slice_get}
 use Rattle.mv_move_types.specs.declared.tables.Definition.{Definition}
 use Rattle.mv_move_types.specs.declared.tables.Field.{Field}
 use Rattle.mv_move_types.specs.declared.token.Abilities.{Abilities}
 use Rattle.mv_move_types.specs.declared.token.LeafKind.{LeafKind}
-use Rattle.mv_move_types.specs.declared.token.ValueType.{ValueType}
-use Rattle.mv_move_types.specs.declared.token.ValueType.TheVariants.{OfLeaf, OfStruct}
-use Rattle.mv_move_types.specs.declared.token.Token.{Token}
-use Rattle.mv_move_types.specs.declared.token.Token.TheVariants.{Plain, Reference as ReferenceTo, MutableReference as MutableReferenceTo}
+use Rattle.mv_move_types.specs.declared.token.ValueType.TheVariants.{OfStruct}
+use Rattle.mv_move_types.specs.declared.token.Token.TheVariants.{Plain}
 use Rattle.mv_move_types.specs.Names.{StructName}
 use Rattle.mv_move_types.specs.Options.{◌>>=◌, find_index}
 use Rattle.mv_move_types.specs.Module.{Module, StructDefinition, struct_name, struct_abilities, name_of_struct, name_at}
@@ -31,11 +29,11 @@ use Rattle.mv_linker.proofs.Members.{among-at}
 use Rattle.mv_linker.proofs.OwnDefinitions.{own-definition, struct_named_so}
 use Rattle.mv_interpreter.proofs.Typing.Callees.{on_found}
 use Rattle.mv_ledger.specs.declared.layouts.Part.{Part}
-use Rattle.mv_ledger.specs.declared.layouts.Part.TheVariants.{Leaf, Struct, Nothing}
+use Rattle.mv_ledger.specs.declared.layouts.Part.TheVariants.{Struct, Nothing}
 use Rattle.mv_ledger.specs.declared.layouts.Shape.{Shape}
-use Rattle.mv_ledger.specs.Layouts.{kinds_of_token, kinds_of_fields, kinds_within, leaf_kinds, kinds_under, is_keyed, structs_at}
-use Rattle.mv_ledger.specs.LayoutParts.{kinds_at, kinds_of_part, kinds_of_parts, keyed_at, rows_of, IsOfStore, AreLayouts, AreParts, AreShapes, IsPart, IsShape, IsShapeAt, PutsKinds}
-use Rattle.mv_ledger.specs.SavedText.{has_key, keyed_from}
+use Rattle.mv_ledger.specs.Layouts.{kinds_of_token, kinds_of_fields, kinds_within, leaf_kinds, is_keyed, structs_at}
+use Rattle.mv_ledger.specs.LayoutParts.{kinds_at, kinds_of_parts, keyed_at, rows_of, IsOfStore, AreLayouts, AreParts, AreShapes, IsPart, IsShape, IsShapeAt, PutsKinds}
+use Rattle.mv_ledger.specs.SavedText.{keyed_from}
 use Rattle.mv_ledger.proofs.LeafKinds.{kinds-count}
 use Rattle.mv_ledger.proofs.Zips.{zip-at, zip-past, zip-length}
 

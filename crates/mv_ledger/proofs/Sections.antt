@@ -1,5 +1,5 @@
 -- Sections of structs: empty ones, and one with one value more.
-use Rattle.std.proofs.Common.{◌≡◌, ℕ, zero, suc, ◌+◌, ◌<◌, ◌≤◌, Bool, true, false, List, [], ◌∷◌, ◌++◌, map, length, refl, sym, ap, ap₂, ◌∙◌, subst, arith, Option, Some, None, Result, Ok, Err, get_or, option_map, slice_get, ◌⊎◌, inl, inr, length-append, eq-eqb}
+use Rattle.std.proofs.Common.{◌≡◌, ℕ, zero, suc, ◌+◌, ◌<◌, ◌≤◌, Bool, true, false, List, [], ◌∷◌, ◌++◌, length, refl, sym, ap, ◌∙◌, subst, arith, Some, Result, Ok, Err, get_or, option_map, slice_get, ◌⊎◌, inl, inr, length-append, eq-eqb}
 use Rattle.std.specs.Prelude.{◌&&◌, ◌==◌, All, IsSome, OnOk, slice_set}
 use Rattle.std.specs.Option.{option_map_or}
 use Rattle.std.specs.declared.vec.Vec.{Vec}
@@ -16,7 +16,7 @@ use Rattle.mv_module_text.specs.Entries.{address_text}
 use Rattle.mv_linker.proofs.Found.{on_some, some-of, then_found, there_at}
 use Rattle.mv_ledger.specs.declared.saving.Section.{Section}
 use Rattle.mv_ledger.specs.Layouts.{coded, kinds_under, structs_at}
-use Rattle.mv_ledger.specs.Saving.{definition_at, same_definition, section_at, sections_of, struct_of, AddsValue, AreSections, HasOneMore, IsAdded, IsEmpty, IsSection}
+use Rattle.mv_ledger.specs.Saving.{definition_at, same_definition, section_at, sections_of, struct_of, AddsValue, AreSections, HasOneMore, IsAdded, IsEmpty}
 
 -- ---- one more element
 

@@ -1,5 +1,4 @@
-use Rattle.std.proofs.Common.{List, ap, sym, ◌∙◌, arith, Vec, Global, ℕ}
-use Rattle.std.specs.Prelude.{option_copied}
+use Rattle.std.proofs.Common.{ap, sym, ◌∙◌, Vec, Global, ℕ}
 use Rattle.mv_move_types.specs.declared.tables.Definition.{Definition}
 use Rattle.mv_ledger.specs.Saving.{sections_of}
 use Rattle.mv_ledger.proofs.Written.{sections-next, sections-there}

@@ -1,13 +1,7 @@
-use Rattle.std.proofs.Common.{◌≡◌, ◌++◌, List, Vec, Global, ap, sym, ◌∙◌, subst}
+use Rattle.std.proofs.Common.{List, sym, subst}
 use Rattle.std.specs.Prelude.{All}
-use Rattle.std.specs.List.{flat_map}
 use Rattle.mv_move_types.specs.Module.{Module}
-use Rattle.mv_machine.specs.Flat.{storage_of}
 use Rattle.mv_interpreter.specs.Runs.{IsFineWords}
-use Rattle.mv_ledger.specs.declared.saving.Section.{Section}
-use Rattle.mv_ledger.specs.Publishing.{offered}
-use Rattle.mv_ledger.specs.SavedText.{Second, head_text, keyed_from, struct_text}
-use Rattle.mv_ledger.specs.Saving.{counts_text, sections_of, AreSections}
 use Rattle.mv_ledger.specs.View.{all_of}
 use Rattle.mv_ledger.proofs.Written.{written-from}
 use Rattle.mv_ledger.proofs.saving.text_of.Goals as goal
