@@ -65,4 +65,6 @@ pub mod PartKinds
 pub mod KeyedIndices
 pub mod Sections
 pub mod Filling
+pub mod KeyedDefined
+pub mod Written
 mod SavedRows

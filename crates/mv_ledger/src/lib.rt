@@ -214,6 +214,9 @@ impl Ledger {
     pub fn save(&self) -> Result<Vec<u8>, AllocError>
         ensures { IfOk result (λ v. IsSavedText Second v.items (state_of self.now)) }
     {
+        // For the prover: what it stands for is sound, and within the limits of a saved ledger.
+        self.is_sound();
+        self.is_savable();
         saving::text_of(
             self.alloc,
             &self.store,
