@@ -12,7 +12,7 @@ use Rattle.mv_ledger.specs.CountRows.{row_at, no_counts}
 abbrev pub rows_in : List (Vec ℕ Global) → List (List ℕ)
 rows_in vs = map (λ v. v.items) vs
 
-row-is : (modules : List Module) (place : ℕ) → place < length modules → get_or (no_counts modules) place [] ≡ replicate (structs_at modules place) 0
+pub row-is : (modules : List Module) (place : ℕ) → place < length modules → get_or (no_counts modules) place [] ≡ replicate (structs_at modules place) 0
 row-is [] place lt = absurd (omega (arith, lt))
 row-is (m ∷ ms) zero lt = refl
 row-is (m ∷ ms) (suc place) lt = row-is ms place (omega (arith, lt))
@@ -21,7 +21,7 @@ row-is (m ∷ ms) (suc place) lt = row-is ms place (omega (arith, lt))
 pub rows-more : (modules : List Module) (place : ℕ) (vs after : List (Vec ℕ Global)) (v : Vec ℕ Global) → place < length modules → rows_in vs ≡ take place (no_counts modules) → after ≡ vs ++ v ∷ [] → v.items ≡ replicate (structs_at modules place) 0
     → rows_in after ≡ take (place + 1) (no_counts modules)
 rows-more modules place vs after v lt is after_is own =
-    let short : place < length (no_counts modules) = omega (arith, lt, length-map modules (λ m. replicate (length m.structs) 0)) in
+    let short : place < length (no_counts modules) = omega (arith, lt, length-map modules (λ m. replicate {A = ℕ} (length m.structs) 0)) in
     ap rows_in after_is ∙ map-append (λ (w : Vec ℕ Global). w.items) vs (v ∷ [])
     ∙ ap₂ (λ (xs : List (List ℕ)) (x : List ℕ). xs ++ x ∷ []) is (own ∙ sym (row-is modules place lt))
     ∙ sym (take_more (no_counts modules) place [] short)

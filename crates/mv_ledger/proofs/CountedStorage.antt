@@ -1,5 +1,5 @@
 -- How many values of a struct are stored, at any depth, from how many values are stored of each struct with key.
-use Rattle.std.proofs.Common.{◌≡◌, ℕ, suc, ◌+◌, ◌*◌, Bool, true, false, cond, List, [], ◌∷◌, length, Option, refl, ap, ap₂, sym, ◌∙◌, subst, arith, inl, inr}
+use Rattle.std.proofs.Common.{◌≡◌, ℕ, suc, ◌+◌, ◌*◌, Bool, true, cond, List, [], ◌∷◌, length, Option, refl, ap, ap₂, sym, ◌∙◌, subst, arith, inl, inr}
 use Rattle.std.specs.List.{AllByRecursion}
 use Rattle.std.specs.Option.{option_map_or}
 use Rattle.mv_move_types.specs.declared.tables.Definition.{Definition}
@@ -11,7 +11,7 @@ use Rattle.mv_machine.specs.State.{Storage}
 use Rattle.mv_machine.specs.Typed.{is_fine_storage}
 use Rattle.mv_ledger.specs.Inside.{structs_within, structs_under}
 use Rattle.mv_ledger.specs.SavedText.{keyed_from}
-use Rattle.mv_ledger.proofs.BodyLookups.{is_of, under}
+use Rattle.mv_ledger.proofs.BodyLookups.{under}
 use Rattle.mv_ledger.proofs.BodyEntries.{struct_under}
 use Rattle.mv_ledger.proofs.BodyGroups.{is-own, is-other, Among, IsApart, Distinct, apart-among}
 use Rattle.mv_ledger.proofs.BodyKeyed.{keyed-distinct, keyed-among}
@@ -46,10 +46,10 @@ none-of f [] = refl
 none-of f (d ∷ ds) = let rest : by_structs f [] ds ≡ 0 = none-of f ds in omega (arith, rest)
 
 -- an entry of another struct
-under-other : (d : Definition) (e : FlatEntry) (es : List FlatEntry) → (struct_under e.key ≡ d → ⊥) → length (under d (e ∷ es)) ≡ length (under d es)
+pub under-other : (d : Definition) (e : FlatEntry) (es : List FlatEntry) → (struct_under e.key ≡ d → ⊥) → length (under d (e ∷ es)) ≡ length (under d es)
 under-other d e es apart = ap (λ (b : Bool). length (cond b (e ∷ under d es) (under d es))) (is-other d e apart)
 
-under-own : (d : Definition) (e : FlatEntry) (es : List FlatEntry) → struct_under e.key ≡ d → length (under d (e ∷ es)) ≡ suc (length (under d es))
+pub under-own : (d : Definition) (e : FlatEntry) (es : List FlatEntry) → struct_under e.key ≡ d → length (under d (e ∷ es)) ≡ suc (length (under d es))
 under-own d e es own = ap (λ (b : Bool). length (cond b (e ∷ under d es) (under d es))) (is-own d e own)
 
 others-same : (f : Definition → ℕ) (e : FlatEntry) (es : List FlatEntry) (ds : List Definition) → IsApart (struct_under e.key) ds → by_structs f (e ∷ es) ds ≡ by_structs f es ds

@@ -1,5 +1,5 @@
 -- What is stored, as it is put into the sections of its structs.
-use Rattle.std.proofs.Common.{◌≡◌, ℕ, suc, ◌+◌, ◌<◌, ◌≤◌, ◌^◌, Bool, true, false, cond, List, [], ◌∷◌, ◌++◌, map, length, refl, sym, ap, ap₂, ◌∙◌, subst, arith, Option, Some, None, slice_get, append-nil, append_assoc, length-append}
+use Rattle.std.proofs.Common.{◌≡◌, ℕ, suc, ◌+◌, ◌<◌, ◌≤◌, ◌^◌, Bool, true, false, cond, List, [], ◌∷◌, ◌++◌, length, refl, sym, ap, ap₂, ◌∙◌, subst, arith, Option, Some, None, slice_get, append-nil, append_assoc, length-append}
 use Rattle.std.specs.Prelude.{◌&&◌, ◌==◌, All, IsSome, IfSome}
 use Rattle.std.specs.List.{filter, flat_map, list_all}
 use Rattle.std.specs.Option.{option_map_or}
@@ -8,17 +8,17 @@ use Rattle.std.proofs.lemmas.Bool.{eqb-true}
 use Rattle.std.proofs.lemmas.List.{map-append}
 use Rattle.std.proofs.lemmas.List.Concat.{flat_map-append}
 use Rattle.std.proofs.lemmas.List.Elements.{All-nil, All-cons, All-head, All-tail, filter-append}
-use Rattle.std.proofs.lemmas.Option.{same_Some, none-some}
+use Rattle.std.proofs.lemmas.Option.{same_Some}
 use Rattle.mv_move_types.specs.declared.tables.Definition.{Definition}
-use Rattle.mv_move_types.specs.declared.tables.Key.{Key}
 use Rattle.mv_move_types.specs.declared.token.Abilities.{Abilities}
 use Rattle.mv_move_types.specs.declared.token.LeafKind.{LeafKind}
 use Rattle.mv_move_types.specs.Options.{◌>>=◌}
 use Rattle.mv_move_types.specs.Module.{Module, name_at}
 use Rattle.mv_move_types.specs.Published.{PublishedModule}
+use Rattle.mv_module_text.specs.Entries.{address_text}
 use Rattle.mv_module_text.specs.Fits.{address_fits}
-use Rattle.mv_machine.specs.State.{Entry, Storage}
-use Rattle.mv_machine.specs.Flat.{FlatEntry, flat, flat_storage, storage_of, value_under}
+use Rattle.mv_machine.specs.State.{Entry}
+use Rattle.mv_machine.specs.Flat.{FlatEntry, flat, storage_of, value_under}
 use Rattle.mv_machine.specs.Typed.{abilities_at, is_fine_entry, is_of_struct}
 use Rattle.mv_linker.specs.Link.{IsStore, tables_in}
 use Rattle.mv_linker.proofs.Found.{on_some, some-of, then_found}
@@ -27,16 +27,12 @@ use Rattle.mv_interpreter.proofs.Flat.FineWords.{fine_words-typed}
 use Rattle.mv_interpreter.proofs.Typing.Callees.{on_found}
 use Rattle.mv_interpreter.proofs.Typing.Fine.{typed_is_fine}
 use Rattle.mv_ledger.specs.declared.saving.Section.{Section}
-use Rattle.mv_ledger.specs.Layouts.{is_keyed, kinds_under, leaf_kinds}
+use Rattle.mv_ledger.specs.Layouts.{coded, is_keyed, kinds_under, leaf_kinds, AreLeaves}
 use Rattle.mv_ledger.specs.LayoutParts.{IsOfStore}
 use Rattle.mv_ledger.specs.SavedText.{addressed_text, is_under, leaves_text}
-use Rattle.mv_ledger.specs.Saving.{definition_at, same_definition, section_at, stored_in, AreSections, IsAdded, IsSection}
+use Rattle.mv_ledger.specs.Saving.{definition_at, same_definition, section_at, stored_in, struct_of, AddsValue, AreSections, HasOneMore, IsAdded, IsSection, KnowsKinds}
 use Rattle.mv_ledger.proofs.Accepted.Stores.{accepted_store}
 use Rattle.mv_ledger.proofs.LeafKinds.{HasLeaves, struct-leaves}
-
--- the struct of a key
-abbrev pub struct_of : Key → Definition
-struct_of key = record { place = key.place; index = key.index }
 
 -- a stored value as it is read
 abbrev pub read : List Module → FlatEntry → Entry
@@ -92,32 +88,33 @@ module _ (modules : List Module) where
   stored-more : (done : List FlatEntry) (e : FlatEntry) (d : Definition) → stored_in modules (done ++ e ∷ []) d ≡ stored_in modules done d ++ cond (same_definition (struct_of e.key) d) (read modules e ∷ []) []
   stored-more done e d = ap (filter (is_under d)) (map-append (read modules) done (e ∷ [])) ∙ filter-append (is_under d) (storage_of modules done) (read modules e ∷ [])
 
-  section-more : (done : List FlatEntry) (e : FlatEntry) (d : Definition) (s t : Section) → same_definition (struct_of e.key) d ≡ true → IsSection modules done d s → t.count ≡ s.count + 1 → t.text.items ≡ s.text.items ++ addressed_text (read modules e)
-      → IsSection modules (done ++ e ∷ []) d t
-  section-more done e d s t same is count text =
+  section-more : (done : List FlatEntry) (e : FlatEntry) (d : Definition) (s t : Section) (kinds : List LeafKind) → same_definition (struct_of e.key) d ≡ true → kinds_under modules d ≡ Some kinds → IsSection modules done d s
+      → HasOneMore s kinds (addressed_text (read modules e)) t → IsSection modules (done ++ e ∷ []) d t
+  section-more done e d s t kinds same kinds_is is more =
       let all : stored_in modules (done ++ e ∷ []) d ≡ stored_in modules done d ++ read modules e ∷ [] = stored-more done e d ∙ ap (λ (b : Bool). stored_in modules done d ++ cond b (read modules e ∷ []) []) same in
       record {
-        count = count ∙ ap (λ n. n + 1) is.count ∙ sym (length-append (stored_in modules done d) (read modules e ∷ [])) ∙ sym (ap length all);
-        text = text ∙ ap₂ (λ a b. a ++ b) is.text (sym (append-nil (addressed_text (read modules e)))) ∙ sym (flat_map-append addressed_text (stored_in modules done d) (read modules e ∷ [])) ∙ sym (ap (flat_map addressed_text) all);
+        count = more.count ∙ ap (λ n. n + 1) is.count ∙ sym (length-append (stored_in modules done d) (read modules e ∷ [])) ∙ sym (ap length all);
+        text = more.text ∙ ap₂ (λ a b. a ++ b) is.text (sym (append-nil (addressed_text (read modules e)))) ∙ sym (flat_map-append addressed_text (stored_in modules done d) (read modules e ∷ [])) ∙ sym (ap (flat_map addressed_text) all);
+        known = λ _. kinds_is ∙ ap Some (sym more.kinds_are);
       }
 
   section-same : (done : List FlatEntry) (e : FlatEntry) (d : Definition) (s : Section) → same_definition (struct_of e.key) d ≡ false → IsSection modules done d s → IsSection modules (done ++ e ∷ []) d s
   section-same done e d s other is =
       let all : stored_in modules (done ++ e ∷ []) d ≡ stored_in modules done d = stored-more done e d ∙ ap (λ (b : Bool). stored_in modules done d ++ cond b (read modules e ∷ []) []) other ∙ append-nil (stored_in modules done d) in
-      record { count = is.count ∙ sym (ap length all); text = is.text ∙ sym (ap (flat_map addressed_text) all) }
+      record { count = is.count ∙ sym (ap length all); text = is.text ∙ sym (ap (flat_map addressed_text) all); known = is.known }
 
   same_definition-is : (a b : Definition) → same_definition a b ≡ true → a ≡ b
   same_definition-is a b h =
       ap₂ (λ p i. let d : Definition = record { place = p; index = i } in d) (eqb-true a.place b.place (first_so (a.place == b.place) (a.index == b.index) h)) (eqb-true a.index b.index (second_so (a.place == b.place) (a.index == b.index) h))
 
-  sections-more : (done : List FlatEntry) (e : FlatEntry) (rows after : List (List Section)) → AreSections modules done rows → IsSome (section_at rows (struct_of e.key)) → IsAdded rows (struct_of e.key) (addressed_text (read modules e)) after
-      → AreSections modules (done ++ e ∷ []) after
-  sections-more done e rows after are is added =
+  sections-more : (done : List FlatEntry) (e : FlatEntry) (kinds : List LeafKind) (rows after : List (List Section)) → AreSections modules done rows → IsSome (section_at rows (struct_of e.key)) → kinds_under modules (struct_of e.key) ≡ Some kinds
+      → IsAdded rows (struct_of e.key) kinds (addressed_text (read modules e)) after → AreSections modules (done ++ e ∷ []) after
+  sections-more done e kinds rows after are is kinds_is added =
       let own = some-of (section_at rows (struct_of e.key)) is in
       let new = added.here own.0 own.1 in
       record {
         there = λ d defined. there d (same_definition (struct_of e.key) d) refl (are.there d defined) new.0 new.1;
-        each = λ d s at. each d s (same_definition (struct_of e.key) d) refl at own.0 own.1 new.0 new.1 new.2 new.3;
+        each = λ d s at. each d s (same_definition (struct_of e.key) d) refl at own.0 own.1 new.0 new.1 new.2;
       }
     where
       there : (d : Definition) (b : Bool) → same_definition (struct_of e.key) d ≡ b → IsSome (section_at rows d) → (t : Section) → section_at after (struct_of e.key) ≡ Some t → IsSome (section_at after d)
@@ -125,13 +122,14 @@ module _ (modules : List Module) where
       there d false other was t t_is = subst IsSome (sym (added.others d other)) was
 
       each : (d : Definition) (s : Section) (b : Bool) → same_definition (struct_of e.key) d ≡ b → section_at after d ≡ Some s → (o : Section) → section_at rows (struct_of e.key) ≡ Some o → (t : Section) → section_at after (struct_of e.key) ≡ Some t
-          → t.count ≡ o.count + 1 → t.text.items ≡ o.text.items ++ addressed_text (read modules e) → IsSection modules (done ++ e ∷ []) d s
-      each d s true same at o o_is t t_is count text =
+          → HasOneMore o kinds (addressed_text (read modules e)) t → IsSection modules (done ++ e ∷ []) d s
+      each d s true same at o o_is t t_is more =
           let one : struct_of e.key ≡ d = same_definition-is (struct_of e.key) d same in
           let is : t ≡ s = same_Some t s (sym t_is ∙ ap (section_at after) one ∙ at) in
           let old : IsSection modules done d o = subst (λ (x : Definition). IsSection modules done x o) one (are.each (struct_of e.key) o o_is) in
-          subst (IsSection modules (done ++ e ∷ []) d) is (section-more done e d o t same old count text)
-      each d s false other at o o_is t t_is count text = section-same done e d s other (are.each d s (sym (added.others d other) ∙ at))
+          let own : kinds_under modules d ≡ Some kinds = subst (λ (x : Definition). kinds_under modules x ≡ Some kinds) one kinds_is in
+          subst (IsSection modules (done ++ e ∷ []) d) is (section-more done e d o t kinds same own old more)
+      each d s false other at o o_is t t_is more = section-same done e d s other (are.each d s (sym (added.others d other) ∙ at))
 
   -- ---- so many were put
 
@@ -180,10 +178,27 @@ module _ (modules : List Module) where
           let count = (h.2.each d s e).count in
           omega (arith, whole, short, count, few, storage-length h.0)
 
-  pub fill-more : (storage entries rest : List FlatEntry) (rows after : List (List Section)) (e : FlatEntry) (bytes : List ℕ) → entries ≡ e ∷ rest → IsFilled storage entries rows → IsSome (section_at rows (struct_of e.key))
-      → bytes ≡ addressed_text (read modules e) → IsAdded rows (struct_of e.key) bytes after → IsFilled storage rest after
-  fill-more storage entries rest rows after e bytes at h is text added = (
-    h.0 ++ e ∷ [],
-    h.1 ∙ ap (λ l. h.0 ++ l) at ∙ sym (append_assoc h.0 (e ∷ []) rest),
-    sections-more h.0 e rows after h.2 is (subst (λ (l : List ℕ). IsAdded rows (struct_of e.key) l after) text added),
-  )
+  -- a section that a value is in knows its kinds
+  pub fill-known : (storage entries : List FlatEntry) (rows : List (List Section)) (d : Definition) → IsFilled storage entries rows → IfSome (section_at rows d) (KnowsKinds modules d)
+  fill-known storage entries rows d h = by_case (section_at rows d) refl
+    where
+      by_case : (o : Option Section) → section_at rows d ≡ o → IfSome o (KnowsKinds modules d)
+      by_case None e = tt
+      by_case (Some s) e = (h.2.each d s e).known
+
+  -- the words of a readable value are leaves of its struct's kinds
+  pub fill-leaves : (e : FlatEntry) → IsReadable modules e → IfSome (kinds_under modules (struct_of e.key)) (λ kinds. AreLeaves kinds e.words)
+  fill-leaves e is = by_case (kinds_under modules (struct_of e.key)) refl
+    where
+      by_case : (o : Option (List LeafKind)) → kinds_under modules (struct_of e.key) ≡ o → IfSome o (λ kinds. AreLeaves kinds e.words)
+      by_case None at = tt
+      by_case (Some ks) at = (is.leaves ks at).are
+
+  pub fill-more : (storage entries rest : List FlatEntry) (rows after : List (List Section)) (e : FlatEntry) → entries ≡ e ∷ rest → IsReadable modules e → IsFilled storage entries rows → AddsValue modules rows e.key e.words after → IsFilled storage rest after
+  fill-more storage entries rest rows after e at is h adds =
+      let text : address_text e.key.address ++ coded adds.kinds e.words ≡ addressed_text (read modules e) = ap (λ (l : List ℕ). address_text e.key.address ++ l) (sym (is.leaves adds.kinds adds.kinds_are).text) in
+      let more : IsAdded rows (struct_of e.key) adds.kinds (addressed_text (read modules e)) after = subst (λ (l : List ℕ). IsAdded rows (struct_of e.key) adds.kinds l after) text adds.added in (
+        h.0 ++ e ∷ [],
+        h.1 ∙ ap (λ l. h.0 ++ l) at ∙ sym (append_assoc h.0 (e ∷ []) rest),
+        sections-more h.0 e adds.kinds rows after h.2 (fill-there storage entries rows (struct_of e.key) is.keyed h) adds.kinds_are more,
+      )

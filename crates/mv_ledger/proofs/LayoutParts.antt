@@ -1,21 +1,19 @@
 -- Of what the fields of structs are made, and the kinds of their leaves.
-use Rattle.std.proofs.Common.{◌≡◌, ◌≢◌, ℕ, zero, suc, ◌+◌, ◌-◌, ◌<◌, Bool, true, false, List, [], ◌∷◌, ◌++◌, map, length, take, get_or, refl, sym, ap, ap₂, ◌∙◌, subst, arith, Option, Some, None, option_map, append_assoc, append-nil, slice_get}
-use Rattle.std.specs.Prelude.{nat_le, IsTrue}
-use Rattle.std.specs.List.{AllZip, list_all, flat_map, enumerate_from}
+use Rattle.std.proofs.Common.{◌≡◌, ◌≢◌, ℕ, zero, suc, ◌+◌, ◌-◌, ◌<◌, Bool, true, false, cond, List, [], ◌∷◌, ◌++◌, length, take, refl, sym, ap, ap₂, ◌∙◌, subst, arith, Option, Some, None, option_map, append_assoc, append-nil, slice_get}
+use Rattle.std.specs.Prelude.{nat_le}
+use Rattle.std.specs.List.{list_all}
 use Rattle.std.specs.Option.{option_map_or}
 use Rattle.std.specs.declared.vec.Vec.{Vec}
 use Rattle.std.specs.declared.alloc.Global.{Global}
 use Rattle.std.proofs.lemmas.List.{take_more, length-take-le, length-map}
-use Rattle.std.proofs.lemmas.Option.{same_Some, none-some, slice_get_within, get_or_from_slice_get}
+use Rattle.std.proofs.lemmas.Option.{none-some, slice_get_within, get_or_from_slice_get}
 use Rattle.mv_move_types.specs.declared.tables.Definition.{Definition}
 use Rattle.mv_move_types.specs.declared.tables.Field.{Field}
 use Rattle.mv_move_types.specs.declared.token.Abilities.{Abilities}
 use Rattle.mv_move_types.specs.declared.token.LeafKind.{LeafKind}
-use Rattle.mv_move_types.specs.declared.token.ValueType.{ValueType}
 use Rattle.mv_move_types.specs.declared.token.ValueType.TheVariants.{OfLeaf, OfStruct}
-use Rattle.mv_move_types.specs.declared.token.Token.{Token}
-use Rattle.mv_move_types.specs.declared.token.Token.TheVariants.{Plain, Reference as ReferenceTo, MutableReference as MutableReferenceTo}
-use Rattle.mv_move_types.specs.Names.{StructName}
+use Rattle.mv_move_types.specs.declared.token.Token.TheVariants.{Plain}
+use Rattle.mv_move_types.specs.Names.{StructName, same_struct}
 use Rattle.mv_move_types.specs.Options.{◌>>=◌, find_index}
 use Rattle.mv_move_types.specs.Module.{Module, StructDefinition, struct_name, struct_abilities, name_of_struct, name_at}
 use Rattle.mv_move_types.specs.Named.{definition_of, is_struct}
@@ -33,9 +31,10 @@ use Rattle.mv_interpreter.proofs.Typing.Callees.{on_found}
 use Rattle.mv_ledger.specs.declared.layouts.Part.{Part}
 use Rattle.mv_ledger.specs.declared.layouts.Part.TheVariants.{Leaf, Struct, Nothing}
 use Rattle.mv_ledger.specs.declared.layouts.Shape.{Shape}
-use Rattle.mv_ledger.specs.Layouts.{kinds_of_token, kinds_of_fields, kinds_within, leaf_kinds, kinds_under, is_keyed, structs_at}
-use Rattle.mv_ledger.specs.LayoutParts.{kinds_at, kinds_of_part, kinds_of_parts, keyed_at, rows_of, IsOfStore, AreLayouts, AreParts, AreShapes, IsPart, IsShape, IsShapeAt, PutsKinds}
-use Rattle.mv_ledger.specs.SavedText.{has_key, keyed_from}
+use Rattle.mv_ledger.specs.Inside.{structs_in_fields, structs_in_parts, structs_in_token, structs_within}
+use Rattle.mv_ledger.specs.Layouts.{kinds_of_token, kinds_of_fields, kinds_within, leaf_kinds, is_keyed, structs_at}
+use Rattle.mv_ledger.specs.LayoutParts.{kinds_at, kinds_of_parts, keyed_at, rows_of, IsOfStore, AreLayouts, AreParts, AreShapes, IsPart, IsShape, IsShapeAt, PutsKinds}
+use Rattle.mv_ledger.specs.SavedText.{keyed_from}
 use Rattle.mv_ledger.proofs.LeafKinds.{kinds-count}
 use Rattle.mv_ledger.proofs.Zips.{zip-at, zip-past, zip-length}
 
@@ -47,14 +46,31 @@ module _ (modules : List Module) where
   missing zero name e = refl
   missing (suc depth) name e = ap (λ o. o >>= λ d. kinds_of_fields (kinds_of_token (kinds_within depth modules) d.0) d.1) e
 
+  -- nor structs
+  without : (depth : ℕ) (s name : StructName) → definition_of modules name ≡ None → structs_within depth modules s name ≡ 0
+  without zero s name e = refl
+  without (suc depth) s name e = ap (λ o. option_map_or (λ (d : Module × List Field). cond (same_struct name s) 1 0 + structs_in_fields (structs_in_token (structs_within depth modules s) d.0) d.1) o 0) e
+
+  pub leaf-part : (m : Module) (kind : LeafKind) → IsPart modules m (Plain (OfLeaf kind)) (Leaf kind)
+  leaf-part m kind = record { kinds = λ depth. refl; structs = λ depth s. refl }
+
   pub unnamed-part : (m : Module) (h : ℕ) → struct_name m h ≡ None → IsPart modules m (Plain (OfStruct h)) Nothing
-  unnamed-part m h e = λ depth. ap (λ o. o >>= kinds_within depth modules) e
+  unnamed-part m h e = record {
+    kinds = λ depth. ap (λ o. o >>= kinds_within depth modules) e;
+    structs = λ depth s. ap (λ o. option_map_or (structs_within depth modules s) o 0) e;
+  }
 
   pub missing-part : (m : Module) (h : ℕ) (name : StructName) → struct_name m h ≡ Some name → definition_of modules name ≡ None → IsPart modules m (Plain (OfStruct h)) Nothing
-  missing-part m h name e none = λ depth. ap (λ o. o >>= kinds_within depth modules) e ∙ missing depth name none
+  missing-part m h name e none = record {
+    kinds = λ depth. ap (λ o. o >>= kinds_within depth modules) e ∙ missing depth name none;
+    structs = λ depth s. ap (λ o. option_map_or (structs_within depth modules s) o 0) e ∙ without depth s name none;
+  }
 
   pub struct-part : (m : Module) (h : ℕ) (name : StructName) (d : Definition) → struct_name m h ≡ Some name → name_at modules d.place d.index ≡ Some name → IsPart modules m (Plain (OfStruct h)) (Struct d)
-  struct-part m h name d e at = λ depth. ap (λ o. o >>= kinds_within depth modules) e ∙ sym (ap (λ o. o >>= kinds_within depth modules) at)
+  struct-part m h name d e at = record {
+    kinds = λ depth. ap (λ o. o >>= kinds_within depth modules) e ∙ sym (ap (λ o. o >>= kinds_within depth modules) at);
+    structs = λ depth s. ap (λ o. option_map_or (structs_within depth modules s) o 0) e ∙ sym (ap (λ o. option_map_or (structs_within depth modules s) o 0) at);
+  }
 
   -- the struct at the index that a search in its module gives
   pub found-in : (place : ℕ) (home : Module) (name : StructName) (index : ℕ) → slice_get modules place ≡ Some home → find_index (is_struct home name) home.structs ≡ Some index → name_at modules place index ≡ Some name
@@ -70,7 +86,14 @@ module _ (modules : List Module) where
   parts-kinds m k [] (p ∷ parts) h = absurd h
   parts-kinds m k (f ∷ fs) [] h = absurd h
   parts-kinds m k (f ∷ fs) (p ∷ parts) h =
-      ap₂ (λ (a b : Option (List LeafKind)). a >>= λ first. b >>= λ rest. Some (first ++ rest)) (h.0 k) (parts-kinds m k fs parts h.1)
+      ap₂ (λ (a b : Option (List LeafKind)). a >>= λ first. b >>= λ rest. Some (first ++ rest)) (h.0.kinds k) (parts-kinds m k fs parts h.1)
+
+  -- and as many values of each struct
+  pub parts-structs : (m : Module) (k : ℕ) (s : StructName) (fs : List Field) (parts : List Part) → AreParts modules m fs parts → structs_in_fields (structs_in_token (structs_within k modules s) m) fs ≡ structs_in_parts k modules s parts
+  parts-structs m k s [] [] h = refl
+  parts-structs m k s [] (p ∷ parts) h = absurd h
+  parts-structs m k s (f ∷ fs) [] h = absurd h
+  parts-structs m k s (f ∷ fs) (p ∷ parts) h = ap₂ (λ (a b : ℕ). a + b) (h.0.structs k s) (parts-structs m k s fs parts h.1)
 
   module _ (rows : List (List Shape)) (are : AreLayouts modules modules rows) (d : Definition) where
     pub shape-there : (row : List Shape) (s : Shape) → slice_get rows d.place ≡ Some row → slice_get row d.index ≡ Some s → IsShapeAt modules d (Some s)
@@ -132,6 +155,12 @@ module _ (modules : List Module) where
   no_depth None = refl
   no_depth (Some name) = refl
 
+-- a struct that is there is one of its own, with those of its parts
+pub record HasStructs (modules : List Module) (k : ℕ) (d : Definition) (shape : Shape) : Type 0 where
+  pub name : StructName
+  pub named : name_at modules d.place d.index ≡ Some name
+  pub each : (s : StructName) → structs_within (suc k) modules s name ≡ cond (same_struct name s) 1 0 + structs_in_parts k modules s shape.fields.items
+
 -- ---- over a store
 
 module _ (published : List PublishedModule) (is : IsStore published) where
@@ -157,6 +186,18 @@ module _ (published : List PublishedModule) (is : IsStore published) where
       ap (λ o. o >>= kinds_within (suc k) modules) (named d h.0 h.1 own.0 h.2 h.3 own.1)
       ∙ ap (λ o. o >>= λ x. kinds_of_fields (kinds_of_token (kinds_within k modules) x.0) x.1) own.2
       ∙ parts-kinds modules h.0 k h.1.fields s.fields.items h.4.fields
+
+  -- a struct has as many values of another one as its shape says
+  pub shape-structs : (k : ℕ) (d : Definition) (shape : Shape) → IsShapeAt modules d (Some shape) → HasStructs modules k d shape
+  shape-structs k d shape h =
+      let own = defined d h.0 h.1 h.2 h.3 in
+      record {
+        name = own.0;
+        named = named d h.0 h.1 own.0 h.2 h.3 own.1;
+        each = λ s.
+            ap (λ o. option_map_or (λ (x : Module × List Field). cond (same_struct own.0 s) 1 0 + structs_in_fields (structs_in_token (structs_within k modules s) x.0) x.1) o 0) own.2
+            ∙ ap (λ n. cond (same_struct own.0 s) 1 0 + n) (parts-structs modules h.0 k s h.1.fields shape.fields.items h.4.fields);
+      }
 
   -- so many were put
   pub puts-shape : (depth : ℕ) (d : Definition) (s : Shape) (there : Bool) (old new : List LeafKind) → depth ≢ 0 → IsShapeAt modules d (Some s) → PutsKinds (kinds_of_parts modules (depth - 1) s.fields.items) there old new
@@ -191,6 +232,9 @@ puts-struct ms of depth d s there old new deep h put =
     subst (λ (l : List Module). PutsKinds (kinds_at depth l d) there old new) of.2
     (puts-shape of.0 of.1 depth d s there old new deep (subst (λ (l : List Module). IsShapeAt l d (Some s)) (sym of.2) h)
     (subst (λ (l : List Module). PutsKinds (kinds_of_parts l (depth - 1) s.fields.items) there old new) (sym of.2) put))
+
+pub structs-there : (ms : List Module) → IsOfStore ms → (k : ℕ) (d : Definition) (shape : Shape) → IsShapeAt ms d (Some shape) → HasStructs ms k d shape
+structs-there ms of k d shape = subst (λ (l : List Module). IsShapeAt l d (Some shape) → HasStructs l k d shape) of.2 (shape-structs of.0 of.1 k d shape)
 
 pub keyed-there : (ms : List Module) → IsOfStore ms → (d : Definition) → is_keyed ms d ≡ true → kinds_at 8 ms d ≡ None → ⊥
 keyed-there ms of d keyed none =

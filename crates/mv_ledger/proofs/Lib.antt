@@ -55,6 +55,9 @@ pub mod BodyLaws
 pub mod Insides
 pub mod Counted
 pub mod CountedStorage
+pub mod Adding
+pub mod CountedStructs
+pub mod TalliesCounted
 pub mod Zips
 pub mod LayoutParts
 pub mod Coding
@@ -62,4 +65,6 @@ pub mod PartKinds
 pub mod KeyedIndices
 pub mod Sections
 pub mod Filling
+pub mod KeyedDefined
+pub mod Written
 mod SavedRows

@@ -132,7 +132,7 @@ module _ (bytes : List ℕ) (head : SavedHead) (rest : List ℕ) (are : AreBytes
 
     module _ (uss : List (List Tally)) (stored : FlatStorage) (kept : map (map struct_of) uss ≡ map (map struct_of) tss) (few : length stored < 2 ^ 64)
         (read : body_from head.form (tables_in ps) (length (all_of tss)) rest ≡ Some ((map counts_of (all_of uss), stored), [])) (parts : EachReadIsBody) where
-      tallies : List Tallied
+      abbrev tallies : List Tallied
       tallies = map (tallied (tables_in ps)) (all_of uss)
 
       count-is : length tallies ≡ length (all_of tss)
@@ -149,7 +149,7 @@ module _ (bytes : List ℕ) (head : SavedHead) (rest : List ℕ) (are : AreBytes
       found : (storage : Storage) × ((stored ≡ flat_storage storage) × IsBody head.form (tables_in ps) rest tallies storage)
       found = parts head.form ps rest tallies stored joined.store (head-parts bytes rest head are begins).0.left few read-so
 
-      storage : Storage
+      abbrev storage : Storage
       storage = found.0
 
       body : IsBody head.form (tables_in ps) rest tallies storage

@@ -32,11 +32,15 @@ marks-front bytes rest ok e =
     let c = mark-front 0x4C v rest b.left e2 in
     Front-join (0x4D ∷ 0x56 ∷ []) (0x4C ∷ []) bytes v rest (Front-join (0x4D ∷ []) (0x56 ∷ []) bytes m v a b) c))
 
+-- the form by whether the byte is that of the first one, and of the second one
+abbrev form_if : Bool → Bool → List ℕ → Option (Form × List ℕ)
+form_if first second bytes = cond first (Some (First, bytes)) (cond second (Some (Second, bytes)) None)
+
 -- which byte a form has
 form-byte : (b : ℕ) (bytes rest : List ℕ) (f : Form) → form_by b bytes ≡ Some (f, rest) → (b ≡ form_byte f) × (bytes ≡ rest)
 form-byte b bytes rest f e = step (b == 0x31) (b == 0x32) refl refl e
   where
-    step : (x y : Bool) → (b == 0x31) ≡ x → (b == 0x32) ≡ y → cond x (Some (First, bytes)) (cond y (Some (Second, bytes)) None) ≡ Some (f, rest) → (b ≡ form_byte f) × (bytes ≡ rest)
+    step : (x y : Bool) → (b == 0x31) ≡ x → (b == 0x32) ≡ y → form_if x y bytes ≡ Some (f, rest) → (b ≡ form_byte f) × (bytes ≡ rest)
     step true y p q g = let r = some_pair_parts First f bytes rest g in (eqb-true b 0x31 p ∙ ap form_byte r.0, r.1)
     step false true p q g = let r = some_pair_parts Second f bytes rest g in (eqb-true b 0x32 q ∙ ap form_byte r.0, r.1)
     step false false p q g = absurd (none-some (f, rest) g)

@@ -13,9 +13,10 @@ use Rattle.mv_linker.specs.Link.{IsPublishable, IsStore}
 use Rattle.mv_interpreter.proofs.Typing.Fine.{fine_storage}
 use Rattle.mv_ledger.specs.RecordText.{offer_fits}
 use Rattle.mv_ledger.specs.Publishing.{AllPass, offered}
-use Rattle.mv_ledger.specs.SavedText.{Form, First, Second, greatest_count, tally_fits}
+use Rattle.mv_ledger.specs.SavedText.{Form, First, Second, greatest_count, saved_text, tally_fits, IsSavedText}
+use Rattle.mv_ledger.specs.Accepted.SoundLedger.{IsSoundLedger}
 use Rattle.mv_ledger.specs.Loading.{AreTallied}
-use Rattle.mv_ledger.specs.SavedLaws.{EachSaveIsLoaded, EachLoadIsSound, EachLoadIsSaved}
+use Rattle.mv_ledger.specs.SavedLaws.{EachSaveIsLoaded, EachLoadIsSound, EachLoadIsSaved, IsSavable}
 use Rattle.mv_ledger.proofs.Accepted.Stores.{accepted_store}
 use Rattle.mv_ledger.proofs.Accepted.Sound.{sound_stored}
 use Rattle.mv_ledger.proofs.SavedFails.{text_bytes}
@@ -61,26 +62,32 @@ module _ (s : LedgerState) where
 
 -- ---- saved and loaded
 
+-- no more of a savable ledger's values were made than the runs can have made, and what was made is stored or taken apart
+savable_tallied : (s : LedgerState) → IsSoundLedger s → IsSavable s → AreTallied s
+savable_tallied s sound savable = both (IsBounded s) (IsStored s) s.tallies savable.packs sound.balanced
+
+-- the text of a sound ledger within its limits
+pub text-saves : (form : Form) (s : LedgerState) → IsSoundLedger s → IsSavable s → IsSavedText form (saved_text form s) s
+text-saves form s sound savable = record {
+  text = refl;
+  head = savable.head;
+  spelled = λ k d lt. (sound.store.passed k d lt).text;
+  tallied = sound.tallied;
+  counts = counts_fit s form s.tallies savable.head.had (savable_tallied s sound savable);
+  ascending = sound.ascending;
+  typed = sound_stored s sound;
+  few = savable.few;
+}
+
 -- what is saved of a sound ledger within its limits is loaded
 pub saves-load : EachSaveIsLoaded
-saves-load form s sound savable =
-    let tallied : AreTallied s = both (IsBounded s) (IsStored s) s.tallies savable.packs sound.balanced in
-    record {
-      form = form;
-      text = record {
-        text = refl;
-        head = savable.head;
-        spelled = λ k d lt. (sound.store.passed k d lt).text;
-        tallied = sound.tallied;
-        counts = counts_fit s form s.tallies savable.head.had tallied;
-        ascending = sound.ascending;
-        typed = sound_stored s sound;
-        few = savable.few;
-      };
-      passed = savable.passed;
-      linked = record { once = sound.store.once; links = sound.store.links };
-      tallied = tallied;
-    }
+saves-load form s sound savable = record {
+  form = form;
+  text = text-saves form s sound savable;
+  passed = savable.passed;
+  linked = record { once = sound.store.once; links = sound.store.links };
+  tallied = savable_tallied s sound savable;
+}
 
 -- whatever is loaded is loaded from what is saved of it
 pub loads-save : EachLoadIsSaved

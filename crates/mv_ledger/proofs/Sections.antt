@@ -1,19 +1,22 @@
 -- Sections of structs: empty ones, and one with one value more.
-use Rattle.std.proofs.Common.{◌≡◌, ℕ, zero, suc, ◌+◌, ◌<◌, ◌≤◌, Bool, true, false, List, [], ◌∷◌, ◌++◌, map, length, refl, sym, ap, ap₂, ◌∙◌, subst, arith, Option, Some, None, option_map, slice_get, ◌⊎◌, inl, inr, length-append, eq-eqb}
-use Rattle.std.specs.Prelude.{◌&&◌, ◌==◌, All, IsSome, slice_set}
+use Rattle.std.proofs.Common.{◌≡◌, ℕ, zero, suc, ◌+◌, ◌<◌, ◌≤◌, Bool, true, false, List, [], ◌∷◌, ◌++◌, length, refl, sym, ap, ◌∙◌, subst, arith, Some, Result, Ok, Err, get_or, option_map, slice_get, ◌⊎◌, inl, inr, length-append, eq-eqb}
+use Rattle.std.specs.Prelude.{◌&&◌, ◌==◌, All, IsSome, OnOk, slice_set}
 use Rattle.std.specs.Option.{option_map_or}
 use Rattle.std.specs.declared.vec.Vec.{Vec}
 use Rattle.std.specs.declared.alloc.Global.{Global}
 use Rattle.std.proofs.lemmas.Bool.{eqb-true}
-use Rattle.std.proofs.lemmas.List.{map-set}
-use Rattle.std.proofs.lemmas.Option.{same_Some, none-some, slice_get_within, get_or_from_slice_get, slice_get-map}
+use Rattle.std.proofs.lemmas.List.{length-map, map-set}
+use Rattle.std.proofs.lemmas.Option.{same_Some, none-some, slice_get_read, slice_get_within, get_or_from_slice_get, slice_get-map}
 use Rattle.mv_move_types.specs.declared.tables.Definition.{Definition}
+use Rattle.mv_move_types.specs.declared.tables.Key.{Key}
+use Rattle.mv_move_types.specs.declared.token.LeafKind.{LeafKind}
 use Rattle.mv_move_types.specs.Options.{◌>>=◌}
 use Rattle.mv_move_types.specs.Module.{Module}
+use Rattle.mv_module_text.specs.Entries.{address_text}
 use Rattle.mv_linker.proofs.Found.{on_some, some-of, then_found, there_at}
 use Rattle.mv_ledger.specs.declared.saving.Section.{Section}
-use Rattle.mv_ledger.specs.Layouts.{structs_at}
-use Rattle.mv_ledger.specs.Saving.{definition_at, same_definition, section_at, sections_of, AreSections, IsAdded, IsEmpty, IsSection}
+use Rattle.mv_ledger.specs.Layouts.{coded, kinds_under, structs_at}
+use Rattle.mv_ledger.specs.Saving.{definition_at, same_definition, section_at, sections_of, struct_of, AddsValue, AreSections, HasOneMore, IsAdded, IsEmpty}
 
 -- ---- one more element
 
@@ -56,7 +59,7 @@ module _ (modules : List Module) where
     each = λ d s e.
         on_some (slice_get rows d.place) _ s e (λ row row_is e1.
         let empty : IsEmpty s = subst IsEmpty (get_or_from_slice_get row d.index s s e1) ((h.each d.place row row_is).1 d.index s (slice_get_within row d.index s e1)) in
-        record { count = empty.count; text = empty.text });
+        record { count = empty.count; text = empty.text; known = λ lt. absurd (omega (arith, empty.count, lt)) });
   }
 
 -- ---- one value more
@@ -83,7 +86,7 @@ same_so : (a b : Bool) → (a && b) ≡ false → a ≡ true → b ≡ false
 same_so true b e h = e
 same_so false b e h = absurd cc
 
-module _ (rows : List (List Section)) (d : Definition) (row new : List Section) (s t : Section) (bytes : List ℕ) (row_is : slice_get rows d.place ≡ Some row) (s_is : slice_get row d.index ≡ Some s) (new_is : new ≡ slice_set row d.index t) where
+module _ (rows : List (List Section)) (d : Definition) (row new : List Section) (s t : Section) (kinds : List LeafKind) (bytes : List ℕ) (row_is : slice_get rows d.place ≡ Some row) (s_is : slice_get row d.index ≡ Some s) (new_is : new ≡ slice_set row d.index t) where
   -- another place
   elsewhere : (e : Definition) → (d.place ≡ e.place → ⊥) → section_at (slice_set rows d.place new) e ≡ section_at rows e
   elsewhere e other = ap (λ o. o >>= λ row. slice_get row e.index) (get-other rows d.place e.place new other)
@@ -96,14 +99,13 @@ module _ (rows : List (List Section)) (d : Definition) (row new : List Section) 
       then_found (slice_get (slice_set rows d.place new) e.place) (λ row. slice_get row e.index) new (slice_get row e.index) after (ap (λ l. slice_get l e.index) new_is ∙ get-other row d.index e.index t other)
       ∙ sym (then_found (slice_get rows e.place) (λ row. slice_get row e.index) row (slice_get row e.index) before refl)
 
-  pub added-at : t.count ≡ s.count + 1 → t.text.items ≡ s.text.items ++ bytes → IsAdded rows d bytes (slice_set rows d.place new)
-  added-at count text = record {
+  pub added-at : HasOneMore s kinds bytes t → IsAdded rows d kinds bytes (slice_set rows d.place new)
+  added-at more = record {
     here = λ u e.
         let same : s ≡ u = same_Some s u (sym (then_found (slice_get rows d.place) (λ row. slice_get row d.index) row (Some s) row_is s_is) ∙ e) in (
           t,
           then_found (slice_get (slice_set rows d.place new) d.place) (λ row. slice_get row d.index) new (Some t) (get-same rows d.place row new row_is) (ap (λ l. slice_get l d.index) new_is ∙ get-same row d.index s t s_is),
-          count ∙ ap (λ (x : Section). x.count + 1) same,
-          text ∙ ap (λ (x : Section). x.text.items ++ bytes) same,
+          subst (λ (x : Section). HasOneMore x kinds bytes t) same more,
         );
     others = λ e differ. by_case e (d.place == e.place) refl differ;
   }
@@ -113,8 +115,57 @@ module _ (rows : List (List Section)) (d : Definition) (row new : List Section) 
       by_case e false is differ = elsewhere e (λ same. absurd (clash (d.place == e.place) (eqb-is d.place e.place same) is))
 
 -- a row of the sections in vectors
-pub added-vec : (rows : List (Vec Section Global)) (d : Definition) (row : Vec Section Global) (new : Vec Section Global) (s t : Section) (bytes : List ℕ) → slice_get rows d.place ≡ Some row → slice_get row.items d.index ≡ Some s → new.items ≡ slice_set row.items d.index t
-    → t.count ≡ s.count + 1 → t.text.items ≡ s.text.items ++ bytes → IsAdded (sections_of rows) d bytes (sections_of (slice_set rows d.place new))
-added-vec rows d row new s t bytes row_is s_is new_is count text =
-    subst (λ (l : List (List Section)). IsAdded (sections_of rows) d bytes l) (sym (map-set (λ (r : Vec Section Global). r.items) rows d.place new))
-    (added-at (sections_of rows) d row.items new.items s t bytes (slice_get-map (λ (r : Vec Section Global). r.items) rows d.place ∙ ap (option_map (λ (r : Vec Section Global). r.items)) row_is) s_is new_is count text)
+pub added-vec : (rows : List (Vec Section Global)) (d : Definition) (row : Vec Section Global) (new : Vec Section Global) (s t : Section) (kinds : List LeafKind) (bytes : List ℕ) → slice_get rows d.place ≡ Some row → slice_get row.items d.index ≡ Some s
+    → new.items ≡ slice_set row.items d.index t → HasOneMore s kinds bytes t → IsAdded (sections_of rows) d kinds bytes (sections_of (slice_set rows d.place new))
+added-vec rows d row new s t kinds bytes row_is s_is new_is more =
+    subst (λ (l : List (List Section)). IsAdded (sections_of rows) d kinds bytes l) (sym (map-set (λ (r : Vec Section Global). r.items) rows d.place new))
+    (added-at (sections_of rows) d row.items new.items s t kinds bytes (slice_get-map (λ (r : Vec Section Global). r.items) rows d.place ∙ ap (option_map (λ (r : Vec Section Global). r.items)) row_is) s_is new_is more)
+
+-- ---- where a section stands
+
+module _ (rows : List (Vec Section Global)) (d : Definition) (there : IsSome (section_at (sections_of rows) d)) where
+  pub row-in : d.place < length rows
+  row-in =
+      let s = some-of (section_at (sections_of rows) d) there in
+      on_some (slice_get (sections_of rows) d.place) (λ row. slice_get row d.index) s.0 s.1 (λ row row_is e.
+      omega (arith, slice_get_within (sections_of rows) d.place row row_is, length-map rows (λ (r : Vec Section Global). r.items)))
+
+  module _ (row : Vec Section Global) (row_is : row ≡ get_or rows d.place row) where
+    pub row-at : slice_get rows d.place ≡ Some row
+    row-at = slice_get_read rows (length rows) d.place row refl row-in row_is
+
+    items-at : slice_get (sections_of rows) d.place ≡ Some row.items
+    items-at = slice_get-map (λ (r : Vec Section Global). r.items) rows d.place ∙ ap (option_map (λ (r : Vec Section Global). r.items)) row-at
+
+    pub index-in : d.index < length row.items
+    index-in =
+        let s = some-of (section_at (sections_of rows) d) there in
+        let own : slice_get row.items d.index ≡ Some s.0 = sym (then_found (slice_get (sections_of rows) d.place) (λ row. slice_get row d.index) row.items (slice_get row.items d.index) items-at refl) ∙ s.1 in
+        slice_get_within row.items d.index s.0 own
+
+    module _ (s : Section) (s_is : s ≡ get_or row.items d.index s) where
+      pub index-at : slice_get row.items d.index ≡ Some s
+      index-at = slice_get_read row.items (length row.items) d.index s refl index-in s_is
+
+      pub section-is : section_at (sections_of rows) d ≡ Some s
+      section-is = then_found (slice_get (sections_of rows) d.place) (λ row. slice_get row d.index) row.items (Some s) items-at index-at
+
+-- a value was added to the section of its struct, if memory did not run out
+pub adds-value : {T E : Type 0} (r : Result T E) (modules : List Module) (rows : List (Vec Section Global)) (key : Key) (p i : ℕ) (row new : Vec Section Global) (s ready t : Section) (words : List ℕ) → p ≡ key.place → i ≡ key.index
+    → IsSome (section_at (sections_of rows) (struct_of key)) → row ≡ get_or rows p row → s ≡ get_or row.items i s → new.items ≡ slice_set row.items i t → kinds_under modules (struct_of key) ≡ Some ready.kinds.items → ready.count ≡ s.count → ready.text.items ≡ s.text.items
+    → OnOk r (t.count ≡ ready.count + 1) → OnOk r (t.kinds.items ≡ ready.kinds.items) → OnOk r (t.text.items ≡ ready.text.items ++ (address_text key.address ++ coded ready.kinds.items words))
+    → OnOk r (AddsValue modules (sections_of rows) key words (sections_of (slice_set rows p new)))
+adds-value (Ok x) modules rows key p i row new s ready t words p_is i_is there row_is s_is new_is kinds_are same_count same_text count kinds text =
+    let d : Definition = struct_of key in
+    let bytes : List ℕ = address_text key.address ++ coded ready.kinds.items words in
+    let row_read : row ≡ get_or rows d.place row = subst (λ (n : ℕ). row ≡ get_or rows n row) p_is row_is in
+    let s_read : s ≡ get_or row.items d.index s = subst (λ (n : ℕ). s ≡ get_or row.items n s) i_is s_is in
+    let new_read : new.items ≡ slice_set row.items d.index t = subst (λ (n : ℕ). new.items ≡ slice_set row.items n t) i_is new_is in
+    let more : HasOneMore s ready.kinds.items bytes t = record { count = count ∙ ap (λ n. n + 1) same_count; kinds_are = kinds; text = text ∙ ap (λ (l : List ℕ). l ++ bytes) same_text } in
+    record {
+      kinds = ready.kinds.items;
+      kinds_are = kinds_are;
+      added = subst (λ (n : ℕ). IsAdded (sections_of rows) d ready.kinds.items bytes (sections_of (slice_set rows n new))) (sym p_is)
+          (added-vec rows d row new s t ready.kinds.items bytes (row-at rows d there row row_read) (index-at rows d there row row_read s s_read) new_read more);
+    }
+adds-value (Err x) modules rows key p i row new s ready t words p_is i_is there row_is s_is new_is kinds_are same_count same_text count kinds text = tt

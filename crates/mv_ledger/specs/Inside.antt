@@ -1,16 +1,19 @@
 -- How many values of a struct a value of another one is and has.
---   structs_within depth modules s name    how many of the struct s a value of the struct name has, itself included
---   structs_in_part modules depth s part   how many a part has
+--   structs_within depth modules s name     how many of the struct s a value of the struct name has, itself included
+--   structs_under depth modules s d         the same of the struct at a place and an index
+--   structs_in_parts depth modules s parts  how many the fields have that are made of these parts
 use Rattle.std.specs.Prelude.{ℕ, zero, suc, ◌+◌, cond, List, [], ◌∷◌}
 use Rattle.std.specs.Option.{option_map_or}
 use Rattle.mv_move_types.specs.declared.tables.Definition.{Definition}
 use Rattle.mv_move_types.specs.declared.tables.Field.{Field}
-use Rattle.mv_move_types.specs.declared.token.ValueType.TheVariants.{OfLeaf, OfStruct}
+use Rattle.mv_move_types.specs.declared.token.ValueType.TheVariants.{OfStruct}
 use Rattle.mv_move_types.specs.declared.token.Token.{Token}
 use Rattle.mv_move_types.specs.declared.token.Token.TheVariants.{Plain}
 use Rattle.mv_move_types.specs.Names.{StructName, same_struct}
 use Rattle.mv_move_types.specs.Module.{Module, struct_name, name_at}
 use Rattle.mv_move_types.specs.Named.{definition_of}
+use Rattle.mv_ledger.specs.declared.layouts.Part.{Part}
+use Rattle.mv_ledger.specs.declared.layouts.Part.TheVariants.{Leaf, Struct, Nothing}
 
 -- how many a value of a type has, where those of a struct's are given
 abbrev pub structs_in_token : (StructName → ℕ) → Module → Token → ℕ
@@ -31,3 +34,14 @@ structs_within (suc depth) modules s name =
 -- the same of the struct at a place and an index
 abbrev pub structs_under : ℕ → List Module → StructName → Definition → ℕ
 structs_under depth modules s d = option_map_or (structs_within depth modules s) (name_at modules d.place d.index) 0
+
+-- how many values of the struct a part has
+abbrev pub structs_in_part : ℕ → List Module → StructName → Part → ℕ
+structs_in_part depth modules s (Leaf kind) = 0
+structs_in_part depth modules s (Struct d) = structs_under depth modules s d
+structs_in_part depth modules s Nothing = 0
+
+-- how many parts have
+abbrev pub structs_in_parts : ℕ → List Module → StructName → List Part → ℕ
+structs_in_parts depth modules s [] = 0
+structs_in_parts depth modules s (part ∷ parts) = structs_in_part depth modules s part + structs_in_parts depth modules s parts

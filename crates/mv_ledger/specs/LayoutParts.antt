@@ -1,6 +1,6 @@
 -- How layouts are kept: of what each struct's fields are made.
 --   kinds_of_part modules depth part    the kinds of the leaves that a part stands for
---   IsPart modules m t part             the leaves of a type that a module names are those of the part
+--   IsPart modules m t part             a type that a module names has the leaves of the part, and the structs
 --   IsShape modules m d shape           a struct of a module has key where the shape says so, and the parts are its fields'
 --   AreLayouts modules rows             each module's structs have their shapes, in order
 --   IsFound modules name d              where the struct of a name is defined, if it is
@@ -22,6 +22,7 @@ use Rattle.mv_linker.specs.Link.{IsStore, tables_in}
 use Rattle.mv_ledger.specs.declared.layouts.Part.{Part}
 use Rattle.mv_ledger.specs.declared.layouts.Part.TheVariants.{Leaf, Struct, Nothing}
 use Rattle.mv_ledger.specs.declared.layouts.Shape.{Shape}
+use Rattle.mv_ledger.specs.Inside.{structs_in_part, structs_in_token, structs_within}
 use Rattle.mv_ledger.specs.Layouts.{kinds_of_token, kinds_within}
 use Rattle.mv_ledger.specs.SavedText.{has_key, keyed_indices}
 
@@ -43,9 +44,10 @@ kinds_of_parts modules depth (part ∷ parts) = do
   rest ← kinds_of_parts modules depth parts
   Some (first ++ rest)
 
--- a type that the module names has the leaves of the part
-abbrev pub IsPart : List Module → Module → Token → Part → Type 0
-IsPart modules m t part = (depth : ℕ) → kinds_of_token (kinds_within depth modules) m t ≡ kinds_of_part modules depth part
+-- a type that the module names has the leaves of the part, and as many values of each struct
+pub record IsPart (modules : List Module) (m : Module) (t : Token) (part : Part) : Type 0 where
+  pub kinds : (depth : ℕ) → kinds_of_token (kinds_within depth modules) m t ≡ kinds_of_part modules depth part
+  pub structs : (depth : ℕ) (s : StructName) → structs_in_token (structs_within depth modules s) m t ≡ structs_in_part depth modules s part
 
 -- each field's type has those of its part
 abbrev pub AreParts : List Module → Module → List Field → List Part → Type 0

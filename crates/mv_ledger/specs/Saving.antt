@@ -3,7 +3,9 @@
 --   section_at rows d                       the section of a struct
 --   stored_in modules entries d             the values that are stored of a struct
 --   AreSections modules entries rows        each struct's section has their number and their text
---   IsAdded rows d bytes after              one struct's section has one value more
+--   KnowsKinds modules d s                  a section that a value is in has the kinds of its leaves
+--   IsAdded rows d kinds bytes after        one struct's section has one value more
+--   AddsValue modules rows key words after  so has that of a key's struct, with these words
 --   counts_text tallies                     what was made and what was taken apart of each struct
 --   written runs published stored tallies   a ledger with these parts, as it is written
 use Rattle.std.specs.Prelude.{◌≡◌, ℕ, ◌+◌, ◌^◌, ◌<◌, Bool, false, ◌&&◌, ◌==◌, List, [], ◌++◌, map, length, Option, Some, slice_get}
@@ -13,14 +15,18 @@ use Rattle.std.specs.declared.vec.Vec.{Vec}
 use Rattle.std.specs.declared.alloc.Global.{Global}
 use Rattle.mv_uleb.specs.Uleb.{uleb}
 use Rattle.mv_move_types.specs.declared.tables.Definition.{Definition}
+use Rattle.mv_move_types.specs.declared.tables.Key.{Key}
+use Rattle.mv_move_types.specs.declared.token.LeafKind.{LeafKind}
 use Rattle.mv_move_types.specs.Options.{◌>>=◌}
 use Rattle.mv_move_types.specs.Module.{Module, StructDefinition}
 use Rattle.mv_move_types.specs.Published.{PublishedModule}
+use Rattle.mv_module_text.specs.Entries.{address_text}
 use Rattle.mv_machine.specs.State.{Storage}
 use Rattle.mv_machine.specs.Flat.{FlatEntry, storage_of}
 use Rattle.mv_linker.specs.Link.{tables_in}
 use Rattle.mv_ledger.specs.declared.saving.Section.{Section}
 use Rattle.mv_ledger.specs.declared.tallies.Tally.{Tally}
+use Rattle.mv_ledger.specs.Layouts.{coded, kinds_under}
 use Rattle.mv_ledger.specs.SavedText.{Second, addressed_text, head_text, is_under, keyed_from, struct_text}
 use Rattle.mv_ledger.specs.Publishing.{offered}
 
@@ -40,10 +46,19 @@ definition_at modules d = slice_get modules d.place >>= λ m. slice_get m.struct
 abbrev pub stored_in : List Module → List FlatEntry → Definition → Storage
 stored_in modules entries d = filter (is_under d) (storage_of modules entries)
 
--- a section has the number and the text of those of a struct
+-- the struct of a key
+abbrev pub struct_of : Key → Definition
+struct_of key = record { place = key.place; index = key.index }
+
+-- a section that a value is in has the kinds of the leaves of its struct's values
+abbrev pub KnowsKinds : List Module → Definition → Section → Type 0
+KnowsKinds modules d s = 0 < s.count → kinds_under modules d ≡ Some s.kinds.items
+
+-- a section has the number and the text of those of a struct, and the kinds of their leaves
 pub record IsSection (modules : List Module) (entries : List FlatEntry) (d : Definition) (s : Section) : Type 0 where
   pub count : s.count ≡ length (stored_in modules entries d)
   pub text : s.text.items ≡ flat_map addressed_text (stored_in modules entries d)
+  pub known : KnowsKinds modules d s
 
 -- each struct has its section
 pub record AreSections (modules : List Module) (entries : List FlatEntry) (rows : List (List Section)) : Type 0 where
@@ -54,10 +69,22 @@ pub record AreSections (modules : List Module) (entries : List FlatEntry) (rows 
 abbrev pub same_definition : Definition → Definition → Bool
 same_definition a b = (a.place == b.place) && (a.index == b.index)
 
+-- one section is another with these bytes as one value more, of leaves of these kinds
+pub record HasOneMore (s : Section) (kinds : List LeafKind) (bytes : List ℕ) (t : Section) : Type 0 where
+  pub count : t.count ≡ s.count + 1
+  pub kinds_are : t.kinds.items ≡ kinds
+  pub text : t.text.items ≡ s.text.items ++ bytes
+
 -- these bytes were added to the section of a struct, as one value more; each other section is as it was
-pub record IsAdded (rows : List (List Section)) (d : Definition) (bytes : List ℕ) (after : List (List Section)) : Type 0 where
-  pub here : (s : Section) → section_at rows d ≡ Some s → (t : Section) × (section_at after d ≡ Some t) × (t.count ≡ s.count + 1) × (t.text.items ≡ s.text.items ++ bytes)
+pub record IsAdded (rows : List (List Section)) (d : Definition) (kinds : List LeafKind) (bytes : List ℕ) (after : List (List Section)) : Type 0 where
+  pub here : (s : Section) → section_at rows d ≡ Some s → (t : Section) × (section_at after d ≡ Some t) × HasOneMore s kinds bytes t
   pub others : (e : Definition) → same_definition d e ≡ false → section_at after e ≡ section_at rows e
+
+-- a value with these words was added to the section of its key's struct
+pub record AddsValue (modules : List Module) (rows : List (List Section)) (key : Key) (words : List ℕ) (after : List (List Section)) : Type 0 where
+  pub kinds : List LeafKind
+  pub kinds_are : kinds_under modules (struct_of key) ≡ Some kinds
+  pub added : IsAdded rows (struct_of key) kinds (address_text key.address ++ coded kinds words) after
 
 -- the tallies' counts, in order
 abbrev pub counts_text : List Tally → List ℕ

@@ -14,25 +14,25 @@ use std::alloc::{AllocError, Global};
 use std::collections::BTreeMap;
 use std::marker::Model;
 
-// How deep a struct is nested at most.
-const MOST_NESTING: usize = 8;
+/// How deep a struct is nested at most.
+pub const MOST_NESTING: usize = 8;
 
-// What a field is made of.
+/// What a field is made of.
 #[derive(Clone, Copy)]
-enum Part {
-    // A leaf.
+pub enum Part {
+    /// A leaf.
     Leaf(LeafKind),
-    // The fields of a struct, which is defined there.
+    /// The fields of a struct, which is defined there.
     Struct(Definition),
-    // Nothing: the type is no field's.
+    /// Nothing: the type is no field's.
     Nothing,
 }
 
-// A struct: whether it has key, and of what its fields are made, in order.
+/// A struct: whether it has key, and of what its fields are made, in order.
 #[derive(Drop)]
-struct Shape {
+pub struct Shape {
     key: bool,
-    fields: Vec<Part>,
+    pub fields: Vec<Part>,
 }
 
 // The index of the struct of each identifier, module by module. It is for speed alone: each answer is tried.
@@ -285,8 +285,8 @@ impl<'a> Layouts<'a> {
         }
     }
 
-    // The shape of the struct at a place and an index, if there is one.
-    fn shape(&self, d: Definition) -> Option<&Shape>
+    /// The shape of the struct at a place and an index, if there is one.
+    pub fn shape(&self, d: Definition) -> Option<&Shape>
         ensures { IsShapeAt self.now d (option_copied result) }
     {
         let row = self.shapes.get(usize::from(d.place))?;

@@ -33,7 +33,7 @@ pub use laws::{
     no_load_fails,
 };
 pub use lines::Lines;
-pub use loading::LoadError;
+pub use loading::{LoadError, migrate};
 use mv_frames::Counters;
 use mv_linker::Store;
 use mv_machine::Outcome;
@@ -214,6 +214,9 @@ impl Ledger {
     pub fn save(&self) -> Result<Vec<u8>, AllocError>
         ensures { IfOk result (λ v. IsSavedText Second v.items (state_of self.now)) }
     {
+        // For the prover: what it stands for is sound, and within the limits of a saved ledger.
+        self.is_sound();
+        self.is_savable();
         saving::text_of(
             self.alloc,
             &self.store,

@@ -1,7 +1,9 @@
 // Loading a saved ledger.
 ghost use Rattle.std.specs.Prelude.{◌≡◌, IfOk, IfErr};
+ghost use Rattle.mv_machine.specs.Ledger.{LedgerState};
 ghost use Rattle.mv_ledger.specs.Loading.{IsLoaded, load_number, IsLoadRefusal};
 ghost use Rattle.mv_ledger.specs.LoadedParts.{reason_of};
+ghost use Rattle.mv_ledger.specs.SavedText.{IsSavedText, Second};
 ghost use Rattle.mv_ledger.specs.View.{state_of};
 
 mod body;
@@ -117,4 +119,17 @@ impl Ledger {
             runs: head.runs,
         })
     }
+}
+
+/// The text, in the second form, of the ledger that these bytes are the text of, in either form.
+///
+/// # Errors
+///
+/// The first reason against them, `Head` to `Tally`; `Memory`, where a growth was refused.
+pub fn migrate(alloc: Global, old: &[u8]) -> Result<Vec<u8>, LoadError>
+    ensures new { IfOk result (λ v. (s : LedgerState) × (IsLoaded old.now s × IsSavedText Second v.items s)) }
+    ensures refused { IfErr result (IsLoadRefusal old.now) }
+{
+    let ledger = Ledger::load(alloc, old)?;
+    Ok(ledger.save()?)
 }

@@ -12,14 +12,14 @@ ghost use Rattle.mv_ledger.specs.Layouts.{coded, is_keyed, kinds_under, structs_
 ghost use Rattle.mv_ledger.specs.Publishing.{offered};
 ghost use Rattle.mv_ledger.specs.RecordText.{leaf_bytes, offer_text, sized};
 ghost use Rattle.mv_ledger.specs.SavedText.{head_text, keyed_from, struct_text, Second};
-ghost use Rattle.mv_ledger.specs.Saving.{counts_text, section_at, sections_of, AreSections, IsAdded, IsEmpty, IsWritable, written};
+ghost use Rattle.mv_ledger.specs.Saving.{counts_text, section_at, sections_of, struct_of, AddsValue, AreSections, IsEmpty, IsWritable, KnowsKinds, written};
 ghost use Rattle.mv_ledger.specs.View.{all_of, IsSmall};
 
 use crate::layouts::Layouts;
 use crate::tallies::{Tallies, Tally};
 use mv_linker::Store;
 use mv_module_text::write_address;
-use mv_move_types::{Definition, LeafKind, Width};
+use mv_move_types::{Definition, Key, LeafKind, Width};
 use mv_storage::Storage;
 use std::alloc::{AllocError, Global};
 
@@ -32,12 +32,13 @@ const ADDRESS_BYTES: usize = 16;
 // The most bytes of a count, a number of runs or a length.
 const COUNT_BYTES: usize = 10;
 
-/// The values that are stored of one struct: how many were expected and how many are there, and the text of each after the
-/// other.
+/// The values that are stored of one struct: how many are expected, how many are there, the kinds of the leaves of each, which
+/// are found with the first one, and the text of each after the other.
 #[derive(Drop)]
 struct Section {
     expected: usize,
     count: u64,
+    kinds: Vec<LeafKind>,
     text: Vec<u8>,
 }
 
@@ -106,43 +107,79 @@ fn value_size(kinds: &[LeafKind]) -> usize {
     size
 }
 
-/// Adds a value with leaves of these kinds to a section. The first one makes room for all that are expected.
-fn add(
-    section: &mut Section,
-    address: u128,
-    kinds: &[LeafKind],
-    words: &[u128],
-) -> Result<(), AllocError>
-    requires few { section.old.count < 2 ^ 63 }
-    requires leaves { AreLeaves kinds.now words.now }
-    ensures count { OnOk result (section.new.count ≡ section.old.count + 1) }
-    ensures text { OnOk result (section.new.text.items ≡ section.old.text.items ++ (address_text address ++ coded kinds.now words.now)) }
+/// The kinds of the leaves of the values of a struct that has key.
+fn kinds_at(
+    alloc: Global,
+    layouts: &Layouts<'_>,
+    d: Definition,
+) -> Result<Vec<LeafKind>, AllocError>
+    requires { IsTrue (is_keyed layouts.now d) }
+    ensures { IfOk result (λ v. kinds_under layouts.now d ≡ Some v.items) }
 {
-    if section.count == 0 {
-        let room = section.expected.saturating_mul(value_size(kinds));
-        section.text.reserve_exact(room)?;
+    match layouts.kinds(alloc, d)? {
+        Some(kinds) => Ok(kinds),
+        None => unreachable!(),
     }
-    section.count += 1;
-    write_address(address, &mut section.text)?;
-    put_leaves(&mut section.text, kinds, words)
 }
 
-/// Adds a value with leaves of these kinds to the section of its struct.
-fn add_to(
-    rows: &mut Vec<Vec<Section>>,
+/// Makes the section of a struct ready for a value: before the first one, the kinds of their leaves are found, and room is made
+/// for all that are expected.
+fn prepare(
+    alloc: Global,
+    layouts: &Layouts<'_>,
     d: Definition,
-    address: u128,
-    kinds: &[LeafKind],
+    section: &mut Section,
+) -> Result<(), AllocError>
+    requires keyed { IsTrue (is_keyed layouts.now d) }
+    requires known { KnowsKinds layouts.now d section.old }
+    ensures kinds { OnOk result (kinds_under layouts.now d ≡ Some section.new.kinds.items) }
+    ensures count { section.new.count ≡ section.old.count }
+    ensures text { section.new.text.items ≡ section.old.text.items }
+{
+    if section.count > 0 {
+        return Ok(());
+    }
+    section.kinds = kinds_at(alloc, layouts, d)?;
+    let room = section.expected.saturating_mul(value_size(&section.kinds));
+    section.text.reserve_exact(room)
+}
+
+/// Adds a value to a section that is ready for it.
+fn add(section: &mut Section, address: u128, words: &[u128]) -> Result<(), AllocError>
+    requires few { section.old.count < 2 ^ 63 }
+    requires leaves { AreLeaves section.old.kinds.items words.now }
+    ensures count { OnOk result (section.new.count ≡ section.old.count + 1) }
+    ensures kinds { OnOk result (section.new.kinds.items ≡ section.old.kinds.items) }
+    ensures text { OnOk result (section.new.text.items ≡ section.old.text.items ++ (address_text address ++ coded section.old.kinds.items words.now)) }
+{
+    section.count += 1;
+    write_address(address, &mut section.text)?;
+    put_leaves(&mut section.text, &section.kinds, words)
+}
+
+/// Adds a value to the section of its struct, which has key.
+fn add_to(
+    alloc: Global,
+    layouts: &Layouts<'_>,
+    rows: &mut Vec<Vec<Section>>,
+    key: Key,
     words: &[u128],
 ) -> Result<(), AllocError>
-    requires there { IsSome (section_at (sections_of rows.old.items) d) }
-    requires few { IfSome (section_at (sections_of rows.old.items) d) (λ s. s.count < 2 ^ 63) }
-    requires leaves { AreLeaves kinds.now words.now }
-    ensures { OnOk result (IsAdded (sections_of rows.old.items) d (address_text address ++ coded kinds.now words.now) (sections_of rows.new.items)) }
+    requires keyed { IsTrue (is_keyed layouts.now (struct_of key)) }
+    requires there { IsSome (section_at (sections_of rows.old.items) (struct_of key)) }
+    requires known { IfSome (section_at (sections_of rows.old.items) (struct_of key)) (KnowsKinds layouts.now (struct_of key)) }
+    requires few { IfSome (section_at (sections_of rows.old.items) (struct_of key)) (λ s. s.count < 2 ^ 63) }
+    requires leaves { IfSome (kinds_under layouts.now (struct_of key)) (λ kinds. AreLeaves kinds words.now) }
+    ensures { OnOk result (AddsValue layouts.now (sections_of rows.old.items) key words.now (sections_of rows.new.items)) }
 {
+    let d = Definition {
+        place: key.place,
+        index: key.index,
+    };
     let row = &mut rows[usize::from(d.place)];
-    add(&mut row[usize::from(d.index)], address, kinds, words)?;
-    Ok(())
+    let section = &mut row[usize::from(d.index)];
+    prepare(alloc, layouts, d, section)?;
+    add(section, key.address, words)
 }
 
 /// How many values are stored of each struct, by its module's place and its definition's index. It is for room alone.
@@ -187,6 +224,7 @@ fn empty_row(
         row.push(Section {
             expected: counts.get(index).copied().unwrap_or(0),
             count: 0,
+            kinds: Vec::new(alloc),
             text: Vec::new(alloc),
         })?;
     }
@@ -212,21 +250,6 @@ fn empty_rows(
     Ok(rows)
 }
 
-/// The kinds of the leaves of the values of a struct that has key.
-fn kinds_at(
-    alloc: Global,
-    layouts: &Layouts<'_>,
-    d: Definition,
-) -> Result<Vec<LeafKind>, AllocError>
-    requires { IsTrue (is_keyed layouts.now d) }
-    ensures { IfOk result (λ v. kinds_under layouts.now d ≡ Some v.items) }
-{
-    match layouts.kinds(alloc, d)? {
-        Some(kinds) => Ok(kinds),
-        None => unreachable!(),
-    }
-}
-
 /// What is stored, struct by struct.
 fn sections_in(
     alloc: Global,
@@ -236,16 +259,13 @@ fn sections_in(
     requires { All (IsFineWords layouts.now) storage.now }
     ensures { IfOk result (λ v. AreSections layouts.now storage.now (sections_of v.items)) }
 {
+    // For the prover: the modules are a store's, and so what is stored are leaves of their structs' kinds.
+    let _modules = layouts.len();
     let counts = counts_of(alloc, layouts, storage)?;
     let mut rows = empty_rows(alloc, layouts, &counts)?;
     let mut entries = storage.iter();
     'each: while let Some((key, words)) = entries.next() {
-        let d = Definition {
-            place: key.place,
-            index: key.index,
-        };
-        let kinds = kinds_at(alloc, layouts, d)?;
-        add_to(&mut rows, d, key.address, &kinds, words)?;
+        add_to(alloc, layouts, &mut rows, key, words)?;
     }
     Ok(rows)
 }

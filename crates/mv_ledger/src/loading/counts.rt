@@ -1,13 +1,15 @@
 // The tallies of a saved ledger against what it stores.
 ghost use Rattle.std.specs.Prelude.{◌≡◌, ◌*◌, ◌+◌, ◌↔◌, ◌≤◌, All, IsTrue, IfOk, length, map, slice_set};
+ghost use Rattle.std.specs.List.{AllByRecursion};
 ghost use Rattle.mv_interpreter.specs.Runs.{IsFineWords};
 ghost use Rattle.mv_linker.specs.Link.{tables_in};
 ghost use Rattle.mv_machine.specs.Flat.{storage_of};
-ghost use Rattle.mv_ledger.specs.CountRows.{no_counts, count_at, with_count};
+ghost use Rattle.mv_ledger.specs.CountRows.{no_counts, count_at, with_count, Adds, AreAll, AreStored, IsTallied};
+ghost use Rattle.mv_ledger.specs.Inside.{structs_in_part, structs_in_parts, structs_under};
 ghost use Rattle.mv_ledger.specs.LoadedParts.{AreCounted};
 ghost use Rattle.mv_ledger.specs.View.{all_of, tallied, AreScarce, IsNamed};
 
-use crate::layouts::Layouts;
+use crate::layouts::{Layouts, MOST_NESTING, Part};
 use crate::tallies::{Tallies, Tally};
 use mv_linker::Store;
 use mv_move_types::Definition;
@@ -17,9 +19,6 @@ use std::marker::Model;
 
 // How many values of a struct a run makes at most.
 const MOST_PACKS: u128 = 10_000_000;
-
-// How deep a struct is nested at most.
-const MOST_NESTING: usize = 8;
 
 /// Puts a count in place of that at an index, if there is one.
 fn put_count(row: &mut Vec<u128>, index: usize, count: u128)
@@ -95,22 +94,31 @@ fn add_struct(layouts: &Layouts<'_>, depth: usize, d: Definition, n: u128, count
     if depth == 0 {
         return;
     }
-    let Some(shape) = layouts.shape(d) else {
-        return;
-    };
-    counts.add(d, n);
-    add_parts(layouts, depth - 1, &shape.fields, n, counts);
+    // For the prover: the modules are a store's.
+    let _modules = layouts.len();
+    if let Some(shape) = layouts.shape(d) {
+        counts.add(d, n);
+        add_parts(layouts, depth - 1, &shape.fields, n, counts);
+    }
 }
 
-/// The same of the structs that fields are made of.
+/// Adds so many values of what fields are made of.
 #[cycle(inside)]
 fn add_parts(layouts: &Layouts<'_>, depth: usize, parts: &[Part], n: u128, counts: &mut Counts)
     ensures { Adds layouts.now n (λ s. structs_in_parts depth layouts.now s parts.now) counts.old counts.new }
 {
     'each: for part in parts {
-        if let Part::Struct(d) = part {
-            add_struct(layouts, depth, *d, n, counts);
-        }
+        add_part(layouts, depth, *part, n, counts);
+    }
+}
+
+/// The same of a field.
+#[cycle(inside)]
+fn add_part(layouts: &Layouts<'_>, depth: usize, part: Part, n: u128, counts: &mut Counts)
+    ensures { Adds layouts.now n (λ s. structs_in_part depth layouts.now s part) counts.old counts.new }
+{
+    if let Part::Struct(d) = part {
+        add_struct(layouts, depth, d, n, counts);
     }
 }
 
@@ -120,18 +128,16 @@ fn stored_counts(
     layouts: &Layouts<'_>,
     storage: &Storage,
 ) -> Result<Counts, AllocError>
-    ensures { IfOk result (λ c. (d : Definition) → IsCounted layouts.now c d (length (under d storage.now))) }
+    ensures { IfOk result (AreStored layouts.now storage.now) }
 {
     let mut counts = Counts::new(alloc, layouts)?;
     let mut entries = storage.iter();
     'each: while let Some((key, _)) = entries.next() {
-        counts.add(
-            Definition {
-                place: key.place,
-                index: key.index,
-            },
-            1,
-        );
+        let d = Definition {
+            place: key.place,
+            index: key.index,
+        };
+        counts.add(d, 1);
     }
     Ok(counts)
 }
@@ -139,10 +145,11 @@ fn stored_counts(
 /// How many values of each struct are stored, at any depth: the fields of a struct are gone over once, however many values are
 /// stored of it.
 fn all_counts(alloc: Global, layouts: &Layouts<'_>, storage: &Storage) -> Result<Counts, AllocError>
-    requires { IsTrue (is_fine_storage layouts.now (storage_of layouts.now storage.now)) }
-    ensures { IfOk result (λ c. (d : Definition) (s : StructName) → name_at layouts.now d.place d.index ≡ Some s
-        → count_at c d ≡ capped (count (storage_of layouts.now storage.now) s)) }
+    requires { All (IsFineWords layouts.now) storage.now }
+    ensures { IfOk result (AreAll layouts.now storage.now) }
 {
+    // For the prover: the modules are a store's.
+    let _modules = layouts.len();
     let stored = stored_counts(alloc, layouts, storage)?;
     let mut counts = Counts::new(alloc, layouts)?;
     'each: for d in layouts.keyed() {
@@ -152,6 +159,34 @@ fn all_counts(alloc: Global, layouts: &Layouts<'_>, storage: &Storage) -> Result
         }
     }
     Ok(counts)
+}
+
+/// Whether each of these tallies is that of a struct of which so many values are stored, after so many runs.
+fn are_counted(tallies: &[Tally], counts: &Counts, runs: u64) -> bool
+    ensures { IsTrue result ↔ AllByRecursion (IsTallied counts.now runs) tallies.now }
+{
+    'each: for tally in tallies {
+        let stored = counts.at(Definition {
+            place: tally.place,
+            index: tally.index,
+        });
+        if !is_counted(tally, stored, runs) {
+            return false;
+        }
+    }
+    true
+}
+
+/// Whether each module's tallies are such.
+fn are_all_counted(tallies: &Tallies, counts: &Counts, runs: u64) -> bool
+    ensures { IsTrue result ↔ AllByRecursion (IsTallied counts.now runs) (all_of tallies.now) }
+{
+    'each: for place in 0..tallies.len() {
+        if !are_counted(tallies.at(place), counts, runs) {
+            return false;
+        }
+    }
+    true
 }
 
 /// Whether the tallies are those of what is stored after so many runs: of each struct no more values were made than the runs
@@ -171,16 +206,5 @@ pub fn are_tallied(
 {
     let layouts = Layouts::new(alloc, store)?;
     let counts = all_counts(alloc, &layouts, storage)?;
-    'modules: for place in 0..tallies.len() {
-        'each: for tally in tallies.at(place) {
-            let stored = counts.at(Definition {
-                place: tally.place,
-                index: tally.index,
-            });
-            if !is_counted(tally, stored, runs) {
-                return Ok(false);
-            }
-        }
-    }
-    Ok(true)
+    Ok(are_all_counted(tallies, &counts, runs))
 }

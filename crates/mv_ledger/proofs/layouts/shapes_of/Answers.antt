@@ -1,4 +1,4 @@
-use Rattle.std.proofs.Common.{◌+◌, List, take, get_or, sym, ap, ◌∙◌, subst}
+use Rattle.std.proofs.Common.{◌+◌, List, take, sym, subst}
 use Rattle.std.specs.List.{AllZip}
 use Rattle.mv_move_types.specs.declared.tables.Field.{Field}
 use Rattle.mv_move_types.specs.Module.{StructDefinition}

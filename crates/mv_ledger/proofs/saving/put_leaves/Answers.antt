@@ -1,5 +1,4 @@
-use Rattle.std.proofs.Common.{refl, arith}
-use Rattle.mv_ledger.proofs.Coding.{leaves-length, next-fits, coded-more, coded-start, coded-all}
+use Rattle.mv_ledger.proofs.Coding.{coded-start}
 use Rattle.mv_ledger.proofs.saving.put_leaves.Goals as goal
 
 pub each-init : goal.each-init

@@ -1,5 +1,4 @@
 use Rattle.std.proofs.Common.{◌+◌, ◌*◌}
-use Rattle.mv_linker.specs.Link.{tables_in}
 use Rattle.mv_ledger.proofs.PartKinds.{ArePut}
 use Rattle.mv_ledger.proofs.layouts.Layouts.+kinds.Given as goal
 

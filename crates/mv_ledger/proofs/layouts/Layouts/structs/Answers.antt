@@ -1,11 +1,10 @@
-use Rattle.std.proofs.Common.{◌≡◌, List, Option, Some, None, map, length, option_map, sym, ap, ◌∙◌, subst}
+use Rattle.std.proofs.Common.{◌≡◌, List, Some, None, option_map, ap, ◌∙◌}
 use Rattle.std.specs.Prelude.{slice_get}
 use Rattle.std.specs.declared.vec.Vec.{Vec}
 use Rattle.std.specs.declared.alloc.Global.{Global}
 use Rattle.std.proofs.lemmas.Option.{slice_get-map}
 use Rattle.mv_move_types.specs.declared.tables.Definition.{Definition}
 use Rattle.mv_linker.specs.Link.{tables_in}
-use Rattle.mv_linker.proofs.StoredCodes.{got}
 use Rattle.mv_ledger.specs.declared.layouts.Shape.{Shape}
 use Rattle.mv_ledger.specs.Layouts.{structs_at}
 use Rattle.mv_ledger.specs.LayoutParts.{rows_of}

@@ -1,0 +1,6 @@
+use Rattle.std.proofs.Common.{take}
+use Rattle.mv_ledger.proofs.CountedStructs.{IsAdding}
+use Rattle.mv_ledger.proofs.loading.counts.all_counts.Given as goal
+
+abbrev pub invariant-each : goal.invariant-each
+invariant-each l = IsAdding l.layouts l.storage (take l.d-index l.d-items) l.counts

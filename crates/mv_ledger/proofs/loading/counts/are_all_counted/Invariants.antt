@@ -1,0 +1,8 @@
+use Rattle.std.proofs.Common.{take}
+use Rattle.std.specs.List.{AllByRecursion}
+use Rattle.mv_ledger.specs.CountRows.{IsTallied}
+use Rattle.mv_ledger.specs.View.{all_of}
+use Rattle.mv_ledger.proofs.loading.counts.are_all_counted.Given as goal
+
+abbrev pub invariant-each : goal.invariant-each
+invariant-each l = AllByRecursion (IsTallied l.counts l.runs) (all_of (take l.place l.tallies))
