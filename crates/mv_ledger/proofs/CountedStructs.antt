@@ -1,6 +1,6 @@
 -- The values that are stored, counted one after the other under their structs, and then struct by struct at any depth.
-use Rattle.std.proofs.Common.{◌≡◌, ℕ, suc, ◌+◌, ◌*◌, ◌-◌, ◌^◌, ◌<◌, ◌≤◌, Bool, true, false, List, [], ◌∷◌, ◌++◌, length, take, get_or, Option, Some, None, refl, sym, ap, ◌∙◌, subst, arith}
-use Rattle.std.specs.Prelude.{All, min, replicate, slice_get}
+use Rattle.std.proofs.Common.{◌≡◌, ℕ, suc, ◌+◌, ◌*◌, ◌^◌, ◌<◌, ◌≤◌, Bool, true, false, List, [], ◌∷◌, ◌++◌, length, take, get_or, Option, Some, None, refl, sym, ap, ◌∙◌, subst, arith}
+use Rattle.std.specs.Prelude.{All, replicate, slice_get}
 use Rattle.std.specs.Option.{option_map_or}
 use Rattle.std.proofs.lemmas.List.{get_or-replicate, length-map, length-replicate, take_all, take_more}
 use Rattle.std.proofs.lemmas.Option.{slice_get_within}
@@ -22,7 +22,7 @@ use Rattle.mv_ledger.specs.Layouts.{structs_at}
 use Rattle.mv_ledger.specs.LayoutParts.{IsOfStore}
 use Rattle.mv_ledger.specs.SavedText.{keyed_from}
 use Rattle.mv_ledger.proofs.Accepted.Stores.{accepted_store}
-use Rattle.mv_ledger.proofs.Adding.{own-count, other-count, rows-kept}
+use Rattle.mv_ledger.proofs.Adding.{capped-more, own-count, other-count, rows-kept}
 use Rattle.mv_ledger.proofs.BodyEntries.{struct_under}
 use Rattle.mv_ledger.proofs.BodyGroups.{own-is, is-own}
 use Rattle.mv_ledger.proofs.BodyLookups.{is_of}
@@ -150,12 +150,9 @@ module _ (ms : List Module) where
       has = added.rows h.has;
       counts = λ e name named.
           added.counts h.has e name named
-          ∙ plus (count_at rows e) (by_structs (structs_under 8 ms name) es (take i ds)) (n * structs_under 8 ms name d) (2 ^ 128 - 1) (h.counts e name named)
+          ∙ capped-more (count_at rows e) (by_structs (structs_under 8 ms name) es (take i ds)) (n * structs_under 8 ms name d) (h.counts e name named)
           ∙ ap capped (ap (λ k. by_structs (structs_under 8 ms name) es (take i ds) + k) (same-many es stored d n name are many) ∙ sym (more-by es ds i z name lt));
     }
-      where
-        plus : (a b k c : ℕ) → min a c ≡ min b c → min (a + k) c ≡ min (b + k) c
-        plus a b k c e = omega arith
 
     pub add-none : (rows : List (List ℕ)) → n ≤ 0 → IsAdding es (take i ds) rows → IsAdding es (take (i + 1) ds) rows
     add-none rows none h = record {
