@@ -1,17 +1,16 @@
 -- The text of a stored value is read as its key and leaves, and what is read is such a text.
-use Rattle.std.proofs.Common.{◌≡◌, ℕ, suc, ◌<◌, ◌≤◌, true, List, [], ◌∷◌, ◌++◌, ap, sym, ◌∙◌, subst, refl, Option, Some, None, IsTrue, append_assoc, arith, lt-ltb, ltb-true}
-use Rattle.std.specs.Prelude.{◌&&◌, unwrap_or}
-use Rattle.std.proofs.lemmas.Option.{none-some, same_Some, some_pair_parts}
+use Rattle.std.proofs.Common.{◌≡◌, ℕ, List, [], ◌∷◌, ◌++◌, ap, sym, ◌∙◌, subst, refl, Option, Some, None, IsTrue, append_assoc}
+use Rattle.std.specs.Prelude.{unwrap_or}
+use Rattle.std.proofs.lemmas.Option.{some_pair_parts}
 use Rattle.mv_uleb.specs.Uleb.{uleb}
 use Rattle.mv_move_types.specs.declared.tables.Definition.{Definition}
 use Rattle.mv_move_types.specs.declared.tables.Key.{Key}
 use Rattle.mv_move_types.specs.declared.token.LeafKind.{LeafKind}
-use Rattle.mv_move_types.specs.Options.{◌>>=◌}
 use Rattle.mv_move_types.specs.Module.{Module}
 use Rattle.mv_module_text.specs.Entries.{address_text}
 use Rattle.mv_module_text.specs.Fits.{address_fits, is_index}
 use Rattle.mv_module_text.specs.Laws.{AreBytes}
-use Rattle.mv_module_text.specs.Parsing.{Read, index_from, address_from}
+use Rattle.mv_module_text.specs.Parsing.{index_from, address_from}
 use Rattle.mv_module_text.proofs.Texts.{Front, on_bind, Front-from, Front-join, index-parts, index-whole}
 use Rattle.mv_module_text.proofs.Addresses.{address-parts, address-whole}
 use Rattle.mv_machine.specs.Flat.{FlatEntry}

@@ -1,5 +1,5 @@
 -- The structs with key, by place of their module and index: each stands once among them.
-use Rattle.std.proofs.Common.{◌≡◌, ℕ, zero, suc, ◌+◌, ◌<◌, ◌≤◌, Bool, true, false, cond, List, [], ◌∷◌, ◌++◌, map, Option, Some, None, refl, ap, sym, ◌∙◌, subst, arith, inl, inr, ◌⊎◌, zero-add}
+use Rattle.std.proofs.Common.{◌≡◌, ℕ, zero, suc, ◌+◌, ◌<◌, ◌≤◌, Bool, true, false, cond, List, [], ◌∷◌, ◌++◌, map, Option, Some, None, refl, ap, ◌∙◌, subst, arith, inl, inr, ◌⊎◌, zero-add}
 use Rattle.std.specs.Prelude.{slice_get}
 use Rattle.std.specs.List.{filter, enumerate_from, AllByRecursion}
 use Rattle.std.specs.Option.{option_map_or}

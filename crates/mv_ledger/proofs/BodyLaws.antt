@@ -1,5 +1,5 @@
 -- What follows the modules in the text of a saved ledger is read as its tallies' counts and its storage, and nothing else is.
-use Rattle.std.proofs.Common.{◌≡◌, ℕ, ◌^◌, ◌<◌, ◌≤◌, List, [], ◌∷◌, ◌++◌, map, flat_map, length, Option, Some, ◌-◌, IsTrue, refl, ap, ap₂, sym, ◌∙◌, arith, append_assoc, append-nil, nat_le, leb-true, le-leb}
+use Rattle.std.proofs.Common.{◌≡◌, ℕ, ◌^◌, ◌<◌, ◌≤◌, List, [], ◌∷◌, ◌++◌, map, flat_map, length, Option, Some, ◌-◌, refl, ap, ap₂, sym, ◌∙◌, arith, append_assoc, append-nil, nat_le, leb-true, le-leb}
 use Rattle.std.specs.Prelude.{Bool, ◌&&◌}
 use Rattle.std.specs.Int.{w128, to_le_bytes}
 use Rattle.std.specs.List.{list_all}
@@ -10,18 +10,17 @@ use Rattle.std.proofs.lemmas.Option.{some_pair_parts}
 use Rattle.mv_uleb.specs.Uleb.{uleb}
 use Rattle.mv_move_types.specs.declared.token.Width.TheVariants.{U128}
 use Rattle.mv_move_types.specs.Options.{◌>>=◌}
-use Rattle.mv_module_text.specs.Laws.{AreBytes}
 use Rattle.mv_module_text.specs.Parsing.{Read, entries_from}
-use Rattle.mv_module_text.proofs.Texts.{Front, Parts, Whole, on_bind, Front-join, Front-as, number-front, number-whole, entries-front, entries-whole}
+use Rattle.mv_module_text.proofs.Texts.{Parts, Whole, on_bind, Front-join, Front-as, number-front, number-whole, entries-front, entries-whole}
 use Rattle.mv_module_text.proofs.Numbers.{number_of-front, number_of-whole}
 use Rattle.mv_machine.specs.Flat.{flat_storage}
 use Rattle.mv_machine.specs.Lines.{Tallied}
 use Rattle.mv_machine.specs.State.{Storage}
 use Rattle.mv_storage.specs.FlatStorage.{FlatStorage}
-use Rattle.mv_linker.specs.Link.{IsStore, tables_in}
+use Rattle.mv_linker.specs.Link.{tables_in}
 use Rattle.mv_ledger.specs.SavedText.{Form, First, Second, tally_text, tally_fits, greatest_count, storage_text}
 use Rattle.mv_ledger.specs.BodyParts.{count_from, tally_from, storage_into}
-use Rattle.mv_ledger.specs.LoadedParts.{body_from, counted_by, IsBody, EachBodyIsRead, EachReadIsBody}
+use Rattle.mv_ledger.specs.LoadedParts.{counted_by, EachBodyIsRead, EachReadIsBody}
 use Rattle.mv_ledger.proofs.BodyValues.{valued}
 use Rattle.mv_ledger.proofs.BodyStorage.{storage-parts, storage-whole}
 

@@ -1,5 +1,5 @@
 -- Stored values that were put one after the other: what stands under each key, and which stand under one struct's keys.
-use Rattle.std.proofs.Common.{◌≡◌, ℕ, Bool, true, false, cond, List, [], ◌∷◌, ◌++◌, map, Option, Some, None, refl, sym, ap, ap₂, ◌∙◌, ⊎_elim}
+use Rattle.std.proofs.Common.{◌≡◌, ℕ, Bool, true, false, cond, List, [], ◌∷◌, ◌++◌, Option, Some, None, refl, sym, ap, ◌∙◌, ⊎_elim}
 use Rattle.std.specs.Prelude.{◌&&◌, ◌==◌, is_some}
 use Rattle.std.specs.List.{filter}
 use Rattle.mv_move_types.specs.declared.tables.Definition.{Definition}
@@ -8,7 +8,7 @@ use Rattle.mv_machine.specs.State.{key_before, same_key}
 use Rattle.mv_machine.specs.Flat.{FlatEntry}
 use Rattle.mv_storage.specs.FlatStorage.{words_under, with_words}
 use Rattle.mv_storage.specs.Map.{IsBelow, Ascends}
-use Rattle.mv_storage.proofs.Keys.{same_key-to, before-trans, same_key-refl}
+use Rattle.mv_storage.proofs.Keys.{same_key-to, before-trans}
 use Rattle.mv_storage.proofs.Maps.{bool_cases, words_under-same, words_under-with_words, Ascends-with_words, entries_from_words}
 use Rattle.mv_ledger.specs.BodyParts.{with_entry}
 

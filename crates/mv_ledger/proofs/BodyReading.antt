@@ -1,7 +1,6 @@
 -- Reading what stands after the modules of a saved ledger: how far it has come.
 use Rattle.std.proofs.Common.{◌≡◌, ℕ, suc, ◌+◌, ◌-◌, ◌<◌, ◌≤◌, Bool, true, false, cond, List, [], ◌∷◌, ◌++◌, length, map, take, drop, get_or, Option, Some, None, Result, Ok, Err, option_map, refl, sym, ap, ◌∙◌, arith, append_assoc, append-nil}
 use Rattle.std.specs.Prelude.{is_some, not, slice_set, OnErr}
-use Rattle.std.specs.Bool.{then_some}
 use Rattle.std.proofs.Math.Seq.{map-set_same}
 use Rattle.std.proofs.lemmas.List.{drop_more, drop_all, map-append, take_more_set}
 use Rattle.mv_uleb.specs.Parsing.{number_from}

@@ -1,19 +1,19 @@
 -- The text of what is stored is read as its words, and what is read is such a text.
-use Rattle.std.proofs.Common.{◌≡◌, ℕ, zero, suc, ◌+◌, ◌^◌, ◌<◌, ◌≤◌, Bool, true, false, cond, List, [], ◌∷◌, ◌++◌, map, flat_map, length, Option, Some, None, IsTrue, refl, ap, ap₂, sym, ◌∙◌, subst, arith, inl, inr, ◌⊎◌, append_assoc, append-nil, lt-ltb}
-use Rattle.std.specs.Prelude.{All, unwrap_or, slice_get, is_some, nat_le}
+use Rattle.std.proofs.Common.{◌≡◌, ℕ, zero, suc, ◌^◌, ◌<◌, ◌≤◌, Bool, true, false, cond, List, [], ◌∷◌, ◌++◌, map, flat_map, length, Option, Some, None, IsTrue, refl, ap, ap₂, sym, ◌∙◌, subst, arith, inl, inr, ◌⊎◌, lt-ltb}
+use Rattle.std.specs.Prelude.{All, slice_get, is_some, nat_le}
 use Rattle.std.specs.List.{list_all, filter, AllByRecursion}
 use Rattle.std.specs.Cmp.{first_so, second_so}
 use Rattle.std.specs.Option.{option_map_or}
 use Rattle.std.proofs.lemmas.Bool.{and_from}
 use Rattle.std.proofs.lemmas.List.{length-map}
 use Rattle.std.proofs.lemmas.List.Elements.{All-head, All-tail}
-use Rattle.std.proofs.lemmas.Option.{none-some, slice_get_within}
+use Rattle.std.proofs.lemmas.Option.{slice_get_within}
 use Rattle.mv_uleb.specs.Uleb.{uleb}
 use Rattle.mv_move_types.specs.declared.tables.Definition.{Definition}
 use Rattle.mv_move_types.specs.declared.tables.Key.{Key}
 use Rattle.mv_move_types.specs.Options.{◌>>=◌}
 use Rattle.mv_move_types.specs.Names.{StructName}
-use Rattle.mv_move_types.specs.Module.{Module, StructDefinition, name_of_struct, name_at}
+use Rattle.mv_move_types.specs.Module.{Module, name_of_struct, name_at}
 use Rattle.mv_move_types.specs.Published.{PublishedModule}
 use Rattle.mv_move_types.specs.Leaves.{leaves_within}
 use Rattle.mv_binary_format.specs.ModuleText.{HasText}
@@ -22,7 +22,7 @@ use Rattle.mv_module_text.specs.Entries.{counted}
 use Rattle.mv_module_text.specs.Fits.{is_index}
 use Rattle.mv_module_text.specs.Laws.{AreBytes}
 use Rattle.mv_module_text.proofs.Texts.{Front, on_bind}
-use Rattle.mv_machine.specs.State.{Entry, Storage, key_before, same_key}
+use Rattle.mv_machine.specs.State.{Storage, key_before, same_key}
 use Rattle.mv_machine.specs.Flat.{FlatEntry, flat_storage}
 use Rattle.mv_machine.specs.Typed.{is_fine_entry, is_fine_storage}
 use Rattle.mv_storage.specs.FlatStorage.{words_under, with_words}
@@ -41,7 +41,7 @@ use Rattle.mv_ledger.proofs.BodyLookups.{or_else, words-append, puts, words-puts
 use Rattle.mv_ledger.proofs.BodyEntries.{struct_under, entry_text, IsEntry}
 use Rattle.mv_ledger.proofs.BodyGroups.{rises-ascends, ascends-rises, group-parts, group-whole, Among, group_text, groups-parts, groups-whole, is-own, own-is}
 use Rattle.mv_ledger.proofs.BodyKeyed.{keyed-distinct, keyed-among}
-use Rattle.mv_ledger.proofs.BodyValues.{flat_entry, IsKeyed, keyed-from, valued, IsValued, entry-valued, EachIsSized, FineParts, fine-parts, stored-as, addressed-as, ascending-ascends, ascends-ascending, under-valued, under-flat}
+use Rattle.mv_ledger.proofs.BodyValues.{flat_entry, valued, entry-valued, EachIsSized, FineParts, fine-parts, stored-as, addressed-as, ascending-ascends, ascends-ascending, under-valued, under-flat}
 
 -- ---- what is read
 

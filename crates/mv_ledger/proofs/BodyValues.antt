@@ -1,11 +1,11 @@
 -- Entries whose words are leaves of their structs' kinds are stored values with these leaves, and the other way round.
-use Rattle.std.proofs.Common.{◌≡◌, ℕ, suc, ◌^◌, ◌<◌, ◌≤◌, Bool, true, false, cond, List, [], ◌∷◌, ◌++◌, map, flat_map, length, Option, Some, None, IsTrue, refl, ap, ap₂, sym, ◌∙◌, subst, arith, append_assoc, append-nil, lt-ltb}
-use Rattle.std.specs.Prelude.{◌&&◌, unwrap_or, slice_get}
-use Rattle.std.specs.List.{list_all, filter, AllByRecursion}
+use Rattle.std.proofs.Common.{◌≡◌, ℕ, Bool, true, false, cond, List, [], ◌∷◌, ◌++◌, map, length, Option, Some, None, IsTrue, refl, ap, ap₂, sym, ◌∙◌, append_assoc, append-nil}
+use Rattle.std.specs.Prelude.{◌&&◌, unwrap_or}
+use Rattle.std.specs.List.{filter}
 use Rattle.std.specs.Cmp.{first_so, second_so}
 use Rattle.std.specs.Option.{option_map, option_map_or}
 use Rattle.std.proofs.lemmas.Bool.{and_from}
-use Rattle.std.proofs.lemmas.Option.{none-some, same_Some, slice_get_within}
+use Rattle.std.proofs.lemmas.Option.{none-some}
 use Rattle.mv_uleb.specs.Uleb.{uleb}
 use Rattle.mv_move_types.specs.declared.tables.Definition.{Definition}
 use Rattle.mv_move_types.specs.declared.tables.Key.{Key}
@@ -14,16 +14,15 @@ use Rattle.mv_move_types.specs.declared.token.LeafKind.TheVariants.{Boolean}
 use Rattle.mv_move_types.specs.declared.token.Abilities.{Abilities}
 use Rattle.mv_move_types.specs.Options.{◌>>=◌}
 use Rattle.mv_move_types.specs.Names.{StructName}
-use Rattle.mv_move_types.specs.Module.{Module, StructDefinition, name_of_struct, name_at}
-use Rattle.mv_move_types.specs.Published.{PublishedModule}
+use Rattle.mv_move_types.specs.Module.{Module, name_at}
 use Rattle.mv_move_types.specs.Leaves.{leaves_within}
-use Rattle.mv_module_text.specs.Entries.{address_text, counted}
-use Rattle.mv_module_text.specs.Fits.{address_fits, is_index}
+use Rattle.mv_module_text.specs.Entries.{address_text}
+use Rattle.mv_module_text.specs.Fits.{address_fits}
 use Rattle.mv_module_text.proofs.Texts.{on_bind}
 use Rattle.mv_machine.specs.Value.{Value, Leaf}
 use Rattle.mv_machine.specs.State.{Entry, Storage}
 use Rattle.mv_machine.specs.Flat.{FlatEntry, flat, flat_storage, struct_from, value_under}
-use Rattle.mv_machine.specs.Typed.{is_of_struct, abilities_at, is_fine_entry, is_fine_storage}
+use Rattle.mv_machine.specs.Typed.{is_of_struct, abilities_at, is_fine_entry}
 use Rattle.mv_storage.specs.Map.{IsBelow, Ascends}
 use Rattle.mv_ledger.specs.Counting.Kept.{AreAbove, IsAscending}
 use Rattle.mv_ledger.specs.Layouts.{kinds_within, leaf_kinds, is_keyed, kinds_under, coded, AreLeaves}
@@ -31,7 +30,7 @@ use Rattle.mv_ledger.specs.SavedText.{leaves_text, stored_text, addressed_text, 
 use Rattle.mv_ledger.proofs.LeafKinds.{kinds-count, struct-leaves}
 use Rattle.mv_ledger.proofs.Decoded.{struct-decoded}
 use Rattle.mv_ledger.proofs.BodyLookups.{is_of, under, IsLow, low-all}
-use Rattle.mv_ledger.proofs.BodyEntries.{struct_under, known_text, entry_text, IsEntry}
+use Rattle.mv_ledger.proofs.BodyEntries.{struct_under, entry_text, IsEntry}
 
 -- ---- what entries stand for
 

@@ -36,7 +36,7 @@ use Rattle.mv_ledger.specs.Loading.{HasHead, IsLoaded, FailsLoad, no_module, no_
 use Rattle.mv_ledger.specs.LoadedParts.{SavedHead, head_from, reason_of, AreJoined, AreNotJoined, body_from, IsNoBody, IsBody, counted_by, EachBodyIsRead, EachReadIsBody, AreCounted}
 use Rattle.mv_ledger.specs.Publishing.{Spells, AllPass, offered}
 use Rattle.mv_ledger.specs.RecordText.{offer_fits}
-use Rattle.mv_ledger.specs.SavedText.{Form, head_text, body_text, tally_text, storage_text, HeadFits, IsSavedText}
+use Rattle.mv_ledger.specs.SavedText.{head_text, body_text, tally_text, storage_text, HeadFits, IsSavedText}
 use Rattle.mv_ledger.specs.View.{state_of, view_of, all_of, tallied, IsSmall, IsLedger}
 use Rattle.mv_ledger.proofs.Accepted.Stores.{accepted_store}
 use Rattle.mv_ledger.proofs.LoadedHead.{head-parts, head-whole, head-had}

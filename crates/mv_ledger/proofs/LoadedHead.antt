@@ -1,9 +1,9 @@
 -- A head is read exactly where the text of one stands.
-use Rattle.std.proofs.Common.{◌≡◌, ℕ, ◌≤◌, List, [], ◌∷◌, ◌++◌, length, cond, append_assoc, arith, refl, ap, sym, ◌∙◌, subst, Option, Some, None, IsTrue, Bool, true, false, ◌&&◌, nat_le, leb-true, le-leb, eqb-true}
+use Rattle.std.proofs.Common.{◌≡◌, ℕ, List, [], ◌∷◌, ◌++◌, length, cond, append_assoc, arith, refl, ap, sym, ◌∙◌, subst, Option, Some, None, Bool, true, false, nat_le, leb-true, le-leb, eqb-true}
 use Rattle.std.specs.Prelude.{◌==◌}
 use Rattle.std.specs.List.{list_all}
 use Rattle.std.proofs.lemmas.Bool.{and_parts, and_from}
-use Rattle.std.proofs.lemmas.Option.{none-some, some_pair_parts, same_Some}
+use Rattle.std.proofs.lemmas.Option.{none-some, some_pair_parts}
 use Rattle.mv_uleb.specs.Uleb.{uleb}
 use Rattle.mv_uleb.specs.Parsing.{number_from}
 use Rattle.mv_move_types.specs.Options.{◌>>=◌}

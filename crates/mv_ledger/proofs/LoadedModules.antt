@@ -1,6 +1,6 @@
 -- Modules that are offered to an empty ledger: they join it exactly where they are linked to each other.
-use Rattle.std.proofs.Common.{◌≡◌, ℕ, List, [], ◌∷◌, ◌++◌, map, length, cond, append_assoc, append-nil, refl, ap, sym, ◌∙◌, subst, Option, Some, None, IsTrue, Bool, true, false}
-use Rattle.std.specs.Prelude.{All, not, ◌||◌}
+use Rattle.std.proofs.Common.{◌≡◌, List, [], ◌∷◌, ◌++◌, map, length, cond, append_assoc, append-nil, refl, ap, sym, ◌∙◌, subst, None, IsTrue, Bool, true, false}
+use Rattle.std.specs.Prelude.{not, ◌||◌}
 use Rattle.std.specs.List.{list_any}
 use Rattle.std.proofs.lemmas.Bool.{and_parts, true≢false}
 use Rattle.std.proofs.lemmas.List.Elements.{All-nil}
@@ -8,7 +8,7 @@ use Rattle.mv_move_types.specs.declared.refusal.Refusal.{Refusal}
 use Rattle.mv_move_types.specs.declared.refusal.Refusal.TheVariants.{Phase, Memory}
 use Rattle.mv_move_types.specs.Module.{Module}
 use Rattle.mv_move_types.specs.Names.{StructName}
-use Rattle.mv_move_types.specs.Published.{PublishedModule, has_name_of, with_module, with_modules}
+use Rattle.mv_move_types.specs.Published.{PublishedModule, with_module, with_modules}
 use Rattle.mv_move_types.specs.Refusals.{IsRefusedIn}
 use Rattle.mv_bounds.specs.Definitions.{all_differ}
 use Rattle.mv_frames.specs.Counters.{IsClear}
@@ -18,7 +18,6 @@ use Rattle.mv_linker.specs.Links.{Links}
 use Rattle.mv_linker.proofs.Empty.{no_modules}
 use Rattle.mv_machine.specs.Ledger.{Offer, scarce_structs, tally_of}
 use Rattle.mv_machine.specs.Lines.{Tallied}
-use Rattle.mv_ledger.specs.declared.loading.LoadError.{LoadError}
 use Rattle.mv_ledger.specs.declared.loading.LoadError.TheVariants.{Module as NoModule, Link as NoLink}
 use Rattle.mv_ledger.specs.declared.tallies.Tally.{Tally}
 use Rattle.mv_ledger.specs.declared.tallies.Placed.{Placed}
@@ -26,7 +25,7 @@ use Rattle.mv_ledger.specs.Loading.{AreLinked}
 use Rattle.mv_ledger.specs.LoadedParts.{reason_of, AreJoined, AreNotJoined}
 use Rattle.mv_ledger.specs.Publishing.{AllPass, IsRefusedAmong}
 use Rattle.mv_ledger.specs.Tallying.{AreWithin, ArePlacedFor, with_placed}
-use Rattle.mv_ledger.specs.View.{all_of, tallied, IsNamed}
+use Rattle.mv_ledger.specs.View.{IsNamed}
 use Rattle.mv_ledger.proofs.Joining.{joined-within, after-length, after-scarce, after-named, after-tallied}
 use Rattle.mv_ledger.proofs.Stores.{one_name-turns}
 

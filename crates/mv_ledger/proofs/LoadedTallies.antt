@@ -1,5 +1,5 @@
 -- Tallies whose counts were read are of the same structs.
-use Rattle.std.proofs.Common.{◌≡◌, ℕ, List, [], ◌∷◌, ◌++◌, map, length, flat_map, sym, ap, ◌∙◌, subst, refl}
+use Rattle.std.proofs.Common.{◌≡◌, List, [], ◌∷◌, ◌++◌, map, length, flat_map, sym, ap, ◌∙◌, subst, refl}
 use Rattle.std.specs.Prelude.{All, IsSome, unwrap_or}
 use Rattle.std.proofs.lemmas.List.{map-append, length-map}
 use Rattle.std.proofs.lemmas.List.Elements.{All-map}

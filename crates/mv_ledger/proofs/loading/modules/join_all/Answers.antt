@@ -1,4 +1,4 @@
-use Rattle.std.proofs.Common.{◌≡◌, ◌≤◌, List, length, None, arith, sym, ap, ◌∙◌, subst}
+use Rattle.std.proofs.Common.{List, length, None, arith, sym, ap, ◌∙◌, subst}
 use Rattle.std.proofs.lemmas.List.{length-map}
 use Rattle.mv_move_types.specs.Published.{PublishedModule, with_modules}
 use Rattle.mv_move_types.specs.Refusals.{IsRefusedIn}

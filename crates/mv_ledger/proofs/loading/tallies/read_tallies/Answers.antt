@@ -1,5 +1,4 @@
-use Rattle.std.proofs.Common.{◌≡◌, ◌+◌, ◌<◌, ◌++◌, ◌∷◌, [], length, map, take, sym, ap, ◌∙◌, subst, arith}
-use Rattle.std.specs.Prelude.{slice_set}
+use Rattle.std.proofs.Common.{◌+◌, ◌<◌, length, map, take, sym, subst, arith}
 use Rattle.mv_module_text.proofs.Entries.{ReadsOn, ReadsOn-next}
 use Rattle.mv_ledger.specs.BodyParts.{form_of, counts_of, tally_from}
 use Rattle.mv_ledger.proofs.BodyReading.{OnErr-any, entries-stop, structs-kept, counts-more}

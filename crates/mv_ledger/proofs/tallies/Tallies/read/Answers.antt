@@ -4,7 +4,7 @@ use Rattle.mv_ledger.specs.declared.tallies.Tally.{Tally}
 use Rattle.mv_ledger.specs.BodyParts.{form_of, tally_from}
 use Rattle.mv_ledger.specs.View.{all_of, ArePlaced}
 use Rattle.mv_ledger.proofs.BodyReading.{OnErr-any}
-use Rattle.mv_ledger.proofs.BodyTallies.{TalliesOn, TalliesOn-start, TalliesOn-end, lists, structs_in, whole-placed, whole-kept, structs-set, reads-next, reads-stop}
+use Rattle.mv_ledger.proofs.BodyTallies.{TalliesOn, TalliesOn-start, lists, structs_in, whole-placed, whole-kept, structs-set, reads-next, reads-stop}
 use Rattle.mv_ledger.proofs.tallies.Tallies.read.Goals as goal
 
 pub each-init : goal.each-init
