@@ -259,7 +259,7 @@ fn sections_in(
     requires { All (IsFineWords layouts.now) storage.now }
     ensures { IfOk result (λ v. AreSections layouts.now storage.now (sections_of v.items)) }
 {
-    // For the prover: the modules are a store's, and so what is stored are leaves of their structs' kinds.
+    // For the prover: the modules are a store's, so each stored value has the leaves that its struct says.
     let _modules = layouts.len();
     let counts = counts_of(alloc, layouts, storage)?;
     let mut rows = empty_rows(alloc, layouts, &counts)?;
