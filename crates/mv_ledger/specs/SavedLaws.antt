@@ -2,7 +2,7 @@
 use Rattle.std.specs.Prelude.{◌≡◌, ℕ, ◌*◌, ◌^◌, ◌<◌, ◌≤◌, List, map, length}
 use Rattle.std.specs.List.{AllByRecursion}
 use Rattle.mv_machine.specs.Ledger.{LedgerState}
-use Rattle.mv_ledger.specs.SavedText.{Form, First, Second, saved_text, HeadFits, IsSavedText}
+use Rattle.mv_ledger.specs.SavedText.{Form, Second, saved_text, HeadFits, IsSavedText}
 use Rattle.mv_ledger.specs.Publishing.{AllPass, offered}
 use Rattle.mv_ledger.specs.Accepted.SoundLedger.{IsSoundLedger}
 use Rattle.mv_ledger.specs.Loading.{IsLoaded, FailsLoad}

@@ -5,7 +5,6 @@ use Rattle.std.specs.List.{list_all, filter, enumerate_from}
 use Rattle.std.specs.Int.{w128, to_le_bytes}
 use Rattle.mv_uleb.specs.Uleb.{uleb}
 use Rattle.mv_move_types.specs.declared.tables.Definition.{Definition}
-use Rattle.mv_move_types.specs.declared.tables.Key.{Key}
 use Rattle.mv_move_types.specs.Module.{Module, StructDefinition, struct_abilities}
 use Rattle.mv_module_text.specs.Entries.{address_text, counted}
 use Rattle.mv_machine.specs.Value.{Value, Leaf, Struct, Ref, Values, NoMore, More}
