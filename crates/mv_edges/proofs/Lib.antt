@@ -1,6 +1,7 @@
 pub mod Changes
 pub mod Comparisons
 pub mod Counting
+pub mod Deduped
 pub mod EdgeOrder
 pub mod Insertion
 pub mod Lengths

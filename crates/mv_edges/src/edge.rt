@@ -159,12 +159,19 @@ impl Edge {
         }
     }
 
-    /// Whether the edge comes before another: by the nodes, then by the labels.
+    /// Which of two edges comes first: by the nodes, then by the labels.
+    pub(crate) fn order(&self, other: &Edge) -> Ordering
+        ensures { result ≡ edge_order self.now other.now }
+    {
+        self.view().order(&other.view())
+    }
+
+    /// Whether the edge comes before another.
     #[tactic(auto, using(crate::proofs::Comparisons::order_before))]
     pub fn is_before(&self, other: &Edge) -> bool
         ensures { result ≡ edge_before self.now other.now }
     {
-        self.view().order(&other.view()).is_lt()
+        self.order(other).is_lt()
     }
 }
 

@@ -6,6 +6,7 @@ ghost use Rattle.mv_edges.specs.Ascending.{are_ascending};
 ghost use Rattle.mv_edges.specs.Sorted.{inserted, sorted};
 
 use super::Edge;
+use super::unordered::{add_in_order, put_in_order};
 use mv_move_types::Node;
 use std::alloc::{AllocError, Global};
 use std::marker::Model;
@@ -87,6 +88,15 @@ impl Edges {
     {
         let longest = longest_of(&items);
         Edges { items, longest }
+    }
+
+    /// Edges in any order, put in theirs, each once.
+    pub(crate) fn of_unordered(mut items: Vec<Edge>) -> Result<Self, AllocError>
+        ensures edges { IfOk result (λ s. s ≡ sorted items.items) }
+        ensures ascending { IfOk result (λ s. IsTrue (are_ascending s)) }
+    {
+        put_in_order(&mut items)?;
+        Ok(Edges::of_items(items))
     }
 
     /// The edges as a vector, in ascending order.
@@ -176,6 +186,15 @@ impl Edges {
         }
     }
 
+    /// Adds the edges of another list, in one pass over both.
+    pub fn add_all(&mut self, others: Edges) -> Result<(), AllocError>
+        ensures { OnOk result (self.new ≡ sorted (self.old ++ others)) }
+    {
+        add_in_order(&mut self.items, others.into_items())?;
+        self.longest = longest_of(&self.items);
+        Ok(())
+    }
+
     /// Takes away the edges at a node.
     pub fn remove_at(&mut self, n: Node)
         ensures edges { self.new ≡ without n self.old }
@@ -231,7 +250,7 @@ impl Edges {
         ensures equal { IfOk result (λ s. s ≡ self.now) }
         ensures ascending { IfOk result (λ s. IsTrue (are_ascending s)) }
     {
-        let mut items = Vec::new(alloc);
+        let mut items = Vec::with_capacity(alloc, self.len())?;
         for e in &self.items {
             items.push(e.copy(alloc)?)?;
         }
@@ -246,11 +265,10 @@ impl Edges {
         ensures edges { IfOk result (λ s. s ≡ sorted (renamed old new self)) }
         ensures ascending { IfOk result (λ s. IsTrue (are_ascending s)) }
     {
-        let mut edges = Edges::new(alloc);
-        // As they ascend, most of them come last.
+        let mut items = Vec::with_capacity(alloc, self.len())?;
         for e in self.into_items() {
-            edges.insert(e.renamed(old, new))?;
+            items.push(e.renamed(old, new))?;
         }
-        Ok(edges)
+        Edges::of_unordered(items)
     }
 }

@@ -6,6 +6,7 @@ mod edges;
 mod label;
 mod search;
 mod union;
+mod unordered;
 
 pub use edge::Edge;
 pub use edges::Edges;

@@ -1,5 +1,5 @@
 // Edges of two lists as one.
-ghost use Rattle.std.specs.Prelude.{◌≡◌, ◌++◌, length, take, IfOk, OnOk, OnErr, IsTrue};
+ghost use Rattle.std.specs.Prelude.{◌≡◌, ◌++◌, length, take, IfOk, OnOk, IsTrue};
 ghost use Rattle.mv_edges.specs.Edges.{Edge as EdgeRecord, changed, inherited};
 ghost use Rattle.mv_edges.specs.Ascending.{are_ascending};
 ghost use Rattle.mv_edges.specs.Sorted.{sorted};
@@ -26,7 +26,7 @@ fn merged(alloc: Global, a: &[Edge], b: &[Edge]) -> Result<Vec<Edge>, AllocError
     requires right { IsTrue (are_ascending b.now) }
     ensures { IfOk result (λ v. v.items ≡ sorted (a.now ++ b.now)) }
 {
-    let mut items = Vec::new(alloc);
+    let mut items = Vec::with_capacity(alloc, a.len().saturating_add(b.len()))?;
     let mut i = 0;
     let mut j = 0;
     while i < a.len() && j < b.len() {
@@ -66,18 +66,6 @@ impl Edges {
         Ok(Edges::of_items(items))
     }
 
-    /// Adds the edges of another list.
-    pub fn add_all(&mut self, others: Edges) -> Result<(), AllocError>
-        ensures { OnOk result (self.new ≡ sorted (self.old ++ others)) }
-    {
-        // For the prover: the edges ascend.
-        let _ = self.as_slice();
-        for e in others.into_items() {
-            self.insert(e)?;
-        }
-        Ok(())
-    }
-
     /// The incoming edges of a node, with a change made to their labels, for another node.
     pub fn inherited(
         &self,
@@ -89,12 +77,12 @@ impl Edges {
         ensures edges { IfOk result (λ s. s ≡ sorted (inherited (changed change) old new self.now)) }
         ensures ascending { IfOk result (λ s. IsTrue (are_ascending s)) }
     {
-        let mut edges = Edges::new(alloc);
-        for e in self.as_slice().iter().rev() {
+        let mut items = Vec::new(alloc);
+        for e in self.as_slice() {
             if e.ends_at(old) {
-                edges.insert(e.inherited(alloc, change, new)?)?;
+                items.push(e.inherited(alloc, change, new)?)?;
             }
         }
-        Ok(edges)
+        Edges::of_unordered(items)
     }
 }

@@ -1,0 +1,13 @@
+use Rattle.std.proofs.Common.{◌∙◌, rules}
+use Rattle.std.proofs.lemmas.List.Filters.{dedup_is}
+use Rattle.std.proofs.lemmas.List.Sorted.{answers_always}
+use Rattle.mv_edges.specs.Edges.{same_edge}
+use Rattle.mv_edges.specs.Ascending.{edge_before}
+use Rattle.mv_edges.proofs.Comparisons.{order_before}
+use Rattle.mv_edges.proofs.Deduped.{edge_weak, deduped}
+use Rattle.mv_edges.proofs.unordered.put_in_order.Goals as goal
+
+pub returns-clause-ok : goal.returns-clause-ok
+returns-clause-ok c =
+    let rises = c.in_ok-sort_by.ensures.sorted edge_before edge_weak (answers_always _ _ _ (λ f a r g h. search (rules, order_before))) in
+    dedup_is same_edge _ _ c.dedup.ensures.filtered ∙ deduped c.args.items.now.items c.sort_by.new.self.items c.in_ok-sort_by.ensures.permutation rises
