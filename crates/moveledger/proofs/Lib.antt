@@ -3,6 +3,9 @@ pub mod Lengths
 pub mod Whole
 pub mod Steps
 pub mod One
+pub mod OneRequest
+pub mod OneRefusal
+pub mod OneReport
 pub mod Writing
 pub mod HeadlineLemmas
 pub mod Lines

@@ -22,7 +22,7 @@ text_one f g x y k l p q t u e =
     let parts = same_split p q x y lens.1 tails in
     (kinds, parts.0, parts.1)
 
-begins_one : (input : List ℕ) (r s : Record) (x y : List ℕ) → Begins input r x → Begins input s y → (r ≡ s) × (x ≡ y)
+pub begins_one : (input : List ℕ) (r s : Record) (x y : List ℕ) → Begins input r x → Begins input s y → (r ≡ s) × (x ≡ y)
 begins_one input (Whole k p) (Whole l q) x y b c =
     let one = text_one b.0 c.0 x y k l p q b.1 c.1 (sym b.2 ∙ c.2) in
     (ap₂ Whole one.0 one.1, one.2)
@@ -30,7 +30,7 @@ begins_one input (Whole k p) Cut x y b c = absurd (c.1 k p b.0 x b.1 b.2)
 begins_one input Cut (Whole l q) x y b c = absurd (b.1 l q c.0 y c.1 c.2)
 begins_one input Cut Cut x y b c = (refl, b.2 ∙ sym c.2)
 
-nothing_begins : (input : List ℕ) (r : Record) (x : List ℕ) → input ≡ [] → Begins input r x → ⊥
+pub nothing_begins : (input : List ℕ) (r : Record) (x : List ℕ) → input ≡ [] → Begins input r x → ⊥
 nothing_begins input (Whole k p) x e b =
     let bad : [] ≡ k ∷ ((b.1.0 ++ p) ++ x) = sym e ∙ b.2 ∙ ap (λ z. z ++ x) b.1.3 in cc
 nothing_begins input Cut x e b = b.0 e

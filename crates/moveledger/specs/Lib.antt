@@ -1,5 +1,6 @@
 pub mod Records
 pub mod Headline
+pub mod OneReport
 pub mod Outcome
 pub mod Reading
 pub mod Next

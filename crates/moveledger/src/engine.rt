@@ -2,6 +2,7 @@
 ghost use Rattle.std.specs.Prelude.{◌≡◌, ℕ, List, [], IfOk, IfErr, Err};
 ghost use Rattle.moveledger.specs.Records.{Record, AreRecords};
 ghost use Rattle.moveledger.specs.Headline.{Headline};
+ghost use Rattle.moveledger.specs.OneReport.{OneReport};
 ghost use Rattle.moveledger.specs.Outcome.{Stops, StopsReading};
 
 use crate::answering::{answer, write_reply};
@@ -99,3 +100,11 @@ pub fn answer_all<R: Read, W: Write, A: AfterRecord<R, W>>(
 pub fn one_reading()
     ensures { (input : List ℕ) (a b : List Record) → AreRecords input a [] → AreRecords input b [] → a ≡ b }
 {}
+
+/// Of one input and one ledger the headline allows one report and one ledger after it.
+pub fn one_report()
+    ensures { OneReport }
+{
+    // For the prover: bytes are read as a module exactly where they are a text of it.
+    mv_binary_format::modules_are_read_by_text();
+}
