@@ -1,6 +1,5 @@
 -- How often states rise: availabilities no more often than there are locals, and edges never where no local is a reference.
-use Rattle.std.proofs.Common.{◌≡◌, ℕ, zero, suc, ◌+◌, ◌<◌, ◌≤◌, Bool, true, false, not, ◌&&◌, List, [], ◌∷◌, length, ◌⊎◌, ⊎_elim, inl, inr, Option, Some, None, slice_get, IsTrue, refl, sym, ap, ◌∙◌, subst, arith, true≢false}
-use Rattle.std.specs.List.{list_all}
+use Rattle.std.proofs.Common.{◌≡◌, ℕ, zero, suc, ◌+◌, ◌<◌, ◌≤◌, true, false, List, [], ◌∷◌, length, ◌⊎◌, ⊎_elim, inl, inr, Option, Some, None, IsTrue, refl, sym, ap, ◌∙◌, subst, arith, true≢false}
 use Rattle.std.specs.Option.{option_map_or}
 use Rattle.std.specs.Prelude.{⊤}
 use Rattle.std.proofs.lemmas.Bool.{and_parts, false≢true}
@@ -11,15 +10,15 @@ use Rattle.mv_move_types.specs.declared.borrow.Node.TheVariants.{Slot, Own, Glob
 use Rattle.mv_move_types.specs.declared.token.Token.{Token}
 use Rattle.mv_move_types.specs.Module.{Module, FunctionDefinition, local_type}
 use Rattle.mv_bounds.specs.Bounds.{local_count}
-use Rattle.mv_edges.specs.Edges.{Edge, same_node, edges_leq}
+use Rattle.mv_edges.specs.Edges.{Edge, edges_leq}
 use Rattle.mv_edges.specs.Ascending.{are_ascending}
 use Rattle.mv_lattice.specs.Flow.{IsRisen}
 use Rattle.mv_lattice.specs.Work.{HasLarge, HasChain}
-use Rattle.mv_locals_safety.specs.LocalsRules.{availability_leq, locals_leq}
+use Rattle.mv_locals_safety.specs.LocalsRules.{locals_leq}
 use Rattle.mv_locals_safety.specs.Domain.{IsOfLocals}
 use Rattle.mv_borrow_graph.specs.BorrowRules.{is_reference_token}
 use Rattle.mv_borrow_graph.specs.Domain.{point_at}
-use Rattle.mv_borrow_graph.specs.Nodes.{leads_out, leads_in, edge_is_there, may_begin_with, are_few}
+use Rattle.mv_borrow_graph.specs.Nodes.{leads_in, edge_is_there, may_begin_with, are_few}
 use Rattle.mv_borrow_graph.specs.There.{there_parts}
 use Rattle.mv_analyser.specs.Principal.{HasPlainLocals}
 

@@ -1,8 +1,7 @@
 -- The fields of a module's structs are few, and no references.
-use Rattle.std.proofs.Common.{◌≡◌, Bool, true, false, not, ◌&&◌, List, length, nat_le, IsTrue, refl, sym, subst}
+use Rattle.std.proofs.Common.{◌≡◌, true, not, ◌&&◌, length, nat_le, IsTrue, refl, subst}
 use Rattle.std.specs.List.{list_all}
 use Rattle.std.proofs.lemmas.Bool.{and_parts}
-use Rattle.mv_move_types.specs.declared.token.LeafKind.TheVariants.{Signer}
 use Rattle.mv_move_types.specs.declared.token.Token.{Token}
 use Rattle.mv_move_types.specs.declared.token.Token.TheVariants.{Plain, Reference, MutableReference}
 use Rattle.mv_move_types.specs.declared.tables.Field.{Field}

@@ -3,19 +3,17 @@ use Rattle.std.proofs.Common.{◌≡◌, ◌==◌, ℕ, zero, suc, Bool, true, f
 use Rattle.std.specs.List.{list_all}
 use Rattle.std.specs.Option.{option_map_or}
 use Rattle.std.specs.Prelude.{⊤, nat_lt}
-use Rattle.std.proofs.lemmas.Bool.{and_parts, and_from, false≢true}
+use Rattle.std.proofs.lemmas.Bool.{and_parts, and_from}
 use Rattle.std.proofs.lemmas.List.{length-map}
-use Rattle.std.proofs.lemmas.Option.{none-some, same_Some}
+use Rattle.std.proofs.lemmas.Option.{same_Some}
 use Rattle.mv_move_types.specs.declared.borrow.Node.{Node}
 use Rattle.mv_move_types.specs.declared.borrow.Node.TheVariants.{Slot, Own, Glob, Temp}
-use Rattle.mv_move_types.specs.declared.token.Token.{Token}
-use Rattle.mv_move_types.specs.Module.{Module, FunctionDefinition, StructDefinition, local_tokens, local_type}
-use Rattle.mv_cfg.specs.declared.Block.{Block}
+use Rattle.mv_move_types.specs.Module.{Module, FunctionDefinition, StructDefinition, local_tokens}
 use Rattle.mv_cfg.specs.declared.Cfg.{Cfg}
 use Rattle.mv_cfg.specs.Blocks.{blocks}
 use Rattle.mv_cfg.specs.FlowGraph.{IsFlowGraph, basic_block_of}
 use Rattle.mv_type_states.specs.TypesHold.{function_is_typed}
-use Rattle.mv_lattice.specs.Flow.{IsFlow, IsClosed, IsStated}
+use Rattle.mv_lattice.specs.Flow.{IsFlow, IsClosed, IsStated, IsFlowBelow}
 use Rattle.mv_lattice.specs.Work.{AllStated}
 use Rattle.mv_locals_safety.specs.LocalsRules.{locals_after, locals_leq}
 use Rattle.mv_edges.specs.Edges.{Edge, same_node, edges_leq}
@@ -33,6 +31,7 @@ use Rattle.mv_certificate.proofs.Marks.{stated-fits}
 use Rattle.mv_certificate.proofs.States.{edges-flow-at}
 use Rattle.mv_certificate.proofs.Holds.{edges_exact_at}
 use Rattle.mv_certificate.proofs.Whole.{marks-fit}
+use Rattle.mv_analyser.specs.Least.{HasLeastLocals, HasLeastEdges, stated_locals, stated_edges}
 use Rattle.mv_analyser.specs.Principal.{HasPlainLocals}
 use Rattle.mv_analyser.specs.States.{known_with, with_edges, IsSimpleAt}
 use Rattle.mv_analyser.proofs.LeastLocals.{at_function}
@@ -201,6 +200,18 @@ module _ (m m' : Module) (f : ℕ) (d d' : FunctionDefinition) (g : Cfg) (home :
       edges_hold_there start none known closed =
           subst (EdgesHoldAt m f) (sym is)
           ((edges_exact_at m m' f d d' g (with_edges old v) home at at' fg typed start v none known (sym (with_these old v pairs)) flow).0 closed)
+
+      pub locals_stay_least : HasLeastLocals m f old → HasLeastLocals m f stated
+      locals_stay_least least = λ other fit holds.
+          subst (λ z. IsFlowBelow (λ a b. IsTrue (locals_leq a b)) z (stated_locals other)) (sym (ap stated_locals is ∙ with_locals old v pairs)) (least other fit holds)
+
+      pub edges_are_least : (start : List Edge) → start ≡ [] → IsSome (known_at_start m d)
+          → ((w : List (Option (List Edge))) → IsFlow Ascend g w → IsClosed (λ a b. IsTrue (edges_leq a b)) (edges_step m' d') g start w → IsFlowBelow (λ a b. IsTrue (edges_leq a b)) v w) → HasLeastEdges m f stated
+      edges_are_least start none known least = λ other fit holds.
+          let all : List (Option (List Edge)) = stated_edges other in
+          let other_flow = edges-flow-at m f d g other all at fg fit refl in
+          let below = least all other_flow ((edges_exact_at m m' f d d' g other home at at' fg typed start all none known refl other_flow).1 holds) in
+          subst (λ z. IsFlowBelow (λ a b. IsTrue (edges_leq a b)) z all) (sym (ap stated_edges is ∙ with_these old v pairs)) below
 
     -- where there is no closed flow, no edges hold
     pub no_edges_hold : (start : List Edge) → start ≡ [] → IsSome (known_at_start m d)

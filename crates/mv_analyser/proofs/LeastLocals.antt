@@ -1,32 +1,31 @@
 -- The least availabilities of a function fit it, and hold.
-use Rattle.std.proofs.Common.{◌≡◌, ◌==◌, ℕ, zero, suc, Bool, true, false, ◌&&◌, List, [], ◌∷◌, ◌++◌, length, map, take, replicate, get_or, ◌<◌, ◌≤◌, ◌+◌, ◌-◌, Option, Some, None, is_some, option_map, slice_get, nat_le, IsTrue, Result, Ok, Err, IsErrOf, refl, sym, ap, ◌∙◌, subst, arith, eq-eqb}
+use Rattle.std.proofs.Common.{◌≡◌, ◌==◌, ℕ, zero, suc, true, false, ◌&&◌, List, [], ◌∷◌, ◌++◌, length, map, take, get_or, ◌<◌, ◌≤◌, ◌+◌, Option, Some, None, is_some, option_map, slice_get, nat_le, IsTrue, Err, IsErrOf, refl, sym, ap, ◌∙◌, subst, arith, eq-eqb}
 use Rattle.std.specs.List.{list_all}
 use Rattle.std.specs.Option.{option_map_or}
-use Rattle.std.specs.Prelude.{⊤}
 use Rattle.std.proofs.lemmas.Bool.{and_from}
-use Rattle.std.proofs.lemmas.Option.{none-some, same_Some}
+use Rattle.std.proofs.lemmas.Option.{same_Some}
 use Rattle.mv_move_types.specs.declared.borrow.Availability.{Availability}
 use Rattle.mv_move_types.specs.declared.token.Token.{Token}
 use Rattle.mv_move_types.specs.Module.{Module, FunctionDefinition, local_tokens, parameter_tokens}
 use Rattle.mv_bounds.specs.Bounds.{local_count}
-use Rattle.mv_cfg.specs.declared.Block.{Block}
 use Rattle.mv_cfg.specs.declared.Cfg.{Cfg}
 use Rattle.mv_cfg.specs.FlowGraph.{IsFlowGraph}
 use Rattle.mv_type_states.specs.TypesHold.{function_is_typed}
-use Rattle.mv_lattice.specs.Flow.{IsFlow, IsClosed, IsStated}
+use Rattle.mv_lattice.specs.Flow.{IsFlow, IsClosed, IsStated, IsFlowBelow}
 use Rattle.mv_lattice.specs.declared.search.SolveError.{SolveError}
 use Rattle.mv_lattice.specs.declared.search.SolveError.TheVariants.{Need as NeedFails, TooComplex as SearchTooComplex, Memory as MemoryOut}
 use Rattle.mv_locals_safety.specs.LocalsRules.{locals_leq}
 use Rattle.mv_locals_safety.specs.Domain.{IsOfLocals, locals_step, start_locals}
 use Rattle.mv_borrow_graph.specs.Shifts.{found}
-use Rattle.mv_certificate.specs.Certificate.{Known, Stated}
+use Rattle.mv_certificate.specs.Certificate.{Stated}
 use Rattle.mv_certificate.specs.Functions.{LocalsHoldAt}
 use Rattle.mv_certificate.specs.Reads.{FitsAt}
-use Rattle.mv_certificate.specs.Shape.{StatedFits, known_fits, edge_fits}
+use Rattle.mv_certificate.specs.Shape.{StatedFits, known_fits}
 use Rattle.mv_certificate.proofs.Texts.{block_fits}
 use Rattle.mv_certificate.proofs.Marks.{stated-fits}
 use Rattle.mv_certificate.proofs.States.{locals-flow-at}
 use Rattle.mv_certificate.proofs.Holds.{locals_exact_at}
+use Rattle.mv_analyser.specs.Least.{HasLeastLocals, stated_locals}
 use Rattle.mv_analyser.specs.States.{without_edges, locals_alone, error_of, IsErrorAt}
 use Rattle.mv_analyser.proofs.Marks.{flow-marks}
 
@@ -95,6 +94,16 @@ module _ (m m' : Module) (f : ℕ) (d d' : FunctionDefinition) (g : Cfg) (home :
   pub least_holds : (v : List (Option (List Availability))) (stated : Stated) → stated ≡ locals_alone v → IsFlow (IsOfLocals m' d') g v → IsClosed Below (locals_step m' d') g start v → LocalsHoldAt m f stated
   least_holds v stated is flow closed =
       subst (LocalsHoldAt m f) (sym is) ((locals_exact_at m m' f d d' g (locals_alone v) home at at' fg typed start v begin (sym (alone_locals v)) flow).0 closed)
+
+  -- and they are below all that fit and hold
+  pub least_of_all : (v : List (Option (List Availability))) (stated : Stated) → stated ≡ locals_alone v
+      → ((flow : List (Option (List Availability))) → IsFlow (IsOfLocals m' d') g flow → IsClosed Below (locals_step m' d') g start flow → IsFlowBelow Below v flow) → HasLeastLocals m f stated
+  least_of_all v stated is least = λ other fits holds.
+      let all : List (Option (List Availability)) = stated_locals other in
+      let flow = locals-flow-at m m' f d d' g other all home at at' fg fits refl in
+      let below : IsFlowBelow Below v all = least all flow ((locals_exact_at m m' f d d' g other home at at' fg typed start all begin refl flow).1 holds) in
+      let same_states : stated_locals stated ≡ v = ap stated_locals is ∙ alone_locals v in
+      subst (λ z. IsFlowBelow Below z all) (sym same_states) below
 
   -- where there is no closed flow, none holds
   pub none_holds : ((flow : List (Option (List Availability))) → IsFlow (IsOfLocals m' d') g flow → IsClosed Below (locals_step m' d') g start flow → ⊥) → (stated : Stated) → FitsAt m f stated → LocalsHoldAt m f stated → ⊥

@@ -4,3 +4,4 @@ pub mod LeastEdges
 pub mod LeastLocals
 pub mod Marks
 pub mod Modules
+pub mod OneLeast

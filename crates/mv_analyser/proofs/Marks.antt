@@ -1,5 +1,5 @@
 -- A flow states something exactly where a block is marked as reached.
-use Rattle.std.proofs.Common.{◌≡◌, ℕ, Bool, true, List, length, map, is_some, Option, Some, None, slice_get, refl, sym, ap, ◌∙◌, subst, true≢false}
+use Rattle.std.proofs.Common.{◌≡◌, ℕ, true, List, map, is_some, Option, Some, None, refl, sym, ap, ◌∙◌, true≢false}
 use Rattle.std.proofs.lemmas.Option.{same_Some}
 use Rattle.mv_cfg.specs.declared.Block.{Block}
 use Rattle.mv_cfg.specs.declared.Cfg.{Cfg}

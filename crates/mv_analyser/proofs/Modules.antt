@@ -1,11 +1,10 @@
 -- From the functions of a module to the module.
-use Rattle.std.proofs.Common.{◌≡◌, ℕ, zero, suc, Bool, true, ◌&&◌, List, [], ◌∷◌, ◌++◌, length, ◌<◌, ◌+◌, Some, slice_get, IsTrue, refl, sym, ap, ◌∙◌, subst, arith, ⊎_elim, ◌⊎◌, Result, Ok, Err, IfOk, OnOk}
+use Rattle.std.proofs.Common.{◌≡◌, ℕ, suc, List, [], ◌∷◌, ◌++◌, length, ◌<◌, ◌+◌, Some, slice_get, IsTrue, refl, sym, ◌∙◌, subst, arith, ⊎_elim, Result, Ok, Err, IfOk, OnOk}
 use Rattle.std.specs.Prelude.{⊤}
 use Rattle.std.proofs.lemmas.Bool.{and_parts, and_from}
 use Rattle.std.proofs.lemmas.List.{length-append}
 use Rattle.std.proofs.lemmas.Option.{slice_get_within}
 use Rattle.mv_move_types.specs.Module.{Module, FunctionDefinition}
-use Rattle.mv_move_types.specs.declared.refusal.Refusal.{Refusal}
 use Rattle.mv_move_types.specs.declared.refusal.Refusal.TheVariants.{Phase, Memory as OutOfMemory}
 use Rattle.mv_acquires.specs.Acquires.{AcquiresHold}
 use Rattle.mv_cfg.proofs.Tables.{slice_get-push}
@@ -17,7 +16,7 @@ use Rattle.mv_certificate.specs.Shape.{StatedFits, AllStatedFit}
 use Rattle.mv_certificate.proofs.Marks.{at_below}
 use Rattle.mv_certificate.proofs.States.{fit-length, fit-at}
 use Rattle.mv_certificate.proofs.Holds.{each-passes, passes-each}
-use Rattle.mv_analyser.specs.Principal.{FailsEach, no_locals, no_edges, no_lists, IsUnproved, IsWithoutReferences, IsOfLimits, IsProvable, PassesCheck}
+use Rattle.mv_analyser.specs.Principal.{FailsEach, no_locals, no_edges, no_lists, IsUnproved, IsOfLimits, IsProvable, PassesCheck}
 use Rattle.mv_analyser.specs.States.{IsErrorAt, IsSimpleAt}
 use Rattle.mv_analyser.specs.declared.ProveError.{ProveError}
 use Rattle.mv_analyser.specs.declared.ProveError.TheVariants.{Refused, TooComplex, Memory}

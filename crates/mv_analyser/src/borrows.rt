@@ -6,6 +6,7 @@ ghost use Rattle.mv_certificate.specs.Certificate.{all_locals_hold, certificate_
 ghost use Rattle.mv_certificate.specs.Functions.{LocalsHoldAt, EdgesHoldAt};
 ghost use Rattle.mv_certificate.specs.Reads.{FitsAt};
 ghost use Rattle.mv_certificate.specs.Shape.{AllStatedFit};
+ghost use Rattle.mv_analyser.specs.Least.{HasLeastLocals, HasLeastEdges, AreLeastLocals, IsLeastCertificate};
 ghost use Rattle.mv_analyser.specs.Principal.{IsUnproved};
 ghost use Rattle.mv_analyser.specs.States.{known_with, with_edges, IsErrorAt, IsSimpleAt};
 
@@ -64,9 +65,12 @@ fn state_edges(
     requires inside { f < length m.now.functions }
     requires fits { FitsAt m.now f stated.now }
     requires locals { LocalsHoldAt m.now f stated.now }
+    requires least { HasLeastLocals m.now f stated.now }
     ensures fits { IfOk result (FitsAt m.now f) }
     ensures locals { IfOk result (LocalsHoldAt m.now f) }
     ensures edges { IfOk result (EdgesHoldAt m.now f) }
+    ensures least_locals { IfOk result (HasLeastLocals m.now f) }
+    ensures least_edges { IfOk result (HasLeastEdges m.now f) }
     ensures refused { IfErr result (IsErrorAt m.now f 11 (EdgesHoldAt m.now f) (IsSimpleAt m.now f)) }
 {
     let domain = BorrowDomain::of_function(m, f);
@@ -93,10 +97,12 @@ fn stated_of(c: &Cert, f: usize) -> &Stated
 fn stated_at<'t>(m: &Typed<'_>, c: &'t Cert, f: usize) -> &'t Stated
     requires shape { AllStatedFit m.now m.now.functions c.now }
     requires locals { IsTrue (all_locals_hold m.now c.now) }
+    requires least { AreLeastLocals m.now c.now }
     requires inside { f < length m.now.functions }
     ensures at { slice_get c.entry.now f ≡ Some result.now }
     ensures fits { FitsAt m.entry.now f result.now }
     ensures locals { LocalsHoldAt m.entry.now f result.now }
+    ensures least { HasLeastLocals m.entry.now f result.now }
 {
     stated_of(c, f)
 }
@@ -105,8 +111,10 @@ fn stated_at<'t>(m: &Typed<'_>, c: &'t Cert, f: usize) -> &'t Stated
 pub fn with_least_edges(alloc: Global, m: &Typed<'_>, c: &Cert) -> Result<Cert, ProveError>
     requires shape { AllStatedFit m.now m.now.functions c.now }
     requires locals { IsTrue (all_locals_hold m.now c.now) }
+    requires least { AreLeastLocals m.now c.now }
     ensures shape { IfOk result (λ v. AllStatedFit m.now m.now.functions v) }
     ensures holds { IfOk result (λ v. IsTrue (certificate_holds m.now v)) }
+    ensures least { IfOk result (IsLeastCertificate m.now) }
     ensures refused { IfErr result (IsUnproved m.now) }
 {
     let count = function_count(m);

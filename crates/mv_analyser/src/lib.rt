@@ -8,6 +8,7 @@ ghost use Rattle.std.specs.Prelude.{◌≡◌, IfOk, IfErr, OnOk, IsTrue};
 ghost use Rattle.mv_acquires.specs.Acquires.{AcquiresHold};
 ghost use Rattle.mv_certificate.specs.Certificate.{certificate_holds};
 ghost use Rattle.mv_certificate.specs.Shape.{AllStatedFit};
+ghost use Rattle.mv_analyser.specs.Least.{IsLeastCertificate, LeastIsOne};
 ghost use Rattle.mv_analyser.specs.Principal.{IsUnproved, IsOfLimits, IsProvable, PassesCheck};
 ghost use Rattle.mv_analyser.specs.States.{error_of};
 
@@ -67,6 +68,7 @@ fn check_acquires(alloc: Global, m: &Typed<'_>, c: &Cert) -> Result<(), ProveErr
 fn find(alloc: Global, m: &Typed<'_>) -> Result<Cert, ProveError>
     ensures shape { IfOk result (λ c. AllStatedFit m.now m.now.functions c) }
     ensures holds { IfOk result (λ c. IsTrue (certificate_holds m.now c)) }
+    ensures least { IfOk result (IsLeastCertificate m.now) }
     ensures acquires { OnOk result (AcquiresHold m.now) }
     ensures refused { IfErr result (IsUnproved m.now) }
 {
@@ -77,7 +79,8 @@ fn find(alloc: Global, m: &Typed<'_>) -> Result<Cert, ProveError>
 }
 
 /// A certificate of the module that passes `check`, made of the least states that hold in each function. It is principal: where
-/// some certificate passes, this one is returned, unless the search reaches its limits or an allocation fails.
+/// some certificate passes, this one is returned, unless the search reaches its limits or an allocation fails. It is the least
+/// one: in each function its states are below those of everything that fits the function and holds.
 ///
 /// # Errors
 /// `Refused` with the first of phases 10, 11 and 12 that no certificate passes. `TooComplex` where the search reaches its limits,
@@ -85,8 +88,14 @@ fn find(alloc: Global, m: &Typed<'_>) -> Result<Cert, ProveError>
 pub fn prove(alloc: Global, m: &Typed<'_>) -> Result<Cert, ProveError>
     ensures shape { IfOk result (λ c. AllStatedFit m.now m.now.functions c) }
     ensures passes { IfOk result (PassesCheck m.now) }
+    ensures least { IfOk result (IsLeastCertificate m.now) }
     ensures refused { IfErr result (IsUnproved m.now) }
     ensures principal { IsProvable m.now → IfErr result IsOfLimits }
 {
     find(alloc, m)
 }
+
+/// Two least certificates of a module state the same availabilities, and edges that are below each other.
+pub fn least_is_one()
+    ensures { LeastIsOne }
+{}

@@ -4,6 +4,7 @@ ghost use Rattle.mv_certificate.specs.Certificate.{all_locals_hold};
 ghost use Rattle.mv_certificate.specs.Functions.{LocalsHoldAt};
 ghost use Rattle.mv_certificate.specs.Reads.{FitsAt};
 ghost use Rattle.mv_certificate.specs.Shape.{AllStatedFit};
+ghost use Rattle.mv_analyser.specs.Least.{HasLeastLocals, AreLeastLocals};
 ghost use Rattle.mv_analyser.specs.Principal.{IsUnproved};
 ghost use Rattle.mv_analyser.specs.States.{locals_alone, IsErrorAt};
 
@@ -38,6 +39,7 @@ fn state_locals(alloc: Global, m: &Typed<'_>, f: usize) -> Result<Stated, ProveE
     requires { f < length m.now.functions }
     ensures fits { IfOk result (FitsAt m.now f) }
     ensures holds { IfOk result (LocalsHoldAt m.now f) }
+    ensures least { IfOk result (HasLeastLocals m.now f) }
     ensures refused { IfErr result (IsErrorAt m.now f 10 (LocalsHoldAt m.now f) ⊤) }
 {
     let domain = LocalsDomain::of_function(alloc, m, f)?;
@@ -54,6 +56,7 @@ fn state_locals(alloc: Global, m: &Typed<'_>, f: usize) -> Result<Stated, ProveE
 pub fn least_locals(alloc: Global, m: &Typed<'_>) -> Result<Cert, ProveError>
     ensures shape { IfOk result (λ c. AllStatedFit m.now m.now.functions c) }
     ensures holds { IfOk result (λ c. IsTrue (all_locals_hold m.now c)) }
+    ensures least { IfOk result (AreLeastLocals m.now) }
     ensures refused { IfErr result (IsUnproved m.now) }
 {
     let count = function_count(m);

@@ -1,9 +1,9 @@
-use Rattle.std.proofs.Common.{◌≡◌, ◌∙◌, ap, sym, subst, ⊎_elim}
+use Rattle.std.proofs.Common.{◌∙◌, ap, sym, subst, ⊎_elim}
 use Rattle.mv_certificate.specs.Functions.{EdgesHoldAt}
 use Rattle.mv_analyser.specs.States.{with_edges, IsErrorAt, IsSimpleAt}
 use Rattle.mv_analyser.proofs.Chains.{never_large, never_rises}
 use Rattle.mv_analyser.proofs.LeastLocals.{search_error}
-use Rattle.mv_analyser.proofs.LeastEdges.{plain_locals, edges_fit, locals_stay, edges_hold_there, no_edges_hold}
+use Rattle.mv_analyser.proofs.LeastEdges.{plain_locals, edges_fit, locals_stay, locals_stay_least, edges_are_least, edges_hold_there, no_edges_hold}
 use Rattle.mv_analyser.proofs.borrows.state_edges.Goals as goal
 
 pub returns-in-Ok-clause-fits : goal.returns-in-Ok-clause-fits
@@ -26,6 +26,20 @@ returns-in-Ok-clause-edges c =
     c.of_function-domain.ensures.home c.function_at-function.ensures.at c.of_function-domain.ensures.function c.graph_of-graph.ensures c.function_at-function.ensures.typed
     c.in-Ok.least.items c.args.stated.now c.in_ok-stated_and-in-Ok.field-0 (c.in_ok-stated_and-in-Ok.ensures ∙ ap (with_edges c.args.stated.now) c.deref.ensures.value) c.requires.fits c.in-Ok.ensures.flow
     c.start-start.result c.start-start.ensures c.has_start.ensures c.in-Ok.ensures.closed
+
+pub returns-in-Ok-clause-least_locals : goal.returns-in-Ok-clause-least_locals
+returns-in-Ok-clause-least_locals c =
+    locals_stay_least c.args.m.now c.of_function-domain.result.home c.args.f c.function_at-function.result.now c.of_function-domain.result.function c.graph_of-graph.result.now
+    c.of_function-domain.ensures.home c.function_at-function.ensures.at c.of_function-domain.ensures.function c.graph_of-graph.ensures c.function_at-function.ensures.typed
+    c.in-Ok.least.items c.args.stated.now c.in_ok-stated_and-in-Ok.field-0 (c.in_ok-stated_and-in-Ok.ensures ∙ ap (with_edges c.args.stated.now) c.deref.ensures.value) c.requires.fits c.in-Ok.ensures.flow
+    c.requires.least
+
+pub returns-in-Ok-clause-least_edges : goal.returns-in-Ok-clause-least_edges
+returns-in-Ok-clause-least_edges c =
+    edges_are_least c.args.m.now c.of_function-domain.result.home c.args.f c.function_at-function.result.now c.of_function-domain.result.function c.graph_of-graph.result.now
+    c.of_function-domain.ensures.home c.function_at-function.ensures.at c.of_function-domain.ensures.function c.graph_of-graph.ensures c.function_at-function.ensures.typed
+    c.in-Ok.least.items c.args.stated.now c.in_ok-stated_and-in-Ok.field-0 (c.in_ok-stated_and-in-Ok.ensures ∙ ap (with_edges c.args.stated.now) c.deref.ensures.value) c.requires.fits c.in-Ok.ensures.flow
+    c.start-start.result c.start-start.ensures c.has_start.ensures c.in-Ok.ensures.least
 
 pub returns-clause-refused : goal.returns-clause-refused
 returns-clause-refused c =

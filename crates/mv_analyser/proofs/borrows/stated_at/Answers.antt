@@ -12,3 +12,6 @@ returns-clause-fits c = λ d e. fit-at c.args.m.now c.args.m.now.functions c.arg
 
 pub returns-clause-locals : goal.returns-clause-locals
 returns-clause-locals c = λ d e. passes-each (locals_hold c.args.m.now) c.args.m.now.functions c.args.c.now c.requires.locals c.args.f d c.stated_of.result.now e c.stated_of.ensures
+
+pub returns-clause-least : goal.returns-clause-least
+returns-clause-least c = c.requires.least c.args.f c.stated_of.result.now c.stated_of.ensures

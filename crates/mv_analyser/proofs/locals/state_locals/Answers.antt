@@ -1,11 +1,10 @@
-use Rattle.std.proofs.Common.{◌≡◌, ◌∙◌, ap, sym, subst, ⊎_elim}
+use Rattle.std.proofs.Common.{◌∙◌, ap, sym, subst, ⊎_elim}
 use Rattle.std.specs.Prelude.{⊤}
-use Rattle.mv_bounds.specs.Bounds.{local_count}
 use Rattle.mv_certificate.specs.Functions.{LocalsHoldAt}
 use Rattle.mv_certificate.proofs.States.{graph-at}
 use Rattle.mv_analyser.specs.States.{locals_alone, IsErrorAt}
 use Rattle.mv_analyser.proofs.Chains.{few_rises}
-use Rattle.mv_analyser.proofs.LeastLocals.{least_fits, least_holds, none_holds, few_locals, search_error}
+use Rattle.mv_analyser.proofs.LeastLocals.{least_fits, least_holds, least_of_all, none_holds, few_locals, search_error}
 use Rattle.mv_analyser.proofs.locals.state_locals.Goals as goal
 
 pub solve-requires-clause-graph : goal.solve-requires-clause-graph
@@ -24,6 +23,12 @@ returns-in-Ok-clause-holds c =
     least_holds c.args.m.now c.in_ok-domain.domain.home c.args.f c.function_at-function.result.now c.in_ok-domain.domain.function c.graph_of-graph.result.now
     c.in_ok-domain.ensures.home c.function_at-function.ensures.at c.in_ok-domain.ensures.function c.graph_of-graph.ensures c.function_at-function.ensures.typed c.in_ok-start.start c.in_ok-start.ensures.start
     c.in-Ok.least.items c.in_ok-alone-in-Ok.field-0 (c.in_ok-alone-in-Ok.ensures ∙ ap locals_alone c.deref.ensures.value) c.in-Ok.ensures.flow c.in-Ok.ensures.closed
+
+pub returns-in-Ok-clause-least : goal.returns-in-Ok-clause-least
+returns-in-Ok-clause-least c =
+    least_of_all c.args.m.now c.in_ok-domain.domain.home c.args.f c.function_at-function.result.now c.in_ok-domain.domain.function c.graph_of-graph.result.now
+    c.in_ok-domain.ensures.home c.function_at-function.ensures.at c.in_ok-domain.ensures.function c.graph_of-graph.ensures c.function_at-function.ensures.typed c.in_ok-start.start c.in_ok-start.ensures.start
+    c.in-Ok.least.items c.in_ok-alone-in-Ok.field-0 (c.in_ok-alone-in-Ok.ensures ∙ ap locals_alone c.deref.ensures.value) c.in-Ok.ensures.least
 
 pub returns-clause-refused : goal.returns-clause-refused
 returns-clause-refused c =
