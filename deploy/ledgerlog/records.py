@@ -1,0 +1,50 @@
+"""What one whole record is, by docs/FORMATS.md: a kind, a length in its shortest spelling, and so many bytes."""
+
+from typing import Iterator
+
+from .errors import NotWhole
+
+MOST_BYTES = 33_554_432
+# So many bits have the bytes that a length may take, seven each.
+LENGTH_BITS = 28
+
+
+def end_of_record(data: bytes, at: int) -> int:
+    """Where the record that begins there ends. NotWhole where none does."""
+    if at >= len(data):
+        raise NotWhole("there is no byte")
+    length = shift = 0
+    place = at + 1
+    while True:
+        if place >= len(data):
+            raise NotWhole("the length is cut")
+        byte = data[place]
+        length |= (byte & 127) << shift
+        place, shift = place + 1, shift + 7
+        is_longer_than_needed = byte == 0 and shift > 7
+        if length > MOST_BYTES or shift > LENGTH_BITS or is_longer_than_needed:
+            raise NotWhole(f"the length is no number of at most {MOST_BYTES} in its shortest spelling")
+        if byte < 128:
+            break
+    if len(data) - place < length:
+        raise NotWhole(f"the payload has {len(data) - place} bytes of {length}")
+    return place + length
+
+
+def check_one(data: bytes):
+    """NotWhole where bytes aren't exactly one whole record."""
+    end = end_of_record(data, 0)
+    if end < len(data):
+        raise NotWhole(f"{len(data) - end} bytes follow the record")
+
+
+def records_of(data: bytes) -> Iterator[bytes]:
+    """The records of a stream. NotWhole where the stream has something else behind them."""
+    at = 0
+    while at < len(data):
+        try:
+            end = end_of_record(data, at)
+        except NotWhole as why:
+            raise NotWhole(f"at the byte {at}: {why}") from None
+        yield data[at:end]
+        at = end
