@@ -1,5 +1,5 @@
 // Phase 4: no entry stands twice, and what is the module's own is defined once.
-ghost use Rattle.std.specs.Prelude.{◌≡◌, ◌↔◌, ◌==◌, ◌&&◌, ◌<◌, ℕ, length, nat_lt, IsTrue, IfOk, map, count_by, slice_index, vec_len};
+ghost use Rattle.std.specs.Prelude.{◌≡◌, ◌↔◌, ◌==◌, ◌&&◌, ◌<◌, List, ℕ, length, nat_lt, IsTrue, IfOk, map, count_by, slice_index, vec_len};
 ghost use Rattle.std.specs.List.{list_all, list_any};
 ghost use Rattle.std.specs.Str.{bytes_eq};
 ghost use Rattle.std.specs.BTreeSet.{IsFromIterResult};
@@ -172,7 +172,7 @@ fn signatures_differ(alloc: Global, m: &Module) -> Result<bool, AllocError>
 
 /// The type of each constant, as a number, and its bytes.
 fn constant_keys<'a>(alloc: Global, constants: &[Constant<'a>]) -> Result<Vec<(u32, &'a [u8])>, AllocError>
-    ensures { IfOk result (λ v. map (λ k. (k.0, k.1.now)) v.items ≡ map (λ (c : ConstantEntry). (token_code c.token, c.bytes)) constants.now) }
+    ensures { IfOk result (λ v. map {B = ℕ × List ℕ} (λ k. (k.0, k.1.now)) v.items ≡ map {B = ℕ × List ℕ} (λ (c : ConstantEntry). (token_code c.token, c.bytes)) constants.now) }
 {
     let mut keys = Vec::new(alloc);
     for constant in constants {

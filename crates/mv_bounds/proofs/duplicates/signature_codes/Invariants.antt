@@ -3,4 +3,4 @@ use Rattle.mv_bounds.specs.Codes.{token_code}
 use Rattle.mv_bounds.proofs.duplicates.signature_codes.Given as goal
 
 abbrev pub invariant-loop-i : goal.invariant-loop-i
-invariant-loop-i l = map (λ codes. codes.items) l.lists.items ≡ take l.i (map (map token_code) l.m.signatures)
+invariant-loop-i l = map (λ codes. codes.items) l.lists.items ≡ map (map token_code) (take l.i l.m.signatures)
