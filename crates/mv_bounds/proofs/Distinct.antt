@@ -80,3 +80,9 @@ pub all_differ_alike : {K : Type 0} (same other : K → K → Bool) (xs : List K
 all_differ_alike same other [] e = refl
 all_differ_alike same other (x ∷ xs) e =
     ap₂ (λ b c. not b && c) (any_alike (same x) (other x) xs (e x)) (all_differ_alike same other xs e)
+
+-- what was answered of keys, of the entries whose keys they are, where equal keys tell equal entries
+pub answer_by_keys : {X K V E : Type 0} (now : K → V) (key : X → V) (eq : V → V → Bool) (same : X → X → Bool) (keys : List K) (xs : List X) (r : Result Bool E) → map now keys ≡ map key xs → ((x y : X) → eq (key x) (key y) ≡ same x y) → IfOk r (λ b. b ≡ all_differ (λ k l. eq (now k) (now l)) keys) → IfOk r (λ b. b ≡ all_differ same xs)
+answer_by_keys now key eq same keys xs r are tell h =
+    IfOk-weaker r (λ b. b ≡ all_differ (λ k l. eq (now k) (now l)) keys) (λ b. b ≡ all_differ same xs)
+    (λ b e. e ∙ sym (all_differ_mapped now eq keys) ∙ ap (all_differ eq) are ∙ all_differ_mapped key eq xs ∙ all_differ_alike (λ x y. eq (key x) (key y)) same xs tell) h

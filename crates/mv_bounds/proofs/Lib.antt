@@ -4,7 +4,7 @@ pub mod FunctionLemmas
 pub mod Entries
 pub mod Distinct
 pub mod Defined
-pub mod Signatures
+pub mod TypeLemmas
 pub mod TimesLemmas
 pub mod EdgeLemmas
 pub mod ReleaseLemmas

@@ -1,4 +1,5 @@
 pub mod Bounds
+pub mod Codes
 pub mod Definitions
 pub mod Answers
 pub mod Places

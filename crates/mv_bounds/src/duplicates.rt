@@ -1,9 +1,9 @@
 // Phase 4: no entry stands twice, and what is the module's own is defined once.
-ghost use Rattle.std.specs.Prelude.{◌≡◌, ◌↔◌, ◌==◌, ◌&&◌, ◌<◌, ℕ, length, nat_lt, IsTrue, IfOk, map, drop, count_by, slice_index, vec_len};
+ghost use Rattle.std.specs.Prelude.{◌≡◌, ◌↔◌, ◌==◌, ◌&&◌, ◌<◌, List, ℕ, length, nat_lt, IsTrue, IfOk, map, count_by, slice_index, vec_len};
 ghost use Rattle.std.specs.List.{list_all, list_any};
 ghost use Rattle.std.specs.Str.{bytes_eq};
 ghost use Rattle.std.specs.BTreeSet.{IsFromIterResult};
-ghost use Rattle.mv_move_types.specs.Module.{StructDefinition as StructTable, FunctionDefinition as FunctionTable};
+ghost use Rattle.mv_move_types.specs.Module.{Constant as ConstantEntry, StructDefinition as StructTable, FunctionDefinition as FunctionTable};
 ghost use Rattle.mv_move_types.specs.Tokens.{same_tokens};
 ghost use Rattle.mv_move_types.specs.declared.tables.ModuleHandle.{ModuleHandle};
 ghost use Rattle.mv_move_types.specs.declared.tables.StructHandle.{StructHandle};
@@ -11,12 +11,14 @@ ghost use Rattle.mv_move_types.specs.declared.tables.FunctionHandle.{FunctionHan
 ghost use Rattle.mv_move_types.specs.declared.tables.FieldHandle.{FieldHandle};
 ghost use Rattle.mv_move_types.specs.declared.tables.Field.{Field as FieldEntry};
 ghost use Rattle.mv_bounds.specs.Bounds.{InBounds};
+ghost use Rattle.mv_bounds.specs.Codes.{token_code};
 ghost use Rattle.mv_bounds.specs.Definitions.{all_differ, same_constant, defined_once, struct_home, function_home, WellDefined};
 
+use super::codes::{token_code, token_codes};
 use super::containment::are_finite;
 use super::places::{defined_functions, defined_structs};
 use mv_binary_format::{Constant, Module};
-use mv_move_types::{Field, Token};
+use mv_move_types::Field;
 use std::alloc::{AllocError, Global};
 use std::collections::BTreeSet;
 
@@ -135,70 +137,56 @@ fn identifiers_differ(alloc: Global, m: &Module) -> Result<bool, AllocError>
     all_distinct(alloc, &texts)
 }
 
-/// Whether two lists of types are equal.
-fn same_tokens(a: &[Token], b: &[Token]) -> bool
-    ensures { result ≡ same_tokens a.now b.now }
+/// The types of each signature, as numbers.
+fn signature_codes(alloc: Global, m: &Module) -> Result<Vec<Vec<u32>>, AllocError>
+    ensures { IfOk result (λ v. map (λ codes. codes.items) v.items ≡ map (map token_code) m.now.signatures) }
 {
-    a == b
-}
-
-/// Whether a signature from this index on has these types.
-fn appears_from(m: &Module, from: usize, tokens: &[Token]) -> bool
-    ensures { result ≡ list_any (same_tokens tokens.now) (drop from m.now.signatures) }
-{
-    for i in from..m.signature_count() {
-        let Some(other) = m.signature(i) else {
-            return false;
-        };
-        if same_tokens(tokens, other) {
-            return true;
+    let mut lists = Vec::new(alloc);
+    for i in 0..m.signature_count() {
+        if let Some(tokens) = m.signature(i) {
+            lists.push(token_codes(alloc, tokens)?)?;
         }
     }
-    false
+    Ok(lists)
 }
 
-/// Whether no two signatures are equal. Goes from the last one on, so that the work grows with the square of how many
-/// differ, and not of how many there are.
-fn signatures_differ(m: &Module) -> bool
-    ensures { result ≡ all_differ same_tokens m.now.signatures }
+/// The lists, each as a slice.
+fn slices_of<'a>(alloc: Global, lists: &'a [Vec<u32>]) -> Result<Vec<&'a [u32]>, AllocError>
+    ensures { IfOk result (λ v. map (λ slice. slice.now) v.items ≡ map (λ list. list.items) lists.now) }
 {
-    let mut left = m.signature_count();
-    while 0 < left {
-        left -= 1;
-        let Some(tokens) = m.signature(left) else {
-            return false;
-        };
-        if appears_from(m, left + 1, tokens) {
-            return false;
-        }
+    let mut slices = Vec::new(alloc);
+    for list in lists {
+        slices.push(list.as_slice())?;
     }
-    true
+    Ok(slices)
 }
 
-/// Whether two constants are equal: they have one type and the same bytes.
-fn same_constant(a: &Constant, b: &Constant) -> bool
-    ensures { result ≡ same_constant a.now b.now }
+/// Whether no two signatures are equal.
+fn signatures_differ(alloc: Global, m: &Module) -> Result<bool, AllocError>
+    ensures { IfOk result (λ b. b ≡ all_differ same_tokens m.now.signatures) }
 {
-    a.token() == b.token() && a.bytes() == b.bytes()
+    let codes = signature_codes(alloc, m)?;
+    let keys = slices_of(alloc, &codes)?;
+    all_distinct(alloc, &keys)
 }
 
-/// Whether one of the constants is equal to this one.
-fn has_constant(constants: &[Constant], c: &Constant) -> bool
-    ensures { result ≡ list_any (same_constant c.now) constants.now }
+/// The type of each constant, as a number, and its bytes.
+fn constant_keys<'a>(alloc: Global, constants: &[Constant<'a>]) -> Result<Vec<(u32, &'a [u8])>, AllocError>
+    ensures { IfOk result (λ v. map {B = ℕ × List ℕ} (λ k. (k.0, k.1.now)) v.items ≡ map {B = ℕ × List ℕ} (λ (c : ConstantEntry). (token_code c.token, c.bytes)) constants.now) }
 {
-    constants.iter().any(|other| same_constant(c, other))
-}
-
-/// Whether no two of the constants are equal.
-fn constants_differ(constants: &[Constant]) -> bool
-    ensures { result ≡ all_differ same_constant constants.now }
-{
-    for i in 0..constants.len() {
-        if has_constant(&constants[i + 1..], &constants[i]) {
-            return false;
-        }
+    let mut keys = Vec::new(alloc);
+    for constant in constants {
+        keys.push((token_code(constant.token()), constant.bytes()))?;
     }
-    true
+    Ok(keys)
+}
+
+/// Whether no two of the constants are equal: they have one type and the same bytes.
+fn constants_differ(alloc: Global, constants: &[Constant]) -> Result<bool, AllocError>
+    ensures { IfOk result (λ b. b ≡ all_differ same_constant constants.now) }
+{
+    let keys = constant_keys(alloc, constants)?;
+    all_distinct(alloc, &keys)
 }
 
 /// Whether one of the fields has this name.
@@ -303,8 +291,8 @@ pub fn well_defined(alloc: Global, m: &Module) -> Result<bool, AllocError>
 {
     Ok(
         module_handles_differ(alloc, m)?
-            && signatures_differ(m)
-            && constants_differ(m.constants())
+            && signatures_differ(alloc, m)?
+            && constants_differ(alloc, m.constants())?
             && identifiers_differ(alloc, m)?
             && addresses_differ(alloc, m)?
             && field_handles_differ(alloc, m)?

@@ -2,6 +2,7 @@
 //! by structs that are finite.
 #![tactic(auto)]
 
+mod codes;
 mod containment;
 mod cycles;
 mod duplicates;

@@ -1,21 +1,15 @@
-use Rattle.std.proofs.Common.{◌+◌, ◌∷◌, ◌∙◌, sym, ap, drop}
-use Rattle.std.proofs.lemmas.List.{drop_more, take_rest}
-use Rattle.std.specs.List.{list_any}
+use Rattle.std.proofs.Common.{◌≡◌, ◌∙◌, ap, eqb, ◌&&◌, bytes_eq, map, Bool, Bor, List, ℕ}
 use Rattle.mv_move_types.specs.Module.{Constant}
+use Rattle.mv_bounds.specs.Codes.{token_code}
 use Rattle.mv_bounds.specs.Definitions.{same_constant}
-use Rattle.mv_bounds.proofs.Distinct.{first_repeats, first_differs}
+use Rattle.mv_bounds.proofs.Distinct.{answer_by_keys}
+use Rattle.mv_bounds.proofs.TypeLemmas.{tokens_by_code}
 use Rattle.mv_bounds.proofs.duplicates.constants_differ.Goals as goal
 
-pub returns-then-has_constant : goal.returns-then-has_constant
-returns-then-has_constant c =
-    let xs = c.args.constants.now in
-    let i = c.loop-i.i in
-    let x = c.index-constants-i.result in
-    first_repeats same_constant xs (drop i xs) x (drop (i + 1) xs) c.loop-i.invariant (drop_more xs i x c.loop-i-test.true ∙ ap (λ (y : Constant). y ∷ drop (i + 1) xs) (sym c.index-constants-i.is)) (ap (list_any (same_constant x)) (sym (take_rest xs (i + 1))) ∙ sym c.has_constant.ensures ∙ c.if-has_constant.true)
-
-pub loop-i-preserved : goal.loop-i-preserved
-loop-i-preserved c =
-    let xs = c.args.constants.now in
-    let i = c.loop-i.i in
-    let x = c.index-constants-i.result in
-    first_differs same_constant xs (drop i xs) x (drop (i + 1) xs) c.loop-i.invariant (drop_more xs i x c.loop-i-test.true ∙ ap (λ (y : Constant). y ∷ drop (i + 1) xs) (sym c.index-constants-i.is)) (ap (list_any (same_constant x)) (sym (take_rest xs (i + 1))) ∙ sym c.has_constant.ensures ∙ c.if-has_constant.false)
+pub returns : goal.returns
+returns c =
+    let now : ℕ × Bor (List ℕ) → ℕ × List ℕ = λ k. (k.0, k.1.now) in
+    let key : Constant → ℕ × List ℕ = λ k. (token_code k.token, k.bytes) in
+    let eq : ℕ × List ℕ → ℕ × List ℕ → Bool = λ k l. eqb k.0 l.0 && bytes_eq k.1 l.1 in
+    answer_by_keys now key eq same_constant c.deref.result.now c.args.constants.now c.all_distinct.result (ap (map now) c.deref.ensures.value ∙ c.in_ok-keys.ensures)
+    (λ x y. ap (λ b. b && bytes_eq x.bytes y.bytes) (tokens_by_code x.token y.token)) c.all_distinct.ensures

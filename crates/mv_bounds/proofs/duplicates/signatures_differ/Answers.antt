@@ -1,18 +1,15 @@
-use Rattle.std.proofs.Common.{◌≡◌, ◌+◌, ◌-◌, sym, ap, ◌∙◌, drop, arith}
+use Rattle.std.proofs.Common.{◌≡◌, ◌∙◌, ap, eqb, refl, map, Bor, List, ℕ, Vec, Global}
+use Rattle.std.specs.Cmp.Lexicographic.{pointwise}
 use Rattle.mv_move_types.specs.Tokens.{same_tokens}
-use Rattle.mv_bounds.specs.Definitions.{all_differ}
-use Rattle.mv_bounds.proofs.Distinct.{differ_more, repeats_at}
+use Rattle.mv_bounds.specs.Codes.{token_code}
+use Rattle.mv_bounds.proofs.Distinct.{answer_by_keys}
+use Rattle.mv_bounds.proofs.TypeLemmas.{lists_by_code}
 use Rattle.mv_bounds.proofs.duplicates.signatures_differ.Goals as goal
 
-pub returns-then-appears_from : goal.returns-then-appears_from
-returns-then-appears_from c =
-    repeats_at same_tokens c.args.m.now.signatures (c.loop-left.left - 1) c.in-Some.tokens.now c.in-Some.ensures.value (sym c.appears_from.ensures ∙ c.if-appears_from.true)
-
-pub loop-left-preserved : goal.loop-left-preserved
-loop-left-preserved c =
-    let xs = c.args.m.now.signatures in
-    let up : c.loop-left.left ≡ c.loop-left.left - 1 + 1 = omega arith in
-    record {
-      within = omega arith;
-      differ = differ_more same_tokens xs (c.loop-left.left - 1) c.in-Some.tokens.now c.in-Some.ensures.value (sym c.appears_from.ensures ∙ c.if-appears_from.false) (ap (λ i. all_differ same_tokens (drop i xs)) (sym up) ∙ c.loop-left.invariant.differ);
-    }
+pub returns : goal.returns
+returns c =
+    let now = λ (slice : Bor (List ℕ)). slice.now in
+    let codes = λ (list : Vec ℕ Global). list.items in
+    let are : map now c.deref-2.result.now ≡ map (map token_code) c.args.m.now.signatures =
+        ap (map now) c.deref-2.ensures.value ∙ c.in_ok-keys.ensures ∙ ap (map codes) c.deref.ensures.value ∙ c.in_ok-codes.ensures in
+    answer_by_keys now (map token_code) (pointwise eqb) same_tokens c.deref-2.result.now c.args.m.now.signatures c.all_distinct.result are (lists_by_code eqb (λ x y. refl)) c.all_distinct.ensures

@@ -1,0 +1,86 @@
+-- Types are one exactly where their numbers are equal.
+use Rattle.std.proofs.Common.{◌≡◌, ℕ, ◌+◌, ◌*◌, ◌<◌, Bool, false, eqb, ◌==◌, List, [], ◌∷◌, map, refl, sym, ap₂, ◌&&◌, ◌∙◌, arith}
+use Rattle.std.specs.Cmp.Lexicographic.{pointwise}
+use Rattle.std.proofs.lemmas.Bool.Decides.{nat_tests}
+use Rattle.mv_move_types.specs.declared.token.Width.TheVariants.{U8, U16, U32, U64, U128}
+use Rattle.mv_move_types.specs.declared.token.LeafKind.{LeafKind}
+use Rattle.mv_move_types.specs.declared.token.LeafKind.TheVariants.{Boolean, Number, Address, Signer}
+use Rattle.mv_move_types.specs.declared.token.ValueType.{ValueType}
+use Rattle.mv_move_types.specs.declared.token.ValueType.TheVariants.{OfLeaf, OfStruct}
+use Rattle.mv_move_types.specs.declared.token.Token.{Token}
+use Rattle.mv_move_types.specs.declared.token.Token.TheVariants.{Plain, Reference, MutableReference}
+use Rattle.mv_move_types.specs.Tokens.{kind_code, same_value_type, same_token, same_tokens}
+use Rattle.mv_bounds.specs.Codes.{value_code, token_code}
+
+-- a leaf's number is small
+kind_small : (kind : LeafKind) → kind_code kind < 256
+kind_small Boolean = omega arith
+kind_small Address = omega arith
+kind_small Signer = omega arith
+kind_small (Number U8) = omega arith
+kind_small (Number U16) = omega arith
+kind_small (Number U32) = omega arith
+kind_small (Number U64) = omega arith
+kind_small (Number U128) = omega arith
+
+-- a small number is none of a struct's
+leaf_is_no_struct : (k h : ℕ) → k < 256 → eqb k (256 + h) ≡ false
+leaf_is_no_struct k h small = grind (arith, nat_tests)
+
+struct_is_no_leaf : (k h : ℕ) → k < 256 → eqb (256 + h) k ≡ false
+struct_is_no_leaf k h small = grind (arith, nat_tests)
+
+structs_by_number : (h k : ℕ) → eqb (256 + h) (256 + k) ≡ eqb h k
+structs_by_number h k = grind (arith, nat_tests)
+
+-- types that are no references
+values_by_code : (a b : ValueType) → eqb (value_code a) (value_code b) ≡ same_value_type a b
+values_by_code (OfLeaf j) (OfLeaf k) = refl
+values_by_code (OfLeaf j) (OfStruct h) = leaf_is_no_struct (kind_code j) h (kind_small j)
+values_by_code (OfStruct h) (OfLeaf k) = struct_is_no_leaf (kind_code k) h (kind_small k)
+values_by_code (OfStruct h) (OfStruct k) = structs_by_number h k
+
+-- three times a number, and the rest, tell the number and the rest
+same_rest : (x y r : ℕ) → eqb (3 * x + r) (3 * y + r) ≡ eqb x y
+same_rest x y r = grind (arith, nat_tests)
+
+plain_by_number : (x y : ℕ) → eqb (3 * x) (3 * y) ≡ eqb x y
+plain_by_number x y = grind (arith, nat_tests)
+
+first_rest : (x y : ℕ) → eqb (3 * x) (3 * y + 1) ≡ false
+first_rest x y = grind (arith, nat_tests)
+
+second_rest : (x y : ℕ) → eqb (3 * x) (3 * y + 2) ≡ false
+second_rest x y = grind (arith, nat_tests)
+
+third_rest : (x y : ℕ) → eqb (3 * x + 1) (3 * y) ≡ false
+third_rest x y = grind (arith, nat_tests)
+
+fourth_rest : (x y : ℕ) → eqb (3 * x + 1) (3 * y + 2) ≡ false
+fourth_rest x y = grind (arith, nat_tests)
+
+fifth_rest : (x y : ℕ) → eqb (3 * x + 2) (3 * y) ≡ false
+fifth_rest x y = grind (arith, nat_tests)
+
+sixth_rest : (x y : ℕ) → eqb (3 * x + 2) (3 * y + 1) ≡ false
+sixth_rest x y = grind (arith, nat_tests)
+
+-- types are one where their numbers are equal
+pub tokens_by_code : (a b : Token) → eqb (token_code a) (token_code b) ≡ same_token a b
+tokens_by_code (Plain a) (Plain b) = plain_by_number (value_code a) (value_code b) ∙ values_by_code a b
+tokens_by_code (Plain a) (Reference b) = first_rest (value_code a) (value_code b)
+tokens_by_code (Plain a) (MutableReference b) = second_rest (value_code a) (value_code b)
+tokens_by_code (Reference a) (Plain b) = third_rest (value_code a) (value_code b)
+tokens_by_code (Reference a) (Reference b) = same_rest (value_code a) (value_code b) 1 ∙ values_by_code a b
+tokens_by_code (Reference a) (MutableReference b) = fourth_rest (value_code a) (value_code b)
+tokens_by_code (MutableReference a) (Plain b) = fifth_rest (value_code a) (value_code b)
+tokens_by_code (MutableReference a) (Reference b) = sixth_rest (value_code a) (value_code b)
+tokens_by_code (MutableReference a) (MutableReference b) = same_rest (value_code a) (value_code b) 2 ∙ values_by_code a b
+
+-- lists of types are one where their numbers are, one by one
+pub lists_by_code : (same : ℕ → ℕ → Bool) → ((x y : ℕ) → same x y ≡ eqb x y) → (xs ys : List Token) → pointwise same (map token_code xs) (map token_code ys) ≡ same_tokens xs ys
+lists_by_code same each [] [] = refl
+lists_by_code same each [] (y ∷ ys) = refl
+lists_by_code same each (x ∷ xs) [] = refl
+lists_by_code same each (x ∷ xs) (y ∷ ys) =
+    ap₂ (λ a b. a && b) (each (token_code x) (token_code y) ∙ tokens_by_code x y) (lists_by_code same each xs ys)

@@ -1,0 +1,9 @@
+use Rattle.std.proofs.Common.{◌∙◌, ap, map, Bor, List, ℕ, Vec, Global}
+use Rattle.mv_bounds.proofs.Entries.{gather_more}
+use Rattle.mv_bounds.proofs.duplicates.slices_of.Goals as goal
+
+pub loop-list-preserved : goal.loop-list-preserved
+loop-list-preserved c =
+    let now = λ (slice : Bor (List ℕ)). slice.now in
+    ap (map now) c.in_ok-push.ensures.items
+    ∙ gather_more now (λ (list : Vec ℕ Global). list.items) c.loop-list.slices.items c.args.lists.now c.loop-list.list-index c.as_slice.result c.list-item.result c.loop-list.invariant c.loop-list-test.true c.list-item.is c.as_slice.ensures.value
