@@ -1,14 +1,12 @@
 -- Lists whose entries differ.
-use Rattle.std.proofs.Common.{◌≡◌, ℕ, zero, suc, ◌+◌, Some, slice_get, drop, ap₂, ◌≤◌, Bool, true, false, cond, eqb, ◌&&◌, ◌||◌, not, List, [], ◌∷◌, length, map, Result, sym, refl, ap, ◌∙◌, arith}
+use Rattle.std.proofs.Common.{◌≡◌, ℕ, suc, ap₂, ◌≤◌, Bool, true, false, cond, eqb, ◌&&◌, ◌||◌, not, List, [], ◌∷◌, length, map, Result, sym, refl, ap, ◌∙◌, arith}
 use Rattle.std.specs.Result.{IfOk}
 use Rattle.std.specs.List.{list_any}
 use Rattle.std.specs.Set.{distinct_count, unique_keys}
 use Rattle.std.proofs.lemmas.Map.Made.{distinct_count-le}
 use Rattle.std.proofs.lemmas.Result.{IfOk-weaker}
 use Rattle.std.proofs.lemmas.Bool.Decides.{nat_tests}
-use Rattle.std.proofs.lemmas.Bool.{and_right}
 use Rattle.mv_bounds.specs.Definitions.{all_differ}
-use Rattle.mv_bounds.proofs.Entries.{drop_here}
 
 -- numbers are equal where the next ones are
 eqb_next : (a b : ℕ) → eqb (suc a) (suc b) ≡ eqb a b
@@ -47,33 +45,10 @@ pub answer_of_keys : {X K E : Type 0} (f : X → K) (eq : K → K → Bool) (xs 
 answer_of_keys f eq xs keys r e h =
     IfOk-weaker r (λ b. b ≡ all_differ eq keys) (λ b. b ≡ all_differ (λ a b. eq (f a) (f b)) xs) (λ b k. k ∙ ap (all_differ eq) e ∙ all_differ_mapped f eq xs) h
 
--- what is left begins with an entry that stands among the others too
-pub first_repeats : {X : Type 0} (same : X → X → Bool) (xs left : List X) (x : X) (others : List X) → all_differ same xs ≡ all_differ same left → left ≡ x ∷ others → list_any (same x) others ≡ true → false ≡ all_differ same xs
-first_repeats same xs left x others all begins here =
-    sym (all ∙ ap (all_differ same) begins ∙ ap (λ b. not b && all_differ same others) here)
-
 -- what is left begins with an entry that does not
 pub first_differs : {X : Type 0} (same : X → X → Bool) (xs left : List X) (x : X) (others : List X) → all_differ same xs ≡ all_differ same left → left ≡ x ∷ others → list_any (same x) others ≡ false → all_differ same xs ≡ all_differ same others
 first_differs same xs left x others all begins here =
     all ∙ ap (all_differ same) begins ∙ ap (λ b. not b && all_differ same others) here
-
--- one entry more that does not stand among the later ones
-pub differ_more : {X : Type 0} (same : X → X → Bool) (xs : List X) (i : ℕ) (x : X) → Some x ≡ slice_get xs i → list_any (same x) (drop (i + 1) xs) ≡ false → all_differ same (drop (i + 1) xs) ≡ true → all_differ same (drop i xs) ≡ true
-differ_more same xs i x e here later =
-    ap (all_differ same) (drop_here xs i x e)
-    ∙ ap₂ (λ b c. not b && c) here later
-
--- entries that do not differ from an index on do not differ
-not_from : {X : Type 0} (same : X → X → Bool) (xs : List X) (i : ℕ) → all_differ same (drop i xs) ≡ false → all_differ same xs ≡ false
-not_from same xs zero e = e
-not_from same [] (suc i) e = e
-not_from same (x ∷ xs) (suc i) e =
-    and_right (not (list_any (same x) xs)) (all_differ same xs) (not_from same xs i e)
-
--- an entry that stands among the later ones
-pub repeats_at : {X : Type 0} (same : X → X → Bool) (xs : List X) (i : ℕ) (x : X) → Some x ≡ slice_get xs i → list_any (same x) (drop (i + 1) xs) ≡ true → false ≡ all_differ same xs
-repeats_at same xs i x e here =
-    sym (not_from same xs i (ap (all_differ same) (drop_here xs i x e) ∙ ap (λ b. not b && all_differ same (drop (i + 1) xs)) here))
 
 -- entries differ alike by two tests that answer alike
 pub all_differ_alike : {K : Type 0} (same other : K → K → Bool) (xs : List K) → ((x y : K) → same x y ≡ other x y) → all_differ same xs ≡ all_differ other xs

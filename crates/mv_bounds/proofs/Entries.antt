@@ -1,6 +1,6 @@
 -- Entries of a list, one after another.
-use Rattle.std.proofs.Common.{◌≡◌, ℕ, ◌+◌, ◌<◌, Bool, true, false, List, length, get_or, take, Some, None, inl, inr, arith, slice_get, ◌∙◌, ap, sym, ◌&&◌, ◌||◌, [], ◌∷◌, ◌++◌, suc, map, drop, drop-cons, add-one, ap₂}
-use Rattle.std.specs.List.{list_all, list_any}
+use Rattle.std.proofs.Common.{◌≡◌, ℕ, ◌+◌, ◌<◌, Bool, true, false, List, length, get_or, take, Some, None, inl, inr, arith, slice_get, ◌∙◌, ap, sym, ◌&&◌, [], ◌∷◌, ◌++◌, map, ap₂}
+use Rattle.std.specs.List.{list_all}
 use Rattle.std.proofs.lemmas.List.{map-append, take_more}
 use Rattle.std.proofs.lemmas.List.Folds.{list_all_more, list_all_at}
 use Rattle.std.proofs.lemmas.Option.{slice_get_within, slice_get_cases, none-some, get_or_from_slice_get}
@@ -25,22 +25,6 @@ first_passes p xs left x others all begins here =
 pub first_fails : {A : Type 0} (p : A → Bool) (xs left : List A) (x : A) (others : List A) → list_all p xs ≡ list_all p left → left ≡ x ∷ others → p x ≡ false → false ≡ list_all p xs
 first_fails p xs left x others all begins here =
     sym (all ∙ ap (list_all p) begins ∙ ap (λ b. b && list_all p others) here)
-
--- what a list has from an index on
-pub drop_here : {A : Type 0} (xs : List A) (i : ℕ) (x : A) → Some x ≡ slice_get xs i → drop i xs ≡ x ∷ drop (i + 1) xs
-drop_here xs i x e =
-    let low : i < length xs = slice_get_within xs i x (sym e) in
-    drop-cons xs i x low ∙ ap (λ y. y ∷ drop (suc i) xs) (get_or_from_slice_get xs i x x (sym e)) ∙ ap (λ j. x ∷ drop j xs) (sym (add-one i))
-
--- one entry more that is not it
-pub any_later : {A : Type 0} (p : A → Bool) (xs : List A) (i : ℕ) (x : A) (found : Bool) → Some x ≡ slice_get xs i → found ≡ list_any p (drop i xs) → p x ≡ false → found ≡ list_any p (drop (i + 1) xs)
-any_later p xs i x found e before here =
-    before ∙ ap (list_any p) (drop_here xs i x e) ∙ ap (λ b. b || list_any p (drop (i + 1) xs)) here
-
--- an entry that is it
-pub any_here : {A : Type 0} (p : A → Bool) (xs : List A) (i : ℕ) (x : A) (found : Bool) → Some x ≡ slice_get xs i → found ≡ list_any p (drop i xs) → p x ≡ true → true ≡ found
-any_here p xs i x found e before here =
-    sym (before ∙ ap (list_any p) (drop_here xs i x e) ∙ ap (λ b. b || list_any p (drop (i + 1) xs)) here)
 
 -- one entry more of those that were read
 pub read_more : {A B : Type 0} (f : A → B) (read : List A) (xs : List B) (i : ℕ) (x : A) → map f read ≡ take i xs → Some (f x) ≡ slice_get xs i → map f (read ++ x ∷ []) ≡ take (i + 1) xs

@@ -171,7 +171,10 @@ fn signatures_differ(alloc: Global, m: &Module) -> Result<bool, AllocError>
 }
 
 /// The type of each constant, as a number, and its bytes.
-fn constant_keys<'a>(alloc: Global, constants: &[Constant<'a>]) -> Result<Vec<(u32, &'a [u8])>, AllocError>
+fn constant_keys<'a>(
+    alloc: Global,
+    constants: &[Constant<'a>],
+) -> Result<Vec<(u32, &'a [u8])>, AllocError>
     ensures { IfOk result (λ v. map {B = ℕ × List ℕ} (λ k. (k.0, k.1.now)) v.items ≡ map {B = ℕ × List ℕ} (λ (c : ConstantEntry). (token_code c.token, c.bytes)) constants.now) }
 {
     let mut keys = Vec::new(alloc);

@@ -9,6 +9,6 @@ loop-constant-preserved c =
     let now : ℕ × Bor (List ℕ) → ℕ × List ℕ = λ k. (k.0, k.1.now) in
     let key : Constant → ℕ × List ℕ = λ k. (token_code k.token, k.bytes) in
     let same : now (c.token_code.result, c.bytes.result) ≡ key c.constant-item.result =
-        ap₂ {C = ℕ × List ℕ} (λ n bytes. (n, bytes)) (c.token_code.ensures ∙ ap token_code c.token.ensures) c.bytes.ensures in
+    ap₂ {C = ℕ × List ℕ} (λ n bytes. (n, bytes)) (c.token_code.ensures ∙ ap token_code c.token.ensures) c.bytes.ensures in
     ap (map now) c.in_ok-push.ensures.items
     ∙ gather_more now key c.loop-constant.keys.items c.args.constants.now c.loop-constant.constant-index (c.token_code.result, c.bytes.result) c.constant-item.result c.loop-constant.invariant c.loop-constant-test.true c.constant-item.is same

@@ -1,4 +1,4 @@
-use Rattle.std.proofs.Common.{◌≡◌, ◌∙◌, ap, eqb, ◌&&◌, bytes_eq, map, Bool, Bor, List, ℕ}
+use Rattle.std.proofs.Common.{◌∙◌, ap, eqb, ◌&&◌, bytes_eq, map, Bool, Bor, List, ℕ}
 use Rattle.mv_move_types.specs.Module.{Constant}
 use Rattle.mv_bounds.specs.Codes.{token_code}
 use Rattle.mv_bounds.specs.Definitions.{same_constant}
