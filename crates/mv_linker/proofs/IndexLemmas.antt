@@ -137,3 +137,9 @@ seen-more old new kept k own so is_new next seen puts is named e = record {
     either true false = refl
     either false true = refl
     either false false = refl
+
+-- the first so many are so many
+pub length-taken : {A : Type 0} (xs : List A) (k : ℕ) → k ≤ length xs → length (take k xs) ≡ k
+length-taken xs zero h = refl
+length-taken [] (suc k) h = absurd (omega (arith, h))
+length-taken (x ∷ xs) (suc k) h = ap suc (length-taken xs k (omega (arith, h)))

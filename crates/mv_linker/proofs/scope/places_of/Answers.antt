@@ -49,7 +49,7 @@ loop-i-preserved c =
             | then-place-count w ↦ w.count-is ∙ sym (ap (λ b. cond b (c.loop-i.count + 1) c.loop-i.count) (eq-eqb c.unwrap_or-place.result c.loop-i.count w.if-place-count.true))
             | else-place-count w ↦ w.count-is ∙ sym (ap (λ b. cond b (c.loop-i.count + 1) c.loop-i.count) (ne_eqb c.unwrap_or-place.result c.loop-i.count w.if-place-count.false))
           ]),
-      subst (λ l. ArePlacesOf c.put_place.new.places.entries l _) (sym all)
+      subst (λ l. ArePlacesOf c.put_place.new.places.entries l c.push.new.self.items) (sym all)
           (subst (λ l. ArePlacesOf c.put_place.new.places.entries (before ++ n.module ∷ []) l) (sym c.in_ok-push.ensures.items)
           (places-put c.loop-i.names.entries c.put_place.new.places.entries before c.loop-i.places.items n.module own c.unwrap_or-place.result c.loop-i.invariant.1 c.in_ok-put_place.ensures c.in_ok-name.ensures
           (ap length so.placed ∙ length-places old before))),
