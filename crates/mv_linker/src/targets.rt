@@ -3,6 +3,7 @@ ghost use Rattle.std.specs.Prelude.{◌≡◌, ◌<◌, ◌++◌, ◌∷◌, [],
 ghost use Rattle.mv_move_types.specs.Refusals.{IsRefusedIn};
 ghost use Rattle.mv_move_types.specs.Named.{module_place};
 ghost use Rattle.mv_bounds.specs.Definitions.{WellDefined};
+ghost use Rattle.mv_linker.specs.Kept.{name_in};
 ghost use Rattle.mv_linker.specs.Links.{module_is_there, modules_are_there};
 ghost use Rattle.mv_linker.specs.Targets.{modules_in, tables_of, IsTarget, AreTargets};
 
@@ -54,15 +55,22 @@ fn pushed<'t>(v: &mut Vec<Target<'t>>, target: Target<'t>) -> Result<(), Refusal
     }
 }
 
+/// The key that a module with this address and identifier is found by.
+fn asked_for(address: u128, name: &[u8]) -> Name<'_>
+    ensures { name_in result ≡ record { address = address; name = name.now } }
+{
+    Name {
+        address,
+        identifier: CowSlice::Borrowed(name),
+    }
+}
+
 impl<'a> Scope<'a> {
     /// The place of the module with this address and identifier.
     pub fn find(&self, address: u128, name: &[u8]) -> Option<usize>
         ensures { result ≡ module_place (modules_in self.now) (record { address = address; name = name.now }) }
     {
-        let asked = Name {
-            address,
-            identifier: CowSlice::Borrowed(name),
-        };
+        let asked = asked_for(address, name);
         place_of(self.store, &self.names, &asked)
     }
 

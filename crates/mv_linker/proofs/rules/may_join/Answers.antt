@@ -62,8 +62,8 @@ links-requires-clause-few c =
 pub links-requires-clause-store : goal.links-requires-clause-store
 links-requires-clause-store c = subst (λ (l : List PublishedModule). IsStore l) (sym c.in_ok-scope.ensures.store) c.in_ok-scope.ensures.sound
 
-pub of-scope-requires-clause-once : goal.of-scope-requires-clause-once
-of-scope-requires-clause-once c =
+pub of-requires-clause-once : goal.of-requires-clause-once
+of-requires-clause-once c =
     subst (λ (l : List Module). all_differ have_one_name l ≡ true) (offered-tables c.args.new.now)
     (sym (ap (λ (l : List PublishedModule). all_differ have_one_name (tables_in l)) c.requires.same) ∙ sym c.in_ok-differ.ensures ∙ c.if-not-differ.false)
 
