@@ -62,9 +62,13 @@ none-newest q (n ∷ ns) [] far = refl
 none-newest q (n ∷ ns) (p ∷ places) far =
     ap (λ b. newest_at q ns places (cond b (Some n) None)) (far 0 p refl) ∙ none-newest q ns places (λ k x e. far (suc k) x e)
 
+-- where none of the bundle is to stand, none is the newest
+pub no-newest : (old ns : List Module) (q : ℕ) → position (λ p. p == q) (places_in old ns) ≡ None → newest_at q ns (places_in old ns) None ≡ None
+no-newest old ns q none = none-newest q ns (places_in old ns) (none-placed q (places_in old ns) none)
+
 -- where none of the bundle is to stand, the old module does
 pub old-at : (old ns : List Module) (q : ℕ) → position (λ p. p == q) (places_in old ns) ≡ None → slice_get (with_tables old ns) q ≡ slice_get old q
-old-at old ns q none = kept-there old ns q (none-newest q ns (places_in old ns) (none-placed q (places_in old ns) none))
+old-at old ns q none = kept-there old ns q (no-newest old ns q none)
 
 -- a place that was looked for is there
 pub place-at : (q k : ℕ) (places : List ℕ) → position (λ p. p == q) places ≡ Some k → slice_get places k ≡ Some q

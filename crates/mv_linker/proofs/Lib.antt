@@ -48,3 +48,4 @@ pub mod InterfaceLemmas
 pub mod Constants
 pub mod IdentifierLemmas
 pub mod StructNames
+pub mod IndexLemmas

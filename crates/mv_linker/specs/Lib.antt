@@ -2,6 +2,7 @@ pub mod Code
 pub mod Coded
 pub mod Handles
 pub mod Identifiers
+pub mod Indexed
 pub mod Interfaces
 pub mod Kept
 pub mod Link

@@ -66,11 +66,14 @@ impl Entry {
         self.name.identifier.as_slice()
     }
 
-    /// Whether it is the module of this address and name.
-    pub fn is_named(&self, address: u128, name: &[u8]) -> bool
-        ensures { result ≡ is_module (record { address = address; name = name.now }) self.now.published.tables }
+    /// The key that it is found by.
+    pub fn key(&self) -> Name<'_>
+        ensures { own_name self.now.published.tables ≡ Some (name_in result) }
     {
-        self.name.address == address && self.name.identifier.as_slice() == name
+        Name {
+            address: self.name.address,
+            identifier: CowSlice::Borrowed(self.name.identifier.as_slice()),
+        }
     }
 
     /// The name and the texts apart.

@@ -1,6 +1,6 @@
 // The rules of phase 13.
 ghost use Rattle.std.specs.Prelude.{◌≡◌, ◌↔◌, ◌+◌, ◌≤◌, All, length, IsTrue, IfOk, IfErr, OnOk};
-ghost use Rattle.std.specs.List.{list_all, list_any};
+ghost use Rattle.std.specs.List.{list_all};
 ghost use Rattle.mv_move_types.specs.Published.{with_modules};
 ghost use Rattle.mv_move_types.specs.Refusals.{IsRefusedIn};
 ghost use Rattle.mv_bounds.specs.Definitions.{all_differ};
@@ -11,11 +11,13 @@ ghost use Rattle.mv_linker.specs.Stored.{Relinks};
 
 use crate::code::CodeAt;
 use crate::entry::Entry;
+use crate::indexed::put_name;
 use crate::scope::Scope;
 use crate::upgrades::all_follow;
 use crate::{New, Store};
+use indexmap::IndexMap;
 use mv_move_types::Refusal;
-use std::alloc::Global;
+use std::alloc::{AllocError, Global};
 
 /// Tries all the rules for a bundle, and links it.
 pub fn may_join(
@@ -35,7 +37,8 @@ pub fn may_join(
     if !are_sent_by(sender, added) {
         return Err(Refusal::Phase(13));
     }
-    if !names_differ(added) {
+    let differ = names_differ(alloc, added)?;
+    if !differ {
         return Err(Refusal::Phase(13));
     }
     if !all_follow(s, new)? {
@@ -70,10 +73,10 @@ fn each_sent(sender: u128, added: &[Entry]) -> bool
 }
 
 /// Whether no two modules have one name.
-fn names_differ(added: &[Entry]) -> bool
-    ensures { result ≡ all_differ have_one_name (tables_in (published_in added.now)) }
+fn names_differ(alloc: Global, added: &[Entry]) -> Result<bool, AllocError>
+    ensures { IfOk result (λ b. b ≡ all_differ have_one_name (tables_in (published_in added.now))) }
 {
-    are_distinct(added)
+    are_distinct(alloc, added)
 }
 
 /// Whether a module's address is the sender's.
@@ -84,26 +87,15 @@ fn is_sent(sender: u128, e: &Entry) -> bool
     e.address() == sender
 }
 
-/// Whether two modules have one name.
-fn have_same_name(a: &Entry, b: &Entry) -> bool
-    ensures { result ≡ have_one_name a.now.published.tables b.now.published.tables }
-{
-    b.is_named(a.address(), a.name())
-}
-
-/// Whether some of the modules has a module's name.
-fn any_has_name(e: &Entry, others: &[Entry]) -> bool
-    ensures { result ≡ list_any (λ (k : Kept). have_one_name e.now.published.tables k.published.tables) others.now }
-{
-    others.iter().any(|other| have_same_name(e, other))
-}
-
 /// Whether no two modules have one name.
-fn are_distinct(added: &[Entry]) -> bool
-    ensures { result ≡ all_differ (λ (j k : Kept). have_one_name j.published.tables k.published.tables) added.now }
+fn are_distinct(alloc: Global, added: &[Entry]) -> Result<bool, AllocError>
+    ensures { IfOk result (λ b. b ≡ all_differ (λ (j k : Kept). have_one_name j.published.tables k.published.tables) added.now) }
 {
-    match added {
-        [] => true,
-        [first, rest @ ..] => !any_has_name(first, rest) && are_distinct(rest),
+    let mut names = IndexMap::new(alloc);
+    let mut differ = true;
+    for i in 0..added.len() {
+        let is_new = put_name(&mut names, added[i].key())?;
+        differ = differ && is_new;
     }
+    Ok(differ)
 }

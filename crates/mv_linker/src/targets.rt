@@ -3,14 +3,18 @@ ghost use Rattle.std.specs.Prelude.{◌≡◌, ◌<◌, ◌++◌, ◌∷◌, [],
 ghost use Rattle.mv_move_types.specs.Refusals.{IsRefusedIn};
 ghost use Rattle.mv_move_types.specs.Named.{module_place};
 ghost use Rattle.mv_bounds.specs.Definitions.{WellDefined};
+ghost use Rattle.mv_linker.specs.Kept.{name_in};
 ghost use Rattle.mv_linker.specs.Links.{module_is_there, modules_are_there};
 ghost use Rattle.mv_linker.specs.Targets.{modules_in, tables_of, IsTarget, AreTargets};
 
+use crate::entry::Name;
+use crate::indexed::place_of;
 use crate::names::module_name;
-use crate::scope::{Scope, found_among, newest_at};
+use crate::scope::Scope;
 use mv_binary_format::Module;
 use mv_move_types::Refusal;
 use std::alloc::{AllocError, Global};
+use std::borrow::CowSlice;
 
 /// A module of a scope: one of the bundle, or one of the store, read from its bytes.
 #[derive(Drop)]
@@ -51,13 +55,23 @@ fn pushed<'t>(v: &mut Vec<Target<'t>>, target: Target<'t>) -> Result<(), Refusal
     }
 }
 
+/// The key that a module with this address and identifier is found by.
+fn asked_for(address: u128, name: &[u8]) -> Name<'_>
+    ensures { name_in result ≡ record { address = address; name = name.now } }
+{
+    Name {
+        address,
+        identifier: CowSlice::Borrowed(name),
+    }
+}
+
 impl<'a> Scope<'a> {
     /// The place of the module with this address and identifier.
     pub fn find(&self, address: u128, name: &[u8]) -> Option<usize>
         ensures { result ≡ module_place (modules_in self.now) (record { address = address; name = name.now }) }
     {
-        let before = self.store.find(address, name);
-        found_among(self.new, &self.places, address, name, before)
+        let asked = asked_for(address, name);
+        place_of(self.store, &self.names, &asked)
     }
 
     /// The module at a place.
@@ -66,8 +80,8 @@ impl<'a> Scope<'a> {
         ensures there { IfOk result (λ f. slice_get (modules_in self.now) place ≡ Some (tables_of f)) }
         ensures defined { IfOk result (λ f. WellDefined (tables_of f)) }
     {
-        match newest_at(self.new, &self.places, place, None) {
-            Some(m) => Ok(Found::New(m)),
+        match self.bundled(place) {
+            Some(k) => Ok(Found::New(self.new[k].module.module())),
             None => Ok(Found::Kept(self.store.module(place)?)),
         }
     }

@@ -23,12 +23,12 @@ returns-then-not-are_sent_by-clause-refused c = (
       cc,
 )
 
-pub returns-then-not-names_differ-clause-refused : goal.returns-then-not-names_differ-clause-refused
-returns-then-not-names_differ-clause-refused c = (
+pub returns-then-not-differ-clause-refused : goal.returns-then-not-differ-clause-refused
+returns-then-not-differ-clause-refused c = (
   refl,
   λ j.
-      let yes : c.names_differ.result ≡ true = c.names_differ.ensures ∙ ap (λ (l : List PublishedModule). all_differ have_one_name (tables_in l)) c.requires.same ∙ j.once in
-      let no : c.names_differ.result ≡ false = c.if-not-names_differ.true in
+      let yes : c.in_ok-differ.differ ≡ true = c.in_ok-differ.ensures ∙ ap (λ (l : List PublishedModule). all_differ have_one_name (tables_in l)) c.requires.same ∙ j.once in
+      let no : c.in_ok-differ.differ ≡ false = c.if-not-differ.true in
       cc,
 )
 
@@ -62,11 +62,16 @@ links-requires-clause-few c =
 pub links-requires-clause-store : goal.links-requires-clause-store
 links-requires-clause-store c = subst (λ (l : List PublishedModule). IsStore l) (sym c.in_ok-scope.ensures.store) c.in_ok-scope.ensures.sound
 
+pub of-requires-clause-once : goal.of-requires-clause-once
+of-requires-clause-once c =
+    subst (λ (l : List Module). all_differ have_one_name l ≡ true) (offered-tables c.args.new.now)
+    (sym (ap (λ (l : List PublishedModule). all_differ have_one_name (tables_in l)) c.requires.same) ∙ sym c.in_ok-differ.ensures ∙ c.if-not-differ.false)
+
 pub links-requires-clause-once : goal.links-requires-clause-once
 links-requires-clause-once c =
     subst (λ (l : List New). all_differ have_one_name (offered l) ≡ true) (sym c.in_ok-scope.ensures.new)
     (subst (λ (l : List Module). all_differ have_one_name l ≡ true) (offered-tables c.args.new.now)
-    (sym (ap (λ (l : List PublishedModule). all_differ have_one_name (tables_in l)) c.requires.same) ∙ sym c.names_differ.ensures ∙ c.if-not-names_differ.false))
+    (sym (ap (λ (l : List PublishedModule). all_differ have_one_name (tables_in l)) c.requires.same) ∙ sym c.in_ok-differ.ensures ∙ c.if-not-differ.false))
 
 pub links-requires-clause-compatible : goal.links-requires-clause-compatible
 links-requires-clause-compatible c =
@@ -81,7 +86,7 @@ returns-clause-ok c =
     let follow : all_follow (tables_in c.args.s.now) (offered c.args.new.now) ≡ true = sym c.in_ok-all_follow.ensures ∙ c.if-not-branch.false in
     record {
       sent = subst (λ (l : List PublishedModule). AreSentBy c.args.sender (tables_in l)) c.requires.same (c.are_sent_by.ensures.0 c.if-not-are_sent_by.false);
-      once = sym (ap (λ (l : List PublishedModule). all_differ have_one_name (tables_in l)) c.requires.same) ∙ sym c.names_differ.ensures ∙ c.if-not-names_differ.false;
+      once = sym (ap (λ (l : List PublishedModule). all_differ have_one_name (tables_in l)) c.requires.same) ∙ sym c.in_ok-differ.ensures ∙ c.if-not-differ.false;
       compatible = subst (λ (l : List Module). are_compatible (tables_in c.args.s.now) l ≡ true) (sym (offered-tables c.args.new.now)) (follow-compatible (tables_in c.args.s.now) (offered c.args.new.now) c.in_ok-scope.ensures.sound.once follow);
       links = subst Links (sym (scope-tables c.args.s.now c.args.new.now))
           (subst (λ (l : List PublishedModule). Links (with_tables (tables_in l) (offered c.args.new.now))) c.in_ok-scope.ensures.store

@@ -1,43 +1,68 @@
-use Rattle.std.proofs.Common.{◌≡◌, ◌+◌, ◌++◌, ◌∷◌, [], take, cond, ap, sym, ◌∙◌, arith}
+use Rattle.std.proofs.Common.{◌≡◌, ◌+◌, ◌++◌, ◌∷◌, [], Option, take, cond, length, ap, sym, subst, ◌∙◌, arith}
+use Rattle.std.specs.Prelude.{unwrap_or, is_some}
+use Rattle.std.specs.Map.{lookup}
+use Rattle.std.specs.Option.{option_or}
 use Rattle.std.proofs.lemmas.Bool.{eq-eqb, ne_eqb}
 use Rattle.std.proofs.lemmas.List.{take_more, length-map, take_all}
+use Rattle.mv_move_types.specs.Named.{module_place}
 use Rattle.mv_move_types.specs.Published.{PublishedModule}
+use Rattle.mv_linker.specs.Indexed.{ArePlacesOf, has_name_of}
+use Rattle.mv_linker.specs.Kept.{name_in}
 use Rattle.mv_linker.specs.Link.{tables_in}
-use Rattle.mv_linker.specs.Scope.{offered, places_in, all_named}
-use Rattle.mv_linker.proofs.Scopes.{no-places, more-places}
+use Rattle.mv_linker.specs.Scope.{offered, places_in, all_named, with_tables, found_among, place_for}
+use Rattle.mv_linker.proofs.DependencyLemmas.{length-places}
+use Rattle.mv_linker.proofs.IndexLemmas.{found-before, places-put}
+use Rattle.mv_linker.proofs.Scopes.{no-places, more-places, find-with_tables, place-for, offered-push}
 use Rattle.mv_linker.proofs.scope.places_of.Goals as goal
 use Rattle.mv_linker.proofs.scope.places_of.Goals.{then-place-count, else-place-count}
 
 pub loop-i-init : goal.loop-i-init
-loop-i-init c = no-places _ _ _ _ c.new-places.ensures.items (c.len-count.ensures.count ∙ sym (length-map c.args.store.now (λ (p : PublishedModule). p.tables)))
-
-pub next_place-place-requires-clause-placed : goal.next_place-place-requires-clause-placed
-next_place-place-requires-clause-placed c = c.deref.ensures.value ∙ c.loop-i.invariant.placed
-
-pub next_place-place-requires-clause-named : goal.next_place-place-requires-clause-named
-next_place-place-requires-clause-named c = c.loop-i.invariant.named
-
-pub next_place-place-requires-clause-counted : goal.next_place-place-requires-clause-counted
-next_place-place-requires-clause-counted c = c.loop-i.invariant.counted
+loop-i-init c = (
+  no-places _ _ _ _ c.new-places.ensures.items (c.len-count.ensures.count ∙ sym (length-map c.args.store.now (λ (p : PublishedModule). p.tables))),
+  λ q. ap (lookup (has_name_of q)) c.new-names.ensures.empty,
+)
 
 pub overflow_add-count : goal.overflow_add-count
-overflow_add-count c = omega (arith, c.loop-i.invariant.small, length-map c.args.store.now (λ (p : PublishedModule). p.tables), c.requires)
+overflow_add-count c = omega (arith, c.loop-i.invariant.0.small, length-map c.args.store.now (λ (p : PublishedModule). p.tables), c.requires)
 
 pub loop-i-preserved : goal.loop-i-preserved
 loop-i-preserved c =
     let n = c.index-new-i.result in
+    let so = c.loop-i.invariant.0 in
+    let old = tables_in c.args.store.now in
+    let before = offered (take c.loop-i.i c.args.new.now) in
+    let own = c.in_ok-name.name in
+    let stored = module_place old (name_in own) in
     let taken : take (c.loop-i.i + 1) c.args.new.now ≡ take c.loop-i.i c.args.new.now ++ n ∷ [] =
     take_more c.args.new.now c.loop-i.i n (omega arith) ∙ ap (λ x. take c.loop-i.i c.args.new.now ++ x ∷ []) (sym c.index-new-i.is) in
-    more-places _ _ _ _ c.loop-i.count _ c.next_place-place.result _ n c.loop-i.invariant taken c.in_ok-push.ensures.items c.next_place-place.ensures.place c.next_place-place.ensures.named
-    (elim c.if-place-count.branch [
-      | then-place-count w ↦ w.count-is ∙ sym (ap (λ b. cond b (c.loop-i.count + 1) c.loop-i.count) (eq-eqb c.next_place-place.result c.loop-i.count w.if-place-count.true))
-      | else-place-count w ↦ w.count-is ∙ sym (ap (λ b. cond b (c.loop-i.count + 1) c.loop-i.count) (ne_eqb c.next_place-place.result c.loop-i.count w.if-place-count.false))
-    ])
+    let found : c.place_of.result ≡ module_place (with_tables old before) (name_in own) =
+    c.place_of.ensures ∙ ap (λ (o : Option _). option_or o stored) (c.loop-i.invariant.1 own)
+    ∙ sym (found-before (name_in own) before c.loop-i.places.items stored)
+    ∙ ap (λ places. found_among (name_in own) before places stored) so.placed
+    ∙ sym (find-with_tables old before (name_in own) so.named) in
+    let at : c.unwrap_or-place.result ≡ place_for (with_tables old before) n.module =
+    c.unwrap_or-place.ensures ∙ ap (λ (o : Option _). unwrap_or o c.loop-i.count) found ∙ ap (unwrap_or (module_place (with_tables old before) (name_in own))) so.counted
+    ∙ sym (place-for (with_tables old before) n.module (name_in own) c.in_ok-name.ensures) in
+    let all : offered (take (c.loop-i.i + 1) c.args.new.now) ≡ before ++ n.module ∷ [] = ap offered taken ∙ offered-push (take c.loop-i.i c.args.new.now) n in (
+      more-places _ _ _ _ c.loop-i.count _ c.unwrap_or-place.result _ n so taken c.in_ok-push.ensures.items at (ap is_some c.in_ok-name.ensures)
+          (elim c.if-place-count.branch [
+            | then-place-count w ↦ w.count-is ∙ sym (ap (λ b. cond b (c.loop-i.count + 1) c.loop-i.count) (eq-eqb c.unwrap_or-place.result c.loop-i.count w.if-place-count.true))
+            | else-place-count w ↦ w.count-is ∙ sym (ap (λ b. cond b (c.loop-i.count + 1) c.loop-i.count) (ne_eqb c.unwrap_or-place.result c.loop-i.count w.if-place-count.false))
+          ]),
+      subst (λ l. ArePlacesOf c.put_place.new.places.entries l c.push.new.self.items) (sym all)
+          (subst (λ l. ArePlacesOf c.put_place.new.places.entries (before ++ n.module ∷ []) l) (sym c.in_ok-push.ensures.items)
+          (places-put c.loop-i.names.entries c.put_place.new.places.entries before c.loop-i.places.items n.module own c.unwrap_or-place.result c.loop-i.invariant.1 c.in_ok-put_place.ensures c.in_ok-name.ensures
+          (ap length so.placed ∙ length-places old before))),
+    )
 
 pub returns-clause-places : goal.returns-clause-places
 returns-clause-places c =
-    c.loop-i.invariant.placed ∙ ap (λ l. places_in (tables_in c.args.store.now) (offered l)) (take_all c.loop-i.i c.args.new.now (omega arith))
+    c.loop-i.invariant.0.placed ∙ ap (λ l. places_in (tables_in c.args.store.now) (offered l)) (take_all c.loop-i.i c.args.new.now (omega arith))
+
+pub returns-clause-names : goal.returns-clause-names
+returns-clause-names c =
+    subst (λ l. ArePlacesOf c.loop-i.names.entries (offered l) c.loop-i.places.items) (take_all c.loop-i.i c.args.new.now (omega arith)) c.loop-i.invariant.1
 
 pub returns-clause-named : goal.returns-clause-named
 returns-clause-named c =
-    sym (ap (λ l. all_named (offered l)) (take_all c.loop-i.i c.args.new.now (omega arith))) ∙ c.loop-i.invariant.named
+    sym (ap (λ l. all_named (offered l)) (take_all c.loop-i.i c.args.new.now (omega arith))) ∙ c.loop-i.invariant.0.named

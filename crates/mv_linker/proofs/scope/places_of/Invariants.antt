@@ -1,6 +1,9 @@
+use Rattle.std.proofs.Common.{take}
+use Rattle.mv_linker.specs.Indexed.{ArePlacesOf}
 use Rattle.mv_linker.specs.Link.{tables_in}
+use Rattle.mv_linker.specs.Scope.{offered}
 use Rattle.mv_linker.proofs.Scopes.{PlacesSoFar}
 use Rattle.mv_linker.proofs.scope.places_of.Given as goal
 
 abbrev pub invariant-loop-i : goal.invariant-loop-i
-invariant-loop-i l = PlacesSoFar (tables_in l.store) l.new l.places.items l.count l.i
+invariant-loop-i l = PlacesSoFar (tables_in l.store) l.new l.places.items l.count l.i × ArePlacesOf l.names.entries (offered (take l.i l.new)) l.places.items

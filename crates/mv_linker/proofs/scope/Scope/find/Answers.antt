@@ -1,7 +1,12 @@
-use Rattle.std.proofs.Common.{ap, sym, ◌∙◌}
+use Rattle.std.proofs.Common.{Option, None, ap, sym, ◌∙◌}
+use Rattle.std.specs.Map.{lookup}
+use Rattle.std.specs.Option.{option_or}
 use Rattle.mv_move_types.specs.Names.{ModuleName}
+use Rattle.mv_move_types.specs.Named.{module_place}
+use Rattle.mv_linker.specs.Indexed.{has_name_of}
 use Rattle.mv_linker.specs.Link.{tables_in}
-use Rattle.mv_linker.specs.Scope.{offered, places_in, found_among}
+use Rattle.mv_linker.specs.Scope.{offered, found_among}
+use Rattle.mv_linker.proofs.IndexLemmas.{found-before}
 use Rattle.mv_linker.proofs.Scopes.{find-with_tables}
 use Rattle.mv_linker.proofs.scope.Scope.find.Goals as goal
 
@@ -9,7 +14,11 @@ pub returns : goal.returns
 returns c =
     let s = c.args.self.now in
     let name : ModuleName = record { address = c.args.address; name = c.args.name.now } in
-    c.found_among.ensures
-    ∙ ap (λ places. found_among name (offered s.new.now) places c.find-before.result) (c.deref.ensures.value ∙ s.placed)
-    ∙ ap (found_among name (offered s.new.now) (places_in (tables_in s.store.now) (offered s.new.now))) c.find-before.ensures
+    let before = module_place (tables_in s.store.now) name in
+    let asked = c.asked_for-asked.result in
+    c.place_of.ensures
+    ∙ ap (λ (n : ModuleName). option_or (lookup (has_name_of asked) s.names.entries) (module_place (tables_in s.store.now) n)) c.asked_for-asked.ensures
+    ∙ ap (λ (o : Option _). option_or o before) (s.found asked ∙ ap (λ (n : ModuleName). found_among n (offered s.new.now) s.places.items None) c.asked_for-asked.ensures)
+    ∙ sym (found-before name (offered s.new.now) s.places.items before)
+    ∙ ap (λ places. found_among name (offered s.new.now) places before) s.placed
     ∙ sym (find-with_tables (tables_in s.store.now) (offered s.new.now) name s.named)

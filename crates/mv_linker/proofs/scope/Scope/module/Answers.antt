@@ -1,32 +1,55 @@
-use Rattle.std.proofs.Common.{◌≡◌, ap, sym, subst, ◌∙◌, None, option_map}
+use Rattle.std.proofs.Common.{◌≡◌, ◌<◌, Some, None, length, slice_get, ap, sym, subst, ◌∙◌, refl, arith}
+use Rattle.std.specs.Prelude.{◌==◌, position}
+use Rattle.std.proofs.lemmas.Option.{slice_get_read, slice_get_within}
 use Rattle.mv_type_states.specs.Sound.{IsSound}
+use Rattle.mv_move_types.specs.Module.{Module}
+use Rattle.mv_linker.specs.declared.New.{New}
 use Rattle.mv_linker.specs.Link.{tables_in}
-use Rattle.mv_linker.specs.Scope.{offered, places_in, newest_at}
-use Rattle.mv_linker.proofs.Assembling.{passed-among}
+use Rattle.mv_linker.specs.Scope.{offered, places_in}
+use Rattle.mv_linker.proofs.Assembling.{offered-at, passed-among}
+use Rattle.mv_linker.proofs.Bundled.{bundle-at, no-newest, old-at, place-at}
+use Rattle.mv_linker.proofs.Joins.{placed-length}
 use Rattle.mv_linker.proofs.Members.{among-at}
-use Rattle.mv_linker.proofs.Scopes.{kept-there, kept-below, newer-there, tables-there}
+use Rattle.mv_linker.proofs.Scopes.{kept-below, tables-there}
 use Rattle.mv_linker.proofs.scope.Scope.module.Goals as goal
 
-pub module-requires : goal.module-requires
-module-requires c =
+pub offset_bounds-self-k : goal.offset_bounds-self-k
+offset_bounds-self-k c =
     let s = c.args.self.now in
-    let none : newest_at c.args.place (offered s.new.now) (places_in (tables_in s.store.now) (offered s.new.now)) None ≡ None =
-    ap (λ places. newest_at c.args.place (offered s.new.now) places None) (sym (c.deref.ensures.value ∙ s.placed)) ∙ sym c.newest_at.ensures.value ∙ ap (option_map (λ m. m.now)) c.in-None.is in
-    kept-below s.store.now (offered s.new.now) c.args.place none c.requires
+    let low : c.in-Some.k < length s.places.items = slice_get_within s.places.items c.in-Some.k c.args.place (place-at c.args.place c.in-Some.k s.places.items (sym c.in-Some.ensures)) in
+    omega (arith, low, placed-length s)
+
+pub bounds-self-k : goal.bounds-self-k
+bounds-self-k c =
+    let s = c.args.self.now in
+    let low : c.in-Some.k < length s.places.items = slice_get_within s.places.items c.in-Some.k c.args.place (place-at c.args.place c.in-Some.k s.places.items (sym c.in-Some.ensures)) in
+    omega (arith, low, placed-length s)
+
+pub module-requires-in-None : goal.module-requires-in-None
+module-requires-in-None c =
+    let s = c.args.self.now in
+    let old = tables_in s.store.now in
+    let none : position (λ p. p == c.args.place) (places_in old (offered s.new.now)) ≡ None = ap (position (λ p. p == c.args.place)) (sym s.placed) ∙ sym c.in-None.ensures in
+    kept-below s.store.now (offered s.new.now) c.args.place (no-newest old (offered s.new.now) c.args.place none) c.requires
 
 pub returns-in-Some-clause-there : goal.returns-in-Some-clause-there
 returns-in-Some-clause-there c =
     let s = c.args.self.now in
-    newer-there (tables_in s.store.now) (offered s.new.now) c.args.place c.in-Some.m.now
-    (ap (λ places. newest_at c.args.place (offered s.new.now) places None) (sym (c.deref.ensures.value ∙ s.placed)) ∙ sym c.newest_at.ensures.value ∙ ap (option_map (λ m. m.now)) c.in-Some.is)
+    let old = tables_in s.store.now in
+    let k = c.in-Some.k in
+    let new = s.new.now in
+    let at : slice_get s.places.items k ≡ Some c.args.place = place-at c.args.place k s.places.items (sym c.in-Some.ensures) in
+    let low : k < length s.places.items = slice_get_within s.places.items k c.args.place at in
+    let here : slice_get new k ≡ Some c.index-self-k.result = slice_get_read new (length new) k c.index-self-k.result refl (omega (arith, low, placed-length s)) c.index-self-k.is in
+    bundle-at old (offered new) k c.args.place c.index-self-k.result.module s.once (offered-at new k c.index-self-k.result here) (ap (λ places. slice_get places k) (sym s.placed) ∙ at)
+    ∙ ap (λ (m : Module). Some m) (sym (c.module.ensures.value ∙ ap (λ (n : New). n.module) (sym c.index-self-k.is)))
 
 pub returns-in_ok-module-in-None-clause-there : goal.returns-in_ok-module-in-None-clause-there
 returns-in_ok-module-in-None-clause-there c =
     let s = c.args.self.now in
-    let none : newest_at c.args.place (offered s.new.now) (places_in (tables_in s.store.now) (offered s.new.now)) None ≡ None =
-    ap (λ places. newest_at c.args.place (offered s.new.now) places None) (sym (c.deref.ensures.value ∙ s.placed)) ∙ sym c.newest_at.ensures.value ∙ ap (option_map (λ m. m.now)) c.in-None.is in
-    kept-there (tables_in s.store.now) (offered s.new.now) c.args.place none
-    ∙ tables-there s.store.now c.args.place c.in_ok-module-in-None.field-0 (kept-below s.store.now (offered s.new.now) c.args.place none c.requires) c.in_ok-module-in-None.ensures.value
+    let old = tables_in s.store.now in
+    let none : position (λ p. p == c.args.place) (places_in old (offered s.new.now)) ≡ None = ap (position (λ p. p == c.args.place)) (sym s.placed) ∙ sym c.in-None.ensures in
+    old-at old (offered s.new.now) c.args.place none ∙ c.in_ok-module-in-None.ensures.tables
 
 pub returns-in_ok-module-in-None-clause-defined : goal.returns-in_ok-module-in-None-clause-defined
 returns-in_ok-module-in-None-clause-defined c =
