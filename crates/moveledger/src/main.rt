@@ -1,5 +1,12 @@
 //! moveledger: publishes Move modules, runs their entry functions, and reports what happened, record by record. It also makes
 //! certificates for modules, and checks modules with them.
+//!
+//! ```text
+//! moveledger apply [--load PATH] [--save PATH] FILE
+//! moveledger migrate OLD NEW
+//! moveledger prove MODULE
+//! moveledger check MODULE CERT
+//! ```
 #![tactic(auto)]
 
 mod answering;

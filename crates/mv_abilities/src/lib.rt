@@ -1,4 +1,19 @@
 //! Phase 6 of publishing: a struct's fields have what its abilities ask for; and the abilities of a type.
+//!
+//! ```
+//! use mv_abilities::of;
+//! use mv_move_types::{Refusal, Token, ValueType};
+//! use std::alloc::Global;
+//!
+//! /// Whether a value of a module's first struct handle may be dropped.
+//! fn example(alloc: Global, bytes: &[u8]) -> Result<bool, Refusal> {
+//!     let module = mv_binary_format::decode(alloc, bytes)?;
+//!     let bounded = mv_bounds::check(alloc, module)?;
+//!     mv_abilities::check(&bounded)?;
+//!     let first = Token::Plain(ValueType::OfStruct(0));
+//!     Ok(of(&bounded, first).is_some_and(|abilities| abilities.drop))
+//! }
+//! ```
 #![tactic(auto)]
 
 ghost use Rattle.std.specs.Prelude.{◌≡◌, OnOk, IfErr, None, Some};

@@ -1,4 +1,16 @@
 //! Phase 12 of publishing: each acquires list is exactly the structs that its function reaches in the storage.
+//!
+//! ```
+//! use mv_move_types::Refusal;
+//! use std::alloc::Global;
+//!
+//! /// Whether each function of a module says which structs it reaches in the storage.
+//! fn example(alloc: Global, bytes: &[u8]) -> Result<bool, Refusal> {
+//!     let module = mv_binary_format::decode(alloc, bytes)?;
+//!     let bounded = mv_bounds::check(alloc, module)?;
+//!     Ok(mv_acquires::check(alloc, &bounded).is_ok())
+//! }
+//! ```
 #![tactic(auto)]
 
 mod marks;

@@ -1,4 +1,16 @@
 //! Certificates made: for a module that some certificate passes with, one that passes.
+//!
+//! ```
+//! use mv_analyser::ProveError;
+//! use mv_type_states::Typed;
+//! use std::alloc::Global;
+//!
+//! /// The bytes of the least certificate of a module.
+//! fn example(alloc: Global, m: &Typed<'_>) -> Result<Vec<u8>, ProveError> {
+//!     let certificate = mv_analyser::prove(alloc, m)?;
+//!     Ok(mv_certificate::encode(alloc, &certificate)?)
+//! }
+//! ```
 #![tactic(auto)]
 
 mod borrows;

@@ -1,4 +1,17 @@
 //! Whole modules in the Move binary format: their tables and their texts.
+//!
+//! ```
+//! use mv_binary_format::{decode, encode};
+//! use mv_move_types::Refusal;
+//! use std::alloc::Global;
+//!
+//! /// Whether a module without functions was read, and is written as the bytes that it was read from: the latter always holds.
+//! fn example(alloc: Global, bytes: &[u8]) -> Result<bool, Refusal> {
+//!     let module = decode(alloc, bytes)?;
+//!     let text = encode(alloc, &module)?;
+//!     Ok(module.functions().is_empty() && text.as_slice() == bytes)
+//! }
+//! ```
 #![tactic(auto)]
 
 mod contents;

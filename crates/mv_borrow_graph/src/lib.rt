@@ -1,4 +1,20 @@
 //! Which references lead into which values before each instruction of a function, as a domain of states.
+//!
+//! ```
+//! use mv_borrow_graph::BorrowDomain;
+//! use mv_lattice::{SolveError, solve};
+//! use mv_type_states::Typed;
+//! use std::alloc::Global;
+//!
+//! /// Whether the borrows of a function can be told safe by some certificate. The function has to be there.
+//! fn example(alloc: Global, m: &Typed<'_>, f: usize) -> bool {
+//!     let domain = BorrowDomain::of_function(m, f);
+//!     match solve(alloc, &domain, m.graph(f), &domain.start(alloc)) {
+//!         Ok(_) => true,
+//!         Err(SolveError::Need | SolveError::TooComplex | SolveError::Memory) => false,
+//!     }
+//! }
+//! ```
 #![tactic(auto)]
 
 mod changes;

@@ -1,5 +1,20 @@
 //! Phases 3 and 4 of publishing: every index is in bounds, nothing stands twice, and what is the module's own is defined once,
 //! by structs that are finite.
+//!
+//! ```
+//! use mv_move_types::Refusal;
+//! use std::alloc::Global;
+//!
+//! /// How many instructions the first function of a module has, if there is one.
+//! fn example(alloc: Global, bytes: &[u8]) -> Result<usize, Refusal> {
+//!     let module = mv_binary_format::decode(alloc, bytes)?;
+//!     let bounded = mv_bounds::check(alloc, module)?;
+//!     if bounded.module().functions().is_empty() {
+//!         return Ok(0);
+//!     }
+//!     Ok(bounded.code(0).len())
+//! }
+//! ```
 #![tactic(auto)]
 
 mod codes;

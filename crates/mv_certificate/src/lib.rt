@@ -1,4 +1,18 @@
 //! Phases 9 to 12 of publishing: certificates, their bytes, and whether they hold of a module.
+//!
+//! ```
+//! use mv_move_types::Refusal;
+//! use std::alloc::Global;
+//!
+//! /// Whether a module passes phases 2 to 12 with a certificate; else the number of the first that it fails.
+//! fn example(alloc: Global, module: &[u8], certificate: &[u8]) -> Result<(), Refusal> {
+//!     let module = mv_binary_format::decode(alloc, module)?;
+//!     let typed = mv_type_states::check(alloc, mv_bounds::check(alloc, module)?)?;
+//!     let certificate = mv_certificate::decode(alloc, &typed, certificate)?;
+//!     mv_certificate::check(alloc, typed, &certificate)?;
+//!     Ok(())
+//! }
+//! ```
 #![tactic(auto)]
 
 mod certificate;

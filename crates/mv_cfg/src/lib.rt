@@ -1,4 +1,20 @@
 //! Phase 7 of publishing, and the flow graph of a function: its blocks, and which blocks follow which.
+//!
+//! ```
+//! use mv_move_types::Refusal;
+//! use std::alloc::Global;
+//!
+//! /// How many blocks a module's first function has, if there is one.
+//! fn example(alloc: Global, bytes: &[u8]) -> Result<usize, Refusal> {
+//!     let module = mv_binary_format::decode(alloc, bytes)?;
+//!     let bounded = mv_bounds::check(alloc, module)?;
+//!     if bounded.module().functions().is_empty() {
+//!         return Ok(0);
+//!     }
+//!     let graph = mv_cfg::blocks(alloc, &bounded, 0)?;
+//!     Ok(graph.blocks.len())
+//! }
+//! ```
 #![tactic(auto)]
 
 ghost use Rattle.std.specs.Prelude.{◌≡◌, ◌+◌, ◌<◌, length, map, All, IfOk, IfErr, IfSome, slice_get, slice_index, slice_index_or, IsTrue};

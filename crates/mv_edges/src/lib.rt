@@ -1,4 +1,21 @@
 //! Edges of the borrow graph, as ascending lists.
+//!
+//! ```
+//! use mv_edges::{Edge, Edges, Label};
+//! use mv_move_types::Node;
+//! use std::alloc::{AllocError, Global};
+//!
+//! /// Local 1 is a reference, and the topmost operand one to the field 2 of what it leads to.
+//! fn example(alloc: Global) -> Result<bool, AllocError> {
+//!     let mut edges = Edges::new(alloc);
+//!     let field = Label::here(alloc).extended(alloc, 2)?;
+//!     edges.insert(Edge::new(Node::Slot(1), field, Node::Temp(0)))?;
+//!     // While that operand is there, what stands in the field 2 isn't written through local 1; field 3 may be.
+//!     let agrees = edges.has_agreeing_out_of(Node::Slot(1), 2);
+//!     let other = edges.has_agreeing_out_of(Node::Slot(1), 3);
+//!     Ok(agrees && !other)
+//! }
+//! ```
 #![tactic(auto)]
 
 mod edge;

@@ -1,4 +1,18 @@
 //! Flows of states over a graph of blocks, for any domain of states.
+//!
+//! ```
+//! use mv_borrow_graph::BorrowDomain;
+//! use mv_lattice::{SolveError, solve};
+//! use mv_type_states::Typed;
+//! use std::alloc::Global;
+//!
+//! /// In how many blocks of a function edges are stated by the least flow. The function has to be there.
+//! fn example(alloc: Global, m: &Typed<'_>, f: usize) -> Result<usize, SolveError> {
+//!     let domain = BorrowDomain::of_function(m, f);
+//!     let stated = solve(alloc, &domain, m.graph(f), &domain.start(alloc))?;
+//!     Ok(stated.iter().filter(|state| state.is_some()).count())
+//! }
+//! ```
 #![tactic(auto)]
 
 ghost use Rattle.std.specs.Prelude.{◌≡◌, ℕ, ◌+◌, ◌-◌, ◌<◌, ◌≤◌, ◌↔◌, Option, length, IsTrue, IfOk, OnOk, IsErrOf, All, [], ◌∷◌};

@@ -1,4 +1,18 @@
 //! The ledger: it publishes bundles, executes runs, and keeps what they store.
+//!
+//! ```
+//! use mv_ledger::{Ledger, Reply};
+//! use std::alloc::{AllocError, Global};
+//!
+//! /// Publishes what a payload offers, and keeps the ledger as text where that was done.
+//! fn example(alloc: Global, payload: &[u8]) -> Result<Option<Vec<u8>>, AllocError> {
+//!     let mut ledger = Ledger::new(alloc);
+//!     match ledger.publish(payload) {
+//!         Reply::Published(_) => Ok(Some(ledger.save()?)),
+//!         _ => Ok(None),
+//!     }
+//! }
+//! ```
 #![tactic(auto)]
 
 mod audit;

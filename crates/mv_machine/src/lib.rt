@@ -1,4 +1,13 @@
 //! The defensive machine: its values, states, steps, runs and replies stand in specs/. Here is how a run may end.
+//!
+//! ```
+//! use mv_machine::{Ending, Kind, Outcome};
+//!
+//! /// Whether a run ended for an overflow or a division by zero.
+//! fn example(outcome: &Outcome) -> bool {
+//!     matches!(outcome.ending, Ending::Aborted(Kind::Arith, _))
+//! }
+//! ```
 #![tactic(auto)]
 
 /// Why a run aborts.

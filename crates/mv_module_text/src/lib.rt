@@ -1,4 +1,17 @@
 //! The text of each entry of a module, as the Move binary format has it: reading from the front of bytes, and writing.
+//!
+//! ```
+//! use mv_module_text::{Reader, write_token};
+//! use mv_move_types::{Refusal, Token, ValueType, Version};
+//!
+//! fn example(text: &mut Vec<u8>) -> Result<bool, Refusal> {
+//!     // A reference to a value of the struct of handle 3.
+//!     let token = Token::Reference(ValueType::OfStruct(3));
+//!     write_token(token, text)?;
+//!     let mut reader = Reader::new(text);
+//!     Ok(reader.token(Version::Five)? == token && reader.is_empty())
+//! }
+//! ```
 #![tactic(auto)]
 
 mod abilities;

@@ -1,4 +1,16 @@
 //! Phase 5 of publishing: fields, signatures, numbers of locals, constants and entry functions are as they may be.
+//!
+//! ```
+//! use mv_move_types::Refusal;
+//! use std::alloc::Global;
+//!
+//! /// Whether a module that passes phases 3 and 4 passes phase 5.
+//! fn example(alloc: Global, bytes: &[u8]) -> Result<bool, Refusal> {
+//!     let module = mv_binary_format::decode(alloc, bytes)?;
+//!     let bounded = mv_bounds::check(alloc, module)?;
+//!     Ok(mv_signatures::check(&bounded).is_ok())
+//! }
+//! ```
 #![tactic(auto)]
 
 ghost use Rattle.std.specs.Prelude.{◌≡◌, is_some, OnOk, IfErr, length, nat_le, slice_get, false};

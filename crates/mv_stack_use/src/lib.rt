@@ -1,4 +1,17 @@
 //! The height of the operand stack in a function's blocks, which is a part of phase 8 of publishing.
+//!
+//! ```
+//! use mv_bounds::Bounded;
+//! use mv_move_types::Instruction;
+//!
+//! /// Whether Add takes two operands and gives one. The module has a function.
+//! fn example(m: &Bounded<'_>) -> bool {
+//!     match mv_stack_use::effect(m, 0, Instruction::Add) {
+//!         Some(effect) => effect.takes() == 2 && effect.gives() == 1,
+//!         None => false,
+//!     }
+//! }
+//! ```
 #![tactic(auto)]
 
 ghost use Rattle.std.specs.Prelude.{◌≡◌, ◌<◌, length, slice_get, IfSome, OnOk, IfErr, IsTrue, option_and_then};

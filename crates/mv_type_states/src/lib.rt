@@ -1,4 +1,19 @@
 //! Phases 5 to 8 of publishing, and the types on the stack at each instruction.
+//!
+//! ```
+//! use mv_move_types::Refusal;
+//! use std::alloc::Global;
+//!
+//! /// How many operands stand on the stack before the second instruction of a module's first function, if there is one.
+//! fn example(alloc: Global, bytes: &[u8]) -> Result<usize, Refusal> {
+//!     let module = mv_binary_format::decode(alloc, bytes)?;
+//!     let typed = mv_type_states::check(alloc, mv_bounds::check(alloc, module)?)?;
+//!     if typed.module().functions().is_empty() || typed.stack_types(0).len() < 2 {
+//!         return Ok(0);
+//!     }
+//!     Ok(typed.stack_types(0).before(1).len())
+//! }
+//! ```
 #![tactic(auto)]
 
 ghost use Rattle.std.specs.Prelude.{◌≡◌, ◌<◌, length, map, slice_get, IfOk, IfErr, IfSome, OnOk};

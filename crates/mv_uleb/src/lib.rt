@@ -1,4 +1,17 @@
 //! ULEB128 numbers, as DWARF has them: seven bits a byte, the least significant first, in the shortest form.
+//!
+//! ```
+//! use mv_uleb::{UlebError, read, write};
+//! use std::alloc::AllocError;
+//!
+//! fn example(out: &mut Vec<u8>) -> Result<bool, AllocError> {
+//!     write(300, out)?;
+//!     // 300 in two bytes, and a number above the most that is wanted.
+//!     let two = matches!(read(&[0xac, 0x02, 0xff], 65_535), Ok((300, 2)));
+//!     let large = matches!(read(&[0xac, 0x02], 255), Err(UlebError::Range));
+//!     Ok(two && large)
+//! }
+//! ```
 #![tactic(auto)]
 
 ghost use Rattle.mv_uleb.specs.Laws.{HasOneForm, HasForm, StandsByForm};
