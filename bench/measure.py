@@ -3,6 +3,7 @@
 import sys
 from pathlib import Path
 
+import costs
 import files
 import saved
 from clock import ASCENDING, SCATTERED, STEPS, Clock
@@ -156,6 +157,7 @@ def main():
     tell_runs(folder, best, clock)
     tell_records(best)
     saved.tell(clock.program, folder)
+    costs.tell(clock.program, folder)
 
 
 main()

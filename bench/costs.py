@@ -1,0 +1,219 @@
+"""What records cost whose size says little of it: upgrades among few and many modules, shows of values of large modules, and the
+dearest records of 1 MB that are known, beside the mean of publishing 1 MB of ordinary modules. A time is the processor's, the
+least of several tries, beside what the program takes for the records before.
+
+usage: python3 bench/costs.py PROGRAM FOLDER    FOLDER is kept; machine instructions are counted where there is a valgrind"""
+
+import os
+import re
+import shutil
+import subprocess
+import sys
+from pathlib import Path
+
+import inputs
+from inputs import ASSET, Module, publish, record, run, u64
+
+TRIES = 3
+UPGRADES = 300
+FEW, MANY = 500, 2_000
+SHOWS, SHOWN = 20, 1_000
+EDGES = 1_024
+
+
+class Program:
+    """Runs the program over streams in a folder."""
+
+    def __init__(self, program, folder):
+        self.path, self.folder = Path(program).resolve(), Path(folder)
+
+    def report(self, records, name="costs"):
+        (self.folder / f"{name}.stream").write_bytes(b"".join(records))
+        out = subprocess.run([self.path, "apply", f"{name}.stream"], check=True, capture_output=True, cwd=self.folder).stdout
+        return out
+
+    def spent(self, records, name="costs"):
+        """The least seconds of the processor that the program takes for records."""
+        (self.folder / f"{name}.stream").write_bytes(b"".join(records))
+        tries = []
+        for _ in range(TRIES):
+            process = subprocess.Popen([self.path, "apply", f"{name}.stream"], cwd=self.folder, stdout=subprocess.DEVNULL)
+            _, status, used = os.wait4(process.pid, 0)
+            process.returncode = os.waitstatus_to_exitcode(status)
+            assert process.returncode == 0, name
+            tries.append(used.ru_utime + used.ru_stime)
+        return min(tries)
+
+    def instructions(self, records, name="costs"):
+        """The machine instructions of the program for records, or None where there is no valgrind."""
+        if not shutil.which("valgrind"):
+            return None
+        (self.folder / f"{name}.stream").write_bytes(b"".join(records))
+        out = self.folder / "callgrind.out"
+        words = ["valgrind", "--tool=callgrind", f"--callgrind-out-file={out}", self.path, "apply", f"{name}.stream"]
+        subprocess.run(words, check=True, capture_output=True, cwd=self.folder)
+        return int(re.search(r"^(?:summary|totals): (\d+)", out.read_text(), re.MULTILINE).group(1))
+
+    def certificate(self, text):
+        (self.folder / "costs.module").write_bytes(text)
+        out = subprocess.run([self.path, "prove", "costs.module"], check=True, capture_output=True, text=True, cwd=self.folder).stdout
+        return bytes.fromhex(out.strip())
+
+    def published(self, *modules):
+        """The record that publishes modules in one bundle, and what it is answered."""
+        return record(1, publish(*((text, self.certificate(text)) for text in modules)))
+
+
+def small(own, version=5):
+    """A module of some 500 bytes that names no other."""
+    return inputs.link_of_a_chain(0, 1).renamed(own)
+
+
+def naming(own):
+    """A module that calls a function of the one called U."""
+    m = Module(own)
+    m.foreign_function("U", "value", "u64", "u64")
+    m.function("f", "u64", "u64", "", "MoveLoc 0; Call U::value; Ret", entry=False)
+    return m.bytes()
+
+
+def upgraded():
+    """The module U that is upgraded."""
+    m = Module("U")
+    m.struct("Coin", ASSET, "v: u64; w: u64")
+    m.function("value", "u64", "u64", "", "MoveLoc 0; LdU64 1; Add; Ret", entry=False)
+    m.function("mint", "signer; u64", "", "", "ImmBorrowLoc 0; CopyLoc 1; MoveLoc 1; Pack Coin; MoveTo Coin; Ret")
+    return m.bytes()
+
+
+def tell_upgrades(program):
+    """Upgrades of one module among few and many, and among small and large ones."""
+    upgrade = program.published(upgraded())
+    others = [record(1, publish((small(f"S{n}"), program.certificate(small("S0"))))) for n in range(MANY)]
+    times = {}
+    for count in FEW, MANY:
+        before = others[:count] + [upgrade]
+        times[count] = program.spent(before + [upgrade] * UPGRADES) - program.spent(before)
+        print(f"costs: an upgrade of a module that nothing names among {count} others: {times[count] / UPGRADES * 1e6:.0f} us", flush=True)
+    print(f"costs: among {MANY} it takes {times[MANY] / times[FEW]:.2f} times as long as among {FEW} (aim: 1.1 or less)", flush=True)
+    large = inputs.all_families(inputs.LARGE, 5)
+    helping = program.published(inputs.helping().bytes())
+    certificate = program.certificate(large.bytes())
+    counts = []
+    for before in (others[:30] + [upgrade], [helping, *(record(1, publish((large.renamed(f"L{n}"), certificate))) for n in range(30)), upgrade]):
+        first, second = program.instructions(before), program.instructions(before + [upgrade] * 10)
+        if first is not None:
+            counts.append((second - first) / 10)
+    if counts:
+        print(f"costs: an upgrade among 30 modules of 500 bytes {counts[0]:.0f} machine instructions, of 60 KB {counts[1]:.0f} "
+              f"(aim: as many)", flush=True)
+    users = [record(1, publish((naming(f"N{n}"), program.certificate(naming("N0"))))) for n in range(FEW * 2)]
+    times = {}
+    for count in FEW, FEW * 2:
+        before = [upgrade, *users[:count]]
+        times[count] = program.spent(before + [upgrade] * 20) - program.spent(before)
+    print(f"costs: an upgrade of a module that {FEW} name {times[FEW] / 20 * 1e3:.2f} ms, that {FEW * 2} name "
+          f"{times[FEW * 2] / times[FEW]:.2f} times as long (aim: 2.2 or less)", flush=True)
+
+
+def large_with_coins():
+    """A module of 26 KB with a coin whose value holds a struct."""
+    m = Module("M")
+    m.struct("Amount", "has store", "v: u64; w: u64")
+    m.struct("Coin", ASSET, "a: Amount; who: address")
+    m.function("mint", "signer; u64; address", "", "",
+               "ImmBorrowLoc 0; CopyLoc 1; MoveLoc 1; Pack Amount; MoveLoc 2; Pack Coin; MoveTo Coin; Ret")
+    for n in range(1_900):
+        m.struct(f"Filler{n}", "has store", "v: u64")
+    return m.bytes()
+
+
+def tell_shows(program):
+    """Shows of values of a small module and of a large one, as text and as JSON."""
+    coin = inputs.working().bytes()
+    large = large_with_coins()
+    address = inputs.model.Value(inputs.model.ADDRESS, inputs.address(5))
+    for what, text, arguments in ("a small module", coin, (u64(7),)), (f"a module of {len(large) // 1000} KB", large, (u64(7), address)):
+        before = [program.published(text)] + [record(2, run("mint", 100, *arguments, sender=1000 + n)) for n in range(SHOWN)]
+        for form, payload in ("text", b""), ("JSON", b"\x01"):
+            show = record(3, payload)
+            size = len(program.report(before + [show])) - len(program.report(before))
+            spent = program.spent(before + [show] * SHOWS) - program.spent(before)
+            first, second = program.instructions(before), program.instructions(before + [show])
+            counted = f", {(second - first) / size:.1f} machine instructions for each byte" if first is not None else ""
+            aim = " (aim: 30 or less)" if form == "text" else ""
+            print(f"costs: {SHOWN} values of {what} as {form}: {spent / SHOWS * 1e3:.2f} ms{counted}{aim}", flush=True)
+
+
+def many_constants(count, own):
+    """A module with so many different constants, which nothing loads."""
+    m = Module(own, 6)
+    m.items.append("tables { constants { " + "; ".join(f"{n}u16" for n in range(count)) + " } }")
+    return m.bytes()
+
+
+def many_foreign(count, own, home="H"):
+    """A module that names so many structs of another one, in the order that is the last one's first."""
+    m = Module(own)
+    for n in reversed(range(count)):
+        m.foreign_struct(home, f"S{n:x}", "has copy, drop, store")
+    return m.bytes()
+
+
+def many_own(count, own="H"):
+    """The module that has them."""
+    m = Module(own)
+    for n in range(count):
+        m.struct(f"S{n:x}", "has copy, drop, store", "v: u64")
+    return m.bytes()
+
+
+def copying(times, below):
+    """A module with a function of one block, stated with 1,024 edges into its first parameter, which is copied and released so
+    often, above so many copies; and its certificate."""
+    m = Module()
+    m.function("f", "&u64; u64", "", "", "CopyLoc 0;" * below + "CopyLoc 0; Pop;" * times + "Pop;" * below + "MoveLoc 0; Pop; Ret", entry=False)
+    edges = b"".join(bytes([1, 1, 0, 0, 2, a, b, 0]) for a in range(32) for b in range(32))
+    return m.bytes(), b"\x01\x01\x01" + bytes([0x80, 0x08]) + edges
+
+
+def tell_dearest(program):
+    """What records cost that are dear for their size, beside ordinary ones."""
+    ordinary = inputs.all_families(inputs.LARGE, 5).bytes()
+    helping = program.published(inputs.helping().bytes())
+    publishing = program.published(ordinary)
+    nothing = program.spent([helping])
+    mean = (program.spent([helping] + [publishing] * 10) - nothing) / 10 / len(publishing) * 1e6
+    print(f"costs: 1 MB of ordinary modules takes {mean * 1e3:.0f} ms", flush=True)
+    dear = []
+
+    def tell_one(what, offered, before=()):
+        answer = program.report([*before, offered]).decode().splitlines()[-1]
+        assert " published " in answer, (what, answer)
+        spent = program.spent([*before, offered]) - program.spent(before)
+        dear.append((spent / len(offered) * 1e6, what, spent, len(offered)))
+
+    for count in 8_000, 16_000:
+        tell_one(f"16 modules of {count} constants", record(1, publish(*((many_constants(count, f"C{n}"), b"") for n in range(16)))))
+    for count in 1_500, 3_000:
+        home = record(1, publish((many_own(count), b"")))
+        tell_one(f"10 modules that each name {count} structs of another", record(1, publish(*((many_foreign(count, f"F{n}"), b"") for n in range(10)))), [home])
+    for what, times, below in ("1,900 copies of a reference with 1,024 edges", 1_900, 0), ("800 copies of it above 126 others", 800, 126):
+        text, certificate = copying(times, below)
+        tell_one(what, record(1, publish((text, certificate))))
+    for per_megabyte, what, spent, size in sorted(dear, reverse=True):
+        print(f"costs: {what}, {size} bytes: {spent:.3f} s, {per_megabyte / mean:.0f} times the mean for as many bytes (aim: 100 or less)",
+              flush=True)
+
+
+def tell(program, folder):
+    """Prints a line for each measurement."""
+    os.makedirs(folder, exist_ok=True)
+    program = Program(program, folder)
+    tell_upgrades(program)
+    tell_shows(program)
+    tell_dearest(program)
+
+
+if __name__ == "__main__":
+    tell(*sys.argv[1:])
