@@ -4,15 +4,15 @@ use Rattle.mv_move_types.specs.declared.token.Token.{Token}
 use Rattle.mv_move_types.specs.declared.instruction.Instruction.{Instruction}
 use Rattle.mv_move_types.specs.declared.tables.Visibility.TheVariants.{Public}
 use Rattle.mv_move_types.specs.declared.token.Width.TheVariants.{U64}
-use Rattle.mv_move_types.specs.declared.token.LeafKind.TheVariants.{Number, Address}
+use Rattle.mv_move_types.specs.declared.token.LeafKind.TheVariants.{Number, Address, Signer}
 use Rattle.mv_move_types.specs.declared.token.ValueType.TheVariants.{OfLeaf, OfStruct}
 use Rattle.mv_move_types.specs.declared.token.Token.TheVariants.{Plain, Reference as ReferenceTo, MutableReference as MutableReferenceTo}
-use Rattle.mv_move_types.specs.declared.instruction.Instruction.TheVariants.{Pop, Ret, BrTrue, Branch, LdU64, CopyLoc, MoveLoc, StLoc, MutBorrowLoc, ImmBorrowLoc, MutBorrowField, ImmBorrowField, Pack, ReadRef, WriteRef, Add, Sub, Mod, Eq, Abort, Exists, ImmBorrowGlobal, MoveFrom, FreezeRef, Shl, LdU8, LdU128, CastU8}
+use Rattle.mv_move_types.specs.declared.instruction.Instruction.TheVariants.{Pop, Ret, BrTrue, Branch, LdU64, CopyLoc, MoveLoc, StLoc, MutBorrowLoc, ImmBorrowLoc, MutBorrowField, ImmBorrowField, Pack, Unpack, ReadRef, WriteRef, Add, Sub, Mod, Eq, Abort, Exists, MutBorrowGlobal, ImmBorrowGlobal, MoveFrom, MoveTo, FreezeRef, Shl, LdU8, LdU128, CastU8}
 use Rattle.mv_move_types.specs.Module.{Module}
-use Rattle.mv_machine.specs.declared.Kind.TheVariants.{Code, Arith, Missing}
-use Rattle.mv_machine.specs.Value.{Value, Leaf, Struct, NoMore, More}
+use Rattle.mv_machine.specs.declared.Kind.TheVariants.{Code, Arith, Exists as AlreadyThere, Missing}
+use Rattle.mv_machine.specs.Value.{Stored, Value, Leaf, Struct, Ref, NoMore, More}
 use Rattle.mv_machine.specs.State.{Storage}
-use Rattle.mv_machine.specs.Typing.{LostFault, FrozenFault}
+use Rattle.mv_machine.specs.Typing.{LostFault, DanglingFault, FrozenFault}
 use Rattle.mv_machine.specs.Run.{RunOutcome, Returned, Aborted, Faulted, run}
 use Rattle.mv_machine.proofs.Computed.{computed}
 
@@ -101,6 +101,44 @@ frozen_removal = refl
 missing_there : run (taken_while_borrowed ∷ []) coin_at_1 (record { function = record { place = 0; index = 0 }; arguments = Leaf Address 2 ∷ [] }) 100 ≡ Aborted Missing 0 2
 unfolding computed
 missing_there = refl
+
+-- an immutable reference to a coin at address 1
+abbrev coin_lent : Value
+coin_lent = Ref (record { is_mutable = false; place = record { root = Stored (record { address = 1; place = 0; index = 1 }); path = [] } })
+
+-- a coin is stored at the signer's address while that reference is live
+abbrev stored_while_lent : Storage → ℕ → RunOutcome
+stored_while_lent storage signer =
+    let code : List Instruction = ImmBorrowLoc 1 ∷ LdU64 7 ∷ Pack 1 ∷ MoveTo 1 ∷ Ret ∷ [] in
+    run (one_function (ReferenceTo (OfStruct 1) ∷ Plain (OfLeaf Signer) ∷ []) [] code ∷ []) storage (record { function = record { place = 0; index = 0 }; arguments = coin_lent ∷ Leaf Signer signer ∷ [] }) 100
+
+-- nothing is stored where the reference leads: the write would put a value under it
+frozen_put : stored_while_lent [] 1 ≡ Faulted FrozenFault 4
+unfolding computed
+frozen_put = refl
+
+-- the reference leads to a coin, so nothing is written
+put_where_one_is : stored_while_lent coin_at_1 1 ≡ Aborted AlreadyThere 0 4
+unfolding computed
+put_where_one_is = refl
+
+-- the reference leads elsewhere
+put_elsewhere : steps_of (stored_while_lent [] 2) ≡ 5
+unfolding computed
+put_elsewhere = refl
+
+-- a reference is frozen whose local was moved
+dangling_freeze : of_f (one_function (u64 ∷ []) [] (MutBorrowLoc 0 ∷ MoveLoc 0 ∷ Pop ∷ FreezeRef ∷ Pop ∷ Ret ∷ [])) (Leaf (Number U64) 1 ∷ []) 100 ≡ Faulted DanglingFault 4
+unfolding computed
+dangling_freeze = refl
+
+-- a reference is frozen whose stored value was taken
+abbrev frozen_when_taken : Module
+frozen_when_taken = one_function (Plain (OfLeaf Address) ∷ []) [] (CopyLoc 0 ∷ MutBorrowGlobal 1 ∷ MoveLoc 0 ∷ MoveFrom 1 ∷ Unpack 1 ∷ Pop ∷ FreezeRef ∷ Pop ∷ Ret ∷ [])
+
+taken_freeze : run (frozen_when_taken ∷ []) coin_at_1 (record { function = record { place = 0; index = 0 }; arguments = Leaf Address 1 ∷ [] }) 100 ≡ Faulted DanglingFault 7
+unfolding computed
+taken_freeze = refl
 
 -- whether a value is stored
 abbrev asked : ℕ → RunOutcome

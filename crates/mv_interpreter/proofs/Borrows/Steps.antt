@@ -492,23 +492,24 @@ module _ (depends : ℕ → ℕ → Type 0) (through : (a b c : ℕ) → depends
               bind (operand h.state.top.stack) _ s q (λ top top_is q1.
               met (can_drop h top.0) (Faults LostFault) _ s q1 (λ ok q2. go top top_is (ok-is top.1 s q2)))
 
-      pub step-freeze : (y : Turn) (es' : List Edge) → gives h (freeze h.state.top.stack) ≡ Ok y → edges_after p FreezeRef es ≡ Some es' → Kept FreezeRef es' (Ok y)
+      pub step-freeze : (y : Turn) (es' : List Edge) → gives h (freeze h h.state.top.stack) ≡ Ok y → edges_after p FreezeRef es ≡ Some es' → Kept FreezeRef es' (Ok y)
       unfolding freeze edges_after
       step-freeze y es' e g =
-          bind (freeze h.state.top.stack) _ y e (λ s s_is e0.
+          bind (freeze h h.state.top.stack) _ y e (λ s s_is e0.
           bind (operand h.state.top.stack) _ s s_is (λ top top_is q1.
           bind (as_reference top.0) _ s q1 (λ r r_is q2.
           met r.is_mutable (Faults TypeFault) _ s q2 (λ ok q3.
+          bind (follow h.state r) _ s q3 (λ v v_is q4.
           let b = then-some (no_mutable_from p (top_temp p) es) (filter (λ e. not (same_node e.from (top_temp p))) es) es' g in
           ends FreezeRef (with_top h.state (record (h.state.top) { stack = s; at = h.state.top.at + 1 })) y (filter (λ e. not (same_node e.from (top_temp p))) es) es' e0 (sym b.1) (
-            subst (λ u. StandTop (record (h.state.top) { stack = u; at = h.state.top.at + 1 }) (filter (λ e. not (same_node e.from (top_temp p))) es)) (ok-is (Ref (record { is_mutable = false; place = r.place }) ∷ top.1) s q3)
+            subst (λ u. StandTop (record (h.state.top) { stack = u; at = h.state.top.at + 1 }) (filter (λ e. not (same_node e.from (top_temp p))) es)) (ok-is (Ref (record { is_mutable = false; place = r.place }) ∷ top.1) s q4)
                 (at_top (λ n. filter (λ e. not (same_node e.from (Temp n))) es) h.state.top.locals (Some (record { is_mutable = false; place = r.place }) ∷ map reference_of top.1) (map reference_of top.1) (Some r)
                 (ref-top top r top_is r_is)
                 (kept-freeze depends through no_cycle h.function.acquires h.state.top rest h.state.top.locals os es stands r (map reference_of top.1) (kind_at p) typed (ref-top top r top_is r_is)
                 (λ x c z k. free_mutable p place (Temp (length (map reference_of top.1))) es
                 (subst (λ n. no_mutable_from p (Temp n) es ≡ true) (under (map reference_of top.1) (Some r) (ref-top top r top_is r_is)) b.0) x c z k))),
             (refl, refl, refl, same-all h.state.below, refl, inl refl),
-          )))))
+          ))))))
 
       pub step-read : (y : Turn) (es' : List Edge) → gives h (read_reference h h.state.top.stack) ≡ Ok y → edges_after p ReadRef es ≡ Some es' → Kept ReadRef es' (Ok y)
       unfolding read_reference edges_after
@@ -548,10 +549,11 @@ module _ (depends : ℕ → ℕ → Type 0) (through : (a b c : ℕ) → depends
           bind (follow h.state r) _ y e6 (λ v v_is e7.
           bind (as_signer v) _ y e7 (λ a a_is e8.
           met (not (is_some (stored_at h.state.storage (key_at h i a)))) (Aborts AlreadyThere 0) _ y e8 (λ ok e9.
+          met (not (is_frozen_by (live h.state) (record { root = Stored (key_at h i a); path = [] }))) (Faults FrozenFault) _ y e9 (λ unfrozen e10.
           ends (MoveTo i)
-          (record (h.state) { storage = with_stored h.state.storage (key_at h i a) top.0; top = record (h.state.top) { stack = lower.1; at = h.state.top.at + 1 } }) y (without (Temp (length types - 2)) es) es' e9
+          (record (h.state) { storage = with_stored h.state.storage (key_at h i a) top.0; top = record (h.state.top) { stack = lower.1; at = h.state.top.at + 1 } }) y (without (Temp (length types - 2)) es) es' e10
           (same_Some (without (Temp (length types - 2)) es) es' g)
-          (taken top lower (operand-is h.state.top.stack top top_is) (operand-is top.1 lower lower_is), (refl, refl, refl, same-all h.state.below, refl, inl refl)))))))))))
+          (taken top lower (operand-is h.state.top.stack top top_is) (operand-is top.1 lower lower_is), (refl, refl, refl, same-all h.state.below, refl, inl refl))))))))))))
         where
           taken : (top lower : Value × List Value) → h.state.top.stack ≡ top.0 ∷ top.1 → top.1 ≡ lower.0 ∷ lower.1
               → StandTop (record (h.state.top) { stack = lower.1; at = h.state.top.at + 1 }) (without (Temp (length types - 2)) es)

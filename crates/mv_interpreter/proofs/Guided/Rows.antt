@@ -5,6 +5,7 @@ use Rattle.std.specs.List.{list_any, list_all, cons_option}
 use Rattle.std.proofs.lemmas.Bool.{and_parts, eq-eqb, eqb-true}
 use Rattle.std.proofs.lemmas.Grind.{reverse_onto}
 use Rattle.std.proofs.lemmas.Option.{same_Some}
+use Rattle.mv_move_types.specs.declared.tables.Key.{Key}
 use Rattle.mv_move_types.specs.declared.borrow.Availability.{Availability}
 use Rattle.mv_move_types.specs.declared.borrow.Availability.TheVariants.{Unavailable, Available}
 use Rattle.mv_move_types.specs.declared.borrow.Node.TheVariants.{Own, Glob, Temp}
@@ -51,7 +52,8 @@ use Rattle.mv_interpreter.specs.Borrows.Hypotheses.{Fits, NoneInside, token_kind
 use Rattle.mv_interpreter.proofs.Borrows.Edges.{then-some}
 use Rattle.mv_interpreter.proofs.Borrows.Mutability.{kinds-length}
 use Rattle.mv_interpreter.proofs.Borrows.Same.{write-same, plain-tagged}
-use Rattle.mv_machine.proofs.Binds.{found-is, held-is, operand-is, operands-is, reference-is}
+use Rattle.mv_machine.proofs.Binds.{found-is, held-is, operand-is, operands-is, reference-is, none-is}
+use Rattle.mv_storage.proofs.Keys.{same_key-to}
 use Rattle.mv_interpreter.specs.Borrows.Links.{Reaches}
 use Rattle.mv_interpreter.proofs.Borrows.Free.{in-either, none-frozen, local-free, struct-unfrozen, write-unfrozen, return-unfrozen}
 use Rattle.mv_interpreter.proofs.Borrows.Available.{known-at, known-set, known-same, held-found, needed-holds, overwritten-drops, left-drops}
@@ -168,12 +170,13 @@ negation-well : (s : List Value) → Goes_well (negation s)
 unfolding negation
 negation-well s = after _ (operand s) _ (operand-well s) (λ top e1. after _ (as_boolean top.0) _ (boolean-well top.0) (λ x e2. tt))
 
-freeze-well : (s : List Value) → Goes_well (freeze s)
+freeze-well : (h : Here) (s : List Value) → Goes_well (freeze h s)
 unfolding freeze
-freeze-well s =
+freeze-well h s =
     after _ (operand s) _ (operand-well s) (λ top e1.
     after _ (as_reference top.0) _ (reference-well top.0) (λ r e2.
-    tests _ r.is_mutable (Faults TypeFault) _ tt (λ ok. tt)))
+    tests _ r.is_mutable (Faults TypeFault) _ tt (λ ok.
+    after _ (follow h.state r) _ (found-well _ _ tt) (λ v e3. tt))))
 
 constant-well : (t : Token) (bytes : List ℕ) → Goes_well (constant_value t bytes)
 constant-well (Plain (OfLeaf kind)) bytes = after _ (ok_or (leaf_number kind bytes) (Faults TypeFault)) _ (found-well _ _ tt) (λ n e. tt)
@@ -213,6 +216,11 @@ call-well h i =
 pub local-root : (root : Root) (n l : ℕ) → same_root root (Local n l) ≡ true → root ≡ Local n l
 local-root (Local m k) n l h = let t = and_parts (m == n) (k == l) h in ap (λ (x : ℕ). Local x k) (eqb-true m n t.0) ∙ ap (λ (x : ℕ). Local n x) (eqb-true k l t.1)
 local-root (Stored key) n l h = absurd cc
+
+-- a root that is this key
+stored-root : (root : Root) (key : Key) → same_root root (Stored key) ≡ true → root ≡ Stored key
+stored-root (Local m k) key h = absurd cc
+stored-root (Stored other) key h = ap Stored (same_key-to other key h)
 
 -- fewer operands hold fewer references
 pub fewer-live : (s : State) (v : Value) (below : List Value) (r : Reference) → s.top.stack ≡ v ∷ below → InRefs r (live (with_stack s below)) → InRefs r (live s)
@@ -260,6 +268,18 @@ module _ (depends : ℕ → ℕ → Type 0) (through : (a b c : ℕ) → depends
         let e = local-root r.place.root s.top.number l (and_parts (same_root r.place.root (Local s.top.number l)) _ o).0 in
         let q = plain-local r l (among r i) e in
         local-free depends through no_cycle s x xs sound.stood sound.chain l (free (ap token_kind (same_Some t q.0 (sym is ∙ q.1)) ∙ q.2)) r (among r i) (ap root_of e))
+
+    -- a live reference leads into what is stored, so where nothing is stored nothing is frozen
+    nothing-frozen : (key : Key) → stored_at s.storage key ≡ None → is_frozen_by (live s) (record { root = Stored key; path = [] }) ≡ false
+    nothing-frozen key none =
+        none-frozen (live s) (record { root = Stored key; path = [] }) (λ r i im o.
+        let e = stored-root r.place.root key (and_parts (same_root r.place.root (Stored key)) _ o).0 in
+        let v = rooted r i in
+        let there : stored_at s.storage key ≡ Some v.0 = subst (λ (z : Root). root_value s z ≡ Some v.0) e v.1 in
+        none-some v.0 (sym none ∙ there))
+      where
+        none-some : (v : Value) → None ≡ Some v → ⊥
+        none-some v e = cc
 
     pub moved-free : (l : ℕ) (t : Token) (es : List Edge) → move_edges p l t known.edges ≡ Some es → token_kind t ≡ None → no_edge_out (Own l) known.edges ≡ true
     moved-free l (Plain t) es e k = (then-some (no_edge_out (Own l) known.edges) known.edges es e).0
@@ -381,7 +401,9 @@ module _ (depends : ℕ → ℕ → Type 0) (through : (a b c : ℕ) → depends
           tests _ (not r.is_mutable) (Faults TypeFault) _ tt (λ imm.
           after _ (follow s r) _ (found-well _ _ tt) (λ v e5.
           after _ (as_signer v) _ (signer-well v) (λ a e6.
-          tests _ (not (is_some (stored_at s.storage (key_at h i a)))) (Aborts AlreadyThere 0) _ tt (λ free. stay)))))))))
+          tests _ (not (is_some (stored_at s.storage (key_at h i a)))) (Aborts AlreadyThere 0) _ tt (λ free.
+          passes _ (not (is_frozen_by (live s) (record { root = Stored (key_at h i a); path = [] }))) (Faults FrozenFault) _
+          (turned (nothing-frozen (key_at h i a) (none-is (stored_at s.storage (key_at h i a)) free))) stay)))))))))
 
       move-from-ends : (i : ℕ) (es : List Edge) → Reaches function.acquires (MoveFrom i) → edges_after p (MoveFrom i) known.edges ≡ Some es → Ends (LocalsKnown ls) (move_from h i)
       unfolding move_from edges_after
@@ -592,7 +614,7 @@ module _ (depends : ℕ → ℕ → Type 0) (through : (a b c : ℕ) → depends
     rule-ends (ImmBorrowGlobal i) ls es q able e g = global-ends ls e false i
     rule-ends (MoveFrom i) ls es q able e g = move-from-ends ls e i es q g
     rule-ends (MoveTo i) ls es q able e g = move-to-ends ls e i
-    rule-ends FreezeRef ls es q able e g = gives-ends ls e (freeze s.top.stack) (freeze-well s.top.stack)
+    rule-ends FreezeRef ls es q able e g = gives-ends ls e (freeze h s.top.stack) (freeze-well h s.top.stack)
     rule-ends Shl ls es q able e g = gives-ends ls e (shift shifted_left s.top.stack) (shift-well shifted_left (λ w x y. choice-well _ _ _ tt) s.top.stack)
     rule-ends Shr ls es q able e g = gives-ends ls e (shift shifted_right s.top.stack) (shift-well shifted_right (λ w x y. choice-well _ _ _ tt) s.top.stack)
     rule-ends (LdU8 n) ls es q able e g = stay ls e

@@ -216,14 +216,15 @@ module _ (h : Here) (i : Instruction) (types after : Types) (row : Row h i types
       (known (TurnTyped h.modules) (follow h.state r) _ there.0 (ap (λ (x : Option Value). ok_or x (Faults DanglingFault)) there.1)
       (known (TurnTyped h.modules) (as_signer there.0) _ signer.0 (ap as_signer signer.1)
       (tried (TurnTyped h.modules) (not (is_some (stored_at h.state.storage (key_at h k signer.0)))) (Aborts AlreadyThere 0) _ tt (λ free.
-      let key : Key = key_at h k signer.0 in
+      tested (TurnTyped h.modules) (untouched h.state (record { root = Stored (key_at h k signer.0); path = [] })) _ (frozen h.state (record { root = Stored (key_at h k signer.0); path = [] }))
+      (let key : Key = key_at h k signer.0 in
       let none : stored_at h.state.storage key ≡ None = nothing_there (stored_at h.state.storage key) free in
       let storage : Storage = with_stored h.state.storage key top.0 in
       let kept = kept_with key top.0 none in
       restored Nothing storage under.1 kept (none_to_nothing h.state)
       (typed_with h.modules h.state.storage key top.0 row.stands.storage (record { name = f.struct.name; fits = signer.2; is_named = f.key; has_key = f.has_key; typed = value_is }))
       (subst (λ (ts : Types). HaveTokens h.modules (root_value (with_storage h.state storage)) h.home under.1 ts) (sym parts.2)
-      (keep_stack h.modules look (root_value (with_storage h.state storage)) Nothing kept h.home under.1 parts.0 (avoid_nothing (references under.1)) under.4))))))))))))
+      (keep_stack h.modules look (root_value (with_storage h.state storage)) Nothing kept h.home under.1 parts.0 (avoid_nothing (references under.1)) under.4)))))))))))))
     where
       nothing_there : (x : Option Value) → not (is_some x) ≡ true → x ≡ None
       nothing_there None e = refl

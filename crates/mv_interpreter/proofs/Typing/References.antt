@@ -217,7 +217,7 @@ module _ (h : Here) (i : Instruction) (types after : Types) (row : Row h i types
       (subst (λ (ts : Types). HaveTokens h.modules (root_value h.state) h.home (there.0 ∷ top.1) ts) given
       (record { tag = ref.1.tag; names = ref.1.names; typed = is_plain (fields_by_name h.modules) (root_value h.state) there.0 ref.1.tag there.2 }, top.4)))))))))
 
-  pub freezes : of_freeze types ≡ Some after → Part (λ (stack : List Value). HaveTokens h.modules (root_value h.state) h.home stack after) (freeze h.state.top.stack)
+  pub freezes : of_freeze types ≡ Some after → Part (λ (stack : List Value). HaveTokens h.modules (root_value h.state) h.home stack after) (freeze h h.state.top.stack)
   unfolding freeze
   freezes e =
       on_some (top_type types) _ after e (λ t t_is e1.
@@ -226,10 +226,12 @@ module _ (h : Here) (i : Instruction) (types after : Types) (row : Row h i types
       let top = top_typed t.0 t.1 (top_type-is types t t_is) in
       let ref = mutable_one h.modules (root_value h.state) h.home top.0 u (subst (λ (x : Token). HasToken h.modules (root_value h.state) h.home top.0 x) (mutable_target-is h.modules (root_value h.state) h.home t.0 u u_is) top.3) in
       let r : Reference = ref.reference in
+      let there = place_of (fields_by_name h.modules) h.state r ref.tag ref.points in
       let new : Reference = record { is_mutable = false; place = r.place } in
       let new_points : PointsTo (fields_by_name h.modules) (root_value h.state) new ref.tag = record { base = ref.points.base; root = ref.points.root; leads = ref.points.leads } in
       known P (operand h.state.top.stack) _ (top.0, top.1) (ap operand top.2)
       (known P (as_reference top.0) _ r (ap as_reference ref.is_reference)
       (met P r.is_mutable _ _ ref.mutable
+      (known P (follow h.state r) _ there.0 (ap (λ (x : Option Value). ok_or x (Faults DanglingFault)) there.1)
       (subst (λ (ts : Types). HaveTokens h.modules (root_value h.state) h.home (Ref new ∷ top.1) ts) (same_Some (ReferenceTo u ∷ t.1) after e2)
-      (of_reference h.modules (root_value h.state) h.home false ReferenceTo (immutable_names h.home) new u ref.tag refl ref.names new_points, top.4))))))
+      (of_reference h.modules (root_value h.state) h.home false ReferenceTo (immutable_names h.home) new u ref.tag refl ref.names new_points, top.4)))))))

@@ -81,13 +81,14 @@ read-trades h stack after e =
     on_need (can_copy h x) _ _ after e3 (λ c e4.
     subst (WhereOk (Trades h stack)) e4 (one h stack rest v x s (drops_reference h v r v_is) (a_copy x c (at_place r.place x x_is)))))))
 
-freeze-trades : (h : Here) (stack after : List Value) → freeze stack ≡ Ok after → Trades h stack after
+freeze-trades : (h : Here) (stack after : List Value) → freeze h stack ≡ Ok after → Trades h stack after
 unfolding freeze
 freeze-trades h stack after e =
     on_operand stack _ after e (λ v rest s e1.
     on_reference v _ after e1 (λ r v_is e2.
     on_need r.is_mutable _ _ after e2 (λ m e3.
-    subst (WhereOk (Trades h stack)) e3 (one h stack rest v _ s (drops_reference h v r v_is) (a_reference _)))))
+    on_some (place_value h.state r.place) _ _ after e3 (λ x x_is e4.
+    subst (WhereOk (Trades h stack)) e4 (one h stack rest v _ s (drops_reference h v r v_is) (a_reference _))))))
 
 -- ---- whole rules
 
@@ -242,8 +243,9 @@ move_to-ends h i t e =
     on_some (place_value h.state r.place) _ _ t e6 (λ signer signer_is e7.
     on_bind (as_signer signer) _ t e7 (λ a a_is e8.
     on_need (not (is_some (stored_at h.state.storage (key_at h i a)))) _ _ t e8 (λ free e9.
+    on_need (not (is_frozen_by (live h.state) (record { root = Stored (key_at h i a); path = [] }))) _ _ t e9 (λ unfrozen e10.
     let stack : h.state.top.stack ≡ v ∷ Ref r ∷ below = s ∙ ap (λ (b : List Value). v ∷ b) (s2 ∙ ap (λ (b : Value). b ∷ below) r_is) in
-    subst (WhereOk (Ends h)) e9 (Went _ _ (MovedTo (key_at h i a) r v below stack (none-is (stored_at h.state.storage (key_at h i a)) free))))))))))))
+    subst (WhereOk (Ends h)) e10 (Went _ _ (MovedTo (key_at h i a) r v below stack (none-is (stored_at h.state.storage (key_at h i a)) free)))))))))))))
 
 borrow_field-ends : (is_mutable : Bool) (h : Here) (i : ℕ) (t : Turn) → borrow_field is_mutable h i ≡ Ok t → Ends h t
 unfolding borrow_field
