@@ -1,12 +1,10 @@
 -- A bundle is published with one list of modules, or refused in one phase: the first that it fails.
-use Rattle.std.proofs.Common.{◌≡◌, ℕ, zero, suc, ◌<◌, ◌≤◌, Bool, true, false, List, [], ◌∷◌, ◌++◌, length, Some, None, refl, sym, ap, ap₂, ◌∙◌, subst, arith, IsTrue, nat_lt, ltb-true, ltb-false}
+use Rattle.std.proofs.Common.{◌≡◌, ℕ, zero, suc, ◌<◌, ◌≤◌, Bool, true, false, List, [], ◌∷◌, ◌++◌, length, refl, sym, ◌∙◌, subst, arith, IsTrue, nat_lt, ltb-true, ltb-false}
 use Rattle.std.specs.Prelude.{⊤}
-use Rattle.std.specs.List.{AllByRecursion, list_all}
 use Rattle.std.specs.Cmp.{first_so, second_so}
-use Rattle.std.proofs.lemmas.Option.{same_Some}
 use Rattle.mv_move_types.specs.Module.{Module}
 use Rattle.mv_move_types.specs.Published.{PublishedModule}
-use Rattle.mv_binary_format.specs.ModuleText.{HasText}
+use Rattle.mv_module_text.specs.Laws.{AreBytes}
 use Rattle.mv_binary_format.specs.Laws.{IsReadByText}
 use Rattle.mv_bounds.specs.Bounds.{InBounds}
 use Rattle.mv_bounds.specs.Definitions.{WellDefined}
@@ -20,15 +18,11 @@ use Rattle.mv_certificate.specs.Certificate.{Certificate, all_locals_hold, all_e
 use Rattle.mv_certificate.specs.CertificateText.{IsCertificateText}
 use Rattle.mv_certificate.proofs.OneCertificate.{one-certificate}
 use Rattle.mv_machine.specs.Ledger.{Offer, LedgerState}
-use Rattle.mv_ledger.specs.RecordText.{offer_fits}
 use Rattle.mv_ledger.specs.Publishing.{Spells, Passes, FailsAt, no_text, no_bounds, not_defined, not_signed, not_able, no_flow, not_typed, no_certificate, no_locals, no_edges, no_acquires, AllPass, IsLinked, HasRoom, IsPublished, IsRefusedAt, in_offer, in_linking, in_room}
-use Rattle.mv_ledger.proofs.SavedFails.{never-fails, text_bytes}
+use Rattle.mv_ledger.proofs.Spelling.{OffersAreBytes, module-one}
+use Rattle.mv_ledger.proofs.SavedFails.{never-fails, passed-one}
 
 -- ---- one offer
-
--- what an offer spells has a text
-abbrev pub IsTexted : Offer → Type 0
-IsTexted o = (m : Module) → Spells o.text m → HasText m
 
 -- the first of some types, or one of those after it
 abbrev At : Type 0 → (ℕ → Type 0) → ℕ → Type 0
@@ -83,23 +77,23 @@ locals-same m n c d i j h = rw (i, j) h
 edges-same : (m n : Module) (c d : Certificate) → m ≡ n → c ≡ d → IsTrue (all_edges_hold n d) → IsTrue (all_edges_hold m c)
 edges-same m n c d i j h = rw (i, j) h
 
-module _ (o : Offer) (has : IsTexted o) where
+module _ (reads : IsReadByText) (o : Offer) (are : AreBytes o.text) where
   -- an offer spells one module
-  module-one : (m n : Module) → Spells o.text m → Spells o.text n → m ≡ n
-  module-one m n e f = same_Some m n (sym e ∙ f)
+  module-is : (m n : Module) → Spells o.text m → Spells o.text n → m ≡ n
+  module-is m n e f = module-one reads o.text m n are e f
 
   -- what holds of the one holds of the other
   moved : (P : Module → Type 0) (m n : Module) → Spells o.text m → Spells o.text n → P n → P m
-  moved P m n e f h = subst P (sym (module-one m n e f)) h
+  moved P m n e f h = subst P (sym (module-is m n e f)) h
 
   -- and one certificate
   certificate-one : (m n : Module) (c d : Certificate) → Spells o.text m → Spells o.text n → IsCertificateText m o.certificate c → IsCertificateText n o.certificate d → c ≡ d
   certificate-one m n c d e f p q =
-      one-certificate m o.certificate c d (has m e) p (moved (λ (k : Module). IsCertificateText k o.certificate d) m n e f q)
+      one-certificate m o.certificate c d e.fits p (moved (λ (k : Module). IsCertificateText k o.certificate d) m n e f q)
 
   -- it doesn't hold for the phase that fails
   fails_here : {p : ℕ} → FailsAt o p → Holds o p → ⊥
-  fails_here (no_text none) h = let no : Some h.0 ≡ None = sym h.1 ∙ none in cc
+  fails_here (no_text none) h = none h.0 h.1
   fails_here (no_bounds m e out) h = out (moved InBounds m h.0 e h.1 h.2)
   fails_here (not_defined m e b out) h = out (moved WellDefined m h.0 e h.1 h.2)
   fails_here (not_signed m e b d out) h = out (moved WellSigned m h.0 e h.1 h.2)
@@ -108,9 +102,9 @@ module _ (o : Offer) (has : IsTexted o) where
   fails_here (not_typed m e b d s a f out) h = out (moved TypesHold m h.0 e h.1 h.2)
   fails_here (no_certificate m e sound out) h = out h.1 (moved (λ (k : Module). IsCertificateText k o.certificate h.1) m h.0 e h.2 h.3)
   fails_here (no_locals m c e sound written out) h =
-      out (locals-same m h.0 c h.1 (module-one m h.0 e h.2) (certificate-one m h.0 c h.1 e h.2 written h.3) h.4)
+      out (locals-same m h.0 c h.1 (module-is m h.0 e h.2) (certificate-one m h.0 c h.1 e h.2 written h.3) h.4)
   fails_here (no_edges m c e sound written locals out) h =
-      out (edges-same m h.0 c h.1 (module-one m h.0 e h.2) (certificate-one m h.0 c h.1 e h.2 written h.3) h.4)
+      out (edges-same m h.0 c h.1 (module-is m h.0 e h.2) (certificate-one m h.0 c h.1 e h.2 written h.3) h.4)
   fails_here (no_acquires m c e sound written holds out) h = out (moved AcquiresHold m h.0 e h.1 h.2)
 
   -- for those before it, it does
@@ -171,81 +165,61 @@ module _ (o : Offer) (has : IsTexted o) where
       by_case false false e f = omega (arith, ltb-false p q e, ltb-false q p f)
 
   passes_or_fails : (p : PublishedModule) (phase : ℕ) → (c : Certificate) × Passes o p.tables c → FailsAt o phase → ⊥
-  passes_or_fails p phase passes fails = never-fails o p.tables passes.0 (has p.tables passes.1.text) passes.1 fails
+  passes_or_fails p phase passes fails = never-fails reads o p.tables passes.0 are passes.1 fails
 
 -- ---- a bundle
 
--- offers within their limits are of bytes
-pub texted : IsReadByText → (os : List Offer) → IsTrue (list_all offer_fits os) → AllByRecursion IsTexted os
-texted reads [] fit = tt
-texted reads (o ∷ os) fit =
-    let here : IsTexted o = λ m e. ((reads o.text m (text_bytes o (first_so (offer_fits o) (list_all offer_fits os) fit))).0 e).fits in
-    (here, texted reads os (second_so (offer_fits o) (list_all offer_fits os) fit))
+module _ (reads : IsReadByText) where
+  -- none of offers that passed fails
+  passed_or_fails : (before : List Offer) (o : Offer) (after : List Offer) (ps : List PublishedModule) (phase : ℕ)
+      → OffersAreBytes (before ++ o ∷ after) → AllPass (before ++ o ∷ after) ps → FailsAt o phase → ⊥
+  passed_or_fails [] o after [] phase has all fails = all
+  passed_or_fails [] o after (p ∷ ps) phase has all fails = passes_or_fails reads o has.0 p phase all.2 fails
+  passed_or_fails (b ∷ before) o after [] phase has all fails = all
+  passed_or_fails (b ∷ before) o after (p ∷ ps) phase has all fails = passed_or_fails before o after ps phase has.1 all.3 fails
 
--- the modules that passed with these texts
-pub passed-one : (os : List Offer) (ps qs : List PublishedModule) → AllPass os ps → AllPass os qs → ps ≡ qs
-passed-one [] [] [] a b = refl
-passed-one [] [] (q ∷ qs) a b = absurd b
-passed-one [] (p ∷ ps) qs a b = absurd a
-passed-one (o ∷ os) [] qs a b = absurd a
-passed-one (o ∷ os) (p ∷ ps) [] a b = absurd b
-passed-one (o ∷ os) (p ∷ ps) (q ∷ qs) a b =
-    let text : p.text ≡ q.text = a.0 ∙ sym b.0 in
-    let certificate : p.certificate ≡ q.certificate = a.1 ∙ sym b.1 in
-    let tables : p.tables ≡ q.tables = same_Some p.tables q.tables (sym a.2.1.text ∙ b.2.1.text) in
-    let here : p ≡ q = λ i. record { text = text i; certificate = certificate i; tables = tables i } in
-    ap₂ (λ (x : PublishedModule) (xs : List PublishedModule). x ∷ xs) here (passed-one os ps qs a.3 b.3)
+  -- the first that fails is one
+  first-one : (before : List Offer) (o : Offer) (after : List Offer) (ps : List PublishedModule) (m : ℕ)
+      (others : List Offer) (other : Offer) (more : List Offer) (qs : List PublishedModule) (n : ℕ)
+      → OffersAreBytes (before ++ o ∷ after) → before ++ o ∷ after ≡ others ++ other ∷ more
+      → AllPass before ps → AllPass others qs → FailsAt o m → FailsAt other n → m ≡ n
+  first-one [] o after ps m [] other more qs n has e a b f g =
+      let same : o ≡ other = cc in fails-one reads o has.0 m n f (subst (λ (x : Offer). FailsAt x n) (sym same) g)
+  first-one [] o after ps m (x ∷ others) other more [] n has e a b f g = absurd b
+  first-one [] o after ps m (x ∷ others) other more (q ∷ qs) n has e a b f g =
+      let same : o ≡ x = cc in
+      absurd (passes_or_fails reads x (subst (λ (z : Offer). AreBytes z.text) same has.0) q m b.2 (subst (λ (z : Offer). FailsAt z m) same f))
+  first-one (y ∷ before) o after [] m others other more qs n has e a b f g = absurd a
+  first-one (y ∷ before) o after (p ∷ ps) m [] other more qs n has e a b f g =
+      let same : y ≡ other = cc in
+      absurd (passes_or_fails reads y has.0 p n a.2 (subst (λ (z : Offer). FailsAt z n) (sym same) g))
+  first-one (y ∷ before) o after (p ∷ ps) m (x ∷ others) other more [] n has e a b f g = absurd b
+  first-one (y ∷ before) o after (p ∷ ps) m (x ∷ others) other more (q ∷ qs) n has e a b f g =
+      let rest : before ++ o ∷ after ≡ others ++ other ∷ more = cc in
+      first-one before o after ps m others other more qs n has.1 rest a.3 b.3 f g
 
--- none of offers that passed fails
-passed_or_fails : (before : List Offer) (o : Offer) (after : List Offer) (ps : List PublishedModule) (phase : ℕ)
-    → AllByRecursion IsTexted (before ++ o ∷ after) → AllPass (before ++ o ∷ after) ps → FailsAt o phase → ⊥
-passed_or_fails [] o after [] phase has all fails = all
-passed_or_fails [] o after (p ∷ ps) phase has all fails = passes_or_fails o has.0 p phase all.2 fails
-passed_or_fails (b ∷ before) o after [] phase has all fails = all
-passed_or_fails (b ∷ before) o after (p ∷ ps) phase has all fails = passed_or_fails before o after ps phase has.1 all.3 fails
+  module _ (s : LedgerState) (sender : ℕ) (offers : List Offer) (has : OffersAreBytes offers) where
+    -- a bundle whose offers pass fails in none of them
+    all_or_one : (before : List Offer) (o : Offer) (after : List Offer) (ps : List PublishedModule) (phase : ℕ)
+        → offers ≡ before ++ o ∷ after → AllPass offers ps → FailsAt o phase → ⊥
+    all_or_one before o after ps phase e all fails =
+        passed_or_fails before o after ps phase (subst OffersAreBytes e has) (subst (λ (os : List Offer). AllPass os ps) e all) fails
 
--- the first that fails is one
-first-one : (before : List Offer) (o : Offer) (after : List Offer) (ps : List PublishedModule) (m : ℕ)
-    (others : List Offer) (other : Offer) (more : List Offer) (qs : List PublishedModule) (n : ℕ)
-    → AllByRecursion IsTexted (before ++ o ∷ after) → before ++ o ∷ after ≡ others ++ other ∷ more
-    → AllPass before ps → AllPass others qs → FailsAt o m → FailsAt other n → m ≡ n
-first-one [] o after ps m [] other more qs n has e a b f g =
-    let same : o ≡ other = cc in fails-one o has.0 m n f (subst (λ (x : Offer). FailsAt x n) (sym same) g)
-first-one [] o after ps m (x ∷ others) other more [] n has e a b f g = absurd b
-first-one [] o after ps m (x ∷ others) other more (q ∷ qs) n has e a b f g =
-    let same : o ≡ x = cc in
-    absurd (passes_or_fails x (subst IsTexted same has.0) q m b.2 (subst (λ (z : Offer). FailsAt z m) same f))
-first-one (y ∷ before) o after [] m others other more qs n has e a b f g = absurd a
-first-one (y ∷ before) o after (p ∷ ps) m [] other more qs n has e a b f g =
-    let same : y ≡ other = cc in
-    absurd (passes_or_fails y has.0 p n a.2 (subst (λ (z : Offer). FailsAt z n) (sym same) g))
-first-one (y ∷ before) o after (p ∷ ps) m (x ∷ others) other more [] n has e a b f g = absurd b
-first-one (y ∷ before) o after (p ∷ ps) m (x ∷ others) other more (q ∷ qs) n has e a b f g =
-    let rest : before ++ o ∷ after ≡ others ++ other ∷ more = cc in
-    first-one before o after ps m others other more qs n has.1 rest a.3 b.3 f g
+    -- what is published isn't refused
+    pub published_or_refused : (ps : List PublishedModule) {phase : ℕ} → IsPublished s sender offers ps → IsRefusedAt s sender offers phase → ⊥
+    published_or_refused ps a (in_offer before o after qs phase e passed fails) = all_or_one before o after ps phase e a.0 fails
+    published_or_refused ps a (in_linking qs all out) = out (subst (IsLinked sender s) (passed-one reads offers ps qs has a.0 all) a.1)
+    published_or_refused ps a (in_room qs all linked out) = out (subst (HasRoom s) (passed-one reads offers ps qs has a.0 all) a.2)
 
-module _ (s : LedgerState) (sender : ℕ) (offers : List Offer) (has : AllByRecursion IsTexted offers) where
-  -- a bundle whose offers pass fails in none of them
-  all_or_one : (before : List Offer) (o : Offer) (after : List Offer) (ps : List PublishedModule) (phase : ℕ)
-      → offers ≡ before ++ o ∷ after → AllPass offers ps → FailsAt o phase → ⊥
-  all_or_one before o after ps phase e all fails =
-      passed_or_fails before o after ps phase (subst (AllByRecursion IsTexted) e has) (subst (λ (os : List Offer). AllPass os ps) e all) fails
-
-  -- what is published isn't refused
-  pub published_or_refused : (ps : List PublishedModule) {phase : ℕ} → IsPublished s sender offers ps → IsRefusedAt s sender offers phase → ⊥
-  published_or_refused ps a (in_offer before o after qs phase e passed fails) = all_or_one before o after ps phase e a.0 fails
-  published_or_refused ps a (in_linking qs all out) = out (subst (IsLinked sender s) (passed-one offers ps qs a.0 all) a.1)
-  published_or_refused ps a (in_room qs all linked out) = out (subst (HasRoom s) (passed-one offers ps qs a.0 all) a.2)
-
-  -- what is refused is refused in one phase
-  pub refused-one : {m n : ℕ} → IsRefusedAt s sender offers m → IsRefusedAt s sender offers n → m ≡ n
-  refused-one (in_offer before o after ps m e a f) (in_offer others other more qs n g b h) =
-      first-one before o after ps m others other more qs n (subst (AllByRecursion IsTexted) e has) (sym e ∙ g) a b f h
-  refused-one (in_offer before o after ps m e a f) (in_linking qs all out) = absurd (all_or_one before o after qs m e all f)
-  refused-one (in_offer before o after ps m e a f) (in_room qs all linked out) = absurd (all_or_one before o after qs m e all f)
-  refused-one (in_linking ps all out) (in_offer others other more qs n g b h) = absurd (all_or_one others other more ps n g all h)
-  refused-one (in_linking ps all out) (in_linking qs also none) = refl
-  refused-one (in_linking ps all out) (in_room qs also linked none) = absurd (out (subst (IsLinked sender s) (passed-one offers qs ps also all) linked))
-  refused-one (in_room ps all linked out) (in_offer others other more qs n g b h) = absurd (all_or_one others other more ps n g all h)
-  refused-one (in_room ps all linked out) (in_linking qs also none) = absurd (none (subst (IsLinked sender s) (passed-one offers ps qs all also) linked))
-  refused-one (in_room ps all linked out) (in_room qs also there none) = refl
+    -- what is refused is refused in one phase
+    pub refused-one : {m n : ℕ} → IsRefusedAt s sender offers m → IsRefusedAt s sender offers n → m ≡ n
+    refused-one (in_offer before o after ps m e a f) (in_offer others other more qs n g b h) =
+        first-one before o after ps m others other more qs n (subst OffersAreBytes e has) (sym e ∙ g) a b f h
+    refused-one (in_offer before o after ps m e a f) (in_linking qs all out) = absurd (all_or_one before o after qs m e all f)
+    refused-one (in_offer before o after ps m e a f) (in_room qs all linked out) = absurd (all_or_one before o after qs m e all f)
+    refused-one (in_linking ps all out) (in_offer others other more qs n g b h) = absurd (all_or_one others other more ps n g all h)
+    refused-one (in_linking ps all out) (in_linking qs also none) = refl
+    refused-one (in_linking ps all out) (in_room qs also linked none) = absurd (out (subst (IsLinked sender s) (passed-one reads offers qs ps has also all) linked))
+    refused-one (in_room ps all linked out) (in_offer others other more qs n g b h) = absurd (all_or_one others other more ps n g all h)
+    refused-one (in_room ps all linked out) (in_linking qs also none) = absurd (none (subst (IsLinked sender s) (passed-one reads offers ps qs has all also) linked))
+    refused-one (in_room ps all linked out) (in_room qs also there none) = refl

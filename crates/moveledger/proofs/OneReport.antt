@@ -1,6 +1,5 @@
 -- One input and one ledger allow one report.
 use Rattle.std.proofs.Common.{◌≡◌, ℕ, ◌+◌, ◌-◌, ◌^◌, ◌<◌, ◌≤◌, List, [], ◌∷◌, ◌++◌, length, flat_map, refl, sym, ap, ap₂, ◌∙◌, subst, arith, Some, ◌⊎◌, inl, inr, IsTrue}
-use Rattle.std.specs.List.{AllByRecursion}
 use Rattle.std.proofs.lemmas.Option.{some_pair_parts}
 use Rattle.mv_move_types.specs.Published.{PublishedModule}
 use Rattle.mv_binary_format.specs.Laws.{IsReadByText}
@@ -15,7 +14,9 @@ use Rattle.moveledger.specs.Headline.{AnswersWhole, Step, Reports, Headline}
 use Rattle.moveledger.specs.OneReport.{OneReport}
 use Rattle.moveledger.proofs.One.{begins_one, nothing_begins}
 use Rattle.moveledger.proofs.OneRequest.{offers_fit, publish-one, asks-one}
-use Rattle.moveledger.proofs.OneRefusal.{IsTexted, texted, passed-one, published_or_refused, refused-one}
+use Rattle.mv_ledger.proofs.Spelling.{OffersAreBytes, offers_bytes}
+use Rattle.mv_ledger.proofs.SavedFails.{passed-one}
+use Rattle.moveledger.proofs.OneRefusal.{published_or_refused, refused-one}
 
 -- two replies are one, and so are the states after them
 abbrev AreOne : Reply → Reply → LedgerState → LedgerState → Type 0
@@ -24,8 +25,8 @@ AreOne r q t u = (r ≡ q) × (t ≡ u)
 -- ---- a publish record
 
 module _ (reads : IsReadByText) (s : LedgerState) (payload : List ℕ) (sender : ℕ) (offers : List Offer) (asked : IsShaped 1 payload (Publish sender offers)) where
-  has : AllByRecursion IsTexted offers
-  has = texted reads offers (offers_fit sender offers asked.2)
+  has : OffersAreBytes offers
+  has = offers_bytes offers (offers_fit sender offers asked.2)
 
   -- what was accepted is this bundle
   accepted : (bundle : List PublishedModule) → IsAccepted s payload bundle → IsPublished s sender offers bundle
@@ -42,11 +43,11 @@ module _ (reads : IsReadByText) (s : LedgerState) (payload : List ℕ) (sender :
 
   rightly-one : (r q : Reply) (t u : LedgerState) → IsRightly s payload r t → IsRightly s payload q u → AreOne r q t u
   rightly-one (Published n) (Published m) t u a b =
-      let same : a.0 ≡ b.0 = passed-one offers a.0 b.0 (accepted a.0 a.1.0).0 (accepted b.0 b.1.0).0 in
+      let same : a.0 ≡ b.0 = passed-one reads offers a.0 b.0 has (accepted a.0 a.1.0).0 (accepted b.0 b.1.0).0 in
       (ap Published (a.1.1 ∙ ap length same ∙ sym b.1.1), a.1.2 ∙ ap (with_bundle s) same ∙ sym b.1.2)
-  rightly-one (Published n) (Refused m) t u a b = absurd (published_or_refused s sender offers has a.0 (accepted a.0 a.1.0) (refused b.0))
-  rightly-one (Refused n) (Published m) t u a b = absurd (published_or_refused s sender offers has b.0 (accepted b.0 b.1.0) (refused a.0))
-  rightly-one (Refused n) (Refused m) t u a b = (ap Refused (refused-one s sender offers has (refused a.0) (refused b.0)), a.1 ∙ sym b.1)
+  rightly-one (Published n) (Refused m) t u a b = absurd (published_or_refused reads s sender offers has a.0 (accepted a.0 a.1.0) (refused b.0))
+  rightly-one (Refused n) (Published m) t u a b = absurd (published_or_refused reads s sender offers has b.0 (accepted b.0 b.1.0) (refused a.0))
+  rightly-one (Refused n) (Refused m) t u a b = (ap Refused (refused-one reads s sender offers has (refused a.0) (refused b.0)), a.1 ∙ sym b.1)
   rightly-one (Published n) q t u a b = absurd b
   rightly-one (Refused n) q t u a b = absurd b
   rightly-one r q t u a b = absurd a

@@ -4,7 +4,8 @@ use Rattle.std.proofs.lemmas.Bool.{and_from}
 use Rattle.mv_move_types.specs.declared.refusal.Refusal.{Refusal}
 use Rattle.mv_move_types.specs.declared.refusal.Refusal.TheVariants.{Phase, Memory as OutOfMemory}
 use Rattle.mv_move_types.specs.Module.{Module}
-use Rattle.mv_binary_format.specs.ModuleText.{HasText}
+use Rattle.mv_module_text.specs.Laws.{AreBytes}
+use Rattle.mv_binary_format.specs.Laws.{IsReadByText}
 use Rattle.mv_type_states.specs.Sound.{IsSound}
 use Rattle.mv_acquires.specs.Acquires.{AcquiresHold}
 use Rattle.mv_certificate.specs.Answers.{bad_locals, bad_borrows, bad_acquires}
@@ -12,11 +13,12 @@ use Rattle.mv_certificate.specs.Certificate.{Certificate, all_locals_hold, all_e
 use Rattle.mv_certificate.specs.CertificateText.{certificate_text}
 use Rattle.mv_certificate.specs.Laws.{IsOfOneCertificate}
 use Rattle.mv_certificate.specs.Shape.{AllStatedFit}
-use Rattle.mv_analyser.specs.Principal.{IsOfLimits, IsUnproved, PassesCheck}
+use Rattle.mv_analyser.specs.Principal.{IsOfLimits, IsProvable, IsUnproved, PassesCheck}
 use Rattle.mv_analyser.specs.declared.ProveError.{ProveError}
 use Rattle.mv_analyser.specs.declared.ProveError.TheVariants.{Refused, TooComplex, Memory}
 use Rattle.moveledger.specs.Hexadecimal.{hexadecimal, IsHexadecimal}
 use Rattle.mv_ledger.specs.Publishing.{Passes, Spells}
+use Rattle.mv_ledger.proofs.Spelling.{module-one}
 use Rattle.moveledger.specs.Checking.{AreShort, IsAccepted, IsRefusedAlone, PassesWith, before_line_end, offer_of}
 use Rattle.moveledger.specs.Proving.{HasNoProof, IsAcceptedBack, IsProvableText, IsProvedBy, IsShort, error_of, in_each, in_module}
 use Rattle.moveledger.proofs.Texts.{before_line_end-hexadecimal, before_line_end-line}
@@ -73,8 +75,14 @@ module _ (bytes : List ℕ) (short : IsShort bytes) where
     each-no_proof TooComplex h = record { short = short; tables = m; text = text; sound = sound; references = h }
     each-no_proof Memory h = tt
 
+-- where some certificate passes, one passes with the module that the bytes spell
+pub provable-spelled : IsReadByText → (bytes : List ℕ) → AreBytes bytes → (m : Module) → Spells bytes m → IsProvableText bytes → IsProvable m
+provable-spelled reads bytes are m spells provable =
+    subst IsProvable (module-one reads bytes provable.tables m are provable.passes.text spells)
+    ((provable.stated, (provable.passes.certificate.1, provable.passes.holds)), provable.passes.acquires)
+
 -- where some certificate passes, the module is not refused alone
-pub provable-refused : (bytes : List ℕ) → IsOfOneCertificate → ((m : Module) → Spells bytes m → HasText m) → IsProvableText bytes → (e : Refusal) → IsRefusedAlone bytes e → IsOfLimits (error_of e)
-provable-refused bytes one has provable (Phase p) h =
-    absurd (never-fails (offer_of bytes provable.certificate) provable.tables provable.stated one (has provable.tables provable.passes.text) provable.passes (h provable.certificate))
-provable-refused bytes one has provable OutOfMemory h = tt
+pub provable-refused : (bytes : List ℕ) → IsReadByText → IsOfOneCertificate → AreBytes bytes → IsProvableText bytes → (e : Refusal) → IsRefusedAlone bytes e → IsOfLimits (error_of e)
+provable-refused bytes reads one are provable (Phase p) h =
+    absurd (never-fails (offer_of bytes provable.certificate) provable.tables provable.stated reads one are provable.passes (h provable.certificate))
+provable-refused bytes reads one are provable OutOfMemory h = tt

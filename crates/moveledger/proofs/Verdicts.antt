@@ -1,11 +1,11 @@
 -- From phases to what the commands answer, and that what is accepted fails none.
-use Rattle.std.proofs.Common.{◌≡◌, ℕ, List, Some, None, ◌⊎◌, inl, inr, IsTrue, refl, sym, ◌∙◌, subst}
-use Rattle.std.proofs.lemmas.Option.{same_Some}
+use Rattle.std.proofs.Common.{◌≡◌, ℕ, List, ◌⊎◌, inl, inr, IsTrue, refl, sym, ◌∙◌, subst}
 use Rattle.std.proofs.lemmas.Bool.{and_parts}
 use Rattle.mv_move_types.specs.declared.refusal.Refusal.{Refusal}
 use Rattle.mv_move_types.specs.declared.refusal.Refusal.TheVariants.{Phase, Memory}
 use Rattle.mv_move_types.specs.Module.{Module}
-use Rattle.mv_binary_format.specs.ModuleText.{HasText}
+use Rattle.mv_module_text.specs.Laws.{AreBytes}
+use Rattle.mv_binary_format.specs.Laws.{IsReadByText}
 use Rattle.mv_bounds.specs.Bounds.{InBounds}
 use Rattle.mv_bounds.specs.Definitions.{WellDefined}
 use Rattle.mv_signatures.specs.Signatures.{WellSigned}
@@ -22,6 +22,7 @@ use Rattle.hex.proofs.HexLemmas.{decode_of-same}
 use Rattle.moveledger.specs.Hexadecimal.{IsHexadecimal}
 use Rattle.mv_ledger.specs.Publishing.{Spells, Passes, FailsAt, no_text, no_bounds, not_defined, not_signed, not_able, no_flow, not_typed, no_certificate, no_locals, no_edges, no_acquires, IsRefusedOffer}
 use Rattle.moveledger.specs.Checking.{AreShort, FailsCheck, FailsWith, IsAccepted, IsRefusedAlone, IsRefusedText, IsRefusedWith, PassesWith, before_line_end, failing, in_certificate, in_module, not_hexadecimal, offer_of, too_long}
+use Rattle.mv_ledger.proofs.Spelling.{module-one}
 use Rattle.moveledger.proofs.Digits.{decode_of-hexadecimal}
 
 module _ (bytes : List ℕ) where
@@ -56,21 +57,21 @@ edges-same : (m n : Module) (c d : Certificate) → n ≡ m → d ≡ c → IsTr
 edges-same m n c d i j h = rw (i, j) h
 
 -- an offer that passes fails in no phase
-module _ (o : Offer) (m : Module) (c : Certificate) (one : IsOfOneCertificate) (text : HasText m) (passes : Passes o m c) where
+module _ (o : Offer) (m : Module) (c : Certificate) (reads : IsReadByText) (one : IsOfOneCertificate) (are : AreBytes o.text) (passes : Passes o m c) where
   -- it spells one module
   one-module : (n : Module) → Spells o.text n → n ≡ m
-  one-module n e = same_Some n m (sym e ∙ passes.text)
+  one-module n e = module-one reads o.text n m are e passes.text
 
   -- and one certificate
   one-certificate : (n : Module) (d : Certificate) → n ≡ m → IsCertificateText n o.certificate d → d ≡ c
-  one-certificate n d is written = one m o.certificate d c text (subst (λ (k : Module). IsCertificateText k o.certificate d) is written) passes.certificate
+  one-certificate n d is written = one m o.certificate d c passes.text.fits (subst (λ (k : Module). IsCertificateText k o.certificate d) is written) passes.certificate
 
   -- what holds of the one holds of the other
   moved : (P : Module → Type 0) (n : Module) → Spells o.text n → P m → P n
   moved P n e h = subst P (sym (one-module n e)) h
 
   pub never-fails : {p : ℕ} → FailsAt o p → ⊥
-  never-fails (no_text none) = let no : Some m ≡ None = sym passes.text ∙ none in cc
+  never-fails (no_text none) = none m passes.text
   never-fails (no_bounds n e out) = out (moved InBounds n e passes.sound.bounds)
   never-fails (not_defined n e bounds out) = out (moved WellDefined n e passes.sound.defined)
   never-fails (not_signed n e bounds defined out) = out (moved WellSigned n e passes.sound.signed)
@@ -85,19 +86,19 @@ module _ (o : Offer) (m : Module) (c : Certificate) (one : IsOfOneCertificate) (
   never-fails (no_acquires n d e sound written holds out) = out (moved AcquiresHold n e passes.acquires)
 
 -- what is accepted fails in no phase
-module _ (bytes digits : List ℕ) (one : IsOfOneCertificate) (has : (m : Module) → Spells bytes m → HasText m) (passes : PassesWith bytes digits) where
+module _ (bytes digits : List ℕ) (reads : IsReadByText) (one : IsOfOneCertificate) (are : AreBytes bytes) (passes : PassesWith bytes digits) where
   never-with : {p : ℕ} → FailsWith bytes digits p → ⊥
   never-with (in_module phase alone) =
-      never-fails (offer_of bytes passes.certificate) passes.tables passes.stated one (has passes.tables passes.passes.text) passes.passes (alone passes.certificate)
+      never-fails (offer_of bytes passes.certificate) passes.tables passes.stated reads one are passes.passes (alone passes.certificate)
   never-with (not_hexadecimal m text sound none) = none passes.certificate passes.spelled
   never-with (in_certificate certificate phase spelled fails) =
       let same : certificate ≡ passes.certificate = decode_of-same digits certificate passes.certificate (decode_of-hexadecimal digits certificate spelled) (decode_of-hexadecimal digits passes.certificate passes.spelled) in
-      never-fails (offer_of bytes passes.certificate) passes.tables passes.stated one (has passes.tables passes.passes.text) passes.passes (subst (λ (l : List ℕ). FailsAt (offer_of bytes l) phase) same fails)
+      never-fails (offer_of bytes passes.certificate) passes.tables passes.stated reads one are passes.passes (subst (λ (l : List ℕ). FailsAt (offer_of bytes l) phase) same fails)
 
-never-fails-check : (bytes text : List ℕ) → IsOfOneCertificate → ((m : Module) → Spells bytes m → HasText m) → IsAccepted bytes text → {p : ℕ} → FailsCheck bytes text p → ⊥
-never-fails-check bytes text one has accepted (too_long long) = long accepted.0
-never-fails-check bytes text one has accepted (failing phase short fails) = never-with bytes (before_line_end text) one has accepted.1 fails
+never-fails-check : (bytes text : List ℕ) → IsReadByText → IsOfOneCertificate → AreBytes bytes → IsAccepted bytes text → {p : ℕ} → FailsCheck bytes text p → ⊥
+never-fails-check bytes text reads one are accepted (too_long long) = long accepted.0
+never-fails-check bytes text reads one are accepted (failing phase short fails) = never-with bytes (before_line_end text) reads one are accepted.1 fails
 
-pub accepted-refused : (bytes text : List ℕ) → IsOfOneCertificate → ((m : Module) → Spells bytes m → HasText m) → IsAccepted bytes text → (e : Refusal) → IsRefusedText bytes text e → e ≡ Memory
-accepted-refused bytes text one has accepted (Phase p) h = absurd (never-fails-check bytes text one has accepted h)
-accepted-refused bytes text one has accepted Memory h = refl
+pub accepted-refused : (bytes text : List ℕ) → IsReadByText → IsOfOneCertificate → AreBytes bytes → IsAccepted bytes text → (e : Refusal) → IsRefusedText bytes text e → e ≡ Memory
+accepted-refused bytes text reads one are accepted (Phase p) h = absurd (never-fails-check bytes text reads one are accepted h)
+accepted-refused bytes text reads one are accepted Memory h = refl

@@ -42,7 +42,7 @@ pub fn prove_text(alloc: Global, module: &[u8]) -> Result<String, ProveError>
     ensures refused { IfErr result (HasNoProof «module».now) }
     ensures principal { IsProvableText «module».now → IfErr result IsOfLimits }
 {
-    // For the prover: what bytes spell has a text, and bytes are the text of one certificate alone.
+    // For the prover: bytes spell one module alone, and are the text of one certificate alone.
     mv_binary_format::modules_are_read_by_text();
     mv_certificate::texts_are_of_one_certificate();
     if module.len() > MOST_BYTES {

@@ -1,7 +1,8 @@
 // Sets of numbers, each as a mark at its place.
 
-ghost use Rattle.std.specs.Prelude.{◌≡◌, ℕ, ◌==◌, ◌||◌, false, ◌++◌, replicate, OnOk, IfOk};
+ghost use Rattle.std.specs.Prelude.{◌≡◌, ℕ, ◌+◌, ◌^◌, ◌<◌, ◌==◌, ◌||◌, false, ◌++◌, replicate, OnOk, IfOk};
 ghost use Rattle.std.specs.Bool.{Decides};
+ghost use Rattle.std.specs.Vec.{vec_len};
 ghost use Rattle.mv_acquires.specs.Acquires.{has_member};
 ghost use Rattle.mv_acquires.specs.Marks.{is_marked, IsWithin};
 
@@ -9,12 +10,10 @@ use std::alloc::{AllocError, Global};
 
 /// Adds so many places without a mark.
 fn extend(marks: &mut Vec<bool>, count: usize) -> Result<(), AllocError>
+    requires { vec_len marks.old + count < 2 ^ 64 }
     ensures { OnOk result (marks.new.items ≡ marks.old.items ++ replicate count false) }
 {
     let len = marks.len();
-    if count > usize::MAX - len {
-        return Err(AllocError);
-    }
     marks.resize(len + count, false)
 }
 

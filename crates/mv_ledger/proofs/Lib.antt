@@ -1,3 +1,4 @@
+pub mod Spelling
 pub mod Stores
 pub mod Places
 pub mod Heirs

@@ -4,7 +4,7 @@ use Rattle.std.specs.Prelude.{All}
 use Rattle.std.specs.List.{list_all, AllByRecursion}
 use Rattle.std.specs.Cmp.{first_so, second_so}
 use Rattle.std.proofs.lemmas.List.{length-map}
-use Rattle.std.proofs.lemmas.List.Elements.{All-nil, All-cons, All-weaker}
+use Rattle.std.proofs.lemmas.List.Elements.{All-nil, All-cons}
 use Rattle.std.proofs.lemmas.Option.{same_Some}
 use Rattle.mv_move_types.specs.declared.refusal.Refusal.{Refusal}
 use Rattle.mv_move_types.specs.declared.refusal.Refusal.TheVariants.{Phase, Memory as NoMemory}
@@ -19,7 +19,7 @@ use Rattle.mv_machine.specs.State.{Storage}
 use Rattle.mv_machine.specs.Typed.{is_fine_entry, is_fine_storage}
 use Rattle.mv_storage.specs.FlatStorage.{FlatStorage}
 use Rattle.mv_frames.specs.declared.counters.Count.{Count}
-use Rattle.mv_linker.specs.Link.{IsPublishable, IsStore, tables_in}
+use Rattle.mv_linker.specs.Link.{IsStore, tables_in}
 use Rattle.mv_interpreter.specs.Runs.{IsFineWords}
 use Rattle.mv_interpreter.specs.Typing.Accepted.{StoreAccepted}
 use Rattle.mv_interpreter.specs.Typing.StateTyped.{StorageTyped}
@@ -34,7 +34,7 @@ use Rattle.mv_ledger.specs.Counting.Kept.{IsAscending}
 use Rattle.mv_ledger.specs.Accepted.SoundLedger.{IsSoundLedger}
 use Rattle.mv_ledger.specs.Loading.{HasHead, IsLoaded, FailsLoad, no_module, no_links, no_body, no_tallies, IsLoadRefusal}
 use Rattle.mv_ledger.specs.LoadedParts.{SavedHead, head_from, reason_of, AreJoined, AreNotJoined, body_from, IsNoBody, IsBody, counted_by, EachBodyIsRead, EachReadIsBody, AreCounted}
-use Rattle.mv_ledger.specs.Publishing.{Spells, AllPass, offered}
+use Rattle.mv_ledger.specs.Publishing.{AllPass, offered}
 use Rattle.mv_ledger.specs.RecordText.{offer_fits}
 use Rattle.mv_ledger.specs.SavedText.{head_text, body_text, tally_text, storage_text, HeadFits, IsSavedText}
 use Rattle.mv_ledger.specs.View.{state_of, view_of, all_of, tallied, IsSmall, IsLedger}
@@ -42,6 +42,7 @@ use Rattle.mv_ledger.proofs.Accepted.Stores.{accepted_store}
 use Rattle.mv_ledger.proofs.LoadedHead.{head-parts, head-whole, head-had}
 use Rattle.mv_ledger.proofs.LoadedTallies.{counts-are, still-long, still-many, still-scarce, still-named, still-tallied}
 use Rattle.mv_ledger.proofs.Phases.{phase-no-memory}
+use Rattle.mv_ledger.proofs.Spelling.{passed-spelled}
 use Rattle.mv_ledger.proofs.Verifying.{as-many}
 
 -- ---- lists
@@ -176,6 +177,9 @@ module _ (bytes : List ℕ) (head : SavedHead) (rest : List ℕ) (are : AreBytes
       ascending : IsAscending (storage_of (tables_in ps) stored)
       ascending = subst IsAscending (sym storage-is) body.ascending
 
+      passed : AllPass (map offered ps) ps
+      passed = subst (λ (os : List Offer). AllPass os ps) (sym offers-are) joined.passed
+
       text : IsSavedText head.form bytes (state_of (view_of ps stored (all_of uss) head.runs))
       text = record {
         text =
@@ -183,16 +187,13 @@ module _ (bytes : List ℕ) (head : SavedHead) (rest : List ℕ) (are : AreBytes
             ∙ ap (λ (z : List ℕ). head_text head.form head.runs (map offered ps) ++ z)
             (body.text ∙ ap (λ (es : Storage). flat_map (tally_text head.form) tallies ++ storage_text head.form (tables_in ps) es) (sym storage-is));
         head = subst (HeadFits head.runs) (sym offers-are) head-is;
-        spelled = All-weaker IsPublishable (λ (p : PublishedModule). Spells p.text p.tables) (λ p h. h.text) ps joined.store.passed;
+        spelled = passed-spelled ps passed;
         tallied = structs-are;
         counts = body.counts;
         ascending = ascending;
         typed = subst (λ (es : Storage). IsTrue (is_fine_storage (tables_in ps) es)) (sym storage-is) body.typed;
         few = subst (λ (es : Storage). length es < 2 ^ 64) (sym storage-is) body.few;
       }
-
-      passed : AllPass (map offered ps) ps
-      passed = subst (λ (os : List Offer). AllPass os ps) (sym offers-are) joined.passed
 
       -- its tallies are not those of what is stored
       pub fails-tallied : (AreCounted head.runs (storage_of (tables_in ps) stored) (map (tallied (tables_in ps)) (all_of uss)) → ⊥) → FailsLoad bytes 5

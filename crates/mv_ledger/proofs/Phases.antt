@@ -1,11 +1,10 @@
 -- Each refusal is the first phase that an offer fails, and what a bundle is refused for.
-use Rattle.std.proofs.Common.{◌≡◌, ℕ, ◌≤◌, List, length, Some, None, ◌⊎◌, inl, inr, sym, subst}
+use Rattle.std.proofs.Common.{◌≡◌, ℕ, ◌≤◌, List, length, Some, ◌⊎◌, inl, inr, sym, subst}
 use Rattle.mv_move_types.specs.declared.refusal.Refusal.{Refusal}
 use Rattle.mv_move_types.specs.declared.refusal.Refusal.TheVariants.{Phase, Memory}
 use Rattle.mv_move_types.specs.Refusals.{IsRefusedIn}
 use Rattle.mv_move_types.specs.Module.{Module}
 use Rattle.mv_move_types.specs.Published.{PublishedModule, with_modules}
-use Rattle.mv_binary_format.specs.Parsing.{module_of}
 use Rattle.mv_bounds.specs.Bounds.{InBounds}
 use Rattle.mv_bounds.specs.Definitions.{WellDefined}
 use Rattle.mv_bounds.specs.Answers.{IsRefusedByBounds, FailsBounds, out_of_bounds, ill_defined}
@@ -26,7 +25,7 @@ phase-no-memory (Phase k) n p q = cc
 phase-no-memory Memory n p q = cc
 
 module _ (o : Offer) where
-  pub refused_text : (e : Refusal) → (e ≡ Phase 2) ⊎ (e ≡ Memory) → (e ≡ Phase 2 → module_of o.text ≡ None) → IsRefusedOffer o e
+  pub refused_text : (e : Refusal) → (e ≡ Phase 2) ⊎ (e ≡ Memory) → (e ≡ Phase 2 → (m : Module) → Spells o.text m → ⊥) → IsRefusedOffer o e
   refused_text Memory is none = tt
   refused_text (Phase p) (inl is) none = let same : p ≡ 2 = cc in subst (λ (n : ℕ). FailsAt o n) (sym same) (no_text (none is))
   refused_text (Phase p) (inr is) none = cc

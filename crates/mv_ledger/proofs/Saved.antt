@@ -1,10 +1,10 @@
 -- A ledger has one text of each form, and a text is of one ledger.
-use Rattle.std.proofs.Common.{◌≡◌, ℕ, ◌^◌, ◌≤◌, ◌-◌, true, List, [], ◌∷◌, ◌++◌, map, flat_map, get_or, refl, sym, ap, ap₂, ◌∙◌, subst, arith, leb-true}
+use Rattle.std.proofs.Common.{◌≡◌, ℕ, ◌^◌, ◌≤◌, ◌-◌, true, List, [], ◌∷◌, ◌++◌, map, flat_map, get_or, refl, sym, ap, ap₂, ◌∙◌, subst, arith, leb-true, IsTrue}
 use Rattle.std.specs.Prelude.{nat_le, All}
 use Rattle.std.specs.List.{list_all}
 use Rattle.std.specs.Int.{w128, to_le_bytes}
 use Rattle.std.proofs.lemmas.Bool.{and_parts}
-use Rattle.std.proofs.lemmas.Option.{same_Some, some_pair_parts}
+use Rattle.std.proofs.lemmas.Option.{some_pair_parts}
 use Rattle.std.proofs.lemmas.List.Elements.{All-head, All-tail}
 use Rattle.mv_uleb.specs.Uleb.{uleb}
 use Rattle.mv_move_types.specs.declared.token.Width.TheVariants.{U128}
@@ -13,16 +13,17 @@ use Rattle.mv_move_types.specs.Published.{PublishedModule}
 use Rattle.mv_module_text.specs.Entries.{counted}
 use Rattle.mv_module_text.specs.Parsing.{number_of_from}
 use Rattle.mv_module_text.proofs.Numbers.{number_of-whole}
-use Rattle.mv_binary_format.specs.Parsing.{module_of}
+use Rattle.mv_binary_format.specs.Laws.{IsReadByText}
 use Rattle.mv_machine.specs.State.{Storage}
 use Rattle.mv_machine.specs.Typed.{is_fine_storage}
 use Rattle.mv_machine.specs.Lines.{Tallied}
 use Rattle.mv_machine.specs.Ledger.{Offer, LedgerState, modules_of, scarce_structs}
-use Rattle.mv_ledger.specs.RecordText.{offer_text}
+use Rattle.mv_ledger.specs.RecordText.{offer_text, offer_fits}
 use Rattle.mv_ledger.specs.Publishing.{Spells, offered}
 use Rattle.mv_ledger.specs.Counting.Kept.{IsAscending}
 use Rattle.mv_ledger.specs.SavedText.{Form, First, Second, form_byte, head_text, tally_text, storage_text, body_text, saved_text, tally_fits, IsSavedText}
 use Rattle.mv_ledger.specs.SavedLaws.{EachLedgerHasOneText, EachTextHasOneLedger}
+use Rattle.mv_ledger.proofs.Spelling.{text_bytes, module-one}
 use Rattle.mv_ledger.proofs.SavedOnce.{IsOneOn, in_parts, uleb-one, offers-one}
 use Rattle.mv_ledger.proofs.SavedStored.{first_storage-one, second_storage-one}
 
@@ -50,20 +51,21 @@ heads-one form other m n a b x y e =
 -- ---- modules
 
 -- modules that their texts spell are known by their texts
-pub spelled-one : (ps qs : List PublishedModule) → map offered ps ≡ map offered qs → All (λ p. Spells p.text p.tables) ps → All (λ p. Spells p.text p.tables) qs → ps ≡ qs
-spelled-one [] [] e p q = refl
-spelled-one [] (b ∷ qs) e p q = absurd cc
-spelled-one (a ∷ ps) [] e p q = absurd cc
-spelled-one (a ∷ ps) (b ∷ qs) e p q =
+pub spelled-one : IsReadByText → (ps qs : List PublishedModule) → IsTrue (list_all offer_fits (map offered ps)) → map offered ps ≡ map offered qs → All (λ p. Spells p.text p.tables) ps → All (λ p. Spells p.text p.tables) qs → ps ≡ qs
+spelled-one reads [] [] fit e p q = refl
+spelled-one reads [] (b ∷ qs) fit e p q = absurd cc
+spelled-one reads (a ∷ ps) [] fit e p q = absurd cc
+spelled-one reads (a ∷ ps) (b ∷ qs) fit e p q =
+    let fits = and_parts (offer_fits (offered a)) (list_all offer_fits (map offered ps)) fit in
     let first : offered a ≡ offered b = cc in
     let more : map offered ps ≡ map offered qs = cc in
     let text : a.text ≡ b.text = ap (λ (o : Offer). o.text) first in
     let certificate : a.certificate ≡ b.certificate = ap (λ (o : Offer). o.certificate) first in
     let spells : Spells a.text a.tables = All-head (λ p. Spells p.text p.tables) a ps p in
-    let also : Spells b.text b.tables = All-head (λ p. Spells p.text p.tables) b qs q in
-    let tables : a.tables ≡ b.tables = same_Some a.tables b.tables (sym spells ∙ ap module_of text ∙ also) in
+    let also : Spells a.text b.tables = subst (λ (bytes : List ℕ). Spells bytes b.tables) (sym text) (All-head (λ p. Spells p.text p.tables) b qs q) in
+    let tables : a.tables ≡ b.tables = module-one reads a.text a.tables b.tables (text_bytes (offered a) fits.0) spells also in
     let here : a ≡ b = λ i. record { text = text i; certificate = certificate i; tables = tables i } in
-    ap₂ (λ (x : PublishedModule) (xs : List PublishedModule). x ∷ xs) here (spelled-one ps qs more (All-tail (λ p. Spells p.text p.tables) a ps p) (All-tail (λ p. Spells p.text p.tables) b qs q))
+    ap₂ (λ (x : PublishedModule) (xs : List PublishedModule). x ∷ xs) here (spelled-one reads ps qs fits.1 more (All-tail (λ p. Spells p.text p.tables) a ps p) (All-tail (λ p. Spells p.text p.tables) b qs q))
 
 -- ---- tallies
 
@@ -110,11 +112,11 @@ storage-one First modules es fs fine also up rise e = (first_storage-one modules
 storage-one Second modules es fs fine also up rise e = (second_storage-one modules es fs fine also [] [] up rise (ap (λ l. l ++ []) e)).0
 
 -- ledgers of one text, of one form, with the same modules
-same_form : (form : Form) (bytes : List ℕ) (s t : LedgerState) → IsSavedText form bytes s → IsSavedText form bytes t → s ≡ t
-same_form form bytes s t a b =
+same_form : IsReadByText → (form : Form) (bytes : List ℕ) (s t : LedgerState) → IsSavedText form bytes s → IsSavedText form bytes t → s ≡ t
+same_form reads form bytes s t a b =
     let both : saved_text form s ≡ saved_text form t = sym a.text ∙ b.text in
     let head = heads-one form form s.runs t.runs (map offered s.published) (map offered t.published) (body_text form s) (body_text form t) both in
-    let published : s.published ≡ t.published = spelled-one s.published t.published head.2 a.spelled b.spelled in
+    let published : s.published ≡ t.published = spelled-one reads s.published t.published a.head.sized head.2 a.spelled b.spelled in
     let modules : modules_of s ≡ modules_of t = ap (λ (ps : List PublishedModule). map (λ p. p.tables) ps) published in
     let structs : map (λ t. t.struct) s.tallies ≡ map (λ t. t.struct) t.tallies = a.tallied ∙ ap scarce_structs modules ∙ sym b.tallied in
     let tallies = tallies-one form s.tallies t.tallies (storage_text form (modules_of s) s.storage) (storage_text form (modules_of t) t.storage) structs a.counts b.counts head.3 in
@@ -129,6 +131,6 @@ one_form form other bytes s t a b =
     (heads-one form other s.runs t.runs (map offered s.published) (map offered t.published) (body_text form s) (body_text other t) (sym a.text ∙ b.text)).0
 
 -- a text is of one ledger
-pub ledgers-one : EachTextHasOneLedger
-ledgers-one form other bytes s t a b =
-    same_form form bytes s t a (subst (λ (f : Form). IsSavedText f bytes t) (sym (one_form form other bytes s t a b)) b)
+pub ledgers-one : IsReadByText → EachTextHasOneLedger
+ledgers-one reads form other bytes s t a b =
+    same_form reads form bytes s t a (subst (λ (f : Form). IsSavedText f bytes t) (sym (one_form form other bytes s t a b)) b)

@@ -1,15 +1,11 @@
 -- Bytes are loaded as one ledger at most, and none that are loaded have a reason against them: what passes fails in no phase.
-use Rattle.std.proofs.Common.{◌≡◌, ℕ, Bool, true, List, [], ◌∷◌, ◌++◌, map, length, Some, None, refl, sym, ap, ◌∙◌, subst, ap₂, IsTrue}
-use Rattle.std.specs.Prelude.{◌&&◌, nat_le}
+use Rattle.std.proofs.Common.{◌≡◌, ℕ, true, List, [], ◌∷◌, ◌++◌, map, refl, sym, ap, ◌∙◌, subst, ap₂, IsTrue}
 use Rattle.std.specs.List.{list_all}
 use Rattle.std.proofs.lemmas.Bool.{and_parts}
-use Rattle.std.proofs.lemmas.Option.{same_Some}
 use Rattle.std.proofs.lemmas.List.Folds.{list_all-append}
 use Rattle.mv_move_types.specs.Module.{Module}
 use Rattle.mv_move_types.specs.Published.{PublishedModule}
-use Rattle.mv_module_text.specs.Fits.{is_byte}
 use Rattle.mv_module_text.specs.Laws.{AreBytes}
-use Rattle.mv_binary_format.specs.ModuleText.{HasText}
 use Rattle.mv_binary_format.specs.Laws.{IsReadByText}
 use Rattle.mv_bounds.specs.Bounds.{InBounds}
 use Rattle.mv_bounds.specs.Definitions.{WellDefined}
@@ -27,15 +23,16 @@ use Rattle.mv_ledger.specs.Publishing.{Spells, Passes, FailsAt, no_text, no_boun
 use Rattle.mv_ledger.specs.SavedText.{Form, Second, body_text, saved_text, IsSavedText}
 use Rattle.mv_ledger.specs.Loading.{HasHead, AreLinked, AreTallied, IsLoaded, FailsLoad, no_head, no_module, no_links, no_body, no_tallies}
 use Rattle.mv_ledger.specs.SavedLaws.{EachLoadIsOne, EachSecondFormComesBack, NoLoadFails}
+use Rattle.mv_ledger.proofs.Spelling.{OffersAreBytes, text_bytes, offers_bytes, module-one}
 use Rattle.mv_ledger.proofs.Saved.{heads-one, ledgers-one}
 
 -- bytes are loaded as one ledger at most
-pub loads-one : EachLoadIsOne
-loads-one bytes s t a b = ledgers-one a.form b.form bytes s t a.text b.text
+pub loads-one : IsReadByText → EachLoadIsOne
+loads-one reads bytes s t a b = ledgers-one reads a.form b.form bytes s t a.text b.text
 
 -- what is loaded from a text of the second form is saved as that text
-pub comes-back : EachSecondFormComesBack
-comes-back bytes s t a text = ap (saved_text Second) (ledgers-one a.form Second bytes s t a.text text) ∙ sym text.text
+pub comes-back : IsReadByText → EachSecondFormComesBack
+comes-back reads bytes s t a text = ap (saved_text Second) (ledgers-one reads a.form Second bytes s t a.text text) ∙ sym text.text
 
 -- ---- what passes fails in no phase
 
@@ -46,21 +43,21 @@ locals-same m n c d i j h = rw (i, j) h
 edges-same : (m n : Module) (c d : Certificate) → n ≡ m → d ≡ c → IsTrue (all_edges_hold m c) → IsTrue (all_edges_hold n d)
 edges-same m n c d i j h = rw (i, j) h
 
-module _ (o : Offer) (m : Module) (c : Certificate) (text : HasText m) (passes : Passes o m c) where
+module _ (reads : IsReadByText) (o : Offer) (m : Module) (c : Certificate) (are : AreBytes o.text) (passes : Passes o m c) where
   -- an offer spells one module
-  module-one : (n : Module) → Spells o.text n → n ≡ m
-  module-one n e = same_Some n m (sym e ∙ passes.text)
+  module-is : (n : Module) → Spells o.text n → n ≡ m
+  module-is n e = module-one reads o.text n m are e passes.text
 
   -- and one certificate
   certificate-one : (n : Module) (d : Certificate) → n ≡ m → IsCertificateText n o.certificate d → d ≡ c
-  certificate-one n d is written = one-certificate m o.certificate d c text (subst (λ (k : Module). IsCertificateText k o.certificate d) is written) passes.certificate
+  certificate-one n d is written = one-certificate m o.certificate d c passes.text.fits (subst (λ (k : Module). IsCertificateText k o.certificate d) is written) passes.certificate
 
   -- what holds of the one holds of the other
   moved : (P : Module → Type 0) (n : Module) → Spells o.text n → P m → P n
-  moved P n e h = subst P (sym (module-one n e)) h
+  moved P n e h = subst P (sym (module-is n e)) h
 
   pub never-fails : {p : ℕ} → FailsAt o p → ⊥
-  never-fails (no_text none) = let no : Some m ≡ None = sym passes.text ∙ none in cc
+  never-fails (no_text none) = none m passes.text
   never-fails (no_bounds n e out) = out (moved InBounds n e passes.sound.bounds)
   never-fails (not_defined n e bounds out) = out (moved WellDefined n e passes.sound.defined)
   never-fails (not_signed n e bounds defined out) = out (moved WellSigned n e passes.sound.signed)
@@ -69,26 +66,26 @@ module _ (o : Offer) (m : Module) (c : Certificate) (text : HasText m) (passes :
   never-fails (not_typed n e bounds defined signed able flow out) = out (moved TypesHold n e passes.sound.types)
   never-fails (no_certificate n e sound out) = out c (moved (λ (k : Module). IsCertificateText k o.certificate c) n e passes.certificate)
   never-fails (no_locals n d e sound written out) =
-      out (locals-same m n c d (module-one n e) (certificate-one n d (module-one n e) written) (and_parts (all_locals_hold m c) (all_edges_hold m c) passes.holds).0)
+      out (locals-same m n c d (module-is n e) (certificate-one n d (module-is n e) written) (and_parts (all_locals_hold m c) (all_edges_hold m c) passes.holds).0)
   never-fails (no_edges n d e sound written locals out) =
-      out (edges-same m n c d (module-one n e) (certificate-one n d (module-one n e) written) (and_parts (all_locals_hold m c) (all_edges_hold m c) passes.holds).1)
+      out (edges-same m n c d (module-is n e) (certificate-one n d (module-is n e) written) (and_parts (all_locals_hold m c) (all_edges_hold m c) passes.holds).1)
   never-fails (no_acquires n d e sound written holds out) = out (moved AcquiresHold n e passes.acquires)
 
 -- ---- the modules that passed
 
 -- the modules that passed with these texts
-passed-one : (os : List Offer) (ps qs : List PublishedModule) → AllPass os ps → AllPass os qs → ps ≡ qs
-passed-one [] [] [] a b = refl
-passed-one [] [] (q ∷ qs) a b = absurd b
-passed-one [] (p ∷ ps) qs a b = absurd a
-passed-one (o ∷ os) [] qs a b = absurd a
-passed-one (o ∷ os) (p ∷ ps) [] a b = absurd b
-passed-one (o ∷ os) (p ∷ ps) (q ∷ qs) a b =
+pub passed-one : IsReadByText → (os : List Offer) (ps qs : List PublishedModule) → OffersAreBytes os → AllPass os ps → AllPass os qs → ps ≡ qs
+passed-one reads [] [] [] are a b = refl
+passed-one reads [] [] (q ∷ qs) are a b = absurd b
+passed-one reads [] (p ∷ ps) qs are a b = absurd a
+passed-one reads (o ∷ os) [] qs are a b = absurd a
+passed-one reads (o ∷ os) (p ∷ ps) [] are a b = absurd b
+passed-one reads (o ∷ os) (p ∷ ps) (q ∷ qs) are a b =
     let text : p.text ≡ q.text = a.0 ∙ sym b.0 in
     let certificate : p.certificate ≡ q.certificate = a.1 ∙ sym b.1 in
-    let tables : p.tables ≡ q.tables = same_Some p.tables q.tables (sym a.2.1.text ∙ b.2.1.text) in
+    let tables : p.tables ≡ q.tables = module-one reads o.text p.tables q.tables are.0 a.2.1.text b.2.1.text in
     let here : p ≡ q = λ i. record { text = text i; certificate = certificate i; tables = tables i } in
-    ap₂ (λ (x : PublishedModule) (xs : List PublishedModule). x ∷ xs) here (passed-one os ps qs a.3 b.3)
+    ap₂ (λ (x : PublishedModule) (xs : List PublishedModule). x ∷ xs) here (passed-one reads os ps qs are.1 a.3 b.3)
 
 -- one of the offers that passed
 passes_at : (before : List Offer) (o : Offer) (after : List Offer) (ps : List PublishedModule) → AllPass (before ++ o ∷ after) ps → (m : Module) × (c : Certificate) × Passes o m c
@@ -97,13 +94,6 @@ passes_at [] o after (p ∷ ps) all = (p.tables, all.2.0, all.2.1)
 passes_at (b ∷ before) o after [] all = absurd all
 passes_at (b ∷ before) o after (p ∷ ps) all = passes_at before o after ps all.3
 
--- a text within its limits is of bytes
-pub text_bytes : (o : Offer) → IsTrue (offer_fits o) → AreBytes o.text
-text_bytes o h = second (nat_le (length o.text) 65536) (list_all is_byte o.text) (nat_le (length o.certificate) 1048576) (list_all is_byte o.certificate) h
-  where
-    second : (a b c d : Bool) → (a && b && c && d) ≡ true → b ≡ true
-    second a b c d k = (and_parts a b (and_parts (a && b) c (and_parts (a && b && c) d k).0).0).1
-
 -- none of offers that passed fails
 none_fails : IsReadByText → (os : List Offer) (ps : List PublishedModule) (phase : ℕ) → IsTrue (list_all offer_fits os) → AllPass os ps → FailsAmong os phase → ⊥
 none_fails reads os ps phase sized all fails =
@@ -111,8 +101,7 @@ none_fails reads os ps phase sized all fails =
     let fit : list_all offer_fits (fails.before ++ fails.offer ∷ fails.after) ≡ true = subst (λ (xs : List Offer). list_all offer_fits xs ≡ true) fails.are sized in
     let behind = and_parts (list_all offer_fits fails.before) (list_all offer_fits (fails.offer ∷ fails.after)) (sym (list_all-append offer_fits fails.before (fails.offer ∷ fails.after)) ∙ fit) in
     let here = and_parts (offer_fits fails.offer) (list_all offer_fits fails.after) behind.1 in
-    let text : HasText at.0 = ((reads fails.offer.text at.0 (text_bytes fails.offer here.0)).0 at.2.text).fits in
-    never-fails fails.offer at.0 at.1 text at.2 fails.fails
+    never-fails reads fails.offer at.0 at.1 (text_bytes fails.offer here.0) at.2 fails.fails
 
 -- ---- what is loaded has no reason against it
 
@@ -131,7 +120,7 @@ module _ (reads : IsReadByText) (bytes : List ℕ) (s : LedgerState) (loaded : I
   own_modules : (form : Form) (runs : ℕ) (offers : List Offer) (ps : List PublishedModule) → HasHead bytes form runs offers → AllPass offers ps → s.published ≡ ps
   own_modules form runs offers ps head passed =
       let own = own_head loaded.form form bytes s runs offers loaded.text head in
-      passed-one offers s.published ps (subst (λ (os : List Offer). AllPass os s.published) own.1 loaded.passed) passed
+      passed-one reads offers s.published ps (offers_bytes offers head.fits.sized) (subst (λ (os : List Offer). AllPass os s.published) own.1 loaded.passed) passed
 
   no_reason : {number : ℕ} → FailsLoad bytes number → ⊥
   no_reason (no_head none) = none loaded.form s.runs (map offered s.published) (head_of loaded.form bytes s loaded.text)
@@ -142,7 +131,7 @@ module _ (reads : IsReadByText) (bytes : List ℕ) (s : LedgerState) (loaded : I
   no_reason (no_body form runs offers ps head passed linked none) =
       let own = own_head loaded.form form bytes s runs offers loaded.text head in
       none s (own_modules form runs offers ps head passed) (subst (λ (f : Form). IsSavedText f bytes s) own.0 loaded.text)
-  no_reason (no_tallies form t text passed linked out) = out (subst AreTallied (ledgers-one loaded.form form bytes s t loaded.text text) loaded.tallied)
+  no_reason (no_tallies form t text passed linked out) = out (subst AreTallied (ledgers-one reads loaded.form form bytes s t loaded.text text) loaded.tallied)
 
 pub loads-hold : IsReadByText → NoLoadFails
 loads-hold reads bytes number s loaded fails = no_reason reads bytes s loaded fails

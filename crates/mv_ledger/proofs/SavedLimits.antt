@@ -6,6 +6,7 @@ use Rattle.std.proofs.lemmas.List.{length-map}
 use Rattle.std.proofs.lemmas.List.Elements.{All-head, All-tail}
 use Rattle.mv_move_types.specs.Module.{Module}
 use Rattle.mv_move_types.specs.Published.{PublishedModule}
+use Rattle.mv_binary_format.specs.Laws.{IsReadByText}
 use Rattle.mv_machine.specs.Flat.{FlatEntry, storage_of}
 use Rattle.mv_linker.specs.Link.{tables_in}
 use Rattle.mv_frames.specs.declared.counters.Count.{Count}
@@ -23,15 +24,15 @@ few_made modules runs (t ∷ ts) all =
     (omega (arith, small), few_made modules runs ts (All-tail (IsSmall runs) t ts all))
 
 -- a ledger with few stored values is
-pub ledger-savable : (published : List PublishedModule) (stored : List FlatEntry) (tallies : List (List Tally)) (counters : List (List Count)) (runs : ℕ) → length stored < 2 ^ 63 → IsLedger published stored tallies counters runs
+pub ledger-savable : IsReadByText → (published : List PublishedModule) (stored : List FlatEntry) (tallies : List (List Tally)) (counters : List (List Count)) (runs : ℕ) → length stored < 2 ^ 63 → IsLedger published stored tallies counters runs
     → IsSavable (state_of (view_of published stored (all_of tallies) runs))
-ledger-savable published stored tallies counters runs few is =
+ledger-savable reads published stored tallies counters runs few is =
     let as_many : length (map offered published) ≡ length published = length-map published offered in
     let room : length published ≤ 4096 = is.few in
     let values : length (storage_of (tables_in published) stored) ≡ length stored = length-map stored _ in
     record {
       head = record { had = is.counted; few = omega (arith, as_many, room); sized = is.sized };
-      passed = store_passed published is.sound.store.passed;
+      passed = store_passed reads published is.sized is.sound.store.passed;
       packs = few_made (tables_in published) runs (all_of tallies) is.small;
       few = omega (arith, values, few);
     }

@@ -19,7 +19,7 @@ use Rattle.mv_ledger.specs.Loading.{AreTallied}
 use Rattle.mv_ledger.specs.SavedLaws.{EachSaveIsLoaded, EachLoadIsSound, EachLoadIsSaved, IsSavable}
 use Rattle.mv_ledger.proofs.Accepted.Stores.{accepted_store}
 use Rattle.mv_ledger.proofs.Accepted.Sound.{sound_stored}
-use Rattle.mv_ledger.proofs.SavedFails.{text_bytes}
+use Rattle.mv_ledger.proofs.Spelling.{text_bytes, read-spelled, spelled-read, passed-spelled}
 
 -- ---- tallies
 
@@ -71,7 +71,7 @@ pub text-saves : (form : Form) (s : LedgerState) → IsSoundLedger s → IsSavab
 text-saves form s sound savable = record {
   text = refl;
   head = savable.head;
-  spelled = λ k d lt. (sound.store.passed k d lt).text;
+  spelled = passed-spelled s.published savable.passed;
   tallied = sound.tallied;
   counts = counts_fit s form s.tallies savable.head.had (savable_tallied s sound savable);
   ascending = sound.ascending;
@@ -117,8 +117,8 @@ publishable reads (p ∷ ps) sized all =
     let fits = and_parts (offer_fits (offered p)) (list_all offer_fits (map offered ps)) sized in
     let passes = all.2.1 in
     All-cons IsPublishable p ps (record {
-      text = passes.text;
-      spelled = ((reads p.text p.tables (text_bytes (offered p) fits.0)).0 passes.text).fits;
+      text = read-spelled reads p.text p.tables (text_bytes (offered p) fits.0) passes.text;
+      spelled = passes.text.fits;
       sound = passes.sound;
       acquires = passes.acquires;
       certificate = (all.2.0, (passes.certificate, passes.holds));
@@ -139,9 +139,10 @@ loads-sound reads bytes s loaded =
     )
 
 -- modules of a store passed with the texts that they came in
-pub store_passed : (ps : List PublishedModule) → All IsPublishable ps → AllPass (map offered ps) ps
-store_passed [] all = tt
-store_passed (p ∷ ps) all =
+pub store_passed : IsReadByText → (ps : List PublishedModule) → IsTrue (list_all offer_fits (map offered ps)) → All IsPublishable ps → AllPass (map offered ps) ps
+store_passed reads [] sized all = tt
+store_passed reads (p ∷ ps) sized all =
+    let fits = and_parts (offer_fits (offered p)) (list_all offer_fits (map offered ps)) sized in
     let one : IsPublishable p = All-head IsPublishable p ps all in
     let c = one.certificate in
-    (refl, refl, (c.0, record { text = one.text; sound = one.sound; certificate = c.1.0; holds = c.1.1; acquires = one.acquires }), store_passed ps (All-tail IsPublishable p ps all))
+    (refl, refl, (c.0, record { text = spelled-read reads p.text p.tables (text_bytes (offered p) fits.0) one.text; sound = one.sound; certificate = c.1.0; holds = c.1.1; acquires = one.acquires }), store_passed reads ps fits.1 (All-tail IsPublishable p ps all))

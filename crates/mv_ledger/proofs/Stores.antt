@@ -1,18 +1,11 @@
--- Modules of one name, and modules with their texts.
-use Rattle.std.proofs.Common.{◌≡◌, ℕ, true, false, List, [], ◌∷◌, Option, Some, None, refl, sym, ap, ◌∙◌, subst, arith}
+-- Modules of one name.
+use Rattle.std.proofs.Common.{◌≡◌, ℕ, true, false, List, [], ◌∷◌, Option, Some, None, refl, sym, ap, ◌∙◌, arith}
 use Rattle.std.specs.Prelude.{◌&&◌, ◌==◌}
 use Rattle.std.specs.Option.{option_map_or}
 use Rattle.std.specs.Str.{bytes_eq}
 use Rattle.std.proofs.lemmas.Bool.Decides.{nat_tests}
 use Rattle.mv_move_types.specs.Names.{ModuleName, same_module}
 use Rattle.mv_move_types.specs.Module.{Module, own_name}
-use Rattle.mv_binary_format.specs.Parsing.{module_of}
-use Rattle.mv_certificate.specs.Certificate.{Certificate}
-use Rattle.mv_certificate.specs.CertificateText.{IsCertificateText}
-use Rattle.mv_machine.specs.Ledger.{Offer}
-use Rattle.mv_linker.specs.declared.New.{New}
-use Rattle.mv_linker.specs.News.{HasItsTexts}
-use Rattle.mv_ledger.specs.Publishing.{Passes}
 use Rattle.mv_linker.specs.Link.{have_one_name}
 use Rattle.mv_move_types.specs.Named.{is_module}
 use Rattle.mv_linker.proofs.NameLemmas.{is_module-is}
@@ -51,10 +44,3 @@ one_own m n h = step (own_name m) refl h
 -- so that a third has the name of both or of none
 pub one_name-same : (k m n : Module) → have_one_name m n ≡ true → have_one_name k m ≡ have_one_name k n
 one_name-same k m n h = ap (λ (o : Option ModuleName). option_map_or (λ name. option_map_or (λ own. same_module own name) o false) (own_name k) false) (one_own m n h)
-
--- a module that passed has its texts
-pub has_its_texts : (n : New) (o : Offer) → n.text.now ≡ o.text → n.certificate.now ≡ o.certificate → (c : Certificate) × Passes o n.module c → HasItsTexts n
-has_its_texts n o text certificate passed = record {
-  text = ap module_of text ∙ passed.1.text;
-  certificate = (passed.0, (subst (λ bytes. IsCertificateText n.module bytes passed.0) (sym certificate) passed.1.certificate, passed.1.holds));
-}

@@ -12,7 +12,6 @@ use Rattle.mv_linker.specs.News.{HasItsTexts, AreTexts, published_one, published
 use Rattle.mv_ledger.specs.declared.payload.Offered.{Offered}
 use Rattle.mv_ledger.specs.Asking.{offer_of, offers_of}
 use Rattle.mv_ledger.specs.Publishing.{Passes, AllPass, IsRefusedOffer, IsRefusedAmong}
-use Rattle.mv_ledger.proofs.Stores.{has_its_texts}
 
 -- one more that passes
 pass-more : (os : List Offer) (ps : List PublishedModule) (o : Offer) (p : PublishedModule) → AllPass os ps → p.text ≡ o.text → p.certificate ≡ o.certificate → (c : Certificate) × Passes o p.tables c → AllPass (os ++ o ∷ []) (ps ++ p ∷ [])
@@ -37,14 +36,14 @@ pub verifying-none : (offers : List Offered) (news : List New) → news ≡ [] �
 verifying-none offers news none = subst (IsVerifying offers 0) (sym none) (record { passed = tt; texts = All-nil HasItsTexts })
 
 pub verifying-more : (offers : List Offered) (i : ℕ) (news after : List New) (d : Offered) (n : New) → IsVerifying offers i news → i < length offers → after ≡ news ++ n ∷ [] → n.text.now ≡ (get_or offers i d).text.now → n.certificate.now ≡ (get_or offers i d).certificate.now
-    → (c : Certificate) × Passes (offer_of (get_or offers i d)) n.module c → IsVerifying offers (i + 1) after
-verifying-more offers i news after d n h lt pushed text certificate passes =
+    → (c : Certificate) × Passes (offer_of (get_or offers i d)) n.module c → HasItsTexts n → IsVerifying offers (i + 1) after
+verifying-more offers i news after d n h lt pushed text certificate passes texts =
     subst (IsVerifying offers (i + 1)) (sym pushed) (record {
       passed =
           subst (λ (ps : List PublishedModule). AllPass (offers_of (take (i + 1) offers)) ps) (sym (map-append published_one news (n ∷ [])))
           (subst (λ (os : List Offer). AllPass os (published_of news ++ published_one n ∷ [])) (sym (map_more offer_of offers i d lt))
           (pass-more (offers_of (take i offers)) (published_of news) (offer_of (get_or offers i d)) (published_one n) h.passed text certificate passes));
-      texts = All-append HasItsTexts news (n ∷ []) h.texts (All-cons HasItsTexts n [] (has_its_texts n (offer_of (get_or offers i d)) text certificate passes) (All-nil HasItsTexts));
+      texts = All-append HasItsTexts news (n ∷ []) h.texts (All-cons HasItsTexts n [] texts (All-nil HasItsTexts));
     })
 
 -- all of them

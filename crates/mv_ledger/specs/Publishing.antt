@@ -1,8 +1,8 @@
 -- Whether a bundle is published, and else the first phase that it fails.
-use Rattle.std.specs.Prelude.{◌≡◌, ℕ, ◌≤◌, IsTrue, List, [], ◌∷◌, ◌++◌, length, Some, None, ⊤}
+use Rattle.std.specs.Prelude.{◌≡◌, ℕ, ◌≤◌, IsTrue, List, [], ◌∷◌, ◌++◌, length, Some, ⊤}
 use Rattle.mv_move_types.specs.Module.{Module}
 use Rattle.mv_move_types.specs.Published.{PublishedModule, with_modules}
-use Rattle.mv_binary_format.specs.Parsing.{module_of}
+use Rattle.mv_binary_format.specs.ModuleText.{IsModuleText}
 use Rattle.mv_bounds.specs.Bounds.{InBounds}
 use Rattle.mv_bounds.specs.Definitions.{WellDefined}
 use Rattle.mv_signatures.specs.Signatures.{WellSigned}
@@ -18,9 +18,9 @@ use Rattle.mv_move_types.specs.declared.refusal.Refusal.{Refusal}
 use Rattle.mv_move_types.specs.declared.refusal.Refusal.TheVariants.{Phase, Memory}
 use Rattle.mv_machine.specs.Ledger.{Offer, LedgerState, modules_of}
 
--- the bytes spell the module
+-- the bytes spell the module: they are a text of it
 abbrev pub Spells : List ℕ → Module → Type 0
-Spells bytes m = module_of bytes ≡ Some m
+Spells bytes m = IsModuleText bytes m
 
 -- an offer passes phases 2 to 12, with the module and the certificate that it spells
 pub record Passes (o : Offer) (m : Module) (c : Certificate) : Type 0 where
@@ -32,7 +32,7 @@ pub record Passes (o : Offer) (m : Module) (c : Certificate) : Type 0 where
 
 -- the first phase that an offer fails
 pub data FailsAt (o : Offer) : ℕ → Type 0 where
-  no_text : module_of o.text ≡ None → FailsAt o 2
+  no_text : ((m : Module) → ¬ Spells o.text m) → FailsAt o 2
   no_bounds : (m : Module) → Spells o.text m → ¬ InBounds m → FailsAt o 3
   not_defined : (m : Module) → Spells o.text m → InBounds m → ¬ WellDefined m → FailsAt o 4
   not_signed : (m : Module) → Spells o.text m → InBounds m → WellDefined m → ¬ WellSigned m → FailsAt o 5

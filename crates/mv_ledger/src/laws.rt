@@ -37,7 +37,10 @@ pub fn each_ledger_has_one_text()
 /// A text is of one ledger.
 pub fn each_text_has_one_ledger()
     ensures { EachTextHasOneLedger }
-{}
+{
+    // For the prover: bytes are read as a module exactly where they are a text of it.
+    mv_binary_format::modules_are_read_by_text();
+}
 
 /// What is saved of a sound ledger within its limits, in either form, is loaded as that ledger.
 pub fn each_save_is_loaded()
@@ -55,7 +58,10 @@ pub fn each_load_is_sound()
 /// Bytes are loaded as one ledger at most.
 pub fn each_load_is_one()
     ensures { EachLoadIsOne }
-{}
+{
+    // For the prover: bytes are read as a module exactly where they are a text of it.
+    mv_binary_format::modules_are_read_by_text();
+}
 
 /// Whatever is loaded is, saved again, loaded as what it was.
 pub fn each_load_is_saved()
@@ -65,7 +71,10 @@ pub fn each_load_is_saved()
 /// What is loaded from a text of the second form is saved as that text.
 pub fn each_second_form_comes_back()
     ensures { EachSecondFormComesBack }
-{}
+{
+    // For the prover: bytes are read as a module exactly where they are a text of it.
+    mv_binary_format::modules_are_read_by_text();
+}
 
 /// No bytes that are loaded have a reason against them.
 pub fn no_load_fails()

@@ -136,8 +136,9 @@ impl Ledger {
     pub fn is_savable(&self)
         ensures { IsSavable (state_of self.now) }
     {
-        // For the prover: fewer than 2^63 values are stored.
+        // For the prover: fewer than 2^63 values are stored, and what is read from a text it spells.
         let _entries = self.storage.iter();
+        mv_binary_format::modules_are_read_by_text();
     }
 
     /// Answers a publish record with this payload.

@@ -6,7 +6,7 @@ ghost use Rattle.mv_ledger.specs.declared.tallies.Placed.{Placed as Standing};
 ghost use Rattle.mv_move_types.specs.Published.{with_modules};
 ghost use Rattle.mv_certificate.specs.Certificate.{Certificate};
 ghost use Rattle.mv_linker.specs.Link.{IsStore, tables_in};
-ghost use Rattle.mv_linker.specs.News.{AreTexts, published_of};
+ghost use Rattle.mv_linker.specs.News.{AreTexts, HasItsTexts, published_of};
 ghost use Rattle.mv_frames.specs.Counters.{AreSameCounts};
 ghost use Rattle.mv_ledger.specs.Asking.{offer_of, offers_of};
 ghost use Rattle.mv_ledger.specs.Publishing.{Passes, AllPass, IsRefusedOffer, IsRefusedAmong};
@@ -30,6 +30,7 @@ fn verified<'a>(alloc: Global, offer: &Offered<'a>) -> Result<New<'a>, Refusal>
     ensures text { IfOk result (λ n. n.text.now ≡ offer.now.text.now) }
     ensures certificate { IfOk result (λ n. n.certificate.now ≡ offer.now.certificate.now) }
     ensures passes { IfOk result (λ n. (c : Certificate) × Passes (offer_of offer.now) n.module c) }
+    ensures texts { IfOk result HasItsTexts }
     ensures refused { IfErr result (IsRefusedOffer (offer_of offer.now)) }
 {
     let module = mv_binary_format::decode(alloc, offer.text)?;

@@ -20,8 +20,8 @@ use mv_move_types::Refusal;
 use std::alloc::{AllocError, Global};
 use std::marker::Model;
 
-/// How often values of a struct were made, and taken apart, in the runs that returned. The struct is named by its module's
-/// place in the order of publication and its definition's index.
+/// How often values of a struct with neither copy nor drop were made, and taken apart, in the runs that returned; of other
+/// structs nothing is kept. The struct is named by its module's place in the order of publication and its definition's index.
 #[derive(Clone, Copy, PartialEq, Eq, Debug)]
 pub struct Tally {
     pub place: u16,

@@ -1,6 +1,6 @@
 -- A map from names to texts finds and takes what the list of its modules says.
-use Rattle.std.proofs.Common.{◌≡◌, ℕ, suc, ◌+◌, Bool, true, false, cond, List, [], ◌∷◌, map, length, Option, Some, None, option_map, refl, sym, ap, ◌∙◌, subst, arith}
-use Rattle.std.specs.Prelude.{◌&&◌, not, ◌==◌, nat_lt, position, slice_get, unwrap_or, IfSome}
+use Rattle.std.proofs.Common.{◌≡◌, ℕ, zero, suc, ◌+◌, Bool, true, false, cond, List, [], ◌∷◌, map, length, Option, Some, None, option_map, refl, sym, ap, ◌∙◌, subst, arith}
+use Rattle.std.specs.Prelude.{◌&&◌, not, ◌==◌, nat_lt, position, slice_get, unwrap_or, IfSome, All}
 use Rattle.std.specs.List.{prefix_len}
 use Rattle.std.specs.Map.{keys_of, values_of}
 use Rattle.std.specs.Option.{option_map_or}
@@ -8,7 +8,8 @@ use Rattle.std.specs.Cmp.{nat_eq_equiv}
 use Rattle.std.specs.Cmp.Lexicographic.{nat_list_eq_equiv}
 use Rattle.std.specs.Str.{bytes_eq}
 use Rattle.std.proofs.lemmas.Bool.Decides.{nat_tests}
-use Rattle.std.proofs.lemmas.Option.{slice_get-map}
+use Rattle.std.proofs.lemmas.List.Elements.{All-head, All-tail}
+use Rattle.std.proofs.lemmas.Option.{slice_get-map, none-some}
 use Rattle.mv_move_types.specs.Options.{find_index}
 use Rattle.mv_move_types.specs.Names.{ModuleName, same_module}
 use Rattle.mv_move_types.specs.Module.{Module, own_name}
@@ -18,7 +19,7 @@ use Rattle.mv_binary_format.specs.Parsing.{module_of, no_tables}
 use Rattle.mv_linker.specs.declared.entry.Name.{Name}
 use Rattle.mv_linker.specs.declared.entry.Texts.{Texts}
 use Rattle.mv_linker.specs.Kept.{name_in, published_as, published_under, AreKeyed}
-use Rattle.mv_linker.specs.Link.{tables_in}
+use Rattle.mv_linker.specs.Link.{IsPublishable, tables_in}
 
 -- the first place where a test passes, by the map's word and by the modules'
 pub position-find_index : {A : Type 0} (p : A → Bool) (xs : List A) → position p xs ≡ find_index p xs
@@ -78,3 +79,12 @@ module-at es i texts m at decoded =
     published-values : (es : List (Name × Texts)) → published_under es ≡ map published_as (values_of es)
     published-values [] = refl
     published-values (e ∷ es) = ap (λ l. published_as e.1 ∷ l) (published-values es)
+
+-- and it spells some
+pub spelled-at : (es : List (Name × Texts)) (i : ℕ) (texts : Texts) → slice_get (values_of es) i ≡ Some texts → All IsPublishable (published_under es) → module_of texts.module.items ≡ None → ⊥
+spelled-at [] i texts at passed none = absurd cc
+spelled-at (e ∷ es) zero texts at passed none =
+    let same : e.1 ≡ texts = cc in
+    let read : module_of e.1.module.items ≡ Some (published_as e.1).tables = (All-head IsPublishable (published_as e.1) (published_under es) passed).text in
+    none-some (published_as e.1).tables (sym (ap (λ (t : Texts). module_of t.module.items) same ∙ none) ∙ read)
+spelled-at (e ∷ es) (suc i) texts at passed none = spelled-at es i texts at (All-tail IsPublishable (published_as e.1) (published_under es) passed) none

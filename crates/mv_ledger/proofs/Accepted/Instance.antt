@@ -149,9 +149,9 @@ coins_stated = (
   ),
 )
 
-pub coins_pass : IsReadByText → Passes offer coins coins_certificate
+pub coins_pass : Passes offer coins coins_certificate
 unfolding types_after locals_after edges_after
-coins_pass reads = record { text = (reads (ordered_text coins) coins coins_bytes).1 coins_text; sound = coins_sound; certificate = (refl, coins_stated); holds = refl; acquires = refl }
+coins_pass = record { text = coins_text; sound = coins_sound; certificate = (refl, coins_stated); holds = refl; acquires = refl }
 
 -- ---- it is published
 
@@ -169,9 +169,9 @@ coins_alone m n (depends_at_once _ _ here there depends) =
     none e = absurd cc
 coins_alone m n (depends_further _ k _ r q) = coins_alone m k r
 
-pub coins_published : IsReadByText → IsPublished empty_ledger 1 (offer ∷ []) (published ∷ [])
-coins_published reads = (
-  (refl, refl, (coins_certificate, coins_pass reads), tt),
+pub coins_published : IsPublished empty_ledger 1 (offer ∷ []) (published ∷ [])
+coins_published = (
+  (refl, refl, (coins_certificate, coins_pass), tt),
   record { sent = refl; once = refl; compatible = refl; links = record { modules = refl; structs = refl; functions = refl; ordered = λ m r. coins_alone m m r; small = refl } },
   omega arith,
 )
@@ -181,10 +181,10 @@ abbrev pub coin_ledger : LedgerState
 coin_ledger = with_bundle empty_ledger (published ∷ [])
 
 pub coins_store : IsReadByText → IsStore (published ∷ [])
-coins_store reads = published_store reads empty_ledger 1 (offer ∷ []) (published ∷ []) empty_sound.store (coins_bytes, tt) (coins_published reads)
+coins_store reads = published_store reads empty_ledger 1 (offer ∷ []) (published ∷ []) empty_sound.store (coins_bytes, tt) coins_published
 
 pub coin_ledger_sound : IsReadByText → IsSoundLedger coin_ledger
-coin_ledger_sound reads = published_sound empty_ledger 1 (offer ∷ []) (published ∷ []) empty_sound (coins_store reads) (coins_published reads)
+coin_ledger_sound reads = published_sound empty_ledger 1 (offer ∷ []) (published ∷ []) empty_sound (coins_store reads) coins_published
 
 -- a run of mint, within its limits, is admitted
 abbrev minting : RunRequest

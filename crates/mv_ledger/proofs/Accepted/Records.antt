@@ -4,11 +4,11 @@ use Rattle.std.specs.Prelude.{◌&&◌, nat_lt, nat_le}
 use Rattle.std.specs.Cmp.{first_so, second_so}
 use Rattle.std.specs.List.{list_all}
 use Rattle.mv_binary_format.specs.Laws.{IsReadByText}
-use Rattle.mv_module_text.specs.Fits.{is_byte, address_fits, identifier_fits}
+use Rattle.mv_module_text.specs.Fits.{address_fits, identifier_fits}
 use Rattle.mv_machine.specs.Value.{Value, Leaf, Struct, Ref}
 use Rattle.mv_machine.specs.Typed.{leaf_fits}
 use Rattle.mv_machine.specs.Lines.{Reply}
-use Rattle.mv_machine.specs.Ledger.{Offer, LedgerState, RunRequest, Request, Publish, Run, Show, Audit, BadRun, Bad, Answers}
+use Rattle.mv_machine.specs.Ledger.{LedgerState, RunRequest, Request, Publish, Run, Show, Audit, BadRun, Bad, Answers}
 use Rattle.mv_interpreter.proofs.Typing.Fine.{leaf_ranges}
 use Rattle.mv_interpreter.proofs.Typing.Admitted.{Ranged}
 use Rattle.mv_ledger.specs.Publishing.{Spells}
@@ -17,17 +17,10 @@ use Rattle.mv_ledger.specs.Answering.{AnswersRecord}
 use Rattle.mv_ledger.specs.Accepted.SoundLedger.{IsSoundLedger}
 use Rattle.mv_ledger.specs.Accepted.Records.{EachRecordIsWell}
 use Rattle.mv_ledger.proofs.Counting.Ended.{answered-well}
-use Rattle.mv_ledger.proofs.Accepted.Stores.{OffersAreBytes}
+use Rattle.mv_ledger.proofs.Spelling.{offers_bytes}
 use Rattle.mv_ledger.proofs.Accepted.Sound.{RunFits, RequestFits, answered_sound}
 
 -- ---- what a record asks
-
-offers_bytes : (offers : List Offer) → list_all offer_fits offers ≡ true → OffersAreBytes offers
-offers_bytes [] h = tt
-offers_bytes (o ∷ os) h = (text (nat_le (length o.text) 65536) (list_all is_byte o.text) (nat_le (length o.certificate) 1048576) (list_all is_byte o.certificate) (first_so (offer_fits o) (list_all offer_fits os) h), offers_bytes os (second_so (offer_fits o) (list_all offer_fits os) h))
-  where
-    text : (a b c d : Bool) → (a && b && c && d) ≡ true → b ≡ true
-    text a b c d k = second_so a b (first_so (a && b) c (first_so (a && b && c) d k))
 
 arguments_ranged : (vs : List Value) → list_all argument_fits vs ≡ true → Ranged vs
 arguments_ranged [] h = tt

@@ -29,7 +29,8 @@ use Rattle.mv_ledger.proofs.Counting.Declared.{declared-stays}
 use Rattle.mv_ledger.proofs.Counting.Conserved.{run-conserves}
 use Rattle.mv_ledger.proofs.Counting.Tallied.{AreBalanced, returned-balanced, bundle-balanced}
 use Rattle.mv_ledger.proofs.Counting.Typed.{fine-kept}
-use Rattle.mv_ledger.proofs.Accepted.Stores.{accepted_store, able_store, OffersAreBytes, published_store}
+use Rattle.mv_ledger.proofs.Spelling.{OffersAreBytes}
+use Rattle.mv_ledger.proofs.Accepted.Stores.{accepted_store, able_store, published_store}
 
 -- nothing published, stored or run
 pub empty_sound : IsSoundLedger empty_ledger

@@ -20,6 +20,7 @@ use Rattle.mv_interpreter.proofs.Guided.Published.{certificates_from, published_
 use Rattle.mv_interpreter.proofs.Lists.{All-at}
 use Rattle.mv_ledger.specs.Publishing.{Passes, AllPass, IsPublished}
 use Rattle.mv_ledger.specs.Counting.Fine.{IsAbleStore}
+use Rattle.mv_ledger.proofs.Spelling.{OffersAreBytes, read-spelled}
 
 -- the tables of a store are accepted
 pub accepted_store : (store : List PublishedModule) → IsStore store → StoreAccepted (tables_in store)
@@ -41,15 +42,11 @@ able_store store is = record {
 
 -- ---- a bundle
 
--- the offered texts are bytes
-abbrev pub OffersAreBytes : List Offer → Type 0
-OffersAreBytes offers = AllByRecursion (λ o. AreBytes o.text) offers
-
 -- what an offer passed, its module keeps, with the texts that it came in
 passed_publishable : IsReadByText → (o : Offer) (p : PublishedModule) (c : Certificate) → AreBytes o.text → p.text ≡ o.text → p.certificate ≡ o.certificate → Passes o p.tables c → IsPublishable p
 passed_publishable reads o p c are text certificate passes = record {
-  text = subst (λ bytes. module_of bytes ≡ Some p.tables) (sym text) passes.text;
-  spelled = ((reads o.text p.tables are).0 passes.text).fits;
+  text = subst (λ bytes. module_of bytes ≡ Some p.tables) (sym text) (read-spelled reads o.text p.tables are passes.text);
+  spelled = passes.text.fits;
   sound = passes.sound;
   acquires = passes.acquires;
   certificate = (c, (subst (λ bytes. IsCertificateText p.tables bytes c) (sym certificate) passes.certificate, passes.holds));

@@ -1,5 +1,6 @@
-use Rattle.std.proofs.Common.{Some, Err, sym, ap, ◌∙◌}
+use Rattle.std.proofs.Common.{Err, sym, ap, ◌∙◌, subst}
 use Rattle.std.proofs.lemmas.Result.{err_from_is_err_and}
+use Rattle.mv_ledger.specs.Publishing.{Spells}
 use Rattle.moveledger.specs.Checking.{offer_of}
 use Rattle.mv_ledger.proofs.Phases.{refused_text, refused_bounds, refused_types}
 use Rattle.moveledger.proofs.Verdicts.{refused-alone}
@@ -9,18 +10,18 @@ pub returns-in_err-module-clause-refused : goal.returns-in_err-module-clause-ref
 returns-in_err-module-clause-refused c =
     let p = err_from_is_err_and c.from_residual.result c.from_residual.ensures.1 in
     rw (p.1, p.2) (refused-alone c.args.bytes.now c.in_err-module.field-0.0 (λ certificate.
-    refused_text (offer_of c.args.bytes.now certificate) c.in_err-module.field-0.0 c.in_err-module.ensures.errors (λ is. c.in_err-module.ensures.refused (ap Err is))))
+    refused_text (offer_of c.args.bytes.now certificate) c.in_err-module.field-0.0 c.in_err-module.ensures.errors (λ is. c.in_err-module.ensures.none (ap Err is))))
 
 pub returns-in_err-bounded-clause-refused : goal.returns-in_err-bounded-clause-refused
 returns-in_err-bounded-clause-refused c =
     let p = err_from_is_err_and c.from_residual-in_err-bounded.result c.from_residual-in_err-bounded.ensures.1 in
     rw (p.1, p.2) (refused-alone c.args.bytes.now c.in_err-bounded.field-0.0 (λ certificate.
-    refused_bounds (offer_of c.args.bytes.now certificate) c.in_ok-module.module c.in_err-bounded.field-0.0 c.in_ok-module.ensures.ok c.in_err-bounded.ensures.refused))
+    refused_bounds (offer_of c.args.bytes.now certificate) c.in_ok-module.module c.in_err-bounded.field-0.0 c.in_ok-module.ensures.text c.in_err-bounded.ensures.refused))
 
 pub returns-in_err-typed-clause-refused : goal.returns-in_err-typed-clause-refused
 returns-in_err-typed-clause-refused c =
     let p = err_from_is_err_and c.from_residual-in_err-typed.result c.from_residual-in_err-typed.ensures.1 in
-    let spelled = c.in_ok-module.ensures.ok ∙ ap Some (sym c.in_ok-bounded.ensures.ok) in
+    let spelled = subst (Spells c.args.bytes.now) (sym c.in_ok-bounded.ensures.ok) c.in_ok-module.ensures.text in
     rw (p.1, p.2) (refused-alone c.args.bytes.now c.in_err-typed.field-0.0 (λ certificate.
     refused_types (offer_of c.args.bytes.now certificate) c.in_ok-bounded.bounded c.in_err-typed.field-0.0 spelled
     c.module-defined.ensures.bounds c.module-defined.ensures.definitions c.in_err-typed.ensures.refused))

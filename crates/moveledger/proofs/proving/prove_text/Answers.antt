@@ -4,7 +4,7 @@ use Rattle.mv_binary_format.proofs.Back.{all-are_bytes}
 use Rattle.mv_analyser.specs.Principal.{IsOfLimits}
 use Rattle.moveledger.specs.Hexadecimal.{hexadecimal, IsHexadecimal}
 use Rattle.moveledger.specs.Proving.{HasNoProof, too_long}
-use Rattle.moveledger.proofs.Proved.{alone-no_proof, each-no_proof, made-accepted, made-proved, provable-refused}
+use Rattle.moveledger.proofs.Proved.{alone-no_proof, each-no_proof, made-accepted, made-proved, provable-refused, provable-spelled}
 use Rattle.moveledger.proofs.proving.prove_text.Goals as goal
 
 pub returns-then-module-gt-MOST_BYTES-clause-refused :
@@ -21,13 +21,21 @@ returns-in-Err-clause-principal c = λ provable.
     let bytes = c.args.module.now in
     let are = all-are_bytes bytes (λ i. omega (arith, c.type_inv.module i)) in
     subst IsOfLimits (sym c.unproved.ensures)
-    (provable-refused bytes c.texts_are_of_one_certificate.ensures (λ m e. ((c.modules_are_read_by_text.ensures bytes m are).0 e).fits) provable c.in-Err.e c.in-Err.ensures.refused)
+    (provable-refused bytes c.modules_are_read_by_text.ensures c.texts_are_of_one_certificate.ensures are provable c.in-Err.e c.in-Err.ensures.refused)
 
 pub returns-in_err-certificate-clause-refused : goal.returns-in_err-certificate-clause-refused
 returns-in_err-certificate-clause-refused c =
     let p = err_from_is_err_and c.from_residual.result c.from_residual.ensures.1 in
     rw (p.1, p.2)
     (each-no_proof c.args.module.now c.if-module-gt-MOST_BYTES.false c.in-Ok.typed c.in-Ok.ensures.spelled c.in-Ok.ensures.sound c.in_err-certificate.field-0.0 c.in_err-certificate.ensures.refused)
+
+pub returns-in_err-certificate-clause-principal : goal.returns-in_err-certificate-clause-principal
+returns-in_err-certificate-clause-principal c = λ provable.
+    let bytes = c.args.module.now in
+    let are = all-are_bytes bytes (λ i. omega (arith, c.type_inv.module i)) in
+    let p = err_from_is_err_and c.from_residual.result c.from_residual.ensures.1 in
+    rw (p.1, p.2)
+    (c.in_err-certificate.ensures.principal (provable-spelled c.modules_are_read_by_text.ensures bytes are c.in-Ok.typed c.in-Ok.ensures.spelled provable))
 
 pub returns-clause-proved : goal.returns-clause-proved
 returns-clause-proved c =

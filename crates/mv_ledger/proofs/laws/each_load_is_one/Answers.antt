@@ -2,4 +2,4 @@ use Rattle.mv_ledger.proofs.SavedFails.{loads-one}
 use Rattle.mv_ledger.proofs.laws.each_load_is_one.Goals as goal
 
 pub returns : goal.returns
-returns c = loads-one
+returns c = loads-one c.modules_are_read_by_text.ensures

@@ -2,4 +2,4 @@ use Rattle.mv_ledger.proofs.Saved.{ledgers-one}
 use Rattle.mv_ledger.proofs.laws.each_text_has_one_ledger.Goals as goal
 
 pub returns : goal.returns
-returns c = ledgers-one
+returns c = ledgers-one c.modules_are_read_by_text.ensures

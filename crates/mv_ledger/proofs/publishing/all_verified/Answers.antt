@@ -16,7 +16,7 @@ pub each-preserved : goal.each-preserved
 each-preserved c =
     let pushed : c.push.new.self.items ≡ c.each.all.items ++ c.in_ok-verified.field-0 ∷ [] = grind (arith, common_steps) in
     verifying-more c.args.offers.now c.each.offer-index c.each.all.items c.push.new.self.items _ c.in_ok-verified.field-0 c.each.invariant c.each-test.true pushed
-    c.in_ok-verified.ensures.text c.in_ok-verified.ensures.certificate c.in_ok-verified.ensures.passes
+    c.in_ok-verified.ensures.text c.in_ok-verified.ensures.certificate c.in_ok-verified.ensures.passes c.in_ok-verified.ensures.texts
 
 pub returns-clause-passed : goal.returns-clause-passed
 returns-clause-passed c =

@@ -1,8 +1,10 @@
-use Rattle.std.proofs.Common.{◌≡◌, List, sym, ap, ◌∙◌, subst}
+use Rattle.std.proofs.Common.{◌≡◌, ℕ, List, None, Err, inl, inr, sym, ap, ◌∙◌, subst}
 use Rattle.std.specs.Prelude.{IfSome, slice_get}
+use Rattle.mv_move_types.specs.declared.refusal.Refusal.{Refusal}
+use Rattle.mv_move_types.specs.declared.refusal.Refusal.TheVariants.{Phase, Memory}
 use Rattle.mv_move_types.specs.Published.{PublishedModule}
 use Rattle.mv_binary_format.specs.Parsing.{module_of}
-use Rattle.mv_linker.proofs.Keyed.{module-at}
+use Rattle.mv_linker.proofs.Keyed.{module-at, spelled-at}
 use Rattle.mv_linker.proofs.Scopes.{tables-there}
 use Rattle.mv_linker.proofs.Store.module.Goals as goal
 
@@ -16,3 +18,18 @@ returns-in-Ok-clause-tables c =
     let decoded = ap module_of (sym c.deref.ensures.value) ∙ c.in-Ok.ensures.ok in
     tables-there c.args.self.now c.args.place c.in-Ok.m c.requires
     (subst (λ (s : List PublishedModule). IfSome (slice_get s c.args.place) (λ p. c.in-Ok.m ≡ p.tables)) c.self.view_is (module-at c.self.inside.modules.entries c.args.place c.index.result.now c.in-Ok.m c.index.ensures decoded))
+
+-- a phase is no want of memory
+no-memory : (e : Refusal) (n : ℕ) → e ≡ Phase n → e ≡ Memory → ⊥
+no-memory (Phase k) n p q = cc
+no-memory Memory n p q = cc
+
+pub unreachable-requires : goal.unreachable-requires
+unreachable-requires c =
+    let none : module_of c.deref.result.now ≡ None =
+    elim c.in-Err-Phase.ensures.errors [
+      | inl p ↦ c.in-Err-Phase.ensures.refused (ap Err p)
+      | inr q ↦ absurd (no-memory _ _ c.in-Err-Phase.field-0-is q)
+    ] in
+    spelled-at c.self.inside.modules.entries c.args.place c.index.result.now c.index.ensures c.self.invariant.0.passed
+    (ap module_of (sym c.deref.ensures.value) ∙ none)
