@@ -8,7 +8,7 @@ import subprocess
 import time
 from pathlib import Path
 
-from files import AT_ADDRESS, BLOCKS, FUNCTIONS, ROUNDS_OF_A_LOOP, WORK
+from files import AT_ADDRESS, BLOCKS, FUNCTIONS, ROUNDS_OF_A_LOOP, UPGRADED_AMONG, WORK
 
 STEPS = 10_000_000
 # What the number of a sender is multiplied by: so that addresses ascend, or come in no order.
@@ -17,7 +17,7 @@ PHASES = ("2", "3 and 4", "5 to 8", "9", "10 to 12", "12")
 STREAMS = (
     "nothing", "helping", "small5", "large5", "small6", "large6", "structs390", "structs3900", "chain400", "chain3600",
     "chain4000", "empty400", "empty3600", "empty4000", "working", "mints1000", "mints10000", "empty4000mints", "large100",
-    "large100mints",
+    "large100mints", *(f"{kind}{count}" for count in UPGRADED_AMONG for kind in ("chain", "upgraded")),
 )
 
 
@@ -120,7 +120,7 @@ class Clock:
         for name in "mint", "unpack":
             add(("first", name), lambda n=name: min(self.runs("working", "no_step", n, 5, 2_000))[0] / 2_000)
         for stream in STREAMS:
-            tries = 4 if stream.startswith(("chain", "empty")) else 2
+            tries = 4 if stream.startswith(("chain", "empty", "upgraded")) else 2
             add(("apply", stream), lambda s=stream, n=tries: min(self.apply(s) for _ in range(n)))
         return tasks
 

@@ -7,6 +7,8 @@ from inputs import model, publish, record, run, u64
 
 # How many modules there are of each kind, and how many stand in a chain.
 CHAINED, CHAIN = 4_000, 100
+# Among how many of these modules some are replaced, and how many are: whole chains.
+UPGRADED_AMONG, UPGRADES = (500, 2_000), 300
 LARGE_FEW, LARGE_MANY = 100, 200
 
 FUNCTIONS = (1_024, 2_048, 4_096)
@@ -90,6 +92,9 @@ def streams(folder, bundles):
     for count in 400, CHAINED - 400, CHAINED:
         out[f"chain{count}"] = chain[:count]
         out[f"empty{count}"] = empty[:count]
+    for count in UPGRADED_AMONG:
+        out[f"chain{count}"] = chain[:count]
+        out[f"upgraded{count}"] = chain[:count] + chain[:UPGRADES]
     for count in LARGE_FEW, LARGE_MANY:
         out[f"large{count}"] = published("helping") + large[:count]
     out["working"] = published("working")

@@ -7,7 +7,8 @@ import costs
 import files
 import saved
 from clock import ASCENDING, SCATTERED, STEPS, Clock
-from files import BLOCKS, CHAIN, CHAINED, FUNCTIONS, LARGE_FEW, LARGE_MANY, ROUNDS_OF_A_LOOP, STRUCTS, WORK
+from files import (BLOCKS, CHAIN, CHAINED, FUNCTIONS, LARGE_FEW, LARGE_MANY, ROUNDS_OF_A_LOOP, STRUCTS, UPGRADED_AMONG,
+                   UPGRADES, WORK)
 from inputs import BEGINNING
 
 ROUNDS = 3
@@ -101,6 +102,9 @@ def tell_store(folder, best, clock):
         last = best["apply", f"{kind}{CHAINED}"] - best["apply", f"{kind}{CHAINED - 400}"]
         times = last / spent(f"{kind}400")
         tell(f"store: the last 400 of {CHAINED} {what} take {times:.2f} times the first 400", "1.2 or less")
+    few, many = (best["apply", f"upgraded{count}"] - best["apply", f"chain{count}"] for count in UPGRADED_AMONG)
+    tell(f"store: {UPGRADES} upgrades among {UPGRADED_AMONG[1]} modules in chains take {many / few:.2f} times those among "
+         f"{UPGRADED_AMONG[0]}, {micro(many / UPGRADES)} each", "1.2 or less")
     few, many = (clock.memory([(folder / f"chain{count}.stream").read_bytes()]) for count in (400, CHAINED))
     tell(f"store: {(many - few) / (CHAINED - 400):.0f} bytes of memory for each of these modules")
     few, many = (clock.memory([(folder / f"large{count}.stream").read_bytes()]) for count in (LARGE_FEW, LARGE_MANY))

@@ -1,12 +1,13 @@
 -- Published modules that stay and name a module of a bundle.
 --   names-none     a module no handle of which leads to one of the bundle names none of it
+--   depends-names  a published module that stays names one exactly where it depends on one
 --   apart-placed, apart-unnamed, apart-new   a published module that doesn't have to be linked again
 --   DependantsSoFar   those among the first published modules
-use Rattle.std.proofs.Common.{◌≡◌, ◌⊎◌, ℕ, ◌<◌, ◌≤◌, ◌+◌, ◌++◌, [], ◌∷◌, true, false, List, length, map, Some, slice_get, Contains, refl, sym, ap, subst, ◌∙◌, arith, inl, inr}
+use Rattle.std.proofs.Common.{◌≡◌, ◌↔◌, ◌⊎◌, ℕ, ◌<◌, ◌≤◌, ◌+◌, ◌++◌, [], ◌∷◌, true, false, List, length, map, Some, None, slice_get, Contains, refl, sym, ap, subst, ◌∙◌, arith, inl, inr}
 use Rattle.std.specs.Prelude.{All, ◌==◌, is_some, nat_lt, position}
 use Rattle.std.specs.List.{list_any}
 use Rattle.std.specs.Option.{option_map_or}
-use Rattle.std.proofs.lemmas.Bool.{cases_eq, cases_lt, ltb-false}
+use Rattle.std.proofs.lemmas.Bool.{both_ways, cases_eq, cases_lt, false_from_ne_true, ltb-false}
 use Rattle.std.proofs.lemmas.List.{map-append}
 use Rattle.std.proofs.lemmas.List.Elements.{All-nil, All-push, Contains-append_left, Contains-push}
 use Rattle.std.proofs.lemmas.Option.{same_Some, slice_get_within}
@@ -14,21 +15,23 @@ use Rattle.mv_move_types.specs.declared.tables.ModuleHandle.{ModuleHandle}
 use Rattle.mv_move_types.specs.Names.{ModuleName}
 use Rattle.mv_move_types.specs.Options.{◌>>=◌}
 use Rattle.mv_move_types.specs.Module.{Module, module_name}
-use Rattle.mv_move_types.specs.Named.{is_module, module_place}
+use Rattle.mv_move_types.specs.Named.{have_one_name, is_module, module_place}
 use Rattle.mv_linker.specs.declared.dependants.Dependant.{Dependant}
 use Rattle.mv_linker.specs.declared.scope.Scope.{Scope}
 use Rattle.mv_linker.specs.Link.{tables_in}
+use Rattle.mv_linker.specs.Order.{AreDependencies}
 use Rattle.mv_linker.specs.Relinked.{Joins, bundled_target, NamesBundle, IsDependant, IsApart, AreDependants}
 use Rattle.mv_linker.specs.Scope.{offered}
 use Rattle.mv_linker.specs.Targets.{modules_in}
 use Rattle.mv_linker.proofs.Bundled.{place-at}
+use Rattle.mv_linker.proofs.DependenciesStay.{dependencies-stay}
 use Rattle.mv_linker.proofs.DependencyLemmas.{all-there}
-use Rattle.mv_linker.proofs.Found.{on_some, then_found, some-of}
+use Rattle.mv_linker.proofs.Found.{on_some, then_found, some-of, Contains-at, at-Contains, there_at}
 use Rattle.mv_linker.proofs.JoinedCodes.{NamesNone}
 use Rattle.mv_linker.proofs.JoinedOrder.{names-stay}
-use Rattle.mv_linker.proofs.Joins.{one-name, bundled-at, placed-at, position-there}
-use Rattle.mv_linker.proofs.Members.{any-among, among-at, at-among, none-among}
-use Rattle.mv_linker.proofs.NameLemmas.{is_module-is, module_place-from}
+use Rattle.mv_linker.proofs.Joins.{one-name, bundled-at, kept-at, placed-at, position-there}
+use Rattle.mv_linker.proofs.Members.{any-among, among-any, among-at, at-among, none-among}
+use Rattle.mv_linker.proofs.NameLemmas.{is_module-is, module_place-from, module_place-is, name_at_one, have_one_name-is, depends_on-is, depends_on-from}
 use Rattle.mv_linker.proofs.Resolving.{modules_there_at}
 use Rattle.mv_linker.proofs.Scopes.{within_tables}
 
@@ -57,6 +60,36 @@ module _ (s : Scope) (joins : Joins s) where
       then_found (module_name m h) (λ name. module_place (modules_in s) name >>= λ place. position (λ p. p == place) s.places.items) name (position (λ p. p == place.0) s.places.items) named
       (then_found (module_place (modules_in s) name) (λ place. position (λ p. p == place) s.places.items) place.0 (position (λ p. p == place.0) s.places.items) found refl) in
       none (h, ap is_some target ∙ position-there place.0 at.0 s.places.items place.1)
+
+  -- a published module that stays names one of the bundle exactly where it depends on what stands at a place of one
+  pub depends-names : (q : ℕ) (m : Module) (places : List ℕ) → slice_get (tables_in s.store.now) q ≡ Some m → position (λ p. p == q) s.places.items ≡ None → AreDependencies (tables_in s.store.now) m places
+      → (list_any (λ q. is_some (position (λ p. p == q) s.places.items)) places ≡ true) ↔ NamesBundle s m
+  depends-names q m places at free was = (
+    λ some.
+        let j = any-among (λ q. is_some (position (λ p. p == q) s.places.items)) places some in
+        let listed : Contains places j.0 = (let k = at-among places j.0 j.1 in at-Contains places k.0 j.0 k.1) in
+        let n = there_at (modules_in s) j.0 (now.there j.0 listed) in
+        let names = (depends_on-is m n.0 ((now.each j.0 n.0 n.1).0 listed)).1 in
+        let found : module_place (modules_in s) names.name ≡ Some j.0 = module_place-from (modules_in s) names.name j.0 n.0 (one-name s joins) n.1 names.own in
+        let target : bundled_target s m names.handle ≡ position (λ p. p == j.0) s.places.items =
+        then_found (module_name m names.handle) (λ name. module_place (modules_in s) name >>= λ place. position (λ p. p == place) s.places.items) names.name (position (λ p. p == j.0) s.places.items) names.named
+        (then_found (module_place (modules_in s) names.name) (λ place. position (λ p. p == place) s.places.items) j.0 (position (λ p. p == j.0) s.places.items) found refl) in
+        (names.handle, ap is_some target ∙ j.2),
+    λ w.
+        let target = some-of (bundled_target s m w.0) w.1 in
+        target-parts s m w.0 target.0 target.1 (λ name p named found placed.
+        let n = module_place-is (modules_in s) name p found in
+        let own : have_one_name m n.0 ≡ false = false_from_ne_true (have_one_name m n.0) (λ one.
+        let names = have_one_name-is m n.0 one in
+        let same : q ≡ p = name_at_one (modules_in s) names.0 q p m n.0 (one-name s joins) (kept-at s joins q free ∙ at) n.1 names.1 names.2 in
+        both_ways true (sym (ap is_some (sym free ∙ ap (λ k. position (λ p. p == k) s.places.items) same) ∙ position-there p target.0 s.places.items placed)) refl) in
+        let depends = depends_on-from m n.0 name w.0 (handle-below m w.0 name named) named n.2 own in
+        let listed = Contains-at places p ((now.each p n.0 n.1).1 depends) in
+        among-any (λ q. is_some (position (λ p. p == q) s.places.items)) places p (among-at places listed.0 p listed.1) (position-there p target.0 s.places.items placed)),
+  )
+    where
+      now : AreDependencies (modules_in s) m places
+      now = dependencies-stay (tables_in s.store.now) (offered s.new.now) joins.store.once joins.store.links q m at places was
 
   -- ---- published modules that don't have to be linked again
 

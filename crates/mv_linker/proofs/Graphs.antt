@@ -34,7 +34,7 @@ whole-graph modules graph len deps =
     }
 
 -- a module that a handle names is in the store
-named_there : (store : List Module) (m : Module) (k h : ℕ) (name : ModuleName) → modules_are_there store m k ≡ true → h < k → module_name m h ≡ Some name → (p : ℕ) × (n : Module) × (slice_get store p ≡ Some n) × (own_name n ≡ Some name)
+pub named_there : (store : List Module) (m : Module) (k h : ℕ) (name : ModuleName) → modules_are_there store m k ≡ true → h < k → module_name m h ≡ Some name → (p : ℕ) × (n : Module) × (slice_get store p ≡ Some n) × (own_name n ≡ Some name)
 named_there store m zero h name all low e = absurd (omega (arith, low))
 named_there store m (suc k) h name all low e = elim (cases_order h k) [
   | inl same ↦

@@ -6,7 +6,7 @@ use Rattle.mv_move_types.specs.Module.{Module}
 use Rattle.mv_move_types.specs.Published.{PublishedModule, has_name_of, with_module, with_modules}
 use Rattle.mv_bounds.specs.Definitions.{all_differ}
 use Rattle.mv_linker.specs.Link.{MayJoin, IsStore, IsPublishable, tables_in, have_one_name}
-use Rattle.mv_linker.specs.Stored.{LinkedBundle, IsLinkedTo, Relinks}
+use Rattle.mv_linker.specs.Stored.{LinkedBundle, IsLinkedTo, Relinks, KeepsDependencies}
 use Rattle.mv_linker.proofs.Members.{differ-result}
 use Rattle.mv_linker.proofs.Scopes.{all_tables}
 
@@ -33,5 +33,5 @@ joined-store sender old bundle store passed join = record {
 
 -- linked to it
 pub joined-linked : (sender : Option ℕ) (old : List PublishedModule) (l : LinkedBundle) → IsStore old → All IsPublishable l.published → MayJoin sender (tables_in old) (tables_in l.published) (tables_in (with_modules old l.published))
-    → Relinks (tables_in old) (tables_in (with_modules old l.published)) l.codes → IsLinkedTo old l
-joined-linked sender old l store passed join relinks = record { whole = joined-store sender old l.published store passed join; codes = relinks }
+    → Relinks (tables_in old) (tables_in (with_modules old l.published)) l.codes → KeepsDependencies (tables_in old) (tables_in (with_modules old l.published)) l.dependencies → IsLinkedTo old l
+joined-linked sender old l store passed join relinks keeps = record { whole = joined-store sender old l.published store passed join; codes = relinks; dependencies = keeps }

@@ -25,6 +25,8 @@ pub mod Assembling
 pub mod Joined
 pub mod JoinedTargets
 pub mod DependencyLemmas
+pub mod DependenciesStay
+pub mod ReachedLemmas
 pub mod FunctionLemmas
 pub mod HandleLemmas
 pub mod TopLemmas

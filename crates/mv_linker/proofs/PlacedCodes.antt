@@ -1,16 +1,14 @@
 -- The code of each module that was linked, with its place: with it a bundle that joins is linked.
---   count-below, places-within    the places that were taken
+--   count-below                   the places that were taken
 --   placed-at, listed             the codes, by their places
 --   relinking                     what the codes are
 use Rattle.std.proofs.Common.{◌≡◌, ℕ, zero, suc, ◌+◌, ◌<◌, ◌≤◌, ◌++◌, [], ◌∷◌, cond, List, length, map, Option, Some, None, slice_get, Contains, refl, sym, ap, subst, ◌∙◌, arith, inl, inr}
-use Rattle.std.specs.Prelude.{◌==◌, unwrap_or, position}
+use Rattle.std.specs.Prelude.{◌==◌, position}
 use Rattle.std.specs.List.{zip}
 use Rattle.std.proofs.lemmas.Bool.{ne_eqb}
 use Rattle.std.proofs.lemmas.List.Elements.{Contains-append_left, Contains-append_right}
 use Rattle.std.proofs.lemmas.Option.{same_Some, none-some, slice_get_within}
-use Rattle.mv_move_types.specs.Options.{find_index}
 use Rattle.mv_move_types.specs.Module.{Module}
-use Rattle.mv_move_types.specs.Named.{have_one_name}
 use Rattle.mv_linker.specs.declared.code.Code.{Code}
 use Rattle.mv_linker.specs.declared.code.CodeAt.{CodeAt}
 use Rattle.mv_linker.specs.declared.dependants.Dependant.{Dependant}
@@ -20,17 +18,16 @@ use Rattle.mv_linker.specs.Coded.{IsCode, AreCodes, AreToLink}
 use Rattle.mv_linker.specs.Link.{tables_in}
 use Rattle.mv_linker.specs.Ordering.{count_after, ArePlaces}
 use Rattle.mv_linker.specs.Relinked.{Joins, IsDependant, AreDependants, AreLinkable}
-use Rattle.mv_linker.specs.Scope.{offered, with_table, place_for, places_in}
+use Rattle.mv_linker.specs.Scope.{offered, places_in}
 use Rattle.mv_linker.specs.Targets.{modules_in}
 use Rattle.mv_linker.proofs.DependantLemmas.{names-none}
 use Rattle.mv_linker.proofs.Joins.{joining, kept-at}
-use Rattle.mv_linker.proofs.DependencyLemmas.{count-places}
+use Rattle.mv_linker.proofs.DependencyLemmas.{count-places, places-within}
 use Rattle.mv_linker.proofs.Bundled.{place-at}
-use Rattle.mv_linker.proofs.Found.{Contains-at, at-Contains, place_below}
+use Rattle.mv_linker.proofs.Found.{Contains-at, at-Contains}
 use Rattle.mv_linker.proofs.Linkable.{at-all, mapped-at, are-to-link}
 use Rattle.mv_linker.proofs.RelinkingLemmas.{IsRelinking}
 use Rattle.mv_linker.proofs.JoinedCodes.{code-kept}
-use Rattle.mv_linker.proofs.Scopes.{length-with_table}
 
 -- ---- places
 
@@ -50,18 +47,6 @@ count-below (x ∷ xs) n low =
     let stays : cond (x == n) (n + 1) n ≡ n = ap (λ b. cond b (n + 1) n) (ne_eqb x n (λ e. omega (arith, here, e))) in
     let rest = count-below xs n (λ k y e. low (suc k) y e) in
     (ap (count_after xs) stays ∙ rest.0, (omega (arith, here), subst (λ c. ArePlaces xs c) (sym stays) rest.1))
-
-place-within : (ms : List Module) (n : Module) → place_for ms n ≤ length ms
-place-within ms n = by_place (find_index (have_one_name n) ms) refl
-  where
-    by_place : (o : Option ℕ) → find_index (have_one_name n) ms ≡ o → unwrap_or o (length ms) ≤ length ms
-    by_place None e = omega arith
-    by_place (Some k) e = (let low = place_below (have_one_name n) ms k e in omega (arith, low))
-
--- a bundle's places are there, one after the other
-places-within : (ms ns : List Module) → ArePlaces (places_in ms ns) (length ms)
-places-within ms [] = tt
-places-within ms (n ∷ ns) = (place-within ms n, subst (λ c. ArePlaces (places_in (with_table ms n) ns) c) (length-with_table ms n) (places-within (with_table ms n) ns))
 
 -- ---- codes
 

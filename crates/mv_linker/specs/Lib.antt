@@ -13,6 +13,7 @@ pub mod News
 pub mod Operations
 pub mod Order
 pub mod Ordering
+pub mod Reached
 pub mod Relinked
 pub mod Resolved
 pub mod Scarce

@@ -17,7 +17,7 @@ ArePlaces (p ∷ places) count = (p ≤ count) × ArePlaces places (cond (p == c
 abbrev pub AreDependenciesAt : List Module → ℕ → List ℕ → Type 0
 AreDependenciesAt modules place places = (m : Module) → slice_get modules place ≡ Some m → AreDependencies modules m places
 
--- those of the modules from a place on, up to another
-pub record AreDependenciesFrom (modules : List Module) (base end : ℕ) (graph : List (List ℕ)) : Type 0 where
-  pub len : base + length graph ≡ end
-  pub each : (i : ℕ) (places : List ℕ) → slice_get graph i ≡ Some places → AreDependenciesAt modules (base + i) places
+-- those of each module of a bundle, in order
+pub record AreDependenciesIn (modules bundle : List Module) (graph : List (List ℕ)) : Type 0 where
+  pub len : length graph ≡ length bundle
+  pub each : (k : ℕ) (n : Module) (places : List ℕ) → slice_get bundle k ≡ Some n → slice_get graph k ≡ Some places → AreDependencies modules n places

@@ -1,13 +1,13 @@
 // The published modules that stay and have to be linked again, since they name a module of the bundle.
-ghost use Rattle.std.specs.Prelude.{◌≡◌, ◌↔◌, ◌<◌, ◌≤◌, length, nat_lt, IsTrue, IfOk, IfSome, MatchOption};
+ghost use Rattle.std.specs.Prelude.{◌≡◌, ◌↔◌, ◌<◌, ◌≤◌, ◌==◌, None, is_some, length, nat_lt, position, slice_get, IsTrue, IfOk, IfSome, MatchOption};
 ghost use Rattle.std.specs.List.{list_any};
+ghost use Rattle.mv_linker.specs.Link.{tables_in};
 ghost use Rattle.mv_linker.specs.Links.{names_hold};
-ghost use Rattle.mv_linker.specs.Relinked.{Joins, bundled_target as target_in_bundle, NamesBundle, IsApart, IsDependant, AreDependants};
+ghost use Rattle.mv_linker.specs.Relinked.{Joins, NamesBundle, IsApart, IsDependant, AreDependants};
 ghost use Rattle.mv_linker.specs.Stored.{AreNames};
 ghost use Rattle.mv_linker.specs.Targets.{modules_in};
 
 use crate::links::Names;
-use crate::names::module_name;
 use crate::scope::Scope;
 use mv_binary_format::Module;
 use mv_move_types::Refusal;
@@ -26,25 +26,21 @@ pub struct Dependant<'a> {
 }
 
 impl<'a> Scope<'a> {
-    /// Which module of the bundle a handle names, if it names one.
-    fn bundled_target(&self, m: &Module<'_>, h: usize) -> Option<usize>
-        ensures { result ≡ target_in_bundle self.now m.now h }
+    /// Whether one of the bundle is to stand at one of these places.
+    fn has_bundled(&self, places: &[usize]) -> bool
+        ensures { result ≡ list_any (λ q. is_some (position (λ p. p == q) self.now.places.items)) places.now }
     {
-        let (address, name) = module_name(m, h)?;
-        let place = self.find(address, name)?;
-        self.bundled(place)
+        places.iter().any(|q| self.bundled(*q).is_some())
     }
 
-    /// Whether a module names one of the bundle.
-    fn names_bundle(&self, m: &Module<'_>) -> bool
-        ensures { IsTrue result ↔ NamesBundle self.now m.now }
+    /// Whether the published module at a place, which stays, names one of the bundle. No byte of it is read.
+    fn names_bundle(&self, place: usize) -> bool
+        requires joins { Joins self.now }
+        requires place { place < length self.now.store.now }
+        requires stays { position (λ p. p == place) self.now.places.items ≡ None }
+        ensures { IfSome (slice_get (tables_in self.now.store.now) place) (λ m. IsTrue result ↔ NamesBundle self.now m) }
     {
-        for h in 0..m.module_handles().len() {
-            if self.bundled_target(m, h).is_some() {
-                return true;
-            }
-        }
-        false
+        self.has_bundled(self.store.dependencies_at(place))
     }
 
     /// Whether the bundle takes the place of a published module.
@@ -79,11 +75,12 @@ impl<'a> Scope<'a> {
         if self.bundled(place).is_some() {
             return Ok(None);
         }
-        if !self.names_bundle(&self.store.module(place)?) {
+        if !self.names_bundle(place) {
             return Ok(None);
         }
         let module = self.store.tops(place)?;
-        let names = self.names_there(alloc, module.module())?;
+        let tables = module.module();
+        let names = self.names_there(alloc, tables)?;
         Ok(Some(Dependant {
             place,
             module,

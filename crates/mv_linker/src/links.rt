@@ -7,11 +7,12 @@ ghost use Rattle.mv_linker.specs.Link.{IsStore, IsPublishable, tables_in, have_o
 ghost use Rattle.mv_linker.specs.Links.{Links, names_hold};
 ghost use Rattle.mv_linker.specs.News.{published_of};
 ghost use Rattle.mv_linker.specs.Scope.{offered};
-ghost use Rattle.mv_linker.specs.Stored.{Relinks, AreNamesOf};
+ghost use Rattle.mv_linker.specs.Stored.{KeepsDependencies, Relinks, AreNamesOf};
 ghost use Rattle.mv_linker.specs.Targets.{modules_in, AreStructsAt, AreFunctionsAt};
 
 use crate::New;
 use crate::code::CodeAt;
+use crate::dependencies::{DependenciesAt, placed};
 use crate::scope::Scope;
 use mv_binary_format::Module;
 use mv_move_types::{Definition, Refusal};
@@ -24,6 +25,15 @@ pub struct Names {
     pub structs: Vec<Definition>,
     /// Where each function is defined.
     pub functions: Vec<Definition>,
+}
+
+/// What a store keeps of the modules that a bundle changes, beside their texts.
+#[derive(Drop)]
+pub struct Changes {
+    /// The code of each module that was linked.
+    pub codes: Vec<CodeAt>,
+    /// The dependencies of the bundle's modules.
+    pub dependencies: Vec<DependenciesAt>,
 }
 
 impl<'a> Scope<'a> {
@@ -79,7 +89,7 @@ impl<'a> Scope<'a> {
     }
 
     /// Tries rules c to g over all the modules, and links the bundle's.
-    pub fn links(&self, alloc: Global) -> Result<Vec<CodeAt>, Refusal>
+    pub fn links(&self, alloc: Global) -> Result<Changes, Refusal>
         requires room { length self.now.store.now + length self.now.new.now ≤ 65536 }
         requires few { length (modules_in self.now) ≤ 65536 }
         requires store { IsStore self.now.store.now }
@@ -87,15 +97,22 @@ impl<'a> Scope<'a> {
         requires once { IsTrue (all_differ have_one_name (offered self.now.new.now)) }
         requires compatible { IsTrue (are_compatible (tables_in self.now.store.now) (offered self.now.new.now)) }
         ensures ok { OnOk result (Links (modules_in self.now)) }
-        ensures codes { IfOk result (λ v. Relinks (tables_in self.now.store.now) (modules_in self.now) v.items) }
+        ensures codes { IfOk result (λ c. Relinks (tables_in self.now.store.now) (modules_in self.now) c.codes.items) }
+        ensures dependencies { IfOk result (λ c. KeepsDependencies (tables_in self.now.store.now) (modules_in self.now) c.dependencies.items) }
         ensures refused { IfErr result (IsRefusedIn 13 (Links (modules_in self.now))) }
     {
         let names = self.named(alloc)?;
-        if !self.is_ordered(alloc)? {
+        let needed = self.dependencies(alloc)?;
+        if !self.is_ordered(alloc, &needed)? {
             return Err(Refusal::Phase(13));
         }
         let sizes = self.sizes(alloc, &names)?;
-        Ok(self.codes(alloc, &names, &sizes)?)
+        let codes = self.codes(alloc, &names, &sizes)?;
+        let dependencies = placed(alloc, &self.places, needed)?;
+        Ok(Changes {
+            codes,
+            dependencies,
+        })
     }
 }
 

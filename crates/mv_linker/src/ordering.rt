@@ -1,12 +1,12 @@
 // Rule f of linking: no module that a store has once a bundle joins depends on itself by a chain.
-ghost use Rattle.std.specs.Prelude.{◌≡◌, ◌↔◌, ◌⊎◌, ◌+◌, ◌<◌, ◌≤◌, ◌^◌, ◌++◌, ◌∷◌, [], All, length, map, IsTrue, IfOk, IfErr, OnOk};
+ghost use Rattle.std.specs.Prelude.{◌≡◌, ◌↔◌, ◌+◌, ◌<◌, ◌≤◌, ◌^◌, ◌++◌, ◌∷◌, [], All, length, map, IsTrue, IfOk, IfErr, OnOk};
 ghost use Rattle.mv_move_types.specs.Refusals.{IsRefusedIn};
 ghost use Rattle.mv_bounds.specs.Definitions.{all_differ};
 ghost use Rattle.mv_linker.specs.Link.{IsStore, IsPublishable, tables_in, have_one_name, are_compatible};
 ghost use Rattle.mv_linker.specs.Links.{Links};
 ghost use Rattle.mv_linker.specs.News.{published_of};
 ghost use Rattle.mv_linker.specs.Order.{IsOrdered};
-ghost use Rattle.mv_linker.specs.Ordering.{count_after as counted_after, AreDependenciesAt, AreDependenciesFrom};
+ghost use Rattle.mv_linker.specs.Ordering.{count_after as counted_after, AreDependenciesAt, AreDependenciesIn};
 ghost use Rattle.mv_linker.specs.Scope.{offered};
 ghost use Rattle.mv_linker.specs.Targets.{modules_in};
 
@@ -78,22 +78,15 @@ impl<'a> Scope<'a> {
         Ok(needed)
     }
 
-    /// The places that each module from a place on depends on.
-    fn dependencies_from(
-        &self,
-        alloc: Global,
-        base: usize,
-        end: usize,
-    ) -> Result<Vec<Vec<usize>>, Refusal>
-        requires store { IsStore self.now.store.now }
-        requires base { base ≤ end }
-        requires end { end ≡ length (modules_in self.now) }
-        ensures ok { IfOk result (λ v. AreDependenciesFrom (modules_in self.now) base end (map (λ s. s.items) v.items)) }
+    /// The places that each module of the bundle depends on; `Phase(13)`, where one names a module that is not there.
+    pub fn dependencies(&self, alloc: Global) -> Result<Vec<Vec<usize>>, Refusal>
+        requires { IsStore self.now.store.now }
+        ensures ok { IfOk result (λ v. AreDependenciesIn (modules_in self.now) (offered self.now.new.now) (map (λ s. s.items) v.items)) }
         ensures refused { IfErr result (IsRefusedIn 13 (Links (modules_in self.now))) }
     {
         let mut graph = Vec::new(alloc);
-        for place in base..end {
-            match self.dependencies_at(alloc, place) {
+        for place in &self.places {
+            match self.dependencies_at(alloc, *place) {
                 Ok(places) => pushed(&mut graph, places)?,
                 Err(e) => return Err(e),
             }
@@ -101,38 +94,33 @@ impl<'a> Scope<'a> {
         Ok(graph)
     }
 
-    /// The place from which on dependencies have to be looked at: where the bundle replaces nothing, those of its modules.
-    fn first_changed(&self, end: usize) -> usize
-        requires room { length self.now.store.now + length self.now.new.now ≤ 65536 }
-        requires end { end ≡ length (modules_in self.now) }
-        ensures base { (result ≡ 0) ⊎ ((result ≡ length self.now.store.now) × (end ≡ length self.now.store.now + length self.now.new.now)) }
-        ensures within { result ≤ end }
+    /// Whether each module of the bundle takes a place of its own, after the store's.
+    fn is_appended(&self) -> bool
+        requires { length self.now.store.now + length self.now.new.now ≤ 65536 }
+        ensures { IsTrue result ↔ (length (modules_in self.now) ≡ length self.now.store.now + length self.now.new.now) }
     {
-        let stays = self.store.len();
-        if end == stays + self.new.len() {
-            stays
-        } else {
-            0
-        }
+        self.len() == self.store.len() + self.new.len()
     }
 
-    /// Whether no module depends on itself by a chain; `Phase(13)`, where some module names one that is not there.
-    pub fn is_ordered(&self, alloc: Global) -> Result<bool, Refusal>
+    /// Whether no module depends on itself by a chain; `dependencies` has those of the bundle's modules. Where the bundle
+    /// replaces nothing, a chain that leads back is one of its own modules; otherwise it is one of modules that are reached
+    /// from them.
+    pub fn is_ordered(&self, alloc: Global, dependencies: &[Vec<usize>]) -> Result<bool, Refusal>
         requires room { length self.now.store.now + length self.now.new.now ≤ 65536 }
         requires store { IsStore self.now.store.now }
         requires passed { All IsPublishable (published_of self.now.new.now) }
         requires once { IsTrue (all_differ have_one_name (offered self.now.new.now)) }
         requires compatible { IsTrue (are_compatible (tables_in self.now.store.now) (offered self.now.new.now)) }
+        requires dependencies { AreDependenciesIn (modules_in self.now) (offered self.now.new.now) (map (λ s. s.items) dependencies.now) }
         ensures ok { IfOk result (λ b. IsTrue b ↔ IsOrdered (modules_in self.now)) }
         ensures refused { IfErr result (IsRefusedIn 13 (Links (modules_in self.now))) }
     {
-        let end = self.len();
-        let base = self.first_changed(end);
-        let graph = match self.dependencies_from(alloc, base, end) {
-            Ok(graph) => graph,
-            Err(e) => return Err(e),
-        };
-        let ordered = is_ordered(alloc, base, &graph)?;
+        if self.is_appended() {
+            let ordered = is_ordered(alloc, self.store.len(), dependencies)?;
+            return Ok(ordered);
+        }
+        let graph = self.reached(alloc, dependencies)?;
+        let ordered = is_ordered(alloc, 0, &graph)?;
         Ok(ordered)
     }
 }

@@ -7,11 +7,11 @@ ghost use Rattle.mv_bounds.specs.Definitions.{all_differ};
 ghost use Rattle.mv_linker.specs.Link.{MayJoin, AreSentBy, IsPublishable, tables_in, have_one_name, is_sent_by};
 ghost use Rattle.mv_linker.specs.Kept.{Kept, published_in};
 ghost use Rattle.mv_linker.specs.News.{published_of};
-ghost use Rattle.mv_linker.specs.Stored.{Relinks};
+ghost use Rattle.mv_linker.specs.Stored.{KeepsDependencies, Relinks};
 
-use crate::code::CodeAt;
 use crate::entry::Entry;
 use crate::indexed::put_name;
+use crate::links::Changes;
 use crate::scope::Scope;
 use crate::upgrades::all_follow;
 use crate::{New, Store};
@@ -26,12 +26,13 @@ pub fn may_join(
     sender: Option<u128>,
     added: &[Entry],
     new: &[New<'_>],
-) -> Result<Vec<CodeAt>, Refusal>
+) -> Result<Changes, Refusal>
     requires same { published_in added.now ≡ published_of new.now }
     requires few { length s.now + length new.now ≤ 65536 }
     requires passed { All IsPublishable (published_of new.now) }
     ensures ok { OnOk result (MayJoin sender (tables_in s.now) (tables_in (published_of new.now)) (tables_in (with_modules s.now (published_of new.now)))) }
-    ensures linked { IfOk result (λ v. Relinks (tables_in s.now) (tables_in (with_modules s.now (published_of new.now))) v.items) }
+    ensures linked { IfOk result (λ c. Relinks (tables_in s.now) (tables_in (with_modules s.now (published_of new.now))) c.codes.items) }
+    ensures dependencies { IfOk result (λ c. KeepsDependencies (tables_in s.now) (tables_in (with_modules s.now (published_of new.now))) c.dependencies.items) }
     ensures refused { IfErr result (IsRefusedIn 13 (MayJoin sender (tables_in s.now) (tables_in (published_of new.now)) (tables_in (with_modules s.now (published_of new.now))))) }
 {
     if !are_sent_by(sender, added) {

@@ -8,7 +8,7 @@ use Rattle.mv_linker.specs.Link.{MayJoin, AreSentBy, IsStore, tables_in, have_on
 use Rattle.mv_linker.specs.Links.{Links}
 use Rattle.mv_linker.specs.News.{published_of}
 use Rattle.mv_linker.specs.Scope.{offered, with_tables}
-use Rattle.mv_linker.specs.Stored.{Relinks}
+use Rattle.mv_linker.specs.Stored.{Relinks, KeepsDependencies}
 use Rattle.mv_linker.proofs.Compatible.{follow-compatible, compatible-follow}
 use Rattle.mv_linker.proofs.Scopes.{offered-tables, scope-tables, with_tables-short}
 use Rattle.mv_linker.proofs.Outcomes.{on_ok, if_err}
@@ -97,9 +97,17 @@ pub returns-clause-linked : goal.returns-clause-linked
 returns-clause-linked c =
     let scope = c.in_ok-scope.scope in
     let old = tables_in c.args.s.now in
-    subst (λ (result : List Module). IfOk c.links.result (λ v. Relinks old result v.items)) (sym (scope-tables c.args.s.now c.args.new.now))
-    (subst (λ (l : List PublishedModule). IfOk c.links.result (λ v. Relinks (tables_in l) (with_tables (tables_in l) (offered c.args.new.now)) v.items)) c.in_ok-scope.ensures.store
-    (subst (λ (l : List New). IfOk c.links.result (λ v. Relinks (tables_in scope.store.now) (with_tables (tables_in scope.store.now) (offered l)) v.items)) c.in_ok-scope.ensures.new c.links.ensures.codes))
+    subst (λ (result : List Module). IfOk c.links.result (λ v. Relinks old result v.codes.items)) (sym (scope-tables c.args.s.now c.args.new.now))
+    (subst (λ (l : List PublishedModule). IfOk c.links.result (λ v. Relinks (tables_in l) (with_tables (tables_in l) (offered c.args.new.now)) v.codes.items)) c.in_ok-scope.ensures.store
+    (subst (λ (l : List New). IfOk c.links.result (λ v. Relinks (tables_in scope.store.now) (with_tables (tables_in scope.store.now) (offered l)) v.codes.items)) c.in_ok-scope.ensures.new c.links.ensures.codes))
+
+pub returns-clause-dependencies : goal.returns-clause-dependencies
+returns-clause-dependencies c =
+    let scope = c.in_ok-scope.scope in
+    let old = tables_in c.args.s.now in
+    subst (λ (result : List Module). IfOk c.links.result (λ v. KeepsDependencies old result v.dependencies.items)) (sym (scope-tables c.args.s.now c.args.new.now))
+    (subst (λ (l : List PublishedModule). IfOk c.links.result (λ v. KeepsDependencies (tables_in l) (with_tables (tables_in l) (offered c.args.new.now)) v.dependencies.items)) c.in_ok-scope.ensures.store
+    (subst (λ (l : List New). IfOk c.links.result (λ v. KeepsDependencies (tables_in scope.store.now) (with_tables (tables_in scope.store.now) (offered l)) v.dependencies.items)) c.in_ok-scope.ensures.new c.links.ensures.dependencies))
 
 pub returns-clause-refused : goal.returns-clause-refused
 returns-clause-refused c =

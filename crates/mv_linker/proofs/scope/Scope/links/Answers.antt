@@ -1,10 +1,13 @@
-use Rattle.std.proofs.Common.{◌≡◌, true, false, refl}
+use Rattle.std.proofs.Common.{◌≡◌, ℕ, List, true, false, refl, sym, ap, subst, ◌∙◌}
 use Rattle.std.proofs.lemmas.Result.{err_from_is_err_and}
 use Rattle.mv_linker.specs.Link.{tables_in}
 use Rattle.mv_linker.specs.Links.{Links}
 use Rattle.mv_linker.specs.Scope.{offered}
+use Rattle.mv_linker.specs.Stored.{KeepsDependencies}
 use Rattle.mv_linker.specs.Targets.{modules_in}
+use Rattle.mv_linker.specs.declared.dependencies.DependenciesAt.{DependenciesAt}
 use Rattle.mv_linker.proofs.Assembling.{bundle-links, links-all, joining-offered}
+use Rattle.mv_linker.proofs.DependenciesStay.{placed, keeps-dependencies}
 use Rattle.mv_linker.proofs.Resolving.{refused_by}
 use Rattle.mv_linker.proofs.scope.Scope.links.Goals as goal
 use Rattle.mv_linker.proofs.scope.Scope.links.Goals.{In_ok-sizes}
@@ -30,6 +33,14 @@ codes-requires-clause-links c = all-linked (goal.at.codes-requires-clause-links 
 
 pub returns-clause-ok : goal.returns-clause-ok
 returns-clause-ok c = all-linked (goal.at.returns-clause-ok c).In_ok-sizes
+
+pub returns-clause-dependencies : goal.returns-clause-dependencies
+returns-clause-dependencies c =
+    let s = c.args.self.now in
+    let needed = c.in_ok-needed.needed.items in
+    let is : c.in_ok-dependencies.dependencies.items ≡ placed s.places.items needed = c.in_ok-dependencies.ensures ∙ ap (λ (l : List ℕ). placed l needed) c.deref-5.ensures.value in
+    subst (λ (l : List DependenciesAt). KeepsDependencies (tables_in s.store.now) (modules_in s) l) (sym is)
+    (keeps-dependencies (tables_in s.store.now) (offered s.new.now) c.requires.store.once c.requires.once c.requires.store.links s.places.items s.placed needed c.in_ok-needed.ensures.ok)
 
 pub returns-in_err-sizes-clause-refused : goal.returns-in_err-sizes-clause-refused
 returns-in_err-sizes-clause-refused c =

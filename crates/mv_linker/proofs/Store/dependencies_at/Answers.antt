@@ -1,0 +1,17 @@
+use Rattle.std.proofs.Common.{◌≡◌, ◌<◌, ℕ, List, Some, length, slice_get, refl, sym, subst, arith}
+use Rattle.std.proofs.lemmas.List.{length-map}
+use Rattle.std.proofs.lemmas.Option.{slice_get_read}
+use Rattle.mv_move_types.specs.Published.{PublishedModule}
+use Rattle.mv_linker.specs.Link.{tables_in}
+use Rattle.mv_linker.specs.Order.{AreDependencies}
+use Rattle.mv_linker.specs.Stored.{AreDependenciesOf}
+use Rattle.mv_linker.proofs.Store.dependencies_at.Goals as goal
+
+pub returns : goal.returns
+returns c m m_at =
+    let modules = tables_in c.args.self.now in
+    let kept = c.self.inside.dependencies.items in
+    let are : AreDependenciesOf modules kept = subst (λ (s : List PublishedModule). AreDependenciesOf (tables_in s) kept) c.self.view_is c.self.invariant.3 in
+    let low : c.args.place < length kept = omega (arith, are.len, length-map c.args.self.now (λ (p : PublishedModule). p.tables), c.requires) in
+    let at : slice_get kept c.args.place ≡ Some c.index.result.now = slice_get_read kept (length kept) c.args.place c.index.result.now refl low c.index.ensures in
+    subst (λ (l : List ℕ). AreDependencies modules m l) (sym c.deref.ensures.value) (are.each c.args.place m c.index.result.now m_at at)

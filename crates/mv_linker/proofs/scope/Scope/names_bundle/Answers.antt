@@ -1,0 +1,21 @@
+use Rattle.std.proofs.Common.{◌≡◌, ◌↔◌, ◌==◌, true, List, Option, Some, length, slice_get, sym, ap, subst, ◌∙◌, arith}
+use Rattle.std.specs.Prelude.{is_some, position, IfSome}
+use Rattle.std.specs.List.{list_any}
+use Rattle.std.proofs.lemmas.List.{length-map}
+use Rattle.mv_move_types.specs.Module.{Module}
+use Rattle.mv_move_types.specs.Published.{PublishedModule}
+use Rattle.mv_linker.specs.Link.{tables_in}
+use Rattle.mv_linker.specs.Relinked.{NamesBundle}
+use Rattle.mv_linker.proofs.DependantLemmas.{depends-names}
+use Rattle.mv_linker.proofs.Found.{there_at}
+use Rattle.mv_linker.proofs.scope.Scope.names_bundle.Goals as goal
+
+pub returns : goal.returns
+returns c =
+    let s = c.args.self.now in
+    let old = tables_in s.store.now in
+    let places = c.dependencies_at.result.now in
+    let m = there_at old c.args.place (omega (arith, length-map s.store.now (λ (p : PublishedModule). p.tables), c.requires.place)) in
+    let both = depends-names s c.requires.joins c.args.place m.0 places m.1 c.requires.stays (c.dependencies_at.ensures m.0 m.1) in
+    subst (λ (o : Option Module). IfSome o (λ m. (c.has_bundled.result ≡ true) ↔ NamesBundle s m)) (sym m.1)
+    ((λ h. both.0 (sym c.has_bundled.ensures ∙ h)), (λ names. c.has_bundled.ensures ∙ both.1 names))
