@@ -1,8 +1,10 @@
-use Rattle.std.proofs.Common.{◌≡◌, get_or, take, ◌++◌, ◌∷◌, [], ◌+◌}
+use Rattle.std.proofs.Common.{◌≡◌, get_or, take, ◌++◌, ◌∷◌, [], ◌+◌, Contains, subst, sym}
 use Rattle.std.proofs.lemmas.List.{take_more}
 use Rattle.std.proofs.lemmas.List.Elements.{Contains-get_or}
-use Rattle.mv_lattice.specs.Work.{AllStated}
+use Rattle.mv_lattice.specs.Search.{FlowsIntoEach}
+use Rattle.mv_lattice.specs.Work.{AllStated, standing}
 use Rattle.mv_lattice.proofs.Rises.{raised_trans, raised_keeps}
+use Rattle.mv_lattice.proofs.Searches.{flows_more}
 use Rattle.mv_lattice.proofs.search.raise_each.Goals as goal
 
 pub raise-requires-clause-begins : goal.raise-requires-clause-begins
@@ -23,8 +25,12 @@ loop-n-preserved g c =
     raised_keeps laws (m.is_small d) c.args.t.now (n ∷ []) [] c.loop-n.states c.raise.new.states c.raise.new.states c.loop-n.waiting c.raise.new.waiting c.raise.new.waiting (m.may_begin d) (λ s a b e. b) inv.begins here in
     let more : take (c.loop-n.n-index + 1) c.args.blocks.now ≡ xs ++ (n ∷ []) = take_more c.args.blocks.now c.loop-n.n-index 0 c.loop-n-test.true in
     let both = raised_trans laws (m.is_small d) c.args.t.now xs (n ∷ []) c.args.states.now c.loop-n.states c.raise.new.states c.args.waiting.now c.loop-n.waiting c.raise.new.waiting c.requires.state c.requires.states inv.valid valid inv.raised here in
+    let flows =
+    flows_more (m.is_state d) (m.is_small d) (m.below d) c.args.t.now xs n (standing c.args.states.now c.args.waiting.now) (standing c.loop-n.states c.loop-n.waiting) (standing c.raise.new.states c.raise.new.waiting)
+    (laws.reflexive c.args.t.now c.requires.state) inv.flows c.in_ok-raise.ensures.flows in
     record {
       raised = rw more both;
+      flows = subst (λ zs. FlowsIntoEach (m.is_state d) (m.is_small d) (m.below d) (Contains zs) c.args.t.now (standing c.args.states.now c.args.waiting.now) (standing c.raise.new.states c.raise.new.waiting)) (sym more) flows;
       valid = valid;
       begins = begins;
     }

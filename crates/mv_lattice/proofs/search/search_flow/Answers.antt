@@ -8,6 +8,7 @@ loop-k-preserved g c =
     record {
       work = new.work;
       counts = new.counts;
+      search = λ start has. new.search start (inv.search start has);
       higher = higher_trans (g.met.D.Domain.laws c.args.d.now) c.args.states.now c.loop-k.states c.turn.new.states c.requires.work.valid inv.work.valid new.work.valid inv.higher new.higher;
       least = λ start flow is closed fb. new.least start flow is closed (inv.least start flow is closed fb);
     }
