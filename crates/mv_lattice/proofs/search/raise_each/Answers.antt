@@ -1,10 +1,11 @@
 use Rattle.std.proofs.Common.{◌≡◌, get_or, take, ◌++◌, ◌∷◌, [], ◌+◌, Contains, subst, sym}
 use Rattle.std.proofs.lemmas.List.{take_more}
 use Rattle.std.proofs.lemmas.List.Elements.{Contains-get_or}
+use Rattle.std.proofs.lemmas.Result.{err_from_is_err_and}
 use Rattle.mv_lattice.specs.Search.{FlowsIntoEach}
 use Rattle.mv_lattice.specs.Work.{AllStated, standing}
 use Rattle.mv_lattice.proofs.Rises.{raised_trans, raised_keeps}
-use Rattle.mv_lattice.proofs.Searches.{flows_more}
+use Rattle.mv_lattice.proofs.Searches.{flows_more, exceeds_before}
 use Rattle.mv_lattice.proofs.search.raise_each.Goals as goal
 
 pub raise-requires-clause-begins : goal.raise-requires-clause-begins
@@ -34,3 +35,20 @@ loop-n-preserved g c =
       valid = valid;
       begins = begins;
     }
+
+pub returns-in_err-raise-clause-exceeds : goal.returns-in_err-raise-clause-exceeds
+returns-in_err-raise-clause-exceeds g c = λ e.
+    let m = g.D.Domain in
+    let d = c.args.d.now in
+    let laws = g.met.D.Domain.laws d in
+    let n = get_or c.args.blocks.now c.loop-n.n-index 0 in
+    let xs = take c.loop-n.n-index c.args.blocks.now in
+    let p = err_from_is_err_and c.from_residual.result c.from_residual.ensures.1 in
+    let here = c.in_err-raise.ensures.exceeds (cc (p.1, p.2, e)) in (
+      n,
+      (
+        Contains-get_or c.args.blocks.now c.loop-n.n-index 0 c.loop-n-test.true,
+        exceeds_before (m.is_state d) (m.is_small d) (m.below d) c.args.t.now xs n (standing c.args.states.now c.args.waiting.now) (standing c.loop-n.states c.loop-n.waiting)
+            (laws.reflexive c.args.t.now c.requires.state) c.loop-n.invariant.flows here,
+      ),
+    )
