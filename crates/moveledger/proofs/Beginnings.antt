@@ -11,7 +11,7 @@ use Rattle.mv_move_types.specs.declared.refusal.Refusal.TheVariants.{Phase, Memo
 use Rattle.moveledger.specs.Authoring.{ChecksTo, Prints, ProvesTo}
 use Rattle.moveledger.specs.Checking.{AreShort, FailsCheck, IsAccepted, IsRefusedText, before_line_end, failing, too_long as texts_too_long}
 use Rattle.moveledger.specs.Printing.{checked_line, line, no_proof_line}
-use Rattle.moveledger.specs.Proving.{FailsProof, HasNoProof, HasReferences, IsProvedBy, IsShort, in_each, in_module, too_long}
+use Rattle.moveledger.specs.Proving.{FailsProof, HasNoProof, IsComplexText, IsProvedBy, IsShort, in_each, in_module, too_long}
 use Rattle.moveledger.specs.Status.{end_after_check, end_after_proof}
 use Rattle.moveledger.specs.declared.status.End.{End}
 use Rattle.moveledger.specs.declared.status.End.TheVariants.{Read, Memory}
@@ -48,8 +48,8 @@ module _ (m : List ℕ) where
   proved-by : (text : List ℕ) → IsProvedBy (take 65537 m) text → IsProvedBy m text
   proved-by text h = subst (λ x. IsProvedBy x text) (same-module h.short) h
 
-  has-references : HasReferences (take 65537 m) → HasReferences m
-  has-references h = subst HasReferences (same-module h.short) h
+  complex-text : IsComplexText (take 65537 m) → IsComplexText m
+  complex-text h = subst IsComplexText (same-module h.short) h
 
   fails-proof : (phase : ℕ) → FailsProof (take 65537 m) phase → FailsProof m phase
   fails-proof _ (too_long long) = too_long (λ short. long (subst IsShort (sym (short-module short)) short))
@@ -103,7 +103,7 @@ module _ {S A : Type 0} (bytes_of : S → List ℕ) (m : List ℕ) (held holds :
       let whole = fails-proof m phase (subst (λ x. FailsProof x phase) module_is err) in
       subst (ProvesTo m held holds) (sym h.0) (whole, subst (Appends held holds) (same_Some _ _ said) h.1)
   proves-to bytes (Err proof.TooComplex) (Ok s) module_is ok err said (inr h) =
-      let whole = has-references m (subst HasReferences module_is err) in
+      let whole = complex-text m (subst IsComplexText module_is err) in
       subst (ProvesTo m held holds) (sym h.0) (whole, subst (Appends held holds) (same_Some _ _ said) h.1)
   proves-to bytes (Err proof.Memory) (Ok s) module_is ok err said (inr h) = subst (ProvesTo m held holds) (sym h.0) tt
 

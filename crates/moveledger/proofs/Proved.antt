@@ -72,7 +72,7 @@ module _ (bytes : List ℕ) (short : IsShort bytes) where
     -- nor has one that no certificate passes with
     pub each-no_proof : (e : ProveError) → IsUnproved m e → HasNoProof bytes e
     each-no_proof (Refused p) h = in_each m p short text sound h
-    each-no_proof TooComplex h = record { short = short; tables = m; text = text; sound = sound; references = h }
+    each-no_proof TooComplex h = record { short = short; tables = m; text = text; sound = sound; references = h.0; complex = h.1 }
     each-no_proof Memory h = tt
 
 -- where some certificate passes, one passes with the module that the bytes spell

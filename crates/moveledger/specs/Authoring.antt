@@ -5,7 +5,7 @@ use Rattle.moveledger.specs.declared.status.End.{End}
 use Rattle.moveledger.specs.declared.status.End.TheVariants.{Done, Read, Write, Memory, Words, Refused, LoadRefused, TooComplex}
 use Rattle.moveledger.specs.Printing.{line, refused_text}
 use Rattle.moveledger.specs.Checking.{FailsCheck, IsAccepted}
-use Rattle.moveledger.specs.Proving.{FailsProof, HasReferences, IsProvedBy}
+use Rattle.moveledger.specs.Proving.{FailsProof, IsComplexText, IsProvedBy}
 
 -- the line is written and the end is this one; else writing it failed, or there was no memory for it
 abbrev pub Prints : {S A : Type 0} → (S → List ℕ) → Result S A → End → Option (List ℕ) → Option (List ℕ) → End → Type 0
@@ -27,7 +27,7 @@ ChecksTo bytes text held holds TooComplex = ⊥
 abbrev pub ProvesTo : List ℕ → Option (List ℕ) → Option (List ℕ) → End → Type 0
 ProvesTo bytes held holds Done = (text : List ℕ) × IsProvedBy bytes text × Appends held holds (line text)
 ProvesTo bytes held holds (Refused phase) = FailsProof bytes phase × Appends held holds (line (refused_text phase))
-ProvesTo bytes held holds TooComplex = HasReferences bytes × Appends held holds (line (codes "too complex"))
+ProvesTo bytes held holds TooComplex = IsComplexText bytes × Appends held holds (line (codes "too complex"))
 ProvesTo bytes held holds Read = ⊤
 ProvesTo bytes held holds Write = ⊤
 ProvesTo bytes held holds Memory = ⊤

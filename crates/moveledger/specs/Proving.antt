@@ -6,7 +6,7 @@ use Rattle.mv_move_types.specs.Module.{Module}
 use Rattle.mv_type_states.specs.Sound.{IsSound}
 use Rattle.mv_certificate.specs.Certificate.{Certificate}
 use Rattle.mv_certificate.specs.CertificateText.{certificate_text}
-use Rattle.mv_analyser.specs.Principal.{FailsEach, IsWithoutReferences}
+use Rattle.mv_analyser.specs.Principal.{FailsEach, IsTooComplex, IsWithoutReferences}
 use Rattle.mv_analyser.specs.declared.ProveError.{ProveError}
 use Rattle.mv_analyser.specs.declared.ProveError.TheVariants.{Refused, TooComplex, Memory}
 use Rattle.moveledger.specs.Hexadecimal.{hexadecimal}
@@ -35,18 +35,19 @@ pub data FailsProof (bytes : List ℕ) : ℕ → Type 0 where
   in_module : (phase : ℕ) → IsShort bytes → FailsAlone bytes phase → FailsProof bytes phase
   in_each : (m : Module) (phase : ℕ) → IsShort bytes → Spells bytes m → IsSound m → FailsEach m phase → FailsProof bytes phase
 
--- the bytes spell a module that passes phases 2 to 8 and has a local of reference type
-pub record HasReferences (bytes : List ℕ) : Type 0 where
+-- the bytes spell a module that passes phases 2 to 8 and has a local of reference type, and the search for some function's edges meets a limit
+pub record IsComplexText (bytes : List ℕ) : Type 0 where
   pub short : IsShort bytes
   pub tables : Module
   pub text : Spells bytes tables
   pub sound : IsSound tables
   pub references : ¬ IsWithoutReferences tables
+  pub complex : IsTooComplex tables
 
--- the module fails this phase; or it has a local that is a reference; or an allocation failed
+-- the module fails this phase; or it has a local that is a reference, and the search meets a limit; or an allocation failed
 abbrev pub HasNoProof : List ℕ → ProveError → Type 0
 HasNoProof bytes (Refused phase) = FailsProof bytes phase
-HasNoProof bytes TooComplex = HasReferences bytes
+HasNoProof bytes TooComplex = IsComplexText bytes
 HasNoProof bytes Memory = ⊤
 
 -- some certificate is there with which the module passes phases 2 to 12

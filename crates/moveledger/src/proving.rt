@@ -34,8 +34,8 @@ fn digits_of(alloc: Global, bytes: &[u8]) -> Result<String, AllocError>
 /// # Errors
 ///
 /// `Refused` with the first phase that fails: 1, where the module has more than 65,536 bytes; one of 2 to 8; or one of 10 to 12
-/// that no certificate passes. `TooComplex`, where the search reaches its limits, which it never does in a module without a
-/// local of reference type, parameters included. `Memory`, where an allocation failed.
+/// that no certificate passes. `TooComplex`, where the search for some function's edges reaches its limits, which it never does in
+/// a module without a local of reference type, parameters included. `Memory`, where an allocation failed.
 pub fn prove_text(alloc: Global, module: &[u8]) -> Result<String, ProveError>
     ensures proved { IfOk result (λ text. IsProvedBy «module».now (string_bytes text)) }
     ensures accepted { IfOk result (λ text. IsAcceptedBack «module».now (string_bytes text)) }

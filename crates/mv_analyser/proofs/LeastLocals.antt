@@ -113,8 +113,8 @@ module _ (m m' : Module) (f : ℕ) (d d' : FunctionDefinition) (g : Cfg) (home :
       never all flow ((locals_exact_at m m' f d d' g stated home at at' fg typed start all begin refl flow).1 holds)
 
 -- what the error of a search says
-pub search_error : {T : Type 0} (m : Module) (f phase : ℕ) (Passes : Stated → Type 0) (Simple : Type 0) (e : SolveError) → (IsErrOf {T = T} (Err e) NeedFails → (stated : Stated) → FitsAt m f stated → Passes stated → ⊥)
-    → (IsErrOf {T = T} (Err e) SearchTooComplex → Simple → ⊥) → IsErrorAt m f phase Passes Simple (error_of phase e)
-search_error m f phase Passes Simple NeedFails need complex = (refl, need refl)
-search_error m f phase Passes Simple SearchTooComplex need complex = complex refl
-search_error m f phase Passes Simple MemoryOut need complex = tt
+pub search_error : {T : Type 0} (m : Module) (f phase : ℕ) (Passes : Stated → Type 0) (Complex : Type 0) (e : SolveError) → (IsErrOf {T = T} (Err e) NeedFails → (stated : Stated) → FitsAt m f stated → Passes stated → ⊥)
+    → (IsErrOf {T = T} (Err e) SearchTooComplex → Complex) → IsErrorAt m f phase Passes Complex (error_of phase e)
+search_error m f phase Passes Complex NeedFails need complex = (refl, need refl)
+search_error m f phase Passes Complex SearchTooComplex need complex = complex refl
+search_error m f phase Passes Complex MemoryOut need complex = tt

@@ -17,7 +17,7 @@ use Rattle.mv_certificate.proofs.Marks.{at_below}
 use Rattle.mv_certificate.proofs.States.{fit-length, fit-at}
 use Rattle.mv_certificate.proofs.Holds.{each-passes, passes-each}
 use Rattle.mv_analyser.specs.Principal.{FailsEach, no_locals, no_edges, no_lists, IsUnproved, IsOfLimits, IsProvable, PassesCheck}
-use Rattle.mv_analyser.specs.States.{IsErrorAt, IsSimpleAt}
+use Rattle.mv_analyser.specs.States.{IsErrorAt, IsComplexAt}
 use Rattle.mv_analyser.specs.declared.ProveError.{ProveError}
 use Rattle.mv_analyser.specs.declared.ProveError.TheVariants.{Refused, TooComplex, Memory}
 
@@ -70,17 +70,17 @@ module _ (m : Module) (f : ℕ) (inside : f < length m.functions) (c : Certifica
       (stated_there.0, (λ d e. fit-at m m.functions c f d stated_there.0 fits e stated_there.1, λ d e. passes-each (edges_hold m) m.functions c holds f d stated_there.0 e stated_there.1))
 
 -- what the error at a function says of the module
-pub unproved_locals : (m : Module) (f : ℕ) → f < length m.functions → (e : ProveError) → IsErrorAt m f 10 (LocalsHoldAt m f) ⊤ e → IsUnproved m e
+pub unproved_locals : (m : Module) (f : ℕ) → f < length m.functions → (e : ProveError) → IsErrorAt m f 10 (LocalsHoldAt m f) ⊥ e → IsUnproved m e
 unproved_locals m f inside (Refused p) h =
     subst (FailsEach m) (sym h.0) (no_locals (λ c fits holds. let s = locals_there m f inside c fits holds in h.1 s.0 s.1.0 s.1.1))
-unproved_locals m f inside TooComplex h = λ _. h tt
+unproved_locals m f inside TooComplex h = absurd h
 unproved_locals m f inside Memory h = tt
 
 pub unproved_edges : (m : Module) (f : ℕ) → f < length m.functions → (c : Certificate) → AllStatedFit m m.functions c → IsTrue (all_locals_hold m c) → (e : ProveError)
-    → IsErrorAt m f 11 (EdgesHoldAt m f) (IsSimpleAt m f) e → IsUnproved m e
+    → IsErrorAt m f 11 (EdgesHoldAt m f) (IsComplexAt m f) e → IsUnproved m e
 unproved_edges m f inside c fits holds (Refused p) h =
     subst (FailsEach m) (sym h.0) (no_edges c fits holds (λ c fits holds. let s = edges_there m f inside c fits holds in h.1 s.0 s.1.0 s.1.1))
-unproved_edges m f inside c fits holds TooComplex h = λ plain. h (λ d e. plain f d e)
+unproved_edges m f inside c fits holds TooComplex h = (λ plain. h.0 (λ d e. plain f d e), (f, h.1))
 unproved_edges m f inside c fits holds Memory h = tt
 
 pub unproved_lists : (m : Module) (c : Certificate) → AllStatedFit m m.functions c → IsTrue (certificate_holds m c) → (p : ℕ) → p ≡ 12 → (AcquiresHold m → ⊥) → FailsEach m p

@@ -7,7 +7,7 @@ use Rattle.mv_lattice.specs.declared.search.SolveError.{SolveError}
 use Rattle.mv_lattice.specs.declared.search.SolveError.TheVariants.{Need as NeedFails, TooComplex as SearchTooComplex, Memory as MemoryOut}
 use Rattle.mv_certificate.specs.Certificate.{Known, Stated}
 use Rattle.mv_certificate.specs.Reads.{FitsAt}
-use Rattle.mv_analyser.specs.Principal.{HasPlainLocals}
+use Rattle.mv_analyser.specs.Principal.{HasPlainLocals, MeetsLimitAt}
 use Rattle.mv_analyser.specs.declared.ProveError.{ProveError}
 use Rattle.mv_analyser.specs.declared.ProveError.TheVariants.{Refused, TooComplex, Memory}
 
@@ -37,12 +37,16 @@ error_of phase NeedFails = Refused phase
 error_of phase SearchTooComplex = TooComplex
 error_of phase MemoryOut = Memory
 
--- nothing that fits the function at a place passes; or that function isn't simple; or memory ran out
+-- nothing that fits the function at a place passes; or that function is too complex; or memory ran out
 abbrev pub IsErrorAt : Module → ℕ → ℕ → (Stated → Type 0) → Type 0 → ProveError → Type 0
-IsErrorAt m f phase Passes Simple (Refused p) = (p ≡ phase) × ((stated : Stated) → FitsAt m f stated → Passes stated → ⊥)
-IsErrorAt m f phase Passes Simple TooComplex = Simple → ⊥
-IsErrorAt m f phase Passes Simple Memory = ⊤
+IsErrorAt m f phase Passes Complex (Refused p) = (p ≡ phase) × ((stated : Stated) → FitsAt m f stated → Passes stated → ⊥)
+IsErrorAt m f phase Passes Complex TooComplex = Complex
+IsErrorAt m f phase Passes Complex Memory = ⊤
 
 -- no local of the function at a place is a reference
 abbrev pub IsSimpleAt : Module → ℕ → Type 0
 IsSimpleAt m f = (d : FunctionDefinition) → slice_get m.functions f ≡ Some d → HasPlainLocals m d
+
+-- some local of that function is a reference, and the search for its edges meets a limit
+abbrev pub IsComplexAt : Module → ℕ → Type 0
+IsComplexAt m f = (IsSimpleAt m f → ⊥) × MeetsLimitAt m f

@@ -8,7 +8,7 @@ ghost use Rattle.mv_certificate.specs.Reads.{FitsAt};
 ghost use Rattle.mv_certificate.specs.Shape.{AllStatedFit};
 ghost use Rattle.mv_analyser.specs.Least.{HasLeastLocals, HasLeastEdges, AreLeastLocals, IsLeastCertificate};
 ghost use Rattle.mv_analyser.specs.Principal.{IsUnproved};
-ghost use Rattle.mv_analyser.specs.States.{known_with, with_edges, IsErrorAt, IsSimpleAt};
+ghost use Rattle.mv_analyser.specs.States.{known_with, with_edges, IsErrorAt, IsComplexAt};
 
 use crate::{ProveError, error_in};
 use mv_borrow_graph::BorrowDomain;
@@ -71,7 +71,7 @@ fn state_edges(
     ensures edges { IfOk result (EdgesHoldAt m.now f) }
     ensures least_locals { IfOk result (HasLeastLocals m.now f) }
     ensures least_edges { IfOk result (HasLeastEdges m.now f) }
-    ensures refused { IfErr result (IsErrorAt m.now f 11 (EdgesHoldAt m.now f) (IsSimpleAt m.now f)) }
+    ensures refused { IfErr result (IsErrorAt m.now f 11 (EdgesHoldAt m.now f) (IsComplexAt m.now f)) }
 {
     let domain = BorrowDomain::of_function(m, f);
     let start = domain.start(alloc);

@@ -95,8 +95,10 @@ fn find(alloc: Global, m: &Typed<'_>) -> Result<Cert, ProveError>
 /// one: in each function its states are below those of everything that fits the function and holds.
 ///
 /// # Errors
-/// `Refused` with the first of phases 10, 11 and 12 that no certificate passes. `TooComplex` where the search reaches its limits,
-/// which it never does in a module without a local of reference type, parameters included. `Memory` if an allocation failed.
+/// `Refused` with the first of phases 10, 11 and 12 that no certificate passes. `TooComplex` where the search for some function's
+/// edges reaches its limits: it would visit a block a 257th time, or would state for a block more than 1,024 edges or a label of
+/// more than 8 positions. In a module without a local of reference type, parameters included, it never does. `Memory` if an
+/// allocation failed.
 pub fn prove(alloc: Global, m: &Typed<'_>) -> Result<Cert, ProveError>
     ensures shape { IfOk result (λ c. AllStatedFit m.now m.now.functions c) }
     ensures passes { IfOk result (PassesCheck m.now) }

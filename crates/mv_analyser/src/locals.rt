@@ -1,5 +1,5 @@
 // The least availabilities of each function that hold.
-ghost use Rattle.std.specs.Prelude.{⊤, ◌≡◌, ◌<◌, length, IfOk, IfErr, IsTrue};
+ghost use Rattle.std.specs.Prelude.{◌≡◌, ◌<◌, length, IfOk, IfErr, IsTrue};
 ghost use Rattle.mv_certificate.specs.Certificate.{all_locals_hold};
 ghost use Rattle.mv_certificate.specs.Functions.{LocalsHoldAt};
 ghost use Rattle.mv_certificate.specs.Reads.{FitsAt};
@@ -40,7 +40,7 @@ fn state_locals(alloc: Global, m: &Typed<'_>, f: usize) -> Result<Stated, ProveE
     ensures fits { IfOk result (FitsAt m.now f) }
     ensures holds { IfOk result (LocalsHoldAt m.now f) }
     ensures least { IfOk result (HasLeastLocals m.now f) }
-    ensures refused { IfErr result (IsErrorAt m.now f 10 (LocalsHoldAt m.now f) ⊤) }
+    ensures refused { IfErr result (IsErrorAt m.now f 10 (LocalsHoldAt m.now f) ⊥) }
 {
     let domain = LocalsDomain::of_function(alloc, m, f)?;
     let start = domain.start(alloc)?;

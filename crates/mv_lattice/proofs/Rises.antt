@@ -7,8 +7,8 @@ use Rattle.std.proofs.lemmas.Option.{slice_get-get_or, option_and_then_some}
 use Rattle.mv_cfg.specs.declared.Block.{Block}
 use Rattle.mv_cfg.specs.declared.Cfg.{Cfg}
 use Rattle.mv_lattice.specs.Laws.{IsLawful}
-use Rattle.mv_lattice.specs.Flow.{carried, through, IsStated, IsRisen}
-use Rattle.mv_lattice.specs.Work.{IsAt, AllStated, IsCounted, IsJoin, IsRaised}
+use Rattle.mv_lattice.specs.Flow.{IsAt, carried, through, IsStated, IsRisen}
+use Rattle.mv_lattice.specs.Work.{AllStated, IsCounted, IsJoin, IsRaised}
 
 -- the element at k after a write at n
 pub set_same : {A : Type 0} (xs : List A) (n : ℕ) (x : A) → n < length xs → slice_get (set xs n x) n ≡ Some x

@@ -8,11 +8,11 @@ use Rattle.mv_cfg.specs.declared.Block.{Block}
 use Rattle.mv_cfg.specs.declared.Cfg.{Cfg}
 use Rattle.mv_cfg.specs.Graph.{IsBlock, IsReached, at_entry, along, IsGraph}
 use Rattle.mv_lattice.specs.Laws.{IsLawful}
-use Rattle.mv_lattice.specs.Flow.{through, IsStated, IsFlow, IsClosed, IsFlowBelow, IsRisen}
-use Rattle.mv_lattice.specs.Work.{IsAt, IsSettledAt, AllStated, IsWork, IsCounted, IsRaised, IsHigher, IsLeast}
+use Rattle.mv_lattice.specs.Flow.{IsAt, through, IsStated, IsFlow, IsClosed, IsFlowBelow, IsRisen}
+use Rattle.mv_lattice.specs.Work.{IsSettledAt, AllStated, IsWork, IsCounted, IsRaised, IsHigher, IsLeast}
 use Rattle.mv_lattice.proofs.Rises.{set_same, set_other, through_keeps, through_monotone, raised_keeps, risen_start}
 
-replicate_at : {A : Type 0} (n k : ℕ) (x y : A) → slice_get (replicate n x) k ≡ Some y → x ≡ y
+pub replicate_at : {A : Type 0} (n k : ℕ) (x y : A) → slice_get (replicate n x) k ≡ Some y → x ≡ y
 replicate_at zero k x y e = cc
 replicate_at (suc n) zero x y e = cc
 replicate_at (suc n) (suc k) x y e = replicate_at n k x y e

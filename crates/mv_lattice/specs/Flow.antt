@@ -17,6 +17,10 @@ through step b s = carried step b.first (b.last + 1 - b.first) s
 abbrev pub states_of : {K S : Type 0} → (K → S) → List (Option K) → List (Option S)
 states_of inner stated = map (option_map inner) stated
 
+-- x stands at k
+abbrev pub IsAt : {A : Type 0} → List A → ℕ → A → Type 0
+IsAt xs k x = slice_get xs k ≡ Some x
+
 -- block k is stated to begin in s
 abbrev pub IsStated : {S : Type 0} → List (Option S) → ℕ → S → Type 0
 IsStated flow k s = slice_get flow k ≡ Some (Some s)

@@ -1,14 +1,12 @@
 -- What a search for the least closed flow keeps. `states` are the states so far, `waiting` the marks of the blocks that are to be
 -- visited, and `left` how often each block may still be visited.
-use Rattle.std.specs.Prelude.{◌≡◌, ℕ, suc, ◌+◌, ◌<◌, ◌≤◌, Bool, true, false, List, length, slice_get, Option, Some, None, All, Contains, ◌⊎◌}
+use Rattle.std.specs.Prelude.{◌≡◌, ℕ, suc, ◌+◌, ◌<◌, ◌≤◌, Bool, true, false, List, length, Option, Some, None, All, Contains, ◌⊎◌}
+use Rattle.mv_bounds.specs.Removal.{times}
 use Rattle.mv_cfg.specs.declared.Block.{Block}
 use Rattle.mv_cfg.specs.declared.Cfg.{Cfg}
 use Rattle.mv_cfg.specs.Graph.{IsBlock, IsReached}
-use Rattle.mv_lattice.specs.Flow.{IsStated, IsBelowEach, IsFlow, IsClosed, IsFlowBelow, IsRisen, through}
-
--- x stands at k
-abbrev pub IsAt : {A : Type 0} → List A → ℕ → A → Type 0
-IsAt xs k x = slice_get xs k ≡ Some x
+use Rattle.mv_lattice.specs.Flow.{IsAt, IsStated, IsBelowEach, IsFlow, IsClosed, IsFlowBelow, IsRisen, through}
+use Rattle.mv_lattice.specs.Search.{Search, Reaches}
 
 -- each of the blocks is stated to begin in a state above t
 abbrev pub IsAboveEach : {S : Type 0} → (S → S → Type 0) → List (Option S) → List ℕ → S → Type 0
@@ -83,3 +81,13 @@ IsHigher {S} below old new = (k : ℕ) (s : S) → IsStated old k s → (u : S) 
 -- the states have not risen above a closed flow
 abbrev pub IsLeast : {S : Type 0} → (S → Type 0) → (S → S → Type 0) → (ℕ → S → Option S) → Cfg → List (Option S) → List (Option S) → Type 0
 IsLeast {S} IsState below step g old new = (start : S) (flow : List (Option S)) → IsFlow IsState g flow → IsClosed below step g start flow → IsFlowBelow below old flow → IsFlowBelow below new flow
+
+-- where a search stands, by its parts
+abbrev pub standing : {S : Type 0} → List (Option S) → List Bool → Search S
+standing states waiting = record { flow = states; waiting = waiting }
+
+-- a search from the start state has come to these states and marks, and each block has been visited as often as its visits left say
+pub record IsSearch {S : Type 0} (IsState IsSmall : S → Type 0) (below : S → S → Type 0) (step : ℕ → S → Option S) (g : Cfg) (start : S) (left : List ℕ) (states : List (Option S)) (waiting : List Bool) : Type 0 where
+  pub visited : List ℕ
+  pub reached : Reaches IsState IsSmall below step g start visited (standing states waiting)
+  pub count : (k l : ℕ) → IsAt left k l → times k visited + l ≡ 256

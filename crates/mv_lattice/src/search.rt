@@ -1,8 +1,9 @@
 // The search for the least closed flow.
 ghost use Rattle.std.specs.Prelude.{◌≡◌, ℕ, ◌<◌, ◌≤◌, Option, length, IfOk, IfSome, IfNone, OnOk, IsErrOf, Contains, All, [], ◌∷◌, List, replicate, slice_set, sum, ◌⊎◌, true, false};
 ghost use Rattle.mv_cfg.specs.Graph.{IsGraph};
-ghost use Rattle.mv_lattice.specs.Flow.{IsFlow, IsClosed, IsFlowBelow, through};
-ghost use Rattle.mv_lattice.specs.Work.{IsAt, HasLarge, HasChain, AllStated, IsWork, IsCounted, IsNewState, IsRaised, IsHigher, IsLeast};
+ghost use Rattle.mv_lattice.specs.Flow.{IsAt, IsFlow, IsClosed, IsFlowBelow, through};
+ghost use Rattle.mv_lattice.specs.Search.{Raises, ExceedsAt, FlowsIntoEach, Exceeds, IsVisit, Makes, EndsWith, MeetsLimit, MeetsNeed};
+ghost use Rattle.mv_lattice.specs.Work.{HasLarge, HasChain, AllStated, IsWork, IsCounted, IsNewState, IsRaised, IsHigher, IsLeast, standing, IsSearch};
 
 use crate::{Domain, StepError, carry};
 use mv_cfg::{Block, Cfg};
@@ -60,6 +61,8 @@ fn joined<D: Domain>(
     ensures ok { IfOk result (λ r. IsNewState (D.is_state d.now) (D.may_begin d.now) (D.is_small d.now) (D.below d.now) old.now t.now r) }
     ensures need { ¬ IsErrOf result SolveError.Need }
     ensures large { IsErrOf result SolveError.TooComplex → HasLarge (D.is_state d.now) (D.may_begin d.now) (D.is_small d.now) }
+    ensures raises { IfOk result (λ r. (u : D.State) → r ≡ Option.Some u → Raises (D.is_state d.now) (D.below d.now) t.now old.now u) }
+    ensures exceeds { IsErrOf result SolveError.TooComplex → (u : D.State) × (Raises (D.is_state d.now) (D.below d.now) t.now old.now u × ¬ D.is_small d.now u) }
 {
     match old {
         None => Ok(Some(small(d, d.copy(alloc, t)?)?)),
@@ -90,6 +93,8 @@ fn raise<D: Domain>(
     ensures ok { OnOk result (IsRaised (D.is_state d.now) (D.may_begin d.now) (D.is_small d.now) (D.below d.now) (n ∷ []) t.now states.old states.new waiting.old waiting.new) }
     ensures need { ¬ IsErrOf result SolveError.Need }
     ensures large { IsErrOf result SolveError.TooComplex → HasLarge (D.is_state d.now) (D.may_begin d.now) (D.is_small d.now) }
+    ensures flows { OnOk result (FlowsIntoEach (D.is_state d.now) (D.is_small d.now) (D.below d.now) (Contains (n ∷ [])) t.now (standing states.old waiting.old) (standing states.new waiting.new)) }
+    ensures exceeds { IsErrOf result SolveError.TooComplex → ExceedsAt (D.is_state d.now) (D.is_small d.now) (D.below d.now) t.now n states.old }
 {
     if let Some(u) = joined(alloc, d, &states[n], t)? {
         states[n] = Some(u);
@@ -116,6 +121,8 @@ fn raise_each<D: Domain>(
     ensures ok { OnOk result (IsRaised (D.is_state d.now) (D.may_begin d.now) (D.is_small d.now) (D.below d.now) blocks.now t.now states.old states.new waiting.old waiting.new) }
     ensures need { ¬ IsErrOf result SolveError.Need }
     ensures large { IsErrOf result SolveError.TooComplex → HasLarge (D.is_state d.now) (D.may_begin d.now) (D.is_small d.now) }
+    ensures flows { OnOk result (FlowsIntoEach (D.is_state d.now) (D.is_small d.now) (D.below d.now) (Contains blocks.now) t.now (standing states.old waiting.old) (standing states.new waiting.new)) }
+    ensures exceeds { IsErrOf result SolveError.TooComplex → (n : ℕ) × (Contains blocks.now n × ExceedsAt (D.is_state d.now) (D.is_small d.now) (D.below d.now) t.now n states.old) }
 {
     for n in blocks {
         raise(alloc, d, states, waiting, *n, t)?;
@@ -159,12 +166,16 @@ fn visit<D: Domain>(
     requires same { D.is_graph d.now g.now }
     requires inside { k < length g.now.blocks.items }
     requires work { IsWork (D.is_state d.now) (D.may_begin d.now) (D.is_small d.now) (D.below d.now) (D.steps d.now) g.now k states.old waiting.old }
+    requires stated { (s : D.State) × IsAt states.old k (Option.Some s) }
     ensures work { OnOk result (IsWork (D.is_state d.now) (D.may_begin d.now) (D.is_small d.now) (D.below d.now) (D.steps d.now) g.now (length g.now.blocks.items) states.new waiting.new) }
     ensures higher { OnOk result (IsHigher (D.below d.now) states.old states.new) }
     ensures least { OnOk result (IsLeast (D.is_state d.now) (D.below d.now) (D.steps d.now) g.now states.old states.new) }
     ensures counts { OnOk result ((left : List ℕ) → IsCounted (λ r. D.is_state d.now r × D.may_begin d.now r) (D.below d.now) left states.old waiting.old → IsCounted (λ r. D.is_state d.now r × D.may_begin d.now r) (D.below d.now) left states.new waiting.new) }
     ensures need { IsErrOf result SolveError.Need → (start : D.State) (flow : List (Option D.State)) → IsFlow (D.is_state d.now) g.now flow → IsFlowBelow (D.below d.now) states.old flow → ¬ IsClosed (D.below d.now) (D.steps d.now) g.now start flow }
     ensures large { IsErrOf result SolveError.TooComplex → HasLarge (D.is_state d.now) (D.may_begin d.now) (D.is_small d.now) }
+    ensures visited { OnOk result (IsVisit (D.is_state d.now) (D.is_small d.now) (D.below d.now) (D.steps d.now) g.now k (standing states.old waiting.old) (standing states.new waiting.new)) }
+    ensures fails { IsErrOf result SolveError.Need → Makes (D.is_state d.now) (D.is_small d.now) (D.below d.now) (D.steps d.now) g.now k states.old Option.None }
+    ensures exceeds { IsErrOf result SolveError.TooComplex → Exceeds (D.is_state d.now) (D.is_small d.now) (D.below d.now) (D.steps d.now) g.now k states.old }
 {
     let block = &g.blocks[k];
     let Some(s) = &states[k] else {
@@ -214,6 +225,9 @@ fn turn<D: Domain>(
     ensures fewer { OnOk result (sum left.new < sum left.old) }
     ensures need { IsErrOf result SolveError.Need → (start : D.State) (flow : List (Option D.State)) → IsFlow (D.is_state d.now) g.now flow → IsFlowBelow (D.below d.now) states.old flow → ¬ IsClosed (D.below d.now) (D.steps d.now) g.now start flow }
     ensures complex { IsErrOf result SolveError.TooComplex → HasLarge (D.is_state d.now) (D.may_begin d.now) (D.is_small d.now) ⊎ HasChain (D.is_state d.now) (D.may_begin d.now) (D.below d.now) }
+    ensures search { OnOk result ((start : D.State) → IsSearch (D.is_state d.now) (D.is_small d.now) (D.below d.now) (D.steps d.now) g.now start left.old states.old waiting.old → IsSearch (D.is_state d.now) (D.is_small d.now) (D.below d.now) (D.steps d.now) g.now start left.new states.new waiting.new) }
+    ensures fails { IsErrOf result SolveError.Need → (start : D.State) → IsSearch (D.is_state d.now) (D.is_small d.now) (D.below d.now) (D.steps d.now) g.now start left.old states.old waiting.old → MeetsNeed (D.is_state d.now) (D.is_small d.now) (D.below d.now) (D.steps d.now) g.now start }
+    ensures limit { IsErrOf result SolveError.TooComplex → (start : D.State) → IsSearch (D.is_state d.now) (D.is_small d.now) (D.below d.now) (D.steps d.now) g.now start left.old states.old waiting.old → MeetsLimit (D.is_state d.now) (D.is_small d.now) (D.below d.now) (D.steps d.now) g.now start }
 {
     if left[k] == 0 {
         return Err(SolveError::TooComplex);
@@ -243,6 +257,9 @@ fn search_flow<D: Domain>(
     ensures least { OnOk result (IsLeast (D.is_state d.now) (D.below d.now) (D.steps d.now) g.now states.old states.new) }
     ensures need { IsErrOf result SolveError.Need → (start : D.State) (flow : List (Option D.State)) → IsFlow (D.is_state d.now) g.now flow → IsFlowBelow (D.below d.now) states.old flow → ¬ IsClosed (D.below d.now) (D.steps d.now) g.now start flow }
     ensures complex { IsErrOf result SolveError.TooComplex → HasLarge (D.is_state d.now) (D.may_begin d.now) (D.is_small d.now) ⊎ HasChain (D.is_state d.now) (D.may_begin d.now) (D.below d.now) }
+    ensures search { OnOk result ((start : D.State) → IsSearch (D.is_state d.now) (D.is_small d.now) (D.below d.now) (D.steps d.now) g.now start left.old states.old waiting.old → IsSearch (D.is_state d.now) (D.is_small d.now) (D.below d.now) (D.steps d.now) g.now start left.new states.new waiting.new) }
+    ensures fails { IsErrOf result SolveError.Need → (start : D.State) → IsSearch (D.is_state d.now) (D.is_small d.now) (D.below d.now) (D.steps d.now) g.now start left.old states.old waiting.old → MeetsNeed (D.is_state d.now) (D.is_small d.now) (D.below d.now) (D.steps d.now) g.now start }
+    ensures limit { IsErrOf result SolveError.TooComplex → (start : D.State) → IsSearch (D.is_state d.now) (D.is_small d.now) (D.below d.now) (D.steps d.now) g.now start left.old states.old waiting.old → MeetsLimit (D.is_state d.now) (D.is_small d.now) (D.below d.now) (D.steps d.now) g.now start }
 {
     while let Some(k) = first_waiting(waiting) {
         turn(alloc, d, g, k, states, waiting, left)?;
@@ -280,13 +297,16 @@ fn first_counts(alloc: Global, n: usize) -> Result<Vec<u16>, AllocError>
     vec![in alloc; VISITS; n]
 }
 
-/// The least closed flow above the start state: it is below every closed flow. Of the blocks that wait to be visited, always
-/// the one with the least first instruction is.
+/// The least closed flow above the start state: it is below every closed flow. It is the one with which this search ends. The
+/// start state is stated of block 0, which waits. Of the blocks that wait always the one with the least first instruction is
+/// visited, and waits no more; its state is carried through it. A successor's state that is not above what comes out is replaced
+/// by the least one above both, and where none is stated what comes out is; then the successor waits.
 ///
 /// # Errors
-/// `Need` where there is no closed flow. `TooComplex` where a block would be visited a 257th time, or where a state that it would
-/// state for a block does not meet `fits`: some state with which a block may begin is too large, or 257 of them rise one
-/// after the other. `Memory` if an allocation failed.
+/// `Need` where the search comes to a block in which a need fails; then there is no closed flow. `TooComplex` where it would
+/// visit a block a 257th time, or would state a state that does not meet `fits`, and not where what comes out is below a stated
+/// state, however large it is. Then some state with which a block may begin is too large, or 257 of them rise one after the
+/// other. `Memory` if an allocation failed.
 pub fn solve<D: Domain>(
     alloc: Global,
     d: &D,
@@ -304,6 +324,9 @@ pub fn solve<D: Domain>(
     ensures least { IfOk result (λ v. (flow : List (Option D.State)) → IsFlow (D.is_state d.now) g.now flow → IsClosed (D.below d.now) (D.steps d.now) g.now start.now flow → IsFlowBelow (D.below d.now) v.items flow) }
     ensures need { IsErrOf result SolveError.Need → (flow : List (Option D.State)) → IsFlow (D.is_state d.now) g.now flow → ¬ IsClosed (D.below d.now) (D.steps d.now) g.now start.now flow }
     ensures complex { IsErrOf result SolveError.TooComplex → HasLarge (D.is_state d.now) (D.may_begin d.now) (D.is_small d.now) ⊎ HasChain (D.is_state d.now) (D.may_begin d.now) (D.below d.now) }
+    ensures ends { IfOk result (λ v. EndsWith (D.is_state d.now) (D.is_small d.now) (D.below d.now) (D.steps d.now) g.now start.now v.items) }
+    ensures fails { IsErrOf result SolveError.Need → MeetsNeed (D.is_state d.now) (D.is_small d.now) (D.below d.now) (D.steps d.now) g.now start.now }
+    ensures limit { IsErrOf result SolveError.TooComplex → MeetsLimit (D.is_state d.now) (D.is_small d.now) (D.below d.now) (D.steps d.now) g.now start.now }
 {
     let first = small(d, d.copy(alloc, start)?)?;
     let n = g.blocks.len();

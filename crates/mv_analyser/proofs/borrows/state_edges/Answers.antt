@@ -1,9 +1,9 @@
 use Rattle.std.proofs.Common.{◌∙◌, ap, sym, subst, ⊎_elim}
 use Rattle.mv_certificate.specs.Functions.{EdgesHoldAt}
-use Rattle.mv_analyser.specs.States.{with_edges, IsErrorAt, IsSimpleAt}
+use Rattle.mv_analyser.specs.States.{with_edges, IsErrorAt, IsComplexAt}
 use Rattle.mv_analyser.proofs.Chains.{never_large, never_rises}
 use Rattle.mv_analyser.proofs.LeastLocals.{search_error}
-use Rattle.mv_analyser.proofs.LeastEdges.{plain_locals, edges_fit, locals_stay, locals_stay_least, edges_are_least, edges_hold_there, no_edges_hold}
+use Rattle.mv_analyser.proofs.LeastEdges.{plain_locals, edges_fit, locals_stay, locals_stay_least, edges_are_least, edges_hold_there, no_edges_hold, meets_limit}
 use Rattle.mv_analyser.proofs.borrows.state_edges.Goals as goal
 
 pub returns-in-Ok-clause-fits : goal.returns-in-Ok-clause-fits
@@ -43,13 +43,18 @@ returns-in-Ok-clause-least_edges c =
 
 pub returns-clause-refused : goal.returns-clause-refused
 returns-clause-refused c =
-    subst (IsErrorAt c.args.m.now c.args.f 11 (EdgesHoldAt c.args.m.now c.args.f) (IsSimpleAt c.args.m.now c.args.f)) (sym c.error_in.ensures)
-    (search_error c.args.m.now c.args.f 11 (EdgesHoldAt c.args.m.now c.args.f) (IsSimpleAt c.args.m.now c.args.f) c.in-Err.e
+    subst (IsErrorAt c.args.m.now c.args.f 11 (EdgesHoldAt c.args.m.now c.args.f) (IsComplexAt c.args.m.now c.args.f)) (sym c.error_in.ensures)
+    (search_error c.args.m.now c.args.f 11 (EdgesHoldAt c.args.m.now c.args.f) (IsComplexAt c.args.m.now c.args.f) c.in-Err.e
     (λ h stated fits holds.
     no_edges_hold c.args.m.now c.of_function-domain.result.home c.args.f c.function_at-function.result.now c.of_function-domain.result.function c.graph_of-graph.result.now
     c.of_function-domain.ensures.home c.function_at-function.ensures.at c.of_function-domain.ensures.function c.graph_of-graph.ensures c.function_at-function.ensures.typed
     c.start-start.result c.start-start.ensures c.has_start.ensures (c.in-Err.ensures.need h) stated fits holds)
-    (λ h simple.
-    let plain = plain_locals c.args.m.now c.of_function-domain.result.home c.args.f c.function_at-function.result.now c.of_function-domain.result.function c.graph_of-graph.result.now
-    c.of_function-domain.ensures.home c.function_at-function.ensures.at c.of_function-domain.ensures.function c.graph_of-graph.ensures c.function_at-function.ensures.typed simple in
-    ⊎_elim (never_large c.of_function-domain.result.home c.of_function-domain.result.function plain) (never_rises c.of_function-domain.result.home c.of_function-domain.result.function plain) (c.in-Err.ensures.complex h)))
+    (λ h. (
+      λ simple.
+          let plain = plain_locals c.args.m.now c.of_function-domain.result.home c.args.f c.function_at-function.result.now c.of_function-domain.result.function c.graph_of-graph.result.now
+          c.of_function-domain.ensures.home c.function_at-function.ensures.at c.of_function-domain.ensures.function c.graph_of-graph.ensures c.function_at-function.ensures.typed simple in
+          ⊎_elim (never_large c.of_function-domain.result.home c.of_function-domain.result.function plain) (never_rises c.of_function-domain.result.home c.of_function-domain.result.function plain) (c.in-Err.ensures.complex h),
+      meets_limit c.args.m.now c.of_function-domain.result.home c.args.f c.function_at-function.result.now c.of_function-domain.result.function c.graph_of-graph.result.now
+          c.of_function-domain.ensures.home c.function_at-function.ensures.at c.of_function-domain.ensures.function c.graph_of-graph.ensures c.function_at-function.ensures.typed
+          c.start-start.result c.start-start.ensures (c.in-Err.ensures.limit h),
+    )))

@@ -1,5 +1,4 @@
 use Rattle.std.proofs.Common.{◌∙◌, ap, sym, subst, ⊎_elim}
-use Rattle.std.specs.Prelude.{⊤}
 use Rattle.mv_certificate.specs.Functions.{LocalsHoldAt}
 use Rattle.mv_certificate.proofs.States.{graph-at}
 use Rattle.mv_analyser.specs.States.{locals_alone, IsErrorAt}
@@ -32,13 +31,13 @@ returns-in-Ok-clause-least c =
 
 pub returns-clause-refused : goal.returns-clause-refused
 returns-clause-refused c =
-    subst (IsErrorAt c.args.m.now c.args.f 10 (LocalsHoldAt c.args.m.now c.args.f) ⊤) (sym c.error_in.ensures)
-    (search_error c.args.m.now c.args.f 10 (LocalsHoldAt c.args.m.now c.args.f) ⊤ c.in-Err.e
+    subst (IsErrorAt c.args.m.now c.args.f 10 (LocalsHoldAt c.args.m.now c.args.f) ⊥) (sym c.error_in.ensures)
+    (search_error c.args.m.now c.args.f 10 (LocalsHoldAt c.args.m.now c.args.f) ⊥ c.in-Err.e
     (λ h stated fits holds.
     none_holds c.args.m.now c.in_ok-domain.domain.home c.args.f c.function_at-function.result.now c.in_ok-domain.domain.function c.graph_of-graph.result.now
     c.in_ok-domain.ensures.home c.function_at-function.ensures.at c.in_ok-domain.ensures.function c.graph_of-graph.ensures c.function_at-function.ensures.typed c.in_ok-start.start c.in_ok-start.ensures.start
     (c.in-Err.ensures.need h) stated fits holds)
-    (λ h _.
+    (λ h.
     let few = few_locals c.args.m.now c.in_ok-domain.domain.home c.args.f c.function_at-function.result.now c.in_ok-domain.domain.function c.graph_of-graph.result.now
     c.in_ok-domain.ensures.home c.function_at-function.ensures.at c.in_ok-domain.ensures.function c.graph_of-graph.ensures c.function_at-function.ensures.typed c.in_ok-start.start c.in_ok-start.ensures.start c.function_at-function.ensures.small in
     ⊎_elim (λ large. large.1.1.1 tt) (few_rises c.in_ok-domain.domain.home c.in_ok-domain.domain.function few) (c.in-Err.ensures.complex h)))

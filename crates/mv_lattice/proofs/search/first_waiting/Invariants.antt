@@ -1,5 +1,5 @@
 use Rattle.std.proofs.Common.{ℕ, ◌<◌, false}
-use Rattle.mv_lattice.specs.Work.{IsAt}
+use Rattle.mv_lattice.specs.Flow.{IsAt}
 use Rattle.mv_lattice.proofs.search.first_waiting.Given as goal
 
 abbrev pub invariant-loop-k : goal.invariant-loop-k

@@ -1,8 +1,11 @@
-use Rattle.std.proofs.Common.{◌≡◌, get_or, take, ◌++◌, ◌∷◌, [], ◌+◌}
+use Rattle.std.proofs.Common.{◌≡◌, get_or, take, ◌++◌, ◌∷◌, [], ◌+◌, Contains, subst, sym}
 use Rattle.std.proofs.lemmas.List.{take_more}
 use Rattle.std.proofs.lemmas.List.Elements.{Contains-get_or}
-use Rattle.mv_lattice.specs.Work.{AllStated}
+use Rattle.std.proofs.lemmas.Result.{err_from_is_err_and}
+use Rattle.mv_lattice.specs.Search.{FlowsIntoEach}
+use Rattle.mv_lattice.specs.Work.{AllStated, standing}
 use Rattle.mv_lattice.proofs.Rises.{raised_trans, raised_keeps}
+use Rattle.mv_lattice.proofs.Searches.{flows_more, exceeds_before}
 use Rattle.mv_lattice.proofs.search.raise_each.Goals as goal
 
 pub raise-requires-clause-begins : goal.raise-requires-clause-begins
@@ -23,8 +26,29 @@ loop-n-preserved g c =
     raised_keeps laws (m.is_small d) c.args.t.now (n ∷ []) [] c.loop-n.states c.raise.new.states c.raise.new.states c.loop-n.waiting c.raise.new.waiting c.raise.new.waiting (m.may_begin d) (λ s a b e. b) inv.begins here in
     let more : take (c.loop-n.n-index + 1) c.args.blocks.now ≡ xs ++ (n ∷ []) = take_more c.args.blocks.now c.loop-n.n-index 0 c.loop-n-test.true in
     let both = raised_trans laws (m.is_small d) c.args.t.now xs (n ∷ []) c.args.states.now c.loop-n.states c.raise.new.states c.args.waiting.now c.loop-n.waiting c.raise.new.waiting c.requires.state c.requires.states inv.valid valid inv.raised here in
+    let flows =
+    flows_more (m.is_state d) (m.is_small d) (m.below d) c.args.t.now xs n (standing c.args.states.now c.args.waiting.now) (standing c.loop-n.states c.loop-n.waiting) (standing c.raise.new.states c.raise.new.waiting)
+    (laws.reflexive c.args.t.now c.requires.state) inv.flows c.in_ok-raise.ensures.flows in
     record {
       raised = rw more both;
+      flows = subst (λ zs. FlowsIntoEach (m.is_state d) (m.is_small d) (m.below d) (Contains zs) c.args.t.now (standing c.args.states.now c.args.waiting.now) (standing c.raise.new.states c.raise.new.waiting)) (sym more) flows;
       valid = valid;
       begins = begins;
     }
+
+pub returns-in_err-raise-clause-exceeds : goal.returns-in_err-raise-clause-exceeds
+returns-in_err-raise-clause-exceeds g c = λ e.
+    let m = g.D.Domain in
+    let d = c.args.d.now in
+    let laws = g.met.D.Domain.laws d in
+    let n = get_or c.args.blocks.now c.loop-n.n-index 0 in
+    let xs = take c.loop-n.n-index c.args.blocks.now in
+    let p = err_from_is_err_and c.from_residual.result c.from_residual.ensures.1 in
+    let here = c.in_err-raise.ensures.exceeds (cc (p.1, p.2, e)) in (
+      n,
+      (
+        Contains-get_or c.args.blocks.now c.loop-n.n-index 0 c.loop-n-test.true,
+        exceeds_before (m.is_state d) (m.is_small d) (m.below d) c.args.t.now xs n (standing c.args.states.now c.args.waiting.now) (standing c.loop-n.states c.loop-n.waiting)
+            (laws.reflexive c.args.t.now c.requires.state) c.loop-n.invariant.flows here,
+      ),
+    )

@@ -1,7 +1,8 @@
 use Rattle.std.proofs.Common.{◌<◌, ◌-◌, refl, arith, length, get_or, Some, ◌∙◌, ap, set, inr, true}
 use Rattle.std.proofs.lemmas.Option.{slice_get-get_or, slice_get_within}
 use Rattle.std.proofs.lemmas.Result.{on_ok_weaker}
-use Rattle.mv_lattice.specs.Work.{IsAt}
+use Rattle.mv_lattice.specs.Flow.{IsAt}
+use Rattle.mv_lattice.proofs.Searches.{turn_over, turn_exceeds, turn_fails, turn_done}
 use Rattle.mv_lattice.proofs.Visits.{work_skips, counted_visit}
 use Rattle.mv_lattice.proofs.search.turn.Goals as goal
 
@@ -30,3 +31,55 @@ returns-clause-counts g c =
     on_ok_weaker c.visit.result
     (λ keeps. keeps (set c.args.left.now k (l - 1)) (counted_visit (λ r. m.is_state d r × m.may_begin d r) (m.below d) c.args.left.now c.args.states.now c.args.waiting.now c.requires.counts k l c.requires.waits left some))
     c.visit.ensures.counts
+
+pub returns-then-left-k-eq0-clause-limit : goal.returns-then-left-k-eq0-clause-limit
+returns-then-left-k-eq0-clause-limit g c = λ _ start has.
+    let m = g.D.Domain in
+    let d = c.args.d.now in
+    let k = c.args.k in
+    let l = get_or c.args.left.now k 0 in
+    let in' : k < length c.args.waiting.now = slice_get_within c.args.waiting.now k true c.requires.waits in
+    let within : k < length c.args.left.now = omega (arith, c.requires.lefts, c.requires.work.marks) in
+    let left : IsAt c.args.left.now k l = slice_get-get_or c.args.left.now k 0 within in
+    turn_over (m.is_state d) (m.is_small d) (m.below d) (m.steps d) c.args.g.now start c.args.left.now c.args.states.now c.args.waiting.now has k l c.requires.waits c.requires.first left c.if-left-k-eq0.true
+
+pub visit-requires-clause-stated : goal.visit-requires-clause-stated
+visit-requires-clause-stated g c = c.requires.counts.active c.args.k c.requires.waits
+
+pub returns-clause-search : goal.returns-clause-search
+returns-clause-search g c =
+    let m = g.D.Domain in
+    let d = c.args.d.now in
+    let k = c.args.k in
+    let l = get_or c.args.left.now k 0 in
+    let in' : k < length c.args.waiting.now = slice_get_within c.args.waiting.now k true c.requires.waits in
+    let within : k < length c.args.left.now = omega (arith, c.requires.lefts, c.requires.work.marks) in
+    let left : IsAt c.args.left.now k l = slice_get-get_or c.args.left.now k 0 within in
+    let some : 0 < l = omega (arith, c.if-left-k-eq0.false) in
+    on_ok_weaker c.visit.result
+    (λ visit start has. turn_done (m.is_state d) (m.is_small d) (m.below d) (m.steps d) c.args.g.now start c.args.left.now c.args.states.now c.args.waiting.now has k l c.requires.waits c.requires.first left some c.visit.new.states c.visit.new.waiting visit)
+    c.visit.ensures.visited
+
+pub returns-clause-fails : goal.returns-clause-fails
+returns-clause-fails g c = λ e start has.
+    let m = g.D.Domain in
+    let d = c.args.d.now in
+    let k = c.args.k in
+    let l = get_or c.args.left.now k 0 in
+    let in' : k < length c.args.waiting.now = slice_get_within c.args.waiting.now k true c.requires.waits in
+    let within : k < length c.args.left.now = omega (arith, c.requires.lefts, c.requires.work.marks) in
+    let left : IsAt c.args.left.now k l = slice_get-get_or c.args.left.now k 0 within in
+    let some : 0 < l = omega (arith, c.if-left-k-eq0.false) in
+    turn_fails (m.is_state d) (m.is_small d) (m.below d) (m.steps d) c.args.g.now start c.args.left.now c.args.states.now c.args.waiting.now has k l c.requires.waits c.requires.first left some (c.visit.ensures.fails e)
+
+pub returns-clause-limit : goal.returns-clause-limit
+returns-clause-limit g c = λ e start has.
+    let m = g.D.Domain in
+    let d = c.args.d.now in
+    let k = c.args.k in
+    let l = get_or c.args.left.now k 0 in
+    let in' : k < length c.args.waiting.now = slice_get_within c.args.waiting.now k true c.requires.waits in
+    let within : k < length c.args.left.now = omega (arith, c.requires.lefts, c.requires.work.marks) in
+    let left : IsAt c.args.left.now k l = slice_get-get_or c.args.left.now k 0 within in
+    let some : 0 < l = omega (arith, c.if-left-k-eq0.false) in
+    turn_exceeds (m.is_state d) (m.is_small d) (m.below d) (m.steps d) c.args.g.now start c.args.left.now c.args.states.now c.args.waiting.now has k l c.requires.waits c.requires.first left some (c.visit.ensures.exceeds e)

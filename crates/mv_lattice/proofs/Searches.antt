@@ -1,0 +1,219 @@
+-- How the code's search follows the one of blocks, states and marks.
+use Rattle.std.proofs.Common.{◌≡◌, ℕ, suc, ◌+◌, ◌-◌, ◌<◌, Bool, true, false, List, [], ◌∷◌, ◌++◌, length, set, replicate, Option, Some, None, Contains, ◌⊎◌, ⊎_elim, inl, inr, refl, sym, ap, ◌∙◌, subst, arith, slice_get}
+use Rattle.std.proofs.lemmas.Bool.{cases_eq}
+use Rattle.std.proofs.lemmas.List.Elements.{Contains-push, Contains-push_cases, Contains-append_left}
+use Rattle.std.proofs.lemmas.Option.{slice_get_within}
+use Rattle.mv_bounds.specs.Removal.{times}
+use Rattle.mv_bounds.proofs.TimesLemmas.{is_one, is_none, times_of, contains_from_times}
+use Rattle.mv_cfg.specs.declared.Block.{Block}
+use Rattle.mv_cfg.specs.declared.Cfg.{Cfg}
+use Rattle.mv_cfg.specs.Graph.{IsBlock, HasEdge}
+use Rattle.mv_lattice.specs.Flow.{IsAt, IsStated, through}
+use Rattle.mv_lattice.specs.Search.{Search, IsNext, resting, IsSameAt, Raises, nothing, lower, FlowsInto, stays, rises, FlowsIntoEach, ExceedsAt, Makes, IsVisit, Exceeds, Reaches, begins, goes_on, IsTurn, EndsWith, MeetsLimit, large_start, too_often, too_large, MeetsNeed, need}
+use Rattle.mv_lattice.specs.Work.{standing, IsSearch}
+use Rattle.mv_lattice.proofs.Rises.{set_same, set_other}
+use Rattle.mv_lattice.proofs.Visits.{replicate_at}
+
+-- a number stands in a list, or doesn't
+contains_or_not : (xs : List ℕ) (n : ℕ) → Contains xs n ⊎ (Contains xs n → ⊥)
+contains_or_not xs n = ⊎_elim
+    (λ (none : times n xs ≡ 0). inr (λ h. let some = times_of n xs h in let no : ⊥ = omega (arith, some, none) in no))
+    (λ (some : times n xs ≡ 0 → ⊥). inl (contains_from_times n xs (omega (arith, some))))
+    (cases_eq (times n xs) 0)
+
+one_alone : (m n : ℕ) → Contains (m ∷ []) n → m ≡ n
+one_alone m n h = ⊎_elim
+    (λ (none : Contains [] n). let low : none.0 < 0 = none.1 in absurd (omega (arith, low)))
+    (λ is. is)
+    (Contains-push_cases [] m n h)
+
+module _ {S : Type 0} (IsState IsSmall : S → Type 0) (below : S → S → Type 0) where
+  raised_above : (t : S) (old : Option S) (u : S) → below t t → Raises IsState below t old u → below t u
+  raised_above t _ _ itself nothing = itself
+  raised_above t _ _ itself (lower above join) = join.right
+
+  -- nothing is raised that is above t
+  not_raised : (t : S) (old : Option S) (s u : S) → old ≡ Some s → below t s → Raises IsState below t old u → ⊥
+  not_raised t _ s _ is above nothing = cc
+  not_raised t _ s _ is above (lower {s = r} not_above join) = not_above (let same : s ≡ r = cc in subst (below t) same above)
+
+  -- what the code joins is a state that t raises the old one to
+  pub nothing_raised : (t : S) (old : Option S) (u : S) → old ≡ None → u ≡ t → Raises IsState below t old u
+  nothing_raised t old u none same = subst (λ o. Raises IsState below t o u) (sym none) (subst (λ z. Raises IsState below t None z) (sym same) nothing)
+
+  pub state_raised : (s t : S) (old : Option S) (u : S) → old ≡ Some s → (below t s → ⊥) → IsState u → below s u → below t u → ((v : S) → IsState v → below s v → below t v → below u v) → Raises IsState below t old u
+  state_raised s t old u some above valid left right least =
+      subst (λ o. Raises IsState below t o u) (sym some) (lower above (record { valid = valid; left = left; right = right; least = least }))
+
+  flows_first : (t : S) (n : ℕ) (x y z : Search S) → IsSameAt n x y → FlowsInto IsState IsSmall below t n y z → FlowsInto IsState IsSmall below t n x z
+  flows_first t n x y z same (stays s is above after) = stays s (sym same.0 ∙ is) above (after.0 ∙ same.0, after.1 ∙ same.1)
+  flows_first t n x y z same (rises old u at raised small is waits) = rises old u (sym same.0 ∙ at) raised small is waits
+
+  flows_last : (t : S) (n : ℕ) (x y z : Search S) → FlowsInto IsState IsSmall below t n x y → IsSameAt n y z → FlowsInto IsState IsSmall below t n x z
+  flows_last t n x y z (stays s is above before) same = stays s is above (same.0 ∙ before.0, same.1 ∙ before.1)
+  flows_last t n x y z (rises old u at raised small is waits) same = rises old u at raised small (same.0 ∙ is) (same.1 ∙ waits)
+
+  -- a second time changes nothing
+  flows_twice : (t : S) (n : ℕ) (x y z : Search S) → below t t → FlowsInto IsState IsSmall below t n x y → FlowsInto IsState IsSmall below t n y z → FlowsInto IsState IsSmall below t n x z
+  flows_twice t n x y z itself first (stays s is above after) = flows_last t n x y z first after
+  flows_twice t n x y z itself (stays s is above before) (rises old u at raised small there waits) = flows_first t n x y z before (rises old u at raised small there waits)
+  flows_twice t n x y z itself (rises old u at raised small is waits) (rises old' u' at' raised' small' is' waits') =
+      let same : old' ≡ Some u = cc (at', is) in
+      absurd (not_raised t old' u u' same (raised_above t old u itself raised) raised')
+
+  pub flows_none : (t : S) (x : Search S) → FlowsIntoEach IsState IsSmall below (Contains []) t x x
+  flows_none t x = record {
+    inside = λ n h. let low : h.0 < 0 = h.1 in absurd (omega (arith, low));
+    outside = λ n no. (refl, refl);
+  }
+
+  -- t has flowed into some blocks, and then into one more
+  pub flows_more : (t : S) (xs : List ℕ) (m : ℕ) (x y z : Search S) → below t t → FlowsIntoEach IsState IsSmall below (Contains xs) t x y → FlowsIntoEach IsState IsSmall below (Contains (m ∷ [])) t y z
+      → FlowsIntoEach IsState IsSmall below (Contains (xs ++ m ∷ [])) t x z
+  flows_more t xs m x y z itself p q = record {
+    inside = λ n h. ⊎_elim
+        (λ (is : m ≡ n).
+        let here : FlowsInto IsState IsSmall below t n y z = q.inside n (0, omega arith, is) in
+        ⊎_elim (λ old. flows_twice t n x y z itself (p.inside n old) here) (λ new. flows_first t n x y z (p.outside n new) here) (contains_or_not xs n))
+        (λ (other : m ≡ n → ⊥).
+        let old : Contains xs n = ⊎_elim (λ o. o) (λ is. absurd (other is)) (Contains-push_cases xs m n h) in
+        flows_last t n x y z (p.inside n old) (q.outside n (λ k. other (one_alone m n k))))
+        (cases_eq m n);
+    outside = λ n no.
+        let first = p.outside n (λ h. no (Contains-append_left xs (m ∷ []) n h)) in
+        let last = q.outside n (λ h. no (subst (Contains (xs ++ m ∷ [])) (one_alone m n h) (Contains-push xs m))) in
+        (last.0 ∙ first.0, last.1 ∙ first.1);
+  }
+
+  pub exceeds_at : (t : S) (n : ℕ) (old : Option S) (flow : List (Option S)) → IsAt flow n old → (u : S) × (Raises IsState below t old u × (IsSmall u → ⊥)) → ExceedsAt IsState IsSmall below t n flow
+  exceeds_at t n old flow at h = record { old = old; new = h.0; at = at; raises = h.1.0; large = h.1.1 }
+
+  -- what t would raise too high was so before t flowed into other blocks
+  pub exceeds_before : (t : S) (xs : List ℕ) (n : ℕ) (x y : Search S) → below t t → FlowsIntoEach IsState IsSmall below (Contains xs) t x y → ExceedsAt IsState IsSmall below t n y.flow → ExceedsAt IsState IsSmall below t n x.flow
+  exceeds_before t xs n x y itself p e = ⊎_elim
+      (λ old. by_flow (p.inside n old))
+      (λ new. unchanged (p.outside n new))
+      (contains_or_not xs n)
+    where
+      unchanged : IsSameAt n x y → ExceedsAt IsState IsSmall below t n x.flow
+      unchanged same = record { old = e.old; new = e.new; at = sym same.0 ∙ e.at; raises = e.raises; large = e.large }
+
+      by_flow : FlowsInto IsState IsSmall below t n x y → ExceedsAt IsState IsSmall below t n x.flow
+      by_flow (stays s is above same) = unchanged same
+      by_flow (rises old u at raised small is waits) =
+          let at' : slice_get y.flow n ≡ Some e.old = e.at in
+          let same : e.old ≡ Some u = cc (at', is) in
+          absurd (not_raised t e.old u e.new same (raised_above t old u itself raised) e.raises)
+
+  -- one block: its state stays, or it gets another
+  pub flows_stays : (t : S) (n : ℕ) (s : S) (states : List (Option S)) (waiting : List Bool) → IsStated states n s → below t s
+      → FlowsIntoEach IsState IsSmall below (Contains (n ∷ [])) t (standing states waiting) (standing states waiting)
+  flows_stays t n s states waiting is above = record {
+    inside = λ k h. stays s (subst (λ i. IsStated states i s) (one_alone n k h) is) above (refl, refl);
+    outside = λ k no. (refl, refl);
+  }
+
+  pub flows_rises : (t : S) (n : ℕ) (old : Option S) (u : S) (states : List (Option S)) (waiting : List Bool) → n < length states → n < length waiting → IsAt states n old → Raises IsState below t old u → IsSmall u
+      → FlowsIntoEach IsState IsSmall below (Contains (n ∷ [])) t (standing states waiting) (standing (set states n (Some u)) (set waiting n true))
+  flows_rises t n old u states waiting inside marked at raised small = record {
+    inside = λ k h. subst (λ i. FlowsInto IsState IsSmall below t i (standing states waiting) (standing (set states n (Some u)) (set waiting n true))) (one_alone n k h)
+        (rises old u at raised small (set_same states n (Some u) inside) (set_same waiting n true marked));
+    outside = λ k no.
+        let other : k ≡ n → ⊥ = λ is. no (0, omega arith, sym is) in
+        (set_other states n k (Some u) other, set_other waiting n k true other);
+  }
+
+  module _ (step : ℕ → S → Option S) (g : Cfg) (k : ℕ) (b : Block) (s : S) (block : IsBlock g k b) where
+    makes : (flow : List (Option S)) → IsStated flow k s → (made : Option S) → through step b s ≡ made → Makes IsState IsSmall below step g k flow made
+    makes flow stated made is = record { block = b; is_block = block; state = s; stated = stated; comes_out = is }
+
+    successor : (n : ℕ) → Contains b.successors.items n → HasEdge g k n
+    successor n h = (b, block, h)
+
+    of_successor : (n : ℕ) → HasEdge g k n → Contains b.successors.items n
+    of_successor n h =
+        let there = h.1 in
+        let same : h.0 ≡ b = cc (there, block) in
+        subst (λ (z : Block). Contains z.successors.items n) same h.2
+
+    -- the block's visit, by its list of successors
+    pub visit_made : (t : S) (x y : Search S) → IsStated x.flow k s → through step b s ≡ Some t → FlowsIntoEach IsState IsSmall below (Contains b.successors.items) t x y → IsVisit IsState IsSmall below step g k x y
+    visit_made t x y stated out flows = record {
+      out = t;
+      makes = makes x.flow stated (Some t) out;
+      flows = record {
+        inside = λ n h. flows.inside n (of_successor n h);
+        outside = λ n no. flows.outside n (λ h. no (successor n h));
+      };
+    }
+
+    pub visit_exceeds : (t : S) (flow : List (Option S)) → IsStated flow k s → through step b s ≡ Some t → (n : ℕ) → Contains b.successors.items n → ExceedsAt IsState IsSmall below t n flow → Exceeds IsState IsSmall below step g k flow
+    visit_exceeds t flow stated out n h e = record { out = t; makes = makes flow stated (Some t) out; successor = n; edge = successor n h; exceeds = e }
+
+    pub visit_fails : (flow : List (Option S)) → IsStated flow k s → through step b s ≡ None → Makes IsState IsSmall below step g k flow None
+    visit_fails flow stated out = makes flow stated None out
+
+  module _ (step : ℕ → S → Option S) (g : Cfg) (start : S) where
+    -- the code's search at its start, by what its lists were made of
+    pub search_begins : (s : S) (n : ℕ) (states : List (Option S)) (waiting : List Bool) (left : List ℕ) → n ≡ length g.blocks.items → s ≡ start → IsSmall start
+        → states ≡ set (replicate n None) 0 (Some s) → waiting ≡ set (replicate n false) 0 true → left ≡ replicate n 256 → IsSearch IsState IsSmall below step g start left states waiting
+    search_begins s n states waiting left long same small is marks full =
+        let states_are : states ≡ set (replicate (length g.blocks.items) None) 0 (Some start) =
+        is ∙ ap (λ m. set (replicate m None) 0 (Some s)) long ∙ ap (λ x. set (replicate (length g.blocks.items) None) 0 (Some x)) same in
+        let waiting_is : waiting ≡ set (replicate (length g.blocks.items) false) 0 true = marks ∙ ap (λ m. set (replicate m false) 0 true) long in
+        record {
+          visited = [];
+          reached = subst (λ xs. Reaches IsState IsSmall below step g start [] (standing xs waiting)) (sym states_are)
+              (subst (λ ws. Reaches IsState IsSmall below step g start [] (standing (set (replicate (length g.blocks.items) None) 0 (Some start)) ws)) (sym waiting_is) (begins small));
+          count = λ k l at.
+              let l_is : 256 ≡ l = replicate_at n k 256 l (subst (λ ls. IsAt ls k l) full at) in
+              omega (arith, l_is);
+        }
+
+    module _ (left : List ℕ) (states : List (Option S)) (waiting : List Bool) (has : IsSearch IsState IsSmall below step g start left states waiting)
+        (k l : ℕ) (waits : IsAt waiting k true) (first : (j : ℕ) → j < k → IsAt waiting j false) (at : IsAt left k l) where
+      next : IsTurn IsState IsSmall below step g start has.visited k (standing states waiting)
+      next = record { reached = has.reached; next = record { waits = waits; first = first } }
+
+      few : 0 < l → times k has.visited < 256
+      few some = let all = has.count k l at in omega (arith, all)
+
+      pub turn_over : l ≡ 0 → MeetsLimit IsState IsSmall below step g start
+      turn_over none = too_often next (let all = has.count k l at in omega (arith, all))
+
+      module _ (some : 0 < l) where
+        pub turn_exceeds : Exceeds IsState IsSmall below step g k states → MeetsLimit IsState IsSmall below step g start
+        turn_exceeds e = too_large next (few some) e
+
+        pub turn_fails : Makes IsState IsSmall below step g k states None → MeetsNeed IsState IsSmall below step g start
+        turn_fails e = need next (few some) e
+
+        pub turn_done : (new : List (Option S)) (new_waiting : List Bool) → IsVisit IsState IsSmall below step g k (standing states (set waiting k false)) (standing new new_waiting)
+            → IsSearch IsState IsSmall below step g start (set left k (l - 1)) new new_waiting
+        turn_done new new_waiting visit = record {
+          visited = k ∷ has.visited;
+          reached = goes_on has.reached (next.next) (few some) visit;
+          count = λ j m e. ⊎_elim
+              (λ (is : j ≡ k).
+              let here : slice_get (set left k (l - 1)) k ≡ Some m = subst (λ i. slice_get (set left k (l - 1)) i ≡ Some m) is e in
+              let there = set_same left k (l - 1) (slice_get_within left k l at) in
+              let m_is : l - 1 ≡ m = cc (here, there) in
+              let all = has.count k l at in
+              let one = is_one k k refl in
+              subst (λ i. times i (k ∷ has.visited) + m ≡ 256) (sym is) (omega (arith, m_is, all, one)))
+              (λ (other : j ≡ k → ⊥).
+              let all = has.count j m (sym (set_other left k j (l - 1) other) ∙ e) in
+              let zero = is_none k j (λ is. other (sym is)) in
+              omega (arith, all, zero))
+              (cases_eq j k);
+        }
+
+    -- the code's search, when nothing waits
+    pub search_ends : (left : List ℕ) (states : List (Option S)) (waiting : List Bool) → IsSearch IsState IsSmall below step g start left states waiting → ((j : ℕ) → j < length waiting → IsAt waiting j false) → EndsWith IsState IsSmall below step g start states
+    search_ends left states waiting has rests = record {
+      visited = has.visited;
+      last = standing states waiting;
+      reached = has.reached;
+      stated = refl;
+      rests = λ k waits. let rest = rests k (slice_get_within waiting k true waits) in cc (waits, rest);
+    }

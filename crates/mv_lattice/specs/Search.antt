@@ -1,0 +1,118 @@
+-- The search for the least closed flow. Blocks, which have their numbers in the order of the code, are visited one by one, of those that wait always the
+-- one with the least number: the state that is stated of it is carried through it, and what comes out flows into its successors. A block whose stated
+-- state rises waits again.
+use Rattle.std.specs.Prelude.{◌≡◌, ℕ, ◌<◌, Bool, true, false, List, [], ◌∷◌, length, replicate, slice_get, slice_set, Option, Some, None}
+use Rattle.mv_bounds.specs.Removal.{times}
+use Rattle.mv_cfg.specs.declared.Block.{Block}
+use Rattle.mv_cfg.specs.declared.Cfg.{Cfg}
+use Rattle.mv_cfg.specs.Graph.{IsBlock, HasEdge}
+use Rattle.mv_lattice.specs.Flow.{IsAt, IsStated, through}
+
+-- where a search stands: what is stated of each block, and which blocks wait
+pub record Search (S : Type 0) : Type 0 where
+  pub flow : List (Option S)
+  pub waiting : List Bool
+
+-- of the blocks that wait, k has the least number
+pub record IsNext {S : Type 0} (x : Search S) (k : ℕ) : Type 0 where
+  pub waits : IsAt x.waiting k true
+  pub first : (j : ℕ) → j < k → IsAt x.waiting j false
+
+-- block k waits no more
+abbrev pub resting : {S : Type 0} → ℕ → Search S → Search S
+resting k x = record { flow = x.flow; waiting = slice_set x.waiting k false }
+
+-- at block n nothing has changed
+abbrev pub IsSameAt : {S : Type 0} → ℕ → Search S → Search S → Type 0
+IsSameAt n x y = (slice_get y.flow n ≡ slice_get x.flow n) × (slice_get y.waiting n ≡ slice_get x.waiting n)
+
+module _ {S : Type 0} (IsState : S → Type 0) (below : S → S → Type 0) where
+  -- u is a least state above s and t
+  pub record IsLeastAbove (s t u : S) : Type 0 where
+    pub valid : IsState u
+    pub left : below s u
+    pub right : below t u
+    pub least : (v : S) → IsState v → below s v → below t v → below u v
+
+  -- t raises what is stated of a block to u: where nothing is, to t itself; where a state is that isn't above t, to a least state above both
+  pub data Raises (t : S) : Option S → S → Type 0 where
+    nothing : Raises t None t
+    lower : {s u : S} → ¬ below t s → IsLeastAbove s t u → Raises t (Some s) u
+
+module _ {S : Type 0} (IsState IsSmall : S → Type 0) (below : S → S → Type 0) where
+  -- t flows into block n: where the stated state is above t, nothing changes; else t raises it, to a small state, and the block waits
+  pub data FlowsInto (t : S) (n : ℕ) (x y : Search S) : Type 0 where
+    stays : (s : S) → IsStated x.flow n s → below t s → IsSameAt n x y → FlowsInto t n x y
+    rises : (old : Option S) (u : S) → IsAt x.flow n old → Raises IsState below t old u → IsSmall u → IsStated y.flow n u → IsAt y.waiting n true → FlowsInto t n x y
+
+  -- t flows into these blocks, and no other changes
+  pub record FlowsIntoEach (blocks : ℕ → Type 0) (t : S) (x y : Search S) : Type 0 where
+    pub inside : (n : ℕ) → blocks n → FlowsInto t n x y
+    pub outside : (n : ℕ) → ¬ blocks n → IsSameAt n x y
+
+  -- t would raise what is stated of block n to a state that isn't small
+  pub record ExceedsAt (t : S) (n : ℕ) (flow : List (Option S)) : Type 0 where
+    pub old : Option S
+    pub new : S
+    pub at : IsAt flow n old
+    pub raises : Raises IsState below t old new
+    pub large : ¬ IsSmall new
+
+  module _ (step : ℕ → S → Option S) (g : Cfg) where
+    -- what block k makes of the state that is stated of it: none, where a need fails
+    pub record Makes (k : ℕ) (flow : List (Option S)) (made : Option S) : Type 0 where
+      pub block : Block
+      pub is_block : IsBlock g k block
+      pub state : S
+      pub stated : IsStated flow k state
+      pub comes_out : through step block state ≡ made
+
+    -- block k is visited: what it makes of its state flows into its successors
+    pub record IsVisit (k : ℕ) (x y : Search S) : Type 0 where
+      pub out : S
+      pub makes : Makes k x.flow (Some out)
+      pub flows : FlowsIntoEach (HasEdge g k) out x y
+
+    -- a visit of block k would raise what is stated of a successor to a state that isn't small
+    pub record Exceeds (k : ℕ) (flow : List (Option S)) : Type 0 where
+      pub out : S
+      pub makes : Makes k flow (Some out)
+      pub successor : ℕ
+      pub edge : HasEdge g k successor
+      pub exceeds : ExceedsAt out successor flow
+
+    module _ (start : S) where
+      -- the start state is stated of block 0, which alone waits
+      abbrev pub at_start : Search S
+      at_start = record {
+        flow = slice_set (replicate (length g.blocks.items) None) 0 (Some start);
+        waiting = slice_set (replicate (length g.blocks.items) false) 0 true;
+      }
+
+      -- the search comes to x when it has visited these blocks, the last one first, and none more than 256 times
+      pub data Reaches : List ℕ → Search S → Type 0 where
+        begins : IsSmall start → Reaches [] at_start
+        goes_on : {visited : List ℕ} {k : ℕ} {x y : Search S} → Reaches visited x → IsNext x k → times k visited < 256 → IsVisit k (resting k x) y → Reaches (k ∷ visited) y
+
+      -- the search ends with this flow: it comes to where it is stated and no block waits
+      pub record EndsWith (flow : List (Option S)) : Type 0 where
+        pub visited : List ℕ
+        pub last : Search S
+        pub reached : Reaches visited last
+        pub stated : last.flow ≡ flow
+        pub rests : (k : ℕ) → ¬ IsAt last.waiting k true
+
+      -- the search comes to x after these visits, and block k is the next one
+      pub record IsTurn (visited : List ℕ) (k : ℕ) (x : Search S) : Type 0 where
+        pub reached : Reaches visited x
+        pub next : IsNext x k
+
+      -- a limit ends the search: the start state isn't small, a block would be visited a 257th time, or a visit would state a state that isn't small
+      pub data MeetsLimit : Type 0 where
+        large_start : ¬ IsSmall start → MeetsLimit
+        too_often : {visited : List ℕ} {k : ℕ} {x : Search S} → IsTurn visited k x → times k visited ≡ 256 → MeetsLimit
+        too_large : {visited : List ℕ} {k : ℕ} {x : Search S} → IsTurn visited k x → times k visited < 256 → Exceeds k x.flow → MeetsLimit
+
+      -- a need ends the search: one fails in the block that would be visited next
+      pub data MeetsNeed : Type 0 where
+        need : {visited : List ℕ} {k : ℕ} {x : Search S} → IsTurn visited k x → times k visited < 256 → Makes k x.flow None → MeetsNeed
