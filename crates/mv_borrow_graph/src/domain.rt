@@ -1,9 +1,11 @@
 // A function's borrow graph as a domain of states.
-ghost use Rattle.std.specs.Prelude.{◌≡◌, ◌<◌, nat_le, [], length, reverse, slice_get, Some, is_some, option_map, IsTrue};
+ghost use Rattle.std.specs.Prelude.{◌≡◌, ◌<◌, nat_le, [], length, reverse, slice_get, Option, Some, is_some, option_map, false, IsTrue, OnOk, IsErrOf, IsSome};
 ghost use Rattle.std.specs.List.{list_all};
+ghost use Rattle.std.specs.Option.{option_map_or};
+ghost use Rattle.mv_edges.specs.Ascending.{are_ascending};
 ghost use Rattle.mv_type_states.specs.Sound.{types_before};
 ghost use Rattle.mv_type_states.specs.TypesHold.{TypesHold};
-ghost use Rattle.mv_borrow_graph.specs.Domain.{point_at, is_low};
+ghost use Rattle.mv_borrow_graph.specs.Domain.{point_at, is_low, edges_step, places_reference};
 ghost use Rattle.mv_borrow_graph.specs.Nodes.{are_few as few};
 
 use super::site::{Site, leaves_edges};
@@ -99,6 +101,28 @@ impl<'t, 'm> BorrowDomain<'t, 'm> {
         at < self.stacks.len()
     }
 
+    /// Makes of the edges what the instruction at a place does. Memory is wanted only where no need fails, of an instruction
+    /// that puts a reference where none stood.
+    #[tactic(auto, using(crate::proofs::Stacks::step_ok, crate::proofs::Stacks::step_need, crate::proofs::Stacks::step_meets, crate::proofs::Stacks::step_memory, crate::proofs::Stacks::step_unknown))]
+    fn change(&self, alloc: Global, s: &mut Edges, at: usize) -> Result<(), StepError>
+        requires { IsTrue (are_ascending s.old) }
+        ensures ok { OnOk result (edges_step self.now.home self.now.function at s.old ≡ Option.Some s.new) }
+        ensures need { IsErrOf result StepError.Need → edges_step self.now.home self.now.function at s.old ≡ Option.None }
+        ensures meets { IsErrOf result StepError.Memory → IsSome (edges_step self.now.home self.now.function at s.old) }
+        ensures memory { IsErrOf result StepError.Memory → IsTrue (option_map_or (places_reference self.now.home self.now.function) (slice_get self.now.function.code at) false) }
+    {
+        let Some(instruction) = self.instruction(at) else {
+            return Err(StepError::Need);
+        };
+        if leaves_edges(&instruction) && self.is_known(at) {
+            return Ok(());
+        }
+        match self.site(at) {
+            Some(site) => site.step(alloc, instruction, s),
+            None => Err(StepError::Need),
+        }
+    }
+
     /// What is known where the function begins: no edges.
     pub fn start(&self, alloc: Global) -> Edges
         ensures { result ≡ [] }
@@ -130,7 +154,7 @@ fn are_few(edges: &[Edge]) -> bool
 }
 
 impl<'t, 'm> Domain for BorrowDomain<'t, 'm> {
-    ghost use Rattle.std.specs.Prelude.{◌≡◌, ◌++◌, List, Option, length, slice_get, false, IfOk, OnOk, IsErrOf, IsSome, IsTrue};
+    ghost use Rattle.std.specs.Prelude.{◌≡◌, ◌++◌, List, Option, length, slice_get, false, IfOk, IsErrOf, IsSome, IsTrue};
     ghost use Rattle.std.specs.Option.{option_map_or};
     ghost use Rattle.mv_edges.specs.Edges.{Edge as EdgeRecord, edges_leq};
     ghost use Rattle.mv_edges.specs.Sorted.{sorted};
@@ -161,9 +185,8 @@ impl<'t, 'm> Domain for BorrowDomain<'t, 'm> {
         s.copy(alloc)
     }
 
-    fn copy_into(&self, alloc: Global, s: &Edges, t: &mut Edges) -> Result<(), AllocError> {
-        *t = s.copy(alloc)?;
-        Ok(())
+    fn copy_into(&self, alloc: Global, s: &Edges, _t: Edges) -> Result<Edges, AllocError> {
+        s.copy(alloc)
     }
 
     fn leq(&self, a: &Edges, b: &Edges) -> bool {
@@ -183,24 +206,15 @@ impl<'t, 'm> Domain for BorrowDomain<'t, 'm> {
     }
 
     /// Memory is wanted only where no need fails, of an instruction that puts a reference where none stood.
-    #[tactic(auto, using(crate::proofs::Stacks::step_ok, crate::proofs::Stacks::step_need, crate::proofs::Stacks::step_meets, crate::proofs::Stacks::step_memory, crate::proofs::Stacks::step_unknown))]
-    fn step(&self, alloc: Global, s: &mut Edges, at: usize) -> Result<(), StepError>
-        requires { IsTrue (are_ascending s.old) }
-        ensures ok { OnOk result (edges_step self.now.home self.now.function at s.old ≡ Option.Some s.new) }
-        ensures need { IsErrOf result StepError.Need → edges_step self.now.home self.now.function at s.old ≡ Option.None }
-        ensures meets { IsErrOf result StepError.Memory → IsSome (edges_step self.now.home self.now.function at s.old) }
+    fn step(&self, alloc: Global, mut s: Edges, at: usize) -> Result<Edges, StepError>
+        requires { IsTrue (are_ascending s) }
+        ensures ok { IfOk result (λ t. edges_step self.now.home self.now.function at s ≡ Option.Some t) }
+        ensures need { IsErrOf result StepError.Need → edges_step self.now.home self.now.function at s ≡ Option.None }
+        ensures meets { IsErrOf result StepError.Memory → IsSome (edges_step self.now.home self.now.function at s) }
         ensures memory { IsErrOf result StepError.Memory → IsTrue (option_map_or (places_reference self.now.home self.now.function) (slice_get self.now.function.code at) false) }
     {
-        let Some(instruction) = self.instruction(at) else {
-            return Err(StepError::Need);
-        };
-        if leaves_edges(&instruction) && self.is_known(at) {
-            return Ok(());
-        }
-        match self.site(at) {
-            Some(site) => site.step(alloc, instruction, s),
-            None => Err(StepError::Need),
-        }
+        self.change(alloc, &mut s, at)?;
+        Ok(s)
     }
 
     fn fits(&self, s: &Edges) -> bool {

@@ -187,8 +187,12 @@ impl Edges {
     }
 
     /// Adds the edges of another list, in one pass over both.
+    ///
+    /// # Errors
+    /// If an allocation failed; the edges are as they were then.
     pub fn add_all(&mut self, others: Edges) -> Result<(), AllocError>
-        ensures { OnOk result (self.new ≡ sorted (self.old ++ others)) }
+        ensures ok { OnOk result (self.new ≡ sorted (self.old ++ others)) }
+        ensures err { OnErr result (self.new ≡ self.old) }
     {
         add_in_order(&mut self.items, others.into_items())?;
         self.longest = longest_of(&self.items);

@@ -77,18 +77,18 @@ pub trait Domain {
         requires { is_state self.now s.now }
         ensures { IfOk result (λ t. t ≡ s.now) };
 
-    /// Makes the second state equal to the first, in the memory that the second has where that is enough.
+    /// A state equal to `s`, in the memory of `t` where that is enough.
     ///
     /// # Errors
-    /// If an allocation failed; nothing is said of the second state then.
+    /// If an allocation failed; `t` is gone then, as it is otherwise.
     fn copy_into(
         &self,
         alloc: Global,
         s: &Self::State,
-        t: &mut Self::State,
-    ) -> Result<(), AllocError>
+        t: Self::State,
+    ) -> Result<Self::State, AllocError>
         requires { is_state self.now s.now }
-        ensures { OnOk result (t.new ≡ s.now) };
+        ensures { IfOk result (λ u. u ≡ s.now) };
 
     /// Whether the first state is below the second.
     fn leq(&self, a: &Self::State, b: &Self::State) -> bool
@@ -111,15 +111,16 @@ pub trait Domain {
         ensures least { IfOk result (λ c. (u : Self.State) → is_state self.now u → below self.now a.now u → below self.now b.now u → below self.now c u) }
         ensures begins { IfOk result (λ c. may_begin self.now a.now → may_begin self.now b.now → may_begin self.now c) };
 
-    /// Makes of the state what the instruction at `at` does.
+    /// What the instruction at `at` makes of the state, which it takes.
     ///
     /// # Errors
-    /// `Need` where a need of the instruction fails; `Memory` if an allocation failed. Nothing is said of the state then.
-    fn step(&self, alloc: Global, s: &mut Self::State, at: usize) -> Result<(), StepError>
-        requires state { is_state self.now s.old }
+    /// `Need` where a need of the instruction fails; `Memory` if an allocation failed. The state is gone then, so that no
+    /// half-changed one is left.
+    fn step(&self, alloc: Global, s: Self::State, at: usize) -> Result<Self::State, StepError>
+        requires state { is_state self.now s }
         requires inside { at < size self.now }
-        ensures ok { OnOk result (steps self.now at s.old ≡ Option.Some s.new) }
-        ensures need { IsErrOf result StepError.Need → steps self.now at s.old ≡ Option.None };
+        ensures ok { IfOk result (λ t. steps self.now at s ≡ Option.Some t) }
+        ensures need { IsErrOf result StepError.Need → steps self.now at s ≡ Option.None };
 
     /// Whether the state is small enough to be stated by a search.
     fn fits(&self, s: &Self::State) -> bool
@@ -144,21 +145,21 @@ pub trait HasState<S> {
 fn carry<D: Domain>(
     alloc: Global,
     d: &D,
-    s: &mut D::State,
+    mut s: D::State,
     first: usize,
     last: usize,
-) -> Result<(), StepError>
-    requires state { D.is_state d.now s.old }
+) -> Result<D::State, StepError>
+    requires state { D.is_state d.now s }
     requires order { first ≤ last }
     requires inside { last < D.size d.now }
-    ensures state { OnOk result (D.is_state d.now s.new) }
-    ensures ok { OnOk result (carried (D.steps d.now) first (last + 1 - first) s.old ≡ Option.Some s.new) }
-    ensures need { IsErrOf result StepError.Need → carried (D.steps d.now) first (last + 1 - first) s.old ≡ Option.None }
+    ensures state { IfOk result (λ t. D.is_state d.now t) }
+    ensures ok { IfOk result (λ t. carried (D.steps d.now) first (last + 1 - first) s ≡ Option.Some t) }
+    ensures need { IsErrOf result StepError.Need → carried (D.steps d.now) first (last + 1 - first) s ≡ Option.None }
 {
     for at in first..=last {
-        d.step(alloc, s, at)?;
+        s = d.step(alloc, s, at)?;
     }
-    Ok(())
+    Ok(s)
 }
 
 /// Whether the state is below each one that is stated for one of the blocks.
@@ -183,16 +184,16 @@ fn is_below_each<D: Domain, K: HasState<D::State>>(
     true
 }
 
-/// Whether the block carries the state to one that is below each one stated for a successor. `t` is where it is carried:
-/// it may hold any state, and nothing is said of it afterwards.
+/// Whether the block carries the state to one that is below each one stated for a successor. It is carried in the memory of
+/// `t`, which may be any state; the state that it is carried to is answered, for its memory alone.
 fn check_block<D: Domain, K: HasState<D::State>>(
     alloc: Global,
     d: &D,
     block: &Block,
     s: &D::State,
-    t: &mut D::State,
+    t: D::State,
     flow: &[Option<K>],
-) -> Result<(), StepError>
+) -> Result<D::State, StepError>
     requires state { D.is_state d.now s.now }
     requires order { block.now.first ≤ block.now.last }
     requires inside { block.now.last < D.size d.now }
@@ -201,10 +202,10 @@ fn check_block<D: Domain, K: HasState<D::State>>(
     ensures ok { OnOk result (IsClosedAt (D.below d.now) (D.steps d.now) (states_of K.inner flow.now) block.now s.now) }
     ensures need { IsErrOf result StepError.Need → ¬ IsClosedAt (D.below d.now) (D.steps d.now) (states_of K.inner flow.now) block.now s.now }
 {
-    d.copy_into(alloc, s, t)?;
-    carry(alloc, d, t, block.first, block.last)?;
-    if is_below_each(d, t, &block.successors, flow) {
-        Ok(())
+    let copied = d.copy_into(alloc, s, t)?;
+    let last = carry(alloc, d, copied, block.first, block.last)?;
+    if is_below_each(d, &last, &block.successors, flow) {
+        Ok(last)
     } else {
         Err(StepError::Need)
     }
@@ -237,7 +238,7 @@ pub fn check_flow<D: Domain, K: HasState<D::State>>(
     let mut t = start;
     for (k, block) in g.blocks.iter().enumerate() {
         if let Some(entry) = &stated[k] {
-            check_block(alloc, d, block, entry.state(), &mut t, stated)?;
+            t = check_block(alloc, d, block, entry.state(), t, stated)?;
         }
     }
     Ok(())

@@ -145,9 +145,9 @@ fn carry_through<D: Domain>(
     ensures need { IsErrOf result SolveError.Need → through (D.steps d.now) block.now s.now ≡ Option.None }
     ensures complex { ¬ IsErrOf result SolveError.TooComplex }
 {
-    let mut t = d.copy(alloc, s)?;
-    match carry(alloc, d, &mut t, block.first, block.last) {
-        Ok(()) => Ok(t),
+    let t = d.copy(alloc, s)?;
+    match carry(alloc, d, t, block.first, block.last) {
+        Ok(u) => Ok(u),
         Err(StepError::Need) => Err(SolveError::Need),
         Err(StepError::Memory) => Err(SolveError::Memory),
     }

@@ -1,9 +1,9 @@
 // A function's locals as a domain of states.
-ghost use Rattle.std.specs.Prelude.{◌≡◌, ◌<◌, ◌++◌, length, slice_get, zip, Some, option_map, IfOk, IfSome};
+ghost use Rattle.std.specs.Prelude.{◌≡◌, ◌<◌, ◌++◌, length, slice_get, zip, Option, Some, option_map, IfOk, IfSome, OnOk, IsErrOf};
 ghost use Rattle.std.specs.List.{list_all};
 ghost use Rattle.mv_move_types.specs.Module.{local_tokens, local_type, parameter_tokens};
 ghost use Rattle.mv_locals_safety.specs.LocalsRules.{leave_known, store_known, locals_after};
-ghost use Rattle.mv_locals_safety.specs.Domain.{point_in, start_locals, may_stay, IsOfLocals, Follows};
+ghost use Rattle.mv_locals_safety.specs.Domain.{point_in, start_locals, may_stay, IsOfLocals, Follows, locals_step};
 
 use super::Availabilities;
 use mv_binary_format::{FunctionDefinition, Module};
@@ -176,10 +176,22 @@ impl<'t, 'm> LocalsDomain<'t, 'm> {
             _ => Ok(()),
         }
     }
+
+    /// Makes of the availabilities what the instruction at a place does.
+    fn change(&self, s: &mut Availabilities, at: usize) -> Result<(), StepError>
+        ensures ok { OnOk result (locals_step self.now.home self.now.function at s.old ≡ Option.Some s.new) }
+        ensures need { IsErrOf result StepError.Need → locals_step self.now.home self.now.function at s.old ≡ Option.None }
+        ensures memory { ¬ IsErrOf result StepError.Memory }
+    {
+        match self.instruction(at) {
+            Some(instruction) => self.apply(instruction, s),
+            None => Err(StepError::Need),
+        }
+    }
 }
 
 impl<'t, 'm> Domain for LocalsDomain<'t, 'm> {
-    ghost use Rattle.std.specs.Prelude.{◌≡◌, ⊤, Option, length, OnOk, IsErrOf, IsTrue};
+    ghost use Rattle.std.specs.Prelude.{◌≡◌, ⊤, Option, length, IfOk, IsErrOf, IsTrue};
     ghost use Rattle.mv_locals_safety.specs.LocalsRules.{locals_leq};
     ghost use Rattle.mv_locals_safety.specs.Domain.{IsOfLocals, locals_step};
     ghost use Rattle.mv_locals_safety.specs.Laws.{locals_lawful};
@@ -210,9 +222,10 @@ impl<'t, 'm> Domain for LocalsDomain<'t, 'm> {
         &self,
         _alloc: Global,
         s: &Availabilities,
-        t: &mut Availabilities,
-    ) -> Result<(), AllocError> {
-        t.copy_from(s)
+        mut t: Availabilities,
+    ) -> Result<Availabilities, AllocError> {
+        t.copy_from(s)?;
+        Ok(t)
     }
 
     fn leq(&self, a: &Availabilities, b: &Availabilities) -> bool {
@@ -230,15 +243,18 @@ impl<'t, 'm> Domain for LocalsDomain<'t, 'm> {
     }
 
     /// No step takes memory.
-    fn step(&self, _alloc: Global, s: &mut Availabilities, at: usize) -> Result<(), StepError>
-        ensures ok { OnOk result (locals_step self.now.home self.now.function at s.old ≡ Option.Some s.new) }
-        ensures need { IsErrOf result StepError.Need → locals_step self.now.home self.now.function at s.old ≡ Option.None }
+    fn step(
+        &self,
+        _alloc: Global,
+        mut s: Availabilities,
+        at: usize,
+    ) -> Result<Availabilities, StepError>
+        ensures ok { IfOk result (λ t. locals_step self.now.home self.now.function at s ≡ Option.Some t) }
+        ensures need { IsErrOf result StepError.Need → locals_step self.now.home self.now.function at s ≡ Option.None }
         ensures memory { ¬ IsErrOf result StepError.Memory }
     {
-        match self.instruction(at) {
-            Some(instruction) => self.apply(instruction, s),
-            None => Err(StepError::Need),
-        }
+        self.change(&mut s, at)?;
+        Ok(s)
     }
 
     fn fits(&self, _s: &Availabilities) -> bool {

@@ -5,11 +5,11 @@ use Rattle.mv_lattice.proofs.check_block.Goals as goal
 
 pub returns-then-is_below_each-clause-ok : goal.returns-then-is_below_each-clause-ok
 returns-then-is_below_each-clause-ok g c =
-    let carried : through (g.D.Domain.steps c.args.d.now) c.args.block.now c.args.s.now ≡ Some c.carry.new.s = rw c.in_ok-copy_into.ensures at c.in_ok-carry.ensures.ok in
-    (c.carry.new.s, (carried, rw c.deref.ensures.value at c.is_below_each.ensures.0 c.if-is_below_each.true))
+    let carried : through (g.D.Domain.steps c.args.d.now) c.args.block.now c.args.s.now ≡ Some c.in_ok-last.last = rw c.in_ok-copied.ensures at c.in_ok-last.ensures.ok in
+    (c.in_ok-last.last, (carried, rw c.deref.ensures.value at c.is_below_each.ensures.0 c.if-is_below_each.true))
 
 pub returns-else-is_below_each-clause-need : goal.returns-else-is_below_each-clause-need
 returns-else-is_below_each-clause-need g c = λ _ closed.
-    let carried : through (g.D.Domain.steps c.args.d.now) c.args.block.now c.args.s.now ≡ Some c.carry.new.s = rw c.in_ok-copy_into.ensures at c.in_ok-carry.ensures.ok in
-    let same : closed.0 ≡ c.carry.new.s = cc (carried, closed.1.0) in
+    let carried : through (g.D.Domain.steps c.args.d.now) c.args.block.now c.args.s.now ≡ Some c.in_ok-last.last = rw c.in_ok-copied.ensures at c.in_ok-last.ensures.ok in
+    let same : closed.0 ≡ c.in_ok-last.last = cc (carried, closed.1.0) in
     false≢true (sym c.if-is_below_each.false ∙ c.is_below_each.ensures.1 (rw c.deref.ensures.value (rw same at closed.1.1)))

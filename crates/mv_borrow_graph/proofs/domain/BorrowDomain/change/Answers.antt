@@ -1,6 +1,6 @@
 use Rattle.std.proofs.Common.{sym, ◌∙◌}
 use Rattle.mv_borrow_graph.proofs.Stacks.{step_left}
-use Rattle.mv_borrow_graph.proofs.domain.BorrowDomainDomain.step.Goals as goal
+use Rattle.mv_borrow_graph.proofs.domain.BorrowDomain.change.Goals as goal
 
 pub returns-then-is_known-clause-ok : goal.returns-then-is_known-clause-ok
 returns-then-is_known-clause-ok c =
