@@ -48,6 +48,9 @@ pub mod PlacedCodes
 pub mod Joins
 pub mod InterfaceLemmas
 pub mod Constants
+pub mod SpanLemmas
 pub mod IdentifierLemmas
 pub mod StructNames
+pub mod ShapeLemmas
+pub mod StoredShapes
 pub mod IndexLemmas

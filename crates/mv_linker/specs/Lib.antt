@@ -18,8 +18,10 @@ pub mod Relinked
 pub mod Resolved
 pub mod Scarce
 pub mod Scope
+pub mod Shapes
 pub mod Sizes
 pub mod Sizing
+pub mod Spans
 pub mod Stored
 pub mod Targets
 pub mod TypesByName

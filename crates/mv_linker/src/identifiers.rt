@@ -3,16 +3,10 @@ ghost use Rattle.std.specs.Prelude.{◌≡◌, ◌≤◌, [], length, option_map
 ghost use Rattle.mv_linker.specs.Identifiers.{identifier_or_none, identifiers_of};
 
 use crate::names::struct_identifier;
+use crate::spans::Span;
 use mv_binary_format::{Module, StructDefinition};
 use std::alloc::{AllocError, Global};
 use std::marker::Model;
-
-// Where an identifier stands: its first byte, and the one after its last.
-#[derive(Clone, Copy)]
-struct Span {
-    first: u32,
-    last: u32,
-}
 
 /// The identifiers of the structs that a module defines, in the order of the definitions. Its model is their list.
 #[derive(Drop)]
@@ -24,7 +18,7 @@ pub struct Identifiers {
 impl Model for Identifiers {
     ghost use Rattle.std.specs.Prelude.{ℕ, List, map, IsTrue};
     ghost use Rattle.std.specs.List.{list_all};
-    ghost use Rattle.mv_linker.specs.Identifiers.{is_span_in, spanned};
+    ghost use Rattle.mv_linker.specs.Spans.{is_span_in, spanned};
 
     ghost Value = { List (List ℕ) };
 

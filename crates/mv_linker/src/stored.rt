@@ -1,5 +1,5 @@
 // What a store keeps of its modules beside their texts.
-ghost use Rattle.std.specs.Prelude.{◌≡◌, ◌<◌, IsSome, Some, length, map, option_map, slice_get, IfSome, IfOk};
+ghost use Rattle.std.specs.Prelude.{◌≡◌, ◌<◌, ◌≤◌, IsSome, Some, length, map, option_map, slice_get, IfSome, IfOk};
 ghost use Rattle.mv_move_types.specs.Module.{name_at};
 ghost use Rattle.mv_move_types.specs.Named.{function_place};
 ghost use Rattle.mv_linker.specs.Link.{IsStore, tables_in};
@@ -7,12 +7,14 @@ ghost use Rattle.mv_linker.specs.Code.{operations};
 ghost use Rattle.mv_linker.specs.Coded.{AreOwnSizes};
 ghost use Rattle.mv_linker.specs.Interfaces.{IsInterfaceAt};
 ghost use Rattle.mv_linker.specs.Linked.{program_of, width_of_others};
+ghost use Rattle.mv_linker.specs.Shapes.{AreFieldsAt, is_keyed, structs_in};
 ghost use Rattle.mv_linker.specs.Stored.{IsSizeAt};
 
 use crate::Store;
 use crate::code::Code;
 use crate::interfaces::{Interface, index_of};
 use crate::names::StructName;
+use crate::shapes::Part;
 use crate::sizes::Size;
 use mv_move_types::{Definition, Refusal};
 use mv_type_states::Tops;
@@ -44,6 +46,41 @@ impl Store {
         let identifier = code.identifiers.get(usize::from(d.index))?;
         let (name, _) = self.modules.get_index(usize::from(d.place))?;
         Some(StructName::new(name.address, name.identifier.as_slice(), identifier))
+    }
+
+    /// Of what the fields of the struct that the module at a place defines at an index are made, in order, if it is there. No
+    /// memory is taken, and no byte of the module is read.
+    pub fn fields(&self, d: Definition) -> Option<&[Part]>
+        ensures fields { AreFieldsAt (tables_in self.now) d (option_map (λ p. p.now) result) }
+        ensures store { IsStore self.now }
+    {
+        let code = self.codes.get(usize::from(d.place))?;
+        code.shapes.get(usize::from(d.index))
+    }
+
+    /// Whether the struct that the module at a place defines at an index is there and has key. No byte of the module is read.
+    pub fn is_keyed(&self, d: Definition) -> bool
+        ensures { result ≡ is_keyed (tables_in self.now) d }
+    {
+        match self.codes.get(usize::from(d.place)) {
+            Some(code) => code
+                .keys
+                .get(usize::from(d.index))
+                .copied()
+                .unwrap_or(false),
+            None => false,
+        }
+    }
+
+    /// How many structs the module at a place defines; none, if no module is there. No byte of the module is read.
+    pub fn structs(&self, place: usize) -> usize
+        ensures count { result ≡ structs_in (tables_in self.now) place }
+        ensures few { result ≤ 65536 }
+    {
+        match self.codes.get(place) {
+            Some(code) => code.keys.len(),
+            None => 0,
+        }
     }
 
     /// The function with this identifier in the module at a place: its index there, and what a call from outside asks of it.

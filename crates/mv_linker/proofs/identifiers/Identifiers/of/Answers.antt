@@ -3,7 +3,7 @@ use Rattle.std.proofs.lemmas.List.{map-append}
 use Rattle.std.proofs.lemmas.Option.{slice_get_read}
 use Rattle.mv_move_types.specs.Module.{StructDefinition}
 use Rattle.mv_linker.specs.Identifiers.{identifier_or_none}
-use Rattle.mv_linker.proofs.IdentifierLemmas.{AreSpelled, spelled-more}
+use Rattle.mv_linker.proofs.SpanLemmas.{AreSpanned, spanned-more}
 use Rattle.mv_linker.proofs.Linkable.{taken-more}
 use Rattle.mv_linker.proofs.identifiers.Identifiers.of.Goals as goal
 
@@ -18,8 +18,8 @@ loop-d-preserved c =
     ap (map (identifier_or_none m)) (taken-more m.structs i d here) ∙ map-append (identifier_or_none m) (take i m.structs) (d ∷ [])
     ∙ ap (λ n. map (identifier_or_none m) (take i m.structs) ++ n ∷ []) (sym c.identifier_of.ensures.value) in
     record {
-      so_far = subst (λ ns. AreSpelled ns c.extend_from_slice.new.self.items c.push.new.self.items) (sym names)
-          (spelled-more (map (identifier_or_none m) (take i m.structs)) c.loop-d.bytes.items c.extend_from_slice.new.self.items c.identifier_of.result.now c.loop-d.spans.items c.push.new.self.items _ c.loop-d.invariant.so_far
+      so_far = subst (λ ns. AreSpanned ns c.extend_from_slice.new.self.items c.push.new.self.items) (sym names)
+          (spanned-more (map (identifier_or_none m) (take i m.structs)) c.loop-d.bytes.items c.extend_from_slice.new.self.items c.identifier_of.result.now c.loop-d.spans.items c.push.new.self.items _ c.loop-d.invariant.so_far
           c.in_ok-extend_from_slice.ensures.items (omega arith) (omega arith) c.in_ok-push.ensures.items);
       few = omega (arith, c.in_ok-extend_from_slice.ensures.len);
     }

@@ -1,0 +1,29 @@
+use Rattle.std.proofs.Common.{◌≡◌, ◌≤◌, ◌++◌, ◌∷◌, [], List, length, get_or, ap, ◌∙◌, arith}
+use Rattle.mv_move_types.specs.declared.tables.Field.{Field}
+use Rattle.mv_move_types.specs.declared.token.LeafKind.TheVariants.{Boolean}
+use Rattle.mv_move_types.specs.declared.token.Token.TheVariants.{Plain}
+use Rattle.mv_move_types.specs.declared.token.ValueType.TheVariants.{OfLeaf}
+use Rattle.mv_linker.specs.declared.shapes.Part.{Part}
+use Rattle.mv_linker.specs.Shapes.{part_by}
+use Rattle.mv_linker.proofs.ShapeLemmas.{parts-first, parts-more, parts-all}
+use Rattle.mv_linker.proofs.shapes.put_parts.Goals as goal
+
+pub loop-field-init : goal.loop-field-init
+loop-field-init c = record { so_far = parts-first c.args.structs.now c.args.parts.now.items c.args.fields.now; count = omega arith }
+
+pub loop-field-preserved : goal.loop-field-preserved
+loop-field-preserved c =
+    let structs = c.args.structs.now in
+    let fields : List Field = c.args.fields.now in
+    let parts : List Part = c.loop-field.parts.items in
+    let d : Field = record { name = 0; token = Plain (OfLeaf Boolean) } in
+    let pushed : c.push.new.self.items ≡ parts ++ part_by structs (get_or fields c.loop-field.field-index d).token ∷ [] = c.in_ok-push.ensures.items ∙ ap (λ p. parts ++ p ∷ []) c.part_of.ensures in
+    record {
+      so_far = parts-more structs c.args.parts.now.items parts c.push.new.self.items fields c.loop-field.field-index d c.loop-field-test.true c.loop-field.invariant.so_far pushed;
+      count = omega (arith, c.in_ok-push.ensures.len);
+    }
+
+pub returns-clause-parts : goal.returns-clause-parts
+returns-clause-parts c =
+    let all : length c.args.fields.now ≤ c.loop-field.field-index = omega (arith, c.loop-field-test.false) in
+    parts-all c.args.structs.now c.args.parts.now.items c.loop-field.parts.items c.args.fields.now c.loop-field.field-index all c.loop-field.invariant.so_far
