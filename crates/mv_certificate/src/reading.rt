@@ -19,6 +19,7 @@ use mv_locals_safety::Availabilities;
 use mv_module_text::Reader;
 use mv_move_types::{Availability, Node, Refusal};
 use mv_type_states::Typed;
+use smallvec::SmallVec;
 use std::alloc::Global;
 
 // What the reader refuses malformed bytes with. So do the functions here.
@@ -89,13 +90,13 @@ fn read_openness(reader: &mut Reader<'_>) -> Result<bool, Refusal>
 }
 
 /// Reads field positions, of which there are at most eight, each below 32.
-fn read_path(alloc: Global, reader: &mut Reader<'_>) -> Result<Vec<u8>, Refusal>
+fn read_path(alloc: Global, reader: &mut Reader<'_>) -> Result<SmallVec<u8, 8>, Refusal>
     ensures ok { IfOk result (λ v. counted_from 8 (number_from 31) reader.old ≡ Some (v.items, reader.new)) }
     ensures refused { result ≡ Err (Refusal.Phase 2) → counted_from 8 (number_from 31) reader.old ≡ None }
     ensures errors { IfErr result (λ e. (e ≡ Refusal.Phase 2) ⊎ (e ≡ Refusal.Memory)) }
 {
     let count = reader.number(MOST_POSITIONS)?;
-    let mut path = Vec::new(alloc);
+    let mut path = SmallVec::new(alloc);
     'path: for _ in 0..count {
         let position = reader.number(LAST_POSITION)?;
         path.push(position as u8).map_err(|_| Refusal::Memory)?;
@@ -111,7 +112,7 @@ fn read_label(alloc: Global, reader: &mut Reader<'_>) -> Result<Label, Refusal>
 {
     let path = read_path(alloc, reader)?;
     let is_open = read_openness(reader)?;
-    Ok(Label::new(path, is_open))
+    Ok(Label::from_slice(alloc, path.as_slice(), is_open)?)
 }
 
 /// Reads an edge, which has to fit the function.

@@ -20,8 +20,8 @@ fn is_same(a: Node, b: Node) -> bool
 #[derive(Drop, Debug)]
 pub struct Edge {
     from: Node,
-    label: Label,
     to: Node,
+    label: Label,
 }
 
 impl Model for Edge {

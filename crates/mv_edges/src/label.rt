@@ -1,16 +1,18 @@
 // Where one place lies below another: labels and their order.
-ghost use Rattle.std.specs.Prelude.{◌≡◌, IfOk};
+ghost use Rattle.std.specs.Prelude.{◌≡◌, ◌≤◌, length, IsOk, IfOk};
 ghost use Rattle.mv_edges.specs.Edges.{here, extended, opened, changed, agrees, label_leq};
 
+use smallvec::SmallVec;
 use std::alloc::{AllocError, Global};
 use std::marker::Model;
 
 /// A list of field positions: exactly these, or, of an open label, these and any more.
 ///
-/// A position fits a byte, since a struct has at most 32 fields (this project's own rule).
+/// A position fits a byte, since a struct has at most 32 fields (this project's own rule). Up to 8 positions lie in the label itself,
+/// so that such a label is made, copied and changed with no allocation.
 #[derive(Drop, Debug)]
 pub struct Label {
-    path: Vec<u8>,
+    path: SmallVec<u8, 8>,
     is_open: bool,
 }
 
@@ -27,21 +29,36 @@ impl Label {
     pub fn new(path: Vec<u8>, is_open: bool) -> Self
         ensures { result ≡ record { path = path.items; is_open = is_open } }
     {
+        let mut path = SmallVec::from_vec(path);
+        path.shrink_to_fit();
         Label { path, is_open }
+    }
+
+    /// The label of these positions, which are copied.
+    pub fn from_slice(alloc: Global, path: &[u8], is_open: bool) -> Result<Self, AllocError>
+        ensures value { IfOk result (λ l. l ≡ record { path = path.now; is_open = is_open }) }
+        ensures succeeds { length path.now ≤ 8 → IsOk result }
+    {
+        let path = SmallVec::from_slice(alloc, path)?;
+        Ok(Label { path, is_open })
     }
 
     /// The label of the place itself: no position, exact.
     pub fn here(alloc: Global) -> Self
         ensures { result ≡ here }
     {
-        Label::new(Vec::new(alloc), false)
+        let path = SmallVec::new(alloc);
+        Label {
+            path,
+            is_open: false,
+        }
     }
 
     /// The positions.
     pub fn path(&self) -> &[u8]
         ensures { result.now ≡ self.now.path }
     {
-        &self.path
+        self.path.as_slice()
     }
 
     /// Whether any more positions may follow.
@@ -55,7 +72,7 @@ impl Label {
     pub fn copy(&self, alloc: Global) -> Result<Self, AllocError>
         ensures { IfOk result (λ l. l ≡ self.now) }
     {
-        Ok(Label::new(Vec::from_slice(alloc, &self.path)?, self.is_open))
+        Label::from_slice(alloc, self.path(), self.is_open)
     }
 
     /// Whether the label is the other, or the other is open and its positions begin this one's.
@@ -63,7 +80,7 @@ impl Label {
     pub fn is_below(&self, other: &Label) -> bool
         ensures { result ≡ label_leq self.now other.now }
     {
-        self == other || other.is_open && self.path.starts_with(&other.path)
+        self == other || other.is_open && self.path().starts_with(other.path())
     }
 
     /// Whether the list is empty or begins with the position.
@@ -71,7 +88,7 @@ impl Label {
     pub fn agrees(&self, position: u8) -> bool
         ensures { result ≡ agrees position self.now }
     {
-        match self.path.first() {
+        match self.path().first() {
             Some(first) => *first == position,
             None => true,
         }
@@ -81,18 +98,19 @@ impl Label {
     pub fn extended(&self, alloc: Global, position: u8) -> Result<Self, AllocError>
         ensures { IfOk result (λ l. l ≡ extended position self.now) }
     {
-        let mut path = Vec::from_slice(alloc, &self.path)?;
-        if !self.is_open {
+        let mut path = SmallVec::from_slice(alloc, self.path())?;
+        let is_open = self.is_open;
+        if !is_open {
             path.push(position)?;
         }
-        Ok(Label::new(path, self.is_open))
+        Ok(Label { path, is_open })
     }
 
     /// The label that allows anything below, too.
     pub fn opened(&self, alloc: Global) -> Result<Self, AllocError>
         ensures { IfOk result (λ l. l ≡ opened self.now) }
     {
-        Ok(Label::new(Vec::from_slice(alloc, &self.path)?, true))
+        Label::from_slice(alloc, self.path(), true)
     }
 
     /// The label with a change made to it.
@@ -117,7 +135,7 @@ impl PartialEq for Label {
     ghost laws = { partial_equiv_from_equiv same_label_equiv };
 
     fn eq(&self, other: &Self) -> bool {
-        self.path == other.path && self.is_open == other.is_open
+        self.path() == other.path() && self.is_open == other.is_open
     }
 }
 
