@@ -1,11 +1,7 @@
 -- The length of the longest list.
-use Rattle.std.proofs.Common.{◌≡◌, ℕ, ◌+◌, ◌<◌, ◌≤◌, max, cond, List, [], ◌∷◌, ◌++◌, length, get_or, take, Contains, sym, ap, ◌∙◌, arith, inl, inr}
-use Rattle.std.proofs.lemmas.Bool.{cond_both}
+use Rattle.std.proofs.Common.{◌≡◌, ℕ, ◌+◌, ◌<◌, ◌≤◌, max, List, [], ◌∷◌, ◌++◌, length, get_or, take, Contains, sym, ap, ◌∙◌, arith, inl, inr}
 use Rattle.std.proofs.lemmas.List.{take_more}
 use Rattle.mv_edges.specs.Edges.{Edge, longest}
-use Rattle.mv_edges.specs.Ascending.{edge_before}
-use Rattle.mv_edges.specs.Sorted.{inserted}
-use Rattle.mv_edges.proofs.EdgeOrder.{edge_strict}
 use Rattle.mv_edges.proofs.Insertion.{contains_cases}
 
 pub longest-append : (es fs : List Edge) → longest (es ++ fs) ≡ max (longest es) (longest fs)
@@ -19,14 +15,6 @@ longest_push es e = let h = longest-append es (e ∷ []) in omega (arith, h)
 -- a loop's next edge
 pub longest_more : (es : List Edge) (i : ℕ) (e : Edge) → i < length es → e ≡ get_or es i e → longest (take (i + 1) es) ≡ max (longest (take i es)) (length e.label.path)
 longest_more es i e h at = ap longest (take_more es i e h) ∙ longest_push (take i es) (get_or es i e) ∙ ap (λ x. max (longest (take i es)) (length x.label.path)) (sym at)
-
-pub longest-inserted : (e : Edge) (es : List Edge) → longest (inserted e es) ≡ max (longest es) (length e.label.path)
-longest-inserted e [] = omega arith
-longest-inserted e (x ∷ es) =
-    let h = longest-inserted e es in
-    cond_both (edge_before e x) (e ∷ x ∷ es) (cond (edge_before x e) (x ∷ inserted e es) (x ∷ es)) (λ ys. longest ys ≡ max (longest (x ∷ es)) (length e.label.path)) (λ _. omega arith)
-    (λ n. cond_both (edge_before x e) (x ∷ inserted e es) (x ∷ es) (λ ys. longest ys ≡ max (longest (x ∷ es)) (length e.label.path)) (λ _. omega (arith, h))
-    (λ m. let same = ap (λ (y : Edge). length y.label.path) (edge_strict.total e x n m) in omega (arith, same)))
 
 -- no list is longer
 pub longest_above : (es : List Edge) (e : Edge) → Contains es e → length e.label.path ≤ longest es

@@ -4,6 +4,7 @@ use Rattle.std.specs.List.{list_all, list_any}
 use Rattle.std.proofs.lemmas.Bool.{and_parts, and_from}
 use Rattle.std.proofs.lemmas.List.{drop_more, drop_all}
 use Rattle.std.proofs.lemmas.List.Folds.{list_all-append}
+use Rattle.std.proofs.lemmas.Option.{slice_get-get_or}
 use Rattle.std.proofs.lemmas.List.Elements.{Contains-append_cases, Contains-append_left, Contains-append_right}
 use Rattle.mv_move_types.specs.declared.borrow.Node.{Node}
 use Rattle.mv_edges.specs.Edges.{Edge, same_node, without}
@@ -156,6 +157,41 @@ ascending-push_some es e l g h = ascending_is (es ++ e ∷ []) ∙ insertion.asc
 
 pub ascending-push_none : (es : List Edge) (e : Edge) → slice_get es (length es - 1) ≡ None → are_ascending (es ++ e ∷ []) ≡ true
 ascending-push_none es e g = from_by (es ++ e ∷ []) (insertion.ascend-push_none edge_before es e g)
+
+-- the first edge comes before the others, which ascend
+pub ascending_above : (e : Edge) (es : List Edge) → are_ascending (e ∷ es) ≡ true → list_all (edge_before e) es ≡ true
+ascending_above e es h = insertion.all_above edge_before edge_strict e es (to_by (e ∷ es) h)
+
+pub ascending_tail : (e : Edge) (es : List Edge) → are_ascending (e ∷ es) ≡ true → are_ascending es ≡ true
+ascending_tail e es h = from_by es (insertion.ascend_tail edge_before e es (to_by (e ∷ es) h))
+
+-- edges behind others, the first of them behind the last of those
+pub ascending_joined : (es : List Edge) (e : Edge) (fs : List Edge) → are_ascending (es ++ e ∷ []) ≡ true → are_ascending (e ∷ fs) ≡ true → are_ascending (es ++ e ∷ fs) ≡ true
+ascending_joined [] e fs h g = g
+ascending_joined (a ∷ []) e fs h g = and_from (edge_before a e) (are_ascending (e ∷ fs)) (and_parts (edge_before a e) true h).0 g
+ascending_joined (a ∷ b ∷ es) e fs h g =
+    let parts = and_parts (edge_before a b) (are_ascending (b ∷ es ++ e ∷ [])) h in
+    and_from (edge_before a b) (are_ascending (b ∷ es ++ e ∷ fs)) parts.0 (ascending_joined (b ∷ es) e fs parts.1 g)
+
+pub ascending_behind : (es fs : List Edge) (last first : Edge) → Some last ≡ slice_get es (length es - 1) → Some first ≡ slice_get fs 0 → edge_before last first ≡ true → are_ascending es ≡ true → are_ascending fs ≡ true → are_ascending (es ++ fs) ≡ true
+ascending_behind es [] last first at_last at_first before h g = cc
+ascending_behind es (e ∷ fs) last first at_last at_first before h g =
+    let same : first ≡ e = cc in
+    ascending_joined es e fs (ascending-push_some es e last (sym at_last) h ∙ subst (λ x. edge_before last x ≡ true) same before) g
+
+pub ascending_behind_none : (es fs : List Edge) → None ≡ slice_get es (length es - 1) → are_ascending fs ≡ true → are_ascending (es ++ fs) ≡ true
+ascending_behind_none [] fs none g = g
+ascending_behind_none (e ∷ es) fs none g =
+    let some = slice_get-get_or (e ∷ es) (length (e ∷ es) - 1) e (omega arith) in
+    cc (some, none)
+
+pub ascending_before_none : (es fs : List Edge) → None ≡ slice_get fs 0 → are_ascending es ≡ true → are_ascending (es ++ fs) ≡ true
+ascending_before_none es [] none h = subst (λ xs. are_ascending xs ≡ true) (sym (append-nil es)) h
+ascending_before_none es (f ∷ fs) none h = cc
+
+-- edges behind others, that ascend with them, are in their order
+pub sorted_behind : (es fs all : List Edge) → are_ascending (es ++ fs) ≡ true → all ≡ es ++ fs → all ≡ sorted (es ++ fs)
+sorted_behind es fs all h is = is ∙ sym (sorted-ascending (es ++ fs) h)
 
 -- a front of what ascends does
 pub ascending_front : (es fs : List Edge) → are_ascending (es ++ fs) ≡ true → are_ascending es ≡ true

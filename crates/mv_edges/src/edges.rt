@@ -33,19 +33,18 @@ fn longest_of(items: &[Edge]) -> usize
 #[derive(Drop, Debug)]
 pub struct Edges {
     items: Vec<Edge>,
-    longest: usize,
 }
 
 impl Model for Edges {
-    ghost use Rattle.std.specs.Prelude.{◌≡◌, List, IsTrue};
-    ghost use Rattle.mv_edges.specs.Edges.{Edge as EdgeRecord, longest as longest_list};
+    ghost use Rattle.std.specs.Prelude.{List, IsTrue};
+    ghost use Rattle.mv_edges.specs.Edges.{Edge as EdgeRecord};
     ghost use Rattle.mv_edges.specs.Ascending.{are_ascending};
 
     ghost Value = { List EdgeRecord };
 
     ghost view = { λ s. s.items.items };
 
-    ghost invariant = { λ s. IsTrue (are_ascending s.items.items) × (s.longest ≡ longest_list s.items.items) };
+    ghost invariant = { λ s. IsTrue (are_ascending s.items.items) };
 }
 
 impl PartialEq for Edges {
@@ -77,7 +76,6 @@ impl Edges {
     {
         Edges {
             items: Vec::new(alloc),
-            longest: 0,
         }
     }
 
@@ -86,8 +84,7 @@ impl Edges {
         requires { IsTrue (are_ascending items.items) }
         ensures { result ≡ items.items }
     {
-        let longest = longest_of(&items);
-        Edges { items, longest }
+        Edges { items }
     }
 
     /// Edges in any order, put in theirs, each once.
@@ -101,9 +98,10 @@ impl Edges {
 
     /// The edges as a vector, in ascending order.
     pub(crate) fn into_items(self) -> Vec<Edge>
-        ensures { result.items ≡ self }
+        ensures value { result.items ≡ self }
+        ensures ascending { IsTrue (are_ascending result.items) }
     {
-        let Edges { items, longest: _ } = self;
+        let Edges { items } = self;
         items
     }
 
@@ -140,7 +138,7 @@ impl Edges {
     pub fn longest(&self) -> usize
         ensures { result ≡ longest self.now }
     {
-        self.longest
+        longest_of(&self.items)
     }
 
     /// Whether the edges still ascend with another at their end.
@@ -161,9 +159,7 @@ impl Edges {
     {
         let ascend = self.ascend_with(&e);
         if ascend {
-            let longest = larger(self.longest, e.view().depth());
             self.items.push(e)?;
-            self.longest = longest;
         }
         Ok(ascend)
     }
@@ -175,18 +171,16 @@ impl Edges {
         ensures err { OnErr result (self.new ≡ self.old) }
     {
         let view = e.view();
-        let longest = larger(self.longest, view.depth());
         match self.search(&view, &mut 0) {
             Ok(_) => Ok(()),
             Err(place) => {
                 self.items.insert(place, e)?;
-                self.longest = longest;
                 Ok(())
             }
         }
     }
 
-    /// Adds the edges of another list, in one pass over both.
+    /// Adds the edges of another list, in one pass over both, or over the others alone where all of them go behind the last one.
     ///
     /// # Errors
     /// If an allocation failed; the edges are as they were then.
@@ -195,7 +189,6 @@ impl Edges {
         ensures err { OnErr result (self.new ≡ self.old) }
     {
         add_in_order(&mut self.items, others.into_items())?;
-        self.longest = longest_of(&self.items);
         Ok(())
     }
 
@@ -205,7 +198,6 @@ impl Edges {
         ensures sorted { self.new ≡ sorted (without n self.old) }
     {
         self.items.retain(|e| !e.starts_at(n) && !e.ends_at(n));
-        self.longest = longest_of(&self.items);
     }
 
     /// Takes away the edges that lead out of a node.
@@ -214,7 +206,6 @@ impl Edges {
         ensures sorted { self.new ≡ sorted (but_out_of n self.old) }
     {
         self.items.retain(|e| !e.starts_at(n));
-        self.longest = longest_of(&self.items);
     }
 
     /// Whether one of the edges leads out of a node.
@@ -258,10 +249,7 @@ impl Edges {
         for e in &self.items {
             items.push(e.copy(alloc)?)?;
         }
-        Ok(Edges {
-            items,
-            longest: self.longest,
-        })
+        Ok(Edges { items })
     }
 
     /// The edges with one node in place of another, in their order.

@@ -67,15 +67,17 @@ impl Edges {
         self.search(e, comparisons).is_ok()
     }
 
-    /// Whether one of the edges is above another: that edge itself, or the open one of a prefix of its list.
-    fn reach(&self, e: &EdgeView<'_>, comparisons: &mut u64) -> bool
+    /// Whether one of the edges is above another: that edge itself, or the open one of a prefix of its list. The longest list
+    /// among the labels has `deepest` positions.
+    fn reach(&self, e: &EdgeView<'_>, deepest: usize, comparisons: &mut u64) -> bool
+        requires { deepest ≡ longest self.now }
         ensures value { result ≡ list_any (edge_leq e.now) self.now }
         ensures count { IsWithin (length self.now) (longest self.now + 2) comparisons.old comparisons.new }
     {
         if self.has(e, comparisons) {
             return true;
         }
-        let most = smaller(e.depth(), self.longest());
+        let most = smaller(e.depth(), deepest);
         for count in 0..most {
             if self.has(&e.opened_at(count), comparisons) {
                 return true;
@@ -101,8 +103,9 @@ impl Edges {
         ensures value { result ≡ edges_leq a.now b.now }
         ensures count { length b.now ≤ 1024 → longest b.now ≤ 8 → comparisons.new ≤ comparisons.old + 110 * length a.now }
     {
+        let deepest = b.longest();
         for e in a.as_slice() {
-            if !b.reach(&e.view(), comparisons) {
+            if !b.reach(&e.view(), deepest, comparisons) {
                 return false;
             }
         }

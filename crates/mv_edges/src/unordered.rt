@@ -1,5 +1,6 @@
 // Edges in any order, put in theirs.
-ghost use Rattle.std.specs.Prelude.{◌≡◌, ◌++◌, OnOk, OnErr};
+ghost use Rattle.std.specs.Prelude.{◌≡◌, ◌++◌, OnOk, OnErr, IsTrue, true};
+ghost use Rattle.mv_edges.specs.Ascending.{are_ascending};
 ghost use Rattle.mv_edges.specs.Sorted.{sorted};
 
 use super::Edge;
@@ -17,13 +18,36 @@ pub(crate) fn put_in_order(items: &mut Vec<Edge>) -> Result<(), AllocError>
     Ok(())
 }
 
-/// Adds edges to others, and puts all of them in their order, each once.
+/// Whether edges go behind others, so that all of them ascend.
+#[tactic(auto, using(crate::proofs::Sorting::ascending_behind, crate::proofs::Sorting::ascending_behind_none, crate::proofs::Sorting::ascending_before_none))]
+fn follow(items: &[Edge], more: &[Edge]) -> bool
+    requires items { IsTrue (are_ascending items.now) }
+    requires more { IsTrue (are_ascending more.now) }
+    ensures { IsTrue result → are_ascending (items.now ++ more.now) ≡ true }
+{
+    let Some(last) = items.last() else {
+        return true;
+    };
+    let Some(first) = more.first() else {
+        return true;
+    };
+    last.is_before(first)
+}
+
+/// Adds edges to others, and puts all of them in their order, each once. Those that go behind the others are there already.
+#[tactic(auto, using(crate::proofs::Sorting::sorted_behind))]
 pub(crate) fn add_in_order(items: &mut Vec<Edge>, mut more: Vec<Edge>) -> Result<(), AllocError>
+    requires items { IsTrue (are_ascending items.old.items) }
+    requires more { IsTrue (are_ascending more.items) }
     ensures ok { OnOk result (items.new.items ≡ sorted (items.old.items ++ more.items)) }
     ensures err { OnErr result (items.new.items ≡ items.old.items) }
 {
     let count = items.len();
+    let ascend = follow(items, &more);
     items.append(&mut more)?;
+    if ascend {
+        return Ok(());
+    }
     let done = put_in_order(items);
     if done.is_err() {
         items.truncate(count);

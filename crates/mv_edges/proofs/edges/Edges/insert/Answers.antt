@@ -1,8 +1,6 @@
-use Rattle.std.proofs.Common.{◌≡◌, length, true, Contains, sym, ap, ◌∙◌, subst, arith}
-use Rattle.mv_edges.specs.Edges.{longest}
+use Rattle.std.proofs.Common.{◌≡◌, true, Contains, sym, ◌∙◌, subst}
 use Rattle.mv_edges.specs.Ascending.{are_ascending}
 use Rattle.mv_edges.specs.Sorted.{inserted}
-use Rattle.mv_edges.proofs.Lengths.{longest-inserted}
 use Rattle.mv_edges.proofs.Searches.{contains_at}
 use Rattle.mv_edges.proofs.Sorting.{inserted_missing, inserted_again, ascending-inserted, sorted_push}
 use Rattle.mv_edges.proofs.edges.Edges.insert.Goals as goal
@@ -12,13 +10,8 @@ invariant_of-self-in-Err c =
     let es = c.args.self.now in
     let e = c.args.e in
     let items = inserted_missing es e c.view-view.result c.in-Err.place c.insert.new.self.items c.self.inside.items.items c.view-view.ensures c.in-Err.ensures.before c.in-Err.ensures.after c.in_ok-insert-in-Err.ensures.items c.self.view_is in
-    let ascending = subst (λ xs. are_ascending xs ≡ true) c.self.view_is c.self.invariant.0 in
-    let depth : c.depth.result ≡ length e.label.path = c.depth.ensures ∙ ap (λ x. length x.label.path) c.view-view.ensures in
-    let before : c.self.inside.longest ≡ longest es = c.self.invariant.1 ∙ ap longest c.self.view_is in
-    let most = c.larger-longest.ensures in
-    let after : longest c.insert.new.self.items ≡ longest (inserted e es) = ap longest items in
-    let one = longest-inserted e es in
-    (subst (λ xs. are_ascending xs ≡ true) (sym items) (ascending-inserted e es ascending), omega (arith, before, depth, most, after, one))
+    let ascending = subst (λ xs. are_ascending xs ≡ true) c.self.view_is c.self.invariant in
+    subst (λ xs. are_ascending xs ≡ true) (sym items) (ascending-inserted e es ascending)
 
 pub returns-in_ok-insert-in-Err-clause-ok : goal.returns-in_ok-insert-in-Err-clause-ok
 returns-in_ok-insert-in-Err-clause-ok c =
@@ -27,13 +20,13 @@ returns-in_ok-insert-in-Err-clause-ok c =
 pub returns-in_ok-insert-in-Err-clause-sorted : goal.returns-in_ok-insert-in-Err-clause-sorted
 returns-in_ok-insert-in-Err-clause-sorted c =
     inserted_missing c.args.self.now c.args.e c.view-view.result c.in-Err.place c.insert.new.self.items c.self.inside.items.items c.view-view.ensures c.in-Err.ensures.before c.in-Err.ensures.after c.in_ok-insert-in-Err.ensures.items c.self.view_is
-    ∙ sym (sorted_push c.args.self.now c.args.e (subst (λ xs. are_ascending xs ≡ true) c.self.view_is c.self.invariant.0))
+    ∙ sym (sorted_push c.args.self.now c.args.e (subst (λ xs. are_ascending xs ≡ true) c.self.view_is c.self.invariant))
 
 pub returns-in-Ok-clause-ok : goal.returns-in-Ok-clause-ok
 returns-in-Ok-clause-ok c =
     let es = c.args.self.now in
     let there = subst (λ x. Contains es x) c.view-view.ensures (contains_at es c.in-Ok.field-0 c.view-view.result c.in-Ok.ensures.found) in
-    sym (inserted_again c.args.e es (subst (λ xs. are_ascending xs ≡ true) c.self.view_is c.self.invariant.0) there)
+    sym (inserted_again c.args.e es (subst (λ xs. are_ascending xs ≡ true) c.self.view_is c.self.invariant) there)
 
 pub returns-in-Ok-clause-sorted : goal.returns-in-Ok-clause-sorted
-returns-in-Ok-clause-sorted c = returns-in-Ok-clause-ok c ∙ sym (sorted_push c.args.self.now c.args.e (subst (λ xs. are_ascending xs ≡ true) c.self.view_is c.self.invariant.0))
+returns-in-Ok-clause-sorted c = returns-in-Ok-clause-ok c ∙ sym (sorted_push c.args.self.now c.args.e (subst (λ xs. are_ascending xs ≡ true) c.self.view_is c.self.invariant))

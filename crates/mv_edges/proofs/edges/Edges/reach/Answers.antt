@@ -19,6 +19,6 @@ returns-clause-value c =
     let end = c.loop-count-test.false in
     let most = c.smaller-most.ensures in
     let depth = c.depth.ensures in
-    let longest = c.longest.ensures in
+    let longest = c.requires in
     reached_last es e c.smaller-most.result c.has-2.result (sym c.has.ensures.value ∙ c.if-has.false) (λ k h. c.loop-count.invariant.none k (omega (arith, h, end))) (omega (arith, most, depth, longest))
     (c.has-2.ensures.value ∙ ap (λ x. list_any (same_edge x) es) c.opened_at-last.ensures)

@@ -1,6 +1,6 @@
 use Rattle.std.proofs.Common.{◌≡◌, true, sym, ◌∙◌, ap, subst, not, rules}
 use Rattle.std.proofs.lemmas.Fn.{filter_same}
-use Rattle.mv_edges.specs.Edges.{same_node, but_out_of, longest}
+use Rattle.mv_edges.specs.Edges.{same_node, but_out_of}
 use Rattle.mv_edges.specs.Ascending.{are_ascending}
 use Rattle.mv_edges.proofs.Sorting.{ascending-filter, sorted-ascending}
 use Rattle.mv_edges.proofs.edges.Edges.remove_out_of.Goals as goal
@@ -12,12 +12,10 @@ returns-clause-edges c =
 
 pub returns-clause-sorted : goal.returns-clause-sorted
 returns-clause-sorted c =
-    let ascending = ascending-filter (λ e. not (same_node e.from c.args.n)) c.args.self.now (subst (λ es. are_ascending es ≡ true) c.self.view_is c.self.invariant.0) in
+    let ascending = ascending-filter (λ e. not (same_node e.from c.args.n)) c.args.self.now (subst (λ es. are_ascending es ≡ true) c.self.view_is c.self.invariant) in
     returns-clause-edges c ∙ sym (sorted-ascending (but_out_of c.args.n c.args.self.now) ascending)
 
 pub invariant_of-self : goal.invariant_of-self
-invariant_of-self c = (
-  subst (λ es. are_ascending es ≡ true) (sym (returns-clause-edges c))
-      (ascending-filter (λ e. not (same_node e.from c.args.n)) c.args.self.now (subst (λ es. are_ascending es ≡ true) c.self.view_is c.self.invariant.0)),
-  c.longest_of-self-inside.ensures ∙ ap longest c.deref.ensures.value,
-)
+invariant_of-self c =
+    subst (λ es. are_ascending es ≡ true) (sym (returns-clause-edges c))
+    (ascending-filter (λ e. not (same_node e.from c.args.n)) c.args.self.now (subst (λ es. are_ascending es ≡ true) c.self.view_is c.self.invariant))
