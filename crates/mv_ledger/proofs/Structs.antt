@@ -78,10 +78,13 @@ module _ (modules : List Module) (m : Module) (k : ℕ) where
       subst (λ (x : Token). by_token x words ≡ by_part (StructPart d) words) (sym is.1) (ap (λ o. o >>= λ n. struct_from k modules n words) name)
   part-value t Nothing words is = nothing t words is
 
+  abbrev joined : Value × List ℕ → Values × List ℕ → Option (Values × List ℕ)
+  joined first rest = Some (More first.0 rest.0, rest.1)
+
   parts-rest : (fields : List Field) (parts : List Part) → ((words : List ℕ) → fields_from by_token fields words ≡ parts_from by_part parts words) → (o : Option (Value × List ℕ))
-      → (o >>= λ first. fields_from by_token fields first.1 >>= λ rest. Some (More first.0 rest.0, rest.1)) ≡ (o >>= λ first. parts_from by_part parts first.1 >>= λ rest. Some (More first.0 rest.0, rest.1))
+      → (o >>= λ first. fields_from by_token fields first.1 >>= joined first) ≡ (o >>= λ first. parts_from by_part parts first.1 >>= joined first)
   parts-rest fields parts same None = refl
-  parts-rest fields parts same (Some first) = ap (λ o. o >>= λ rest. Some (More first.0 rest.0, rest.1)) (same first.1)
+  parts-rest fields parts same (Some first) = ap (λ o. o >>= joined first) (same first.1)
 
   -- and fields have those of their parts
   parts-values : (fields : List Field) (parts : List Part) (words : List ℕ) → AreParts modules m fields parts → fields_from by_token fields words ≡ parts_from by_part parts words
@@ -89,7 +92,7 @@ module _ (modules : List Module) (m : Module) (k : ℕ) where
   parts-values [] (p ∷ parts) words are = absurd are
   parts-values (f ∷ fields) [] words are = absurd are
   parts-values (f ∷ fields) (p ∷ parts) words are =
-      ap (λ o. o >>= λ first. fields_from by_token fields first.1 >>= λ rest. Some (More first.0 rest.0, rest.1)) (part-value f.token p words are.0)
+      ap (λ o. o >>= λ first. fields_from by_token fields first.1 >>= joined first) (part-value f.token p words are.0)
       ∙ parts-rest fields parts (λ more. parts-values fields parts more are.1) (by_part p words)
 
 -- ---- its value

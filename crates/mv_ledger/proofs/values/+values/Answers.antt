@@ -1,7 +1,8 @@
 use Rattle.std.proofs.Common.{◌≡◌, ℕ, ◌+◌, ◌<◌, List, ◌∷◌, ◌++◌, length, drop, Some, sym, ap, ◌∙◌, subst, arith, codes, Vec, Global, get_or, add-one}
 use Rattle.std.proofs.Math.Seq.{drop-cons}
 use Rattle.mv_linker.specs.declared.shapes.Part.{Part}
-use Rattle.mv_linker.specs.declared.shapes.Part.TheVariants.{Nothing}
+use Rattle.mv_linker.specs.declared.shapes.Part.TheVariants.{Leaf}
+use Rattle.mv_move_types.specs.declared.token.LeafKind.TheVariants.{Boolean}
 use Rattle.mv_linker.specs.Link.{tables_in}
 use Rattle.mv_machine.specs.Lines.{value_text}
 use Rattle.mv_ledger.specs.Showing.{PutsText}
@@ -37,7 +38,7 @@ pub put_parts-each-preserved : goal.put_parts-each-preserved
 put_parts-each-preserved k c =
     let value = part_from (tables_in c.args.store.now) c.args.depth in
     let all : List Part = c.args.parts.now in
-    let d : Part = Nothing in
+    let d : Part = Leaf Boolean in
     let f : Part = get_or all c.each.i d in
     let lt : c.each.i < length all = omega (arith, c.each-test.true) in
     let left : drop c.each.i all ≡ f ∷ drop (c.each.i + 1) all = drop-cons all c.each.i d lt ∙ ap (λ n. f ∷ drop n all) (sym (add-one c.each.i)) in
