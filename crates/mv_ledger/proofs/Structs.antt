@@ -13,7 +13,7 @@ use Rattle.mv_move_types.specs.declared.token.Token.{Token}
 use Rattle.mv_move_types.specs.declared.token.Token.TheVariants.{Plain, Reference, MutableReference}
 use Rattle.mv_move_types.specs.Options.{◌>>=◌}
 use Rattle.mv_move_types.specs.Names.{StructName}
-use Rattle.mv_move_types.specs.Module.{Module, StructDefinition, name_of_struct, name_at, struct_name}
+use Rattle.mv_move_types.specs.Module.{Module, name_of_struct, name_at, struct_name}
 use Rattle.mv_move_types.specs.Published.{PublishedModule}
 use Rattle.mv_machine.specs.Value.{Value, Struct, Values, NoMore, More}
 use Rattle.mv_machine.specs.Value.{Leaf as LeafValue}

@@ -1,7 +1,5 @@
-use Rattle.std.proofs.Common.{◌≡◌, List, ℕ, sym, ap, ◌∙◌, codes, refl, take}
 use Rattle.mv_linker.specs.Link.{tables_in}
-use Rattle.mv_ledger.proofs.Digits.{put_after}
-use Rattle.mv_ledger.proofs.Structs.{key-value, key-nothing}
+use Rattle.mv_ledger.proofs.Structs.{key-value}
 use Rattle.mv_ledger.proofs.values.put_value.Goals as goal
 
 pub returns-in-Some : goal.returns-in-Some
