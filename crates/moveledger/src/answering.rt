@@ -7,7 +7,6 @@ ghost use Rattle.mv_ledger.specs.Answering.{told, told_ending, told_lines};
 ghost use Rattle.moveledger.specs.Answered.{IsAnswered, MayBeAnswered, Writes, WritesPart, WritesReply, WritesReplyPart, line_of};
 
 use crate::engine::EngineError;
-use itoa::Buffer;
 use mv_ledger::{Ledger, Lines, Reply};
 use mv_machine::{Ending, Kind, Stop};
 use mv_move_types::Refusal;
@@ -110,17 +109,12 @@ fn words(alloc: Global, reply: Reply) -> Result<Option<String>, AllocError>
     })
 }
 
-// The bytes of a line of the report beside its text: a number of at most 20 digits, a blank and a line end.
-const BESIDE_TEXT: usize = 22;
-
 /// A line of the report: the record's number, a blank, the text and a line end.
 fn numbered_line(alloc: Global, number: u64, text: &[u8]) -> Result<Vec<u8>, AllocError>
     ensures { IfOk result (λ line. line.items ≡ numbered number text.now) }
 {
-    let mut digits = Buffer::new();
-    let mut line = Vec::with_capacity(alloc, text.len().saturating_add(BESIDE_TEXT))?;
-    line.extend_from_slice(digits.format(number).as_bytes())?;
-    line.push(b' ')?;
+    let mut line = Vec::new(alloc);
+    line.extend_from_slice(format!(in alloc; "{number} ")?.as_bytes())?;
     line.extend_from_slice(text)?;
     line.push(b'\n')?;
     Ok(line)
