@@ -10,12 +10,12 @@ use Rattle.mv_move_types.specs.Names.{StructName, same_struct}
 use Rattle.mv_move_types.specs.Module.{Module, name_at}
 use Rattle.mv_linker.proofs.NameLemmas.{same_struct-is, same_struct-same}
 use Rattle.mv_interpreter.proofs.Homes.{index_of}
-use Rattle.mv_ledger.specs.declared.layouts.Part.{Part}
-use Rattle.mv_ledger.specs.declared.layouts.Shape.{Shape}
+use Rattle.mv_linker.specs.declared.shapes.Part.{Part}
+use Rattle.mv_linker.specs.Shapes.{AreFieldsAt, IsMadeOf}
 use Rattle.mv_ledger.specs.CountRows.{row_at, capped, count_at, with_count, Adds, HasRows}
 use Rattle.mv_ledger.specs.Inside.{structs_under, structs_in_part, structs_in_parts, structs_within}
-use Rattle.mv_ledger.specs.LayoutParts.{IsOfStore, IsShapeAt}
-use Rattle.mv_ledger.proofs.LayoutParts.{structs-there, shapeless-name}
+use Rattle.mv_ledger.specs.LayoutParts.{IsOfStore}
+use Rattle.mv_ledger.proofs.LayoutParts.{structs-there, missing-name}
 
 -- ---- numbers up to a greatest one
 
@@ -145,18 +145,18 @@ module _ (ms : List Module) (n : ℕ) where
       by_name s None = refl
       by_name s (Some name) = refl
 
-  pub adds-no_struct : (depth : ℕ) (d : Definition) (rows : List (List ℕ)) → IsShapeAt ms d None → Adds ms n (λ s. structs_under depth ms s d) rows rows
-  adds-no_struct depth d rows none = adds-none ms n (λ s. structs_under depth ms s d) rows (λ s. ap (λ o. option_map_or (structs_within depth ms s) o 0) (shapeless-name ms d none))
+  pub adds-no_struct : (depth : ℕ) (d : Definition) (rows : List (List ℕ)) → AreFieldsAt ms d None → Adds ms n (λ s. structs_under depth ms s d) rows rows
+  adds-no_struct depth d rows none = adds-none ms n (λ s. structs_under depth ms s d) rows (λ s. ap (λ o. option_map_or (structs_within depth ms s) o 0) (missing-name ms d none))
 
-  pub adds-struct : IsOfStore ms → (depth : ℕ) (d : Definition) (shape : Shape) (old mid new : List (List ℕ)) → (depth ≡ 0 → ⊥) → IsShapeAt ms d (Some shape) → mid ≡ with_count old d n
-      → Adds ms n (λ s. structs_in_parts (depth - 1) ms s shape.fields.items) mid new → Adds ms n (λ s. structs_under depth ms s d) old new
-  adds-struct of depth d shape old mid new deep is added parts =
-      let there = structs-there ms of (depth - 1) d shape is in
+  pub adds-struct : IsOfStore ms → (depth : ℕ) (d : Definition) (parts : List Part) (old mid new : List (List ℕ)) → (depth ≡ 0 → ⊥) → IsMadeOf ms d parts → mid ≡ with_count old d n
+      → Adds ms n (λ s. structs_in_parts (depth - 1) ms s parts) mid new → Adds ms n (λ s. structs_under depth ms s d) old new
+  adds-struct of depth d parts old mid new deep is added adds =
+      let there = structs-there ms of (depth - 1) d parts is in
       let deeper : depth ≡ suc (depth - 1) = omega (arith, deep) in
       let own : Adds ms n (λ s. cond (same_struct there.name s) 1 0) old mid = subst (Adds ms n (λ s. cond (same_struct there.name s) 1 0) old) (sym added) (adds-own ms n of d there.name old there.named) in
-      adds-as ms n (λ s. cond (same_struct there.name s) 1 0 + structs_in_parts (depth - 1) ms s shape.fields.items) (λ s. structs_under depth ms s d) old new
+      adds-as ms n (λ s. cond (same_struct there.name s) 1 0 + structs_in_parts (depth - 1) ms s parts) (λ s. structs_under depth ms s d) old new
       (λ s. sym (ap (λ k. structs_under k ms s d) deeper ∙ ap (λ o. option_map_or (structs_within (suc (depth - 1)) ms s) o 0) there.named ∙ there.each s))
-      (adds-then ms n (λ s. cond (same_struct there.name s) 1 0) (λ s. structs_in_parts (depth - 1) ms s shape.fields.items) old mid new own parts)
+      (adds-then ms n (λ s. cond (same_struct there.name s) 1 0) (λ s. structs_in_parts (depth - 1) ms s parts) old mid new own adds)
 
   module _ (depth : ℕ) (parts : List Part) where
     -- those of the first so many parts

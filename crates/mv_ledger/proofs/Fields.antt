@@ -1,12 +1,11 @@
 -- The values of fields, and their text, one after the other.
 use Rattle.std.proofs.Common.{◌≡◌, ℕ, ◌+◌, ◌<◌, List, [], ◌∷◌, ◌++◌, length, drop, refl, sym, ap, ◌∙◌, append-nil, append_assoc, length-append, arith, Option, Some, None, codes, Bor}
-use Rattle.mv_move_types.specs.declared.tables.Field.{Field}
-use Rattle.mv_move_types.specs.declared.token.Token.{Token}
 use Rattle.mv_move_types.specs.Options.{◌>>=◌}
 use Rattle.mv_machine.specs.Value.{Value, Values, NoMore, More}
-use Rattle.mv_machine.specs.Flat.{fields_from}
 use Rattle.mv_machine.specs.Lines.{value_text, rest_text}
+use Rattle.mv_linker.specs.declared.shapes.Part.{Part}
 use Rattle.mv_ledger.specs.Showing.{PutsText, fields_text}
+use Rattle.mv_ledger.specs.ValueParts.{Extends, parts_from}
 
 -- ---- what was put
 
@@ -15,6 +14,13 @@ puts_some text None rest old new h = cc
 puts_some text (Some p) rest old new h =
     let same : rest.now ≡ p.1 = cc (h.0) in
     (p.0, (ap (λ r. Some (p.0, r)) (sym same), h.1))
+
+-- a text begins with itself, and with what it began with once more is put
+pub extends-same : (old : List ℕ) → Extends old old
+extends-same old = ([], sym (append-nil old))
+
+pub extends-more : (old new newer : List ℕ) → Extends old new → Extends new newer → Extends old newer
+extends-more old new newer first second = (first.0 ++ second.0, second.1 ∙ ap (λ l. l ++ second.0) first.1 ∙ append_assoc old first.0 second.0)
 
 -- ---- values one after the other
 
@@ -37,9 +43,9 @@ after-push done v None = refl
 after-push done v (Some p) = ap (λ vs. Some (vs, p.1)) (sym (fields_before-push done v p.0))
 
 -- the fields of which the first has this value
-after-field : (value : Token → List ℕ → Option (Value × List ℕ)) (f : Field) (fs : List Field) (words more : List ℕ) (v : Value) → value f.token words ≡ Some (v, more)
-    → fields_from value (f ∷ fs) words ≡ (fields_from value fs more >>= λ r. Some (More v r.0, r.1))
-after-field value f fs words more v e = ap (λ o. o >>= λ first. fields_from value fs first.1 >>= λ r. Some (More first.0 r.0, r.1)) e
+after-field : (value : Part → List ℕ → Option (Value × List ℕ)) (f : Part) (fs : List Part) (words more : List ℕ) (v : Value) → value f words ≡ Some (v, more)
+    → parts_from value (f ∷ fs) words ≡ (parts_from value fs more >>= λ r. Some (More v r.0, r.1))
+after-field value f fs words more v e = ap (λ o. o >>= λ first. parts_from value fs first.1 >>= λ r. Some (More first.0 r.0, r.1)) e
 
 -- ---- their text
 
@@ -64,30 +70,30 @@ fields_text-later (d ∷ done) v some =
 
 -- ---- so many of the fields were put, and these words are left
 
-abbrev pub HasPut : (Token → List ℕ → Option (Value × List ℕ)) → List Field → ℕ → List ℕ → List ℕ → List ℕ → List ℕ → Type 0
+abbrev pub HasPut : (Part → List ℕ → Option (Value × List ℕ)) → List Part → ℕ → List ℕ → List ℕ → List ℕ → List ℕ → Type 0
 HasPut value all n words rest old new =
-    (done : List Value) × ((length done ≡ n) × (fields_from value all words ≡ after done (fields_from value (drop n all) rest)) × (new ≡ old ++ fields_text (fields_before done NoMore)))
+    (done : List Value) × ((length done ≡ n) × (parts_from value all words ≡ after done (parts_from value (drop n all) rest)) × (new ≡ old ++ fields_text (fields_before done NoMore)))
 
 length-push : (done : List Value) (v : Value) (n : ℕ) → length done ≡ n → length (done ++ v ∷ []) ≡ n + 1
 length-push done v n e = omega (arith, e, length-append done (v ∷ []))
 
-module _ (value : Token → List ℕ → Option (Value × List ℕ)) (all : List Field) (n : ℕ) (words rest old new : List ℕ) (f : Field) (h : HasPut value all n words rest old new) (left : drop n all ≡ f ∷ drop (n + 1) all) where
-  following : (more : List ℕ) (v : Value) → value f.token rest ≡ Some (v, more) → fields_from value all words ≡ after (h.0 ++ v ∷ []) (fields_from value (drop (n + 1) all) more)
+module _ (value : Part → List ℕ → Option (Value × List ℕ)) (all : List Part) (n : ℕ) (words rest old new : List ℕ) (f : Part) (h : HasPut value all n words rest old new) (left : drop n all ≡ f ∷ drop (n + 1) all) where
+  following : (more : List ℕ) (v : Value) → value f rest ≡ Some (v, more) → parts_from value all words ≡ after (h.0 ++ v ∷ []) (parts_from value (drop (n + 1) all) more)
   following more v e =
-      h.1.1 ∙ ap (λ l. after h.0 (fields_from value l rest)) left ∙ ap (after h.0) (after-field value f (drop (n + 1) all) rest more v e)
-      ∙ after-push h.0 v (fields_from value (drop (n + 1) all) more)
+      h.1.1 ∙ ap (λ l. after h.0 (parts_from value l rest)) left ∙ ap (after h.0) (after-field value f (drop (n + 1) all) rest more v e)
+      ∙ after-push h.0 v (parts_from value (drop (n + 1) all) more)
 
-  pub HasPut-first : (more : Bor (List ℕ)) (new2 : List ℕ) → n ≡ 0 → PutsText value_text (value f.token rest) (Some more) new new2 → HasPut value all (n + 1) words more.now old new2
+  pub HasPut-first : (more : Bor (List ℕ)) (new2 : List ℕ) → n ≡ 0 → PutsText value_text (value f rest) (Some more) new new2 → HasPut value all (n + 1) words more.now old new2
   HasPut-first more new2 first put =
-      let p = puts_some value_text (value f.token rest) more new new2 put in
+      let p = puts_some value_text (value f rest) more new new2 put in
       let so_far : List ℕ = fields_text (fields_before h.0 NoMore) in
       let text : new2 ≡ old ++ fields_text (fields_before (h.0 ++ p.0 ∷ []) NoMore) =
       p.1.1 ∙ ap (λ l. l ++ value_text p.0) h.1.2 ∙ append_assoc old so_far (value_text p.0) ∙ ap (λ l. old ++ l) (sym (fields_text-first h.0 p.0 (h.1.0 ∙ first))) in
       (h.0 ++ p.0 ∷ [], (length-push h.0 p.0 n h.1.0, following more.now p.0 p.1.0, text))
 
-  pub HasPut-later : (more : Bor (List ℕ)) (new2 : List ℕ) → 0 < n → PutsText value_text (value f.token rest) (Some more) (new ++ codes ",") new2 → HasPut value all (n + 1) words more.now old new2
+  pub HasPut-later : (more : Bor (List ℕ)) (new2 : List ℕ) → 0 < n → PutsText value_text (value f rest) (Some more) (new ++ codes ",") new2 → HasPut value all (n + 1) words more.now old new2
   HasPut-later more new2 later put =
-      let p = puts_some value_text (value f.token rest) more (new ++ codes ",") new2 put in
+      let p = puts_some value_text (value f rest) more (new ++ codes ",") new2 put in
       let so_far : List ℕ = fields_text (fields_before h.0 NoMore) in
       let some : 0 < length h.0 = omega (arith, later, h.1.0) in
       let text : new2 ≡ old ++ fields_text (fields_before (h.0 ++ p.0 ∷ []) NoMore) =

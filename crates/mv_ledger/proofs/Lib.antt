@@ -59,7 +59,6 @@ pub mod CountedStorage
 pub mod Adding
 pub mod CountedStructs
 pub mod TalliesCounted
-pub mod Zips
 pub mod LayoutParts
 pub mod Coding
 pub mod PartKinds

@@ -5,7 +5,7 @@ use Rattle.std.proofs.lemmas.List.{drop_all}
 use Rattle.mv_move_types.specs.declared.token.LeafKind.{LeafKind}
 use Rattle.mv_move_types.specs.Options.{◌>>=◌}
 use Rattle.mv_move_types.specs.Module.{Module}
-use Rattle.mv_ledger.specs.declared.layouts.Part.{Part}
+use Rattle.mv_linker.specs.declared.shapes.Part.{Part}
 use Rattle.mv_ledger.specs.LayoutParts.{kinds_of_part, kinds_of_parts, PutsKinds}
 
 -- these kinds before others, if there are any

@@ -1,3 +1,4 @@
+pub mod ValueParts
 pub mod View
 pub mod Asking
 pub mod Running

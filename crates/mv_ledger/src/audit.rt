@@ -64,17 +64,13 @@ pub fn count_text(alloc: Global, counted: &Counted<'_>) -> Result<Vec<u8>, Alloc
 {
     let mut text = Vec::new(alloc);
     text.extend_from_slice(b"count ")?;
-    put_name(alloc, &mut text, &counted.name)?;
+    put_name(&mut text, &counted.name)?;
     text.extend_from_slice(b" stored ")?;
-    put_number(
-        alloc,
-        &mut text,
-        counted.packs.saturating_sub(counted.unpacks),
-    )?;
+    put_number(&mut text, counted.packs.saturating_sub(counted.unpacks))?;
     text.extend_from_slice(b" packed ")?;
-    put_number(alloc, &mut text, counted.packs)?;
+    put_number(&mut text, counted.packs)?;
     text.extend_from_slice(b" unpacked ")?;
-    put_number(alloc, &mut text, counted.unpacks)?;
+    put_number(&mut text, counted.unpacks)?;
     Ok(text)
 }
 

@@ -9,7 +9,7 @@ ghost use Rattle.mv_ledger.specs.View.{all_of, tallied};
 
 use crate::audit::{Counted, Counts};
 use crate::tallies::Tallies;
-use crate::texts::{put_address, put_key, put_name, put_number, struct_at};
+use crate::texts::{definition_of, put_address, put_key, put_name, put_number, struct_at};
 use crate::values::put_value;
 use mv_linker::Store;
 use mv_move_types::Key;
@@ -27,38 +27,32 @@ fn put_comma(text: &mut Vec<u8>, later: bool) -> Result<(), AllocError>
 }
 
 /// Appends a stored value as an object to a text.
-fn put_entry(
-    alloc: Global,
-    text: &mut Vec<u8>,
-    store: &Store,
-    key: Key,
-    words: &[u128],
-) -> Result<(), AllocError>
+fn put_entry(text: &mut Vec<u8>, store: &Store, key: Key, words: &[u128]) -> Result<(), AllocError>
     ensures { OnOk result (text.new.items ≡ text.old.items ++ entry_object (tables_in store.now) (record { key = key; value = value_under (tables_in store.now) key words.now })) }
 {
     let name = struct_at(store, key);
     text.extend_from_slice(b"{\"address\":\"")?;
-    put_address(alloc, text, key.address)?;
+    put_address(text, key.address)?;
     text.extend_from_slice(b"\",\"struct\":\"")?;
-    put_key(alloc, text, name.as_ref())?;
+    put_key(text, name.as_ref())?;
     text.extend_from_slice(b"\",\"value\":\"")?;
-    put_value(alloc, text, store, name.as_ref(), words)?;
+    put_value(text, store, definition_of(key), words)?;
     text.extend_from_slice(b"\"}")?;
     Ok(())
 }
 
 /// Appends a struct's counts as an object to a text.
-fn put_counts(alloc: Global, text: &mut Vec<u8>, counted: &Counted<'_>) -> Result<(), AllocError>
+fn put_counts(text: &mut Vec<u8>, counted: &Counted<'_>) -> Result<(), AllocError>
     ensures { OnOk result (text.new.items ≡ text.old.items ++ count_object (stored_of (counted_in counted.now)) (counted_in counted.now)) }
 {
     text.extend_from_slice(b"{\"packed\":\"")?;
-    put_number(alloc, text, counted.packs)?;
+    put_number(text, counted.packs)?;
     text.extend_from_slice(b"\",\"stored\":\"")?;
-    put_number(alloc, text, counted.packs.saturating_sub(counted.unpacks))?;
+    put_number(text, counted.packs.saturating_sub(counted.unpacks))?;
     text.extend_from_slice(b"\",\"struct\":\"")?;
-    put_name(alloc, text, &counted.name)?;
+    put_name(text, &counted.name)?;
     text.extend_from_slice(b"\",\"unpacked\":\"")?;
-    put_number(alloc, text, counted.unpacks)?;
+    put_number(text, counted.unpacks)?;
     text.extend_from_slice(b"\"}")?;
     Ok(())
 }
@@ -77,7 +71,7 @@ pub fn json_of_storage(
     let mut later = false;
     'each: while let Some((key, words)) = entries.next() {
         put_comma(&mut text, later)?;
-        put_entry(alloc, &mut text, store, key, words)?;
+        put_entry(&mut text, store, key, words)?;
         later = true;
     }
     text.extend_from_slice(b"]}")?;
@@ -99,7 +93,7 @@ pub fn json_of_tallies(
     let mut later = false;
     'each: while let Some(counted) = counts.next(alloc)? {
         put_comma(&mut text, later)?;
-        put_counts(alloc, &mut text, &counted)?;
+        put_counts(&mut text, &counted)?;
         later = true;
     }
     text.extend_from_slice(b"]}")?;

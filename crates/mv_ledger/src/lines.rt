@@ -9,7 +9,7 @@ ghost use Rattle.mv_ledger.specs.View.{all_of, tallied};
 
 use crate::audit::{Counts, count_text};
 use crate::tallies::Tallies;
-use crate::texts::{put_address, put_key, put_number, struct_at};
+use crate::texts::{definition_of, put_address, put_key, put_number, struct_at};
 use crate::values::put_value;
 use mv_linker::Store;
 use mv_move_types::Key;
@@ -18,18 +18,21 @@ use std::alloc::{AllocError, Global};
 use std::marker::Model;
 use std::mem;
 
+// The bytes for which a line of a show begins with room: those of two addresses, two names and a few leaves.
+const LINE_ROOM: usize = 160;
+
 /// The line of a stored value: its address, its struct and the value.
 fn entry_text(alloc: Global, store: &Store, key: Key, words: &[u128]) -> Result<Vec<u8>, AllocError>
     ensures { IfOk result (λ text. text.items ≡ entry_line (tables_in store.now) (record { key = key; value = value_under (tables_in store.now) key words.now })) }
 {
     let name = struct_at(store, key);
-    let mut text = Vec::new(alloc);
+    let mut text = Vec::with_capacity(alloc, LINE_ROOM)?;
     text.extend_from_slice(b"at ")?;
-    put_address(alloc, &mut text, key.address)?;
+    put_address(&mut text, key.address)?;
     text.push(b' ')?;
-    put_key(alloc, &mut text, name.as_ref())?;
+    put_key(&mut text, name.as_ref())?;
     text.push(b' ')?;
-    put_value(alloc, &mut text, store, name.as_ref(), words)?;
+    put_value(&mut text, store, definition_of(key), words)?;
     Ok(text)
 }
 
@@ -39,7 +42,7 @@ fn end_text(alloc: Global, count: u64) -> Result<Vec<u8>, AllocError>
 {
     let mut text = Vec::new(alloc);
     text.extend_from_slice(b"end ")?;
-    put_number(alloc, &mut text, u128::from(count))?;
+    put_number(&mut text, u128::from(count))?;
     Ok(text)
 }
 

@@ -9,9 +9,9 @@ ghost use Rattle.mv_ledger.specs.Inside.{structs_in_part, structs_in_parts, stru
 ghost use Rattle.mv_ledger.specs.LoadedParts.{AreCounted};
 ghost use Rattle.mv_ledger.specs.View.{all_of, tallied, AreScarce, IsNamed};
 
-use crate::layouts::{Layouts, MOST_NESTING, Part};
+use crate::layouts::{Layouts, MOST_NESTING};
 use crate::tallies::{Tallies, Tally};
-use mv_linker::Store;
+use mv_linker::{Part, Store};
 use mv_move_types::Definition;
 use mv_storage::Storage;
 use std::alloc::{AllocError, Global};
@@ -96,9 +96,9 @@ fn add_struct(layouts: &Layouts<'_>, depth: usize, d: Definition, n: u128, count
     }
     // For the prover: the modules are a store's.
     let _modules = layouts.len();
-    if let Some(shape) = layouts.shape(d) {
+    if let Some(parts) = layouts.fields(d) {
         counts.add(d, n);
-        add_parts(layouts, depth - 1, &shape.fields, n, counts);
+        add_parts(layouts, depth - 1, parts, n, counts);
     }
 }
 

@@ -1,6 +1,8 @@
-use Rattle.std.proofs.Common.{◌≡◌, ◌++◌}
+use Rattle.std.proofs.Common.{◌≡◌, ◌++◌, Some, slice_get}
+use Rattle.mv_move_types.specs.Module.{Module}
+use Rattle.mv_linker.specs.Link.{tables_in}
 use Rattle.mv_ledger.proofs.KeyedIndices.{keyed_before}
 use Rattle.mv_ledger.proofs.layouts.put_keyed.Given as goal
 
 abbrev pub invariant-each : goal.invariant-each
-invariant-each l = l.keyed.items ≡ l.fn.keyed.items ++ keyed_before l.m l.place l.i
+invariant-each l = (m : Module) → slice_get (tables_in l.store) l.place ≡ Some m → l.keyed.items ≡ l.fn.keyed.items ++ keyed_before m l.place l.i

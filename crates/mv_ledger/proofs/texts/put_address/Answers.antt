@@ -6,5 +6,5 @@ use Rattle.mv_ledger.proofs.texts.put_address.Goals as goal
 
 pub returns : goal.returns
 returns c =
-    let digits : c.as_bytes.result.now ≡ address_text c.args.address = c.as_bytes.ensures.value ∙ c.in_ok-digits.ensures ∙ ap encode_lower c.to_be_bytes.ensures ∙ address_digits c.args.address in
-    put_after c.extend_from_slice.result c.args.text.now.items c.extend_from_slice.new.self.items c.as_bytes.result.now (address_text c.args.address) c.extend_from_slice.ensures.items digits
+    let digits : c.encode_to_slice.new.output ≡ address_text c.args.address = c.in-Ok.ensures.written ∙ ap encode_lower c.to_be_bytes.ensures ∙ address_digits c.args.address in
+    put_after c.extend_from_slice.result c.args.text.now.items c.extend_from_slice.new.self.items _ (address_text c.args.address) c.extend_from_slice.ensures.items digits

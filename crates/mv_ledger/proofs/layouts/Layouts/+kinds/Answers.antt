@@ -1,13 +1,13 @@
 use Rattle.mv_move_types.specs.declared.token.LeafKind.TheVariants.{Boolean}
-use Rattle.mv_ledger.specs.declared.layouts.Part.{Part}
-use Rattle.mv_ledger.specs.declared.layouts.Part.TheVariants.{Leaf}
+use Rattle.mv_linker.specs.declared.shapes.Part.{Part}
+use Rattle.mv_linker.specs.declared.shapes.Part.TheVariants.{Leaf}
 use Rattle.mv_ledger.proofs.LayoutParts.{puts-struct}
 use Rattle.mv_ledger.proofs.PartKinds.{put-more}
 use Rattle.mv_ledger.proofs.layouts.Layouts.+kinds.Goals as goal
 
 pub put_struct-returns : goal.put_struct-returns
 put_struct-returns t c =
-    puts-struct c.args.self.now c.len-modules.ensures.store c.args.depth c.args.d c.in-Some.shape.now c.in_ok-there.there c.args.kinds.now.items c.put_parts.new.kinds.items c.if-depth-eq0.false c.in-Some.ensures (rw c.deref.ensures.value at c.in_ok-there.ensures)
+    puts-struct c.args.self.now c.len-modules.ensures.store c.args.depth c.args.d c.in-Some.parts.now c.in_ok-there.there c.args.kinds.now.items c.put_parts.new.kinds.items c.if-depth-eq0.false c.in-Some.ensures c.in_ok-there.ensures
 
 pub put_parts-each-preserved : goal.put_parts-each-preserved
 put_parts-each-preserved t c =

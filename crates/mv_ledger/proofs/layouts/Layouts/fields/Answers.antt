@@ -1,0 +1,7 @@
+use Rattle.std.proofs.Common.{List, option_map, subst}
+use Rattle.mv_move_types.specs.Module.{Module}
+use Rattle.mv_linker.specs.Shapes.{AreFieldsAt}
+use Rattle.mv_ledger.proofs.layouts.Layouts.fields.Goals as goal
+
+pub returns : goal.returns
+returns c = subst (λ (ms : List Module). AreFieldsAt ms c.args.d (option_map (λ p. p.now) c.fields.result)) c.self.view_is c.fields.ensures.fields

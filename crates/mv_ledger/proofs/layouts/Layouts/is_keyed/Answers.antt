@@ -1,0 +1,8 @@
+use Rattle.std.proofs.Common.{ap, ◌∙◌}
+use Rattle.mv_linker.specs.Link.{tables_in}
+use Rattle.mv_ledger.specs.Layouts.{is_keyed}
+use Rattle.mv_ledger.proofs.LayoutParts.{keyed-same}
+use Rattle.mv_ledger.proofs.layouts.Layouts.is_keyed.Goals as goal
+
+pub returns : goal.returns
+returns c = c.is_keyed.ensures ∙ keyed-same (tables_in c.self.inside.store.now) c.args.d ∙ ap (λ ms. is_keyed ms c.args.d) c.self.view_is
