@@ -95,11 +95,6 @@ class Clock:
         subprocess.run(command, check=True, capture_output=True, cwd=self.folder)
         return int(re.search(r"^(?:summary|totals): (\d+)", out.read_text(), re.MULTILINE).group(1))
 
-    def report_size(self, stream):
-        """The bytes of the report on a stream."""
-        words = [self.program, "apply", f"{stream}.stream"]
-        return len(subprocess.run(words, check=True, capture_output=True, cwd=self.folder).stdout)
-
     def tasks(self):
         """Each measurement of time, and how it is taken once."""
         tasks = {}

@@ -135,6 +135,5 @@ def write(folder):
         files[f"{name}.stream"] = b"".join(record(kind, payload) for kind, payload in records)
         last = records[-1] if records else (0, b"")
         files[f"{name}.lines"] = f"{len(records)} {'returned' if last[0] == 2 else 'published'}".encode()
-    files["shown.stream"] = files["mints10000.stream"] + record(3, b"")
     for name, data in files.items():
         (folder / name).write_bytes(data)

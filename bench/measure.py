@@ -135,13 +135,6 @@ def tell_runs(folder, best, clock):
     tell(f"storage: {(many - few) / (VALUES - VALUES // 10):.0f} bytes of memory for each value of one leaf", "100 or less")
 
 
-def tell_show(clock):
-    few, many = (clock.instructions("apply", f"{stream}.stream") for stream in ("mints10000", "shown"))
-    if few is not None:
-        size = clock.report_size("shown") - clock.report_size("mints10000")
-        tell(f"show: {(many - few) / size:.1f} machine instructions for each of the {size} bytes of 10000 values of one leaf", "30 or fewer")
-
-
 def tell_records(best):
     for kind, few, many, before in ("mints", 1_000, 10_000, "working"), ("empty", 400, 4_000, "nothing"):
         each = {count: (best["apply", f"{kind}{count}"] - best["apply", before]) / count for count in (few, many)}
@@ -167,7 +160,6 @@ def main():
     tell_store(folder, best, clock)
     tell_runs(folder, best, clock)
     tell_records(best)
-    tell_show(clock)
     saved.tell(clock.program, folder)
     costs.tell(clock.program, folder)
 
