@@ -10,6 +10,11 @@ import time
 
 ROOMS = "crates/moveledger/out/lanes"
 PARTS = "src", "specs", "proofs"
+# A check loads its libraries and ends on one processor, so that there are more jobs than processors.
+JOBS_A_PROCESSOR = 1.5
+MOST_JOBS = 4
+# The free memory, in kB, below which no other crate is begun beside one.
+ROOM = 5_000_000
 
 
 class Crate:
@@ -25,6 +30,12 @@ def linked(source, target):
     """Gives the files of a folder second names, which costs no copy."""
     if os.path.isdir(source):
         shutil.copytree(source, target, copy_function=os.link)
+
+
+def has_room():
+    """Whether there is memory for another crate."""
+    with open("/proc/meminfo", encoding="ascii") as lines:
+        return next(int(it.split()[1]) for it in lines if it.startswith("MemAvailable:")) > ROOM
 
 
 def below(crates, name):
@@ -95,10 +106,11 @@ def build(uses, program, processors, log, tell):
         while running or (left and well):
             ready = [it for it in left if well and all(used in built for used in it.used)]
             for at, crate in enumerate(ready):
-                idle = processors - sum(it.jobs for it in running)
-                if idle > 0:
+                idle = int(JOBS_A_PROCESSOR * processors) - sum(it.jobs for it in running)
+                if idle > 0 and (not running or has_room()):
                     left.remove(crate)
-                    running.append(Lane(crates, crate, max(1, idle // (len(ready) - at)), log))
+                    # those that most wait for get more
+                    running.append(Lane(crates, crate, min(MOST_JOBS, -(-idle // (len(ready) - at))), log))
             time.sleep(0.2)
             tell(built)
             for lane in [it for it in running if it.run.poll() is not None]:

@@ -1,0 +1,144 @@
+"""What else grows, with n and with 2n of it: audits over many structs, shows of many values, bundles whose modules name each other
+often, certificates that state as much as they may, high stacks, long chains of modules, and a module that all others name.
+
+usage: python3 bench/growth.py PROGRAM FOLDER    FOLDER is kept"""
+
+import os
+import sys
+
+import inputs
+from costs import Program, many_own
+from inputs import ASSET, Module, publish, record, run, u64
+
+MOST_EDGES = 1_024
+MOST_OPERANDS = 128
+AIM = 2.3
+
+
+def assets(count, own):
+    """A module with so many structs that an audit counts."""
+    m = Module(own)
+    m.add_names(["v"])
+    for n in range(count):
+        m.struct(f"A{n:x}", ASSET, "v: u64")
+    return m.bytes()
+
+
+def last_asset(count, own):
+    """A module whose last struct is the one that is counted."""
+    m = Module(own)
+    m.add_names(["v"])
+    for n in range(count - 1):
+        m.struct(f"A{n:x}", inputs.PLAIN, "v: u64")
+    m.struct("Last", ASSET, "v: u64")
+    return m.bytes()
+
+
+def naming_each_other(count, own, others):
+    """A module that names so many functions of each of others."""
+    m = Module(own)
+    for other in others:
+        for n in range(count):
+            m.foreign_function(other, f"f{n:x}", "u64", "u64")
+    return m.bytes()
+
+
+def with_functions(count, own):
+    m = Module(own)
+    for n in range(count):
+        m.function(f"f{n:x}", "u64", "u64", "", "MoveLoc 0; Ret", entry=False)
+    return m.bytes()
+
+
+def edges(count, targets):
+    """So many edges as a certificate states them, with labels of two positions, into the first parameter."""
+    wide = (count + 31) // 32
+    return b"".join(bytes([1, 1, 0, 0, 2, a, b, 0]) for a in range(wide) for b in range(32))[: 8 * count]
+
+
+def stating(blocks, count):
+    """A module with a function of so many blocks, and a certificate that states so many edges for each."""
+    m = Module()
+    code = "".join(f"CopyLoc 1; BrTrue next{n}; next{n}: " for n in range(blocks - 1))
+    m.function("f", "&u64; bool", "", "", code + "MoveLoc 0; Pop; Ret", entry=False)
+    size = bytes([count % 128 + 128, count // 128]) if count >= 128 else bytes([count])
+    return m.bytes(), (b"\x01\x01\x01" + size + edges(count, 1)) * blocks
+
+
+def high(count):
+    """A module with a function of so many instructions, most of which stand above 127 operands that are references."""
+    m = Module()
+    m.function("f", "&u64", "", "", inputs.filled("CopyLoc 0;" * (MOST_OPERANDS - 1) + "CopyLoc 0; Pop;" * ((count - 2 * MOST_OPERANDS) // 2)
+               + "Pop;" * (MOST_OPERANDS - 1) + "MoveLoc 0; Pop", count), entry=False)
+    return m.bytes()
+
+
+def link(n):
+    """A module that names the one before it."""
+    m = Module(f"L{n}")
+    if n:
+        m.foreign_function(f"L{n - 1}", "f", "u64", "u64")
+    m.function("f", "u64", "u64", "", f"MoveLoc 0; Call L{n - 1}::f; Ret" if n else "MoveLoc 0; Ret", entry=False)
+    return m.bytes()
+
+
+def naming_first(n):
+    """A module that names the first one."""
+    m = Module(f"N{n}")
+    m.foreign_function("L0", "f", "u64", "u64")
+    return m.bytes()
+
+
+class Growth:
+    """Measures records behind others, for n and for 2n."""
+
+    def __init__(self, program):
+        self.program = program
+
+    def tell(self, what, made):
+        """`made` gives for a number the records before, those that are measured, and how often they are repeated."""
+        seconds = []
+        for n in 1, 2:
+            before, offered, times = made(n)
+            answers = self.program.report([*before, *offered]).decode(errors="replace").splitlines()
+            spent = (self.program.spent([*before, *offered * times]) - self.program.spent(before)) / times
+            seconds.append(spent)
+            size = sum(map(len, offered))
+        wrote = sum(map(len, answers[len(before):]))
+        print(f"growth: {what}: {seconds[0] * 1e3:.2f} ms, and {seconds[1] / max(seconds[0], 1e-9):.2f} times as long for twice as much (aim: {AIM} or less); "
+              f"{size} bytes in, {wrote} out, {seconds[1] / (size + wrote) * 1e9:.0f} s for 1 GB; the last answer {answers[-1][:40]}", flush=True)
+
+
+def tell(program, folder):
+    os.makedirs(folder, exist_ok=True)
+    program = Program(program, folder)
+    growth = Growth(program)
+    none = b""
+
+    def published(*texts):
+        return record(1, publish(*((text, none) for text in texts)))
+
+    growth.tell("an audit of 16 modules of 900 structs each", lambda n: ([published(*(assets(900, f"A{k}") for k in range(8 * n)))], [record(4, b"")], 20))
+    growth.tell("16 modules whose last of 1,900 structs is counted", lambda n: ([], [published(*(last_asset(950 * n, f"B{k}") for k in range(16)))], 1))
+    coin = program.published(inputs.working().bytes())
+    growth.tell("a show of 50,000 values", lambda n: ([coin, *(record(2, run("mint", 100, u64(7), sender=(k * 7919) % 1_000_003 + 5)) for k in range(25_000 * n))], [record(3, b"")], 4))
+    eight = [f"E{k}" for k in range(8)]
+    homes = [with_functions(200, own) for own in eight]
+    found = [program.certificate(homes[0])] * 8
+    home = record(1, publish(*zip(homes, found)))
+    growth.tell("8 modules that name 200 functions of 8 others each", lambda n: ([home], [published(*(naming_each_other(100 * n, f"F{k}", eight) for k in range(8)))], 1))
+    growth.tell("128 states of 1,024 edges", lambda n: ([], [record(1, publish(stating(64 * n, MOST_EDGES)))], 1))
+    growth.tell("4,000 states of 32 edges", lambda n: ([], [record(1, publish(stating(1_000 * n, 32)))], 1))
+    growth.tell("a function of 4,096 instructions above 127 references", lambda n: ([], [record(1, publish((high(2_048 * n), program.certificate(high(2_048 * n)))))], 4))
+    one = program.certificate(link(1))
+    chain = [record(1, publish((link(n), one))) for n in range(4_096)]
+    growth.tell("4,096 modules in a chain", lambda n: ([], chain[: 2_048 * n], 1))
+    growth.tell("the first one of a chain of 4,096 replaced", lambda n: (chain[: 2_048 * n], [chain[0]], 100))
+    growth.tell("the last one of a chain of 4,096 replaced", lambda n: (chain[: 2_048 * n], [chain[2_048 * n - 1]], 100))
+    users = [record(1, publish((naming_first(n), none))) for n in range(4_095)]
+    growth.tell("one module that 4,000 name replaced", lambda n: ([chain[0], *users[: 2_000 * n]], [chain[0]], 20))
+    growth.tell("4,000 modules without anything", lambda n: ([], [published(Module(f"Z{k}").bytes()) for k in range(2_000 * n)], 1))
+
+
+if __name__ == "__main__":
+    tell(*sys.argv[1:])
