@@ -68,7 +68,7 @@ def stating(blocks, count):
 def high(count):
     """A module with a function of so many instructions, most of which stand above 127 operands that are references."""
     m = Module()
-    m.function("f", "&u64", "", "", inputs.filled("CopyLoc 0;" * (MOST_OPERANDS - 1) + "CopyLoc 0; Pop;" * ((count - 2 * MOST_OPERANDS) // 2)
+    m.function("f", "&u64", "", "", inputs.filled("CopyLoc 0;" * (MOST_OPERANDS - 1) + "CopyLoc 0; Pop;" * ((count - 2 * MOST_OPERANDS - 4) // 2)
                + "Pop;" * (MOST_OPERANDS - 1) + "MoveLoc 0; Pop", count), entry=False)
     return m.bytes()
 
@@ -127,7 +127,7 @@ def tell(program, folder):
     found = [program.certificate(homes[0])] * 8
     home = record(1, publish(*zip(homes, found)))
     growth.tell("8 modules that name 200 functions of 8 others each", lambda n: ([home], [published(*(naming_each_other(100 * n, f"F{k}", eight) for k in range(8)))], 1))
-    growth.tell("128 states of 1,024 edges", lambda n: ([], [record(1, publish(stating(64 * n, MOST_EDGES)))], 1))
+    growth.tell("126 states of 1,024 edges", lambda n: ([], [record(1, publish(stating(63 * n, MOST_EDGES)))], 1))
     growth.tell("4,000 states of 32 edges", lambda n: ([], [record(1, publish(stating(1_000 * n, 32)))], 1))
     growth.tell("a function of 4,096 instructions above 127 references", lambda n: ([], [record(1, publish((high(2_048 * n), program.certificate(high(2_048 * n)))))], 4))
     one = program.certificate(link(1))

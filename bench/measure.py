@@ -4,6 +4,7 @@ import sys
 from pathlib import Path
 
 import costs
+import growth
 import files
 import saved
 from clock import ASCENDING, SCATTERED, STEPS, Clock
@@ -162,6 +163,7 @@ def main():
     tell_records(best)
     saved.tell(clock.program, folder)
     costs.tell(clock.program, folder)
+    growth.tell(clock.program, folder)
 
 
 main()
