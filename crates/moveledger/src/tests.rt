@@ -4,7 +4,6 @@ mod altered;
 mod authoring;
 mod fakes;
 mod keeping;
-mod libraries;
 mod line;
 mod rows;
 mod saved;

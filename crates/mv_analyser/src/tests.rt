@@ -6,7 +6,5 @@ mod entries;
 mod modules;
 mod numbers;
 mod opcodes;
-mod storage;
 mod tokens;
 mod tops;
-mod words;
