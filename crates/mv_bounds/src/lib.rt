@@ -29,6 +29,7 @@ ghost use Rattle.std.specs.Prelude.{◌≡◌, ◌<◌, length, slice_get, IfOk,
 ghost use Rattle.mv_bounds.specs.Bounds.{InBounds};
 ghost use Rattle.mv_bounds.specs.Definitions.{WellDefined};
 ghost use Rattle.mv_bounds.specs.Answers.{IsRefusedByBounds};
+ghost use Rattle.mv_bounds.specs.Places.{IsBounded};
 
 pub use cycles::is_acyclic;
 use duplicates::well_defined;
@@ -88,12 +89,20 @@ pub fn check<'a>(alloc: Global, m: Module<'a>) -> Result<Bounded<'a>, Refusal>
     ensures ok { IfOk result (λ b. b ≡ m.entry) }
     ensures refused { IfErr result (IsRefusedByBounds m.entry) }
 {
-    if !in_bounds(&m) {
+    let places = bounded_places(alloc, &m)?;
+    Ok(Bounded { module: m, places })
+}
+
+// Tries both phases, and gives the definition of each function handle, if the module has one.
+fn bounded_places(alloc: Global, m: &Module) -> Result<Vec<Option<usize>>, Refusal>
+    ensures ok { IfOk result (λ v. IsBounded m.now v.items) }
+    ensures refused { IfErr result (IsRefusedByBounds m.now) }
+{
+    if !in_bounds(m) {
         return Err(Refusal::Phase(3));
     }
-    if !well_defined(alloc, &m)? {
+    if !well_defined(alloc, m)? {
         return Err(Refusal::Phase(4));
     }
-    let places = function_places(alloc, &m)?;
-    Ok(Bounded { module: m, places })
+    Ok(function_places(alloc, m)?)
 }

@@ -1,9 +1,10 @@
 -- What a visit of a block keeps, how the search begins, and what it ends with.
-use Rattle.std.proofs.Common.{◌≡◌, ℕ, zero, suc, ◌-◌, ◌<◌, Bool, true, false, List, [], length, get_or, set, replicate, Option, Some, None, ⊎_elim, refl, sym, ap, ◌∙◌, subst, arith, slice_get}
+use Rattle.std.proofs.Common.{◌≡◌, ℕ, zero, suc, ◌+◌, ◌-◌, ◌<◌, Bool, true, false, List, [], length, get_or, set, replicate, Option, Some, None, ⊎_elim, refl, sym, ap, ◌∙◌, subst, arith, slice_get, sum}
 use Rattle.std.proofs.lemmas.Bool.{cases_eq}
 use Rattle.std.proofs.lemmas.List.{length-set, length-replicate}
 use Rattle.std.proofs.lemmas.List.Elements.{All-weaker}
 use Rattle.std.proofs.lemmas.Option.{slice_get_within, slice_get-get_or}
+use Rattle.std.proofs.lemmas.List.Sums.{sum_by-set}
 use Rattle.mv_cfg.specs.declared.Block.{Block}
 use Rattle.mv_cfg.specs.declared.Cfg.{Cfg}
 use Rattle.mv_cfg.specs.Graph.{IsBlock, IsReached, at_entry, along, IsGraph}
@@ -16,6 +17,17 @@ pub replicate_at : {A : Type 0} (n k : ℕ) (x y : A) → slice_get (replicate n
 replicate_at zero k x y e = cc
 replicate_at (suc n) zero x y e = cc
 replicate_at (suc n) (suc k) x y e = replicate_at n k x y e
+
+-- a state that is stated is there
+pub unstated : {S : Type 0} (states : List (Option S)) (k : ℕ) (x : Option S) (s : S) → k < length states → get_or states k x ≡ None → IsStated states k s → ⊥
+unstated states k x s within none at = let there = slice_get-get_or states k x within in cc
+
+sum_set : (xs : List ℕ) (k y : ℕ) → k < length xs → sum (set xs k y) + get_or xs k 0 ≡ sum xs + y
+sum_set xs k y within = sum_by-set (λ n. n) xs k y 0 within
+
+-- one visit fewer is left
+pub fewer_left : (left : List ℕ) (k : ℕ) → k < length left → 0 < get_or left k 0 → sum (set left k (get_or left k 0 - 1)) < sum left
+fewer_left left k within some = omega (arith, sum_set left k (get_or left k 0 - 1) within, some)
 
 module _ {S : Type 0} {size : ℕ} {IsState MayBegin : S → Type 0} {below : S → S → Type 0} {step : ℕ → S → Option S} {IsGraphOf : Cfg → Type 0} (laws : IsLawful size IsState MayBegin below step IsGraphOf)
     (IsSmall : S → Type 0) (g : Cfg) (graph : IsGraph g size) (k : ℕ) (states : List (Option S)) (waiting : List Bool)

@@ -1,5 +1,5 @@
 // The modules that are reached from those of a bundle along dependencies.
-ghost use Rattle.std.specs.Prelude.{◌≡◌, ◌<◌, length, map, IfOk, OnOk};
+ghost use Rattle.std.specs.Prelude.{◌≡◌, ◌<◌, [], length, map, IfOk, OnOk};
 ghost use Rattle.mv_linker.specs.Link.{IsStore};
 ghost use Rattle.mv_linker.specs.Ordering.{AreDependenciesAt, AreDependenciesIn};
 ghost use Rattle.mv_linker.specs.Reached.{AreNumbers, IsExtended, IsReachedGraph};
@@ -52,13 +52,28 @@ impl<'a> Scope<'a> {
         ensures { IfOk result (λ v. IsReachedGraph (modules_in self.now) (offered self.now.new.now) (map (λ s. s.items) v.items)) }
     {
         let mut reached = IndexSet::new(alloc);
+        self.graph_of(alloc, dependencies, &mut reached)
+    }
+
+    /// The same, where none is reached yet; puts those that are into `reached`.
+    fn graph_of(
+        &self,
+        alloc: Global,
+        dependencies: &[Vec<usize>],
+        reached: &mut IndexSet<usize>,
+    ) -> Result<Vec<Vec<usize>>, AllocError>
+        requires store { IsStore self.now.store.now }
+        requires dependencies { AreDependenciesIn (modules_in self.now) (offered self.now.new.now) (map (λ s. s.items) dependencies.now) }
+        requires none { reached.old.keys ≡ [] }
+        ensures { IfOk result (λ v. IsReachedGraph (modules_in self.now) (offered self.now.new.now) (map (λ s. s.items) v.items)) }
+    {
         // The bundle's come first.
-        let _first = numbers_of(alloc, &mut reached, &self.places)?;
+        let _first = numbers_of(alloc, reached, &self.places)?;
         let mut graph = Vec::new(alloc);
         'search: while graph.len() < reached.len() {
             let place = reached[graph.len()];
             let needed = (&*self).needed_at(&*dependencies, place);
-            let numbers = numbers_of(alloc, &mut reached, needed)?;
+            let numbers = numbers_of(alloc, reached, needed)?;
             graph.push(numbers)?;
         }
         Ok(graph)

@@ -1,12 +1,18 @@
 -- One turn of a walk over a block's instructions, and one of a walk over a function's blocks.
 --   types_in m d b   the types before each instruction of a block
-use Rattle.std.proofs.Common.{◌≡◌, ℕ, ◌+◌, ◌-◌, ◌<◌, ◌≤◌, Bool, true, false, ◌&&◌, cond, List, [], ◌∷◌, ◌++◌, append_assoc, length, map, flat_map, drop, get_or, Option, Some, None, IsSome, IsTrue, nat_eq, nat_le, refl, ap, sym, ◌∙◌, subst, add-one, drop-cons, arith}
+use Rattle.std.proofs.Common.{◌≡◌, ℕ, ◌+◌, ◌-◌, ◌<◌, ◌≤◌, Bool, true, false, ◌&&◌, cond, List, [], ◌∷◌, ◌++◌, append_assoc, length, reverse, map, flat_map, drop, get_or, Option, Some, None, Err, IsSome, IsTrue, nat_eq, nat_le, refl, ap, sym, ◌∙◌, subst, add-one, drop-cons, arith}
 use Rattle.std.specs.Bool.{then_some}
 use Rattle.std.specs.List.{list_all, slice_range}
 use Rattle.std.specs.Option.{option_map_or}
 use Rattle.std.proofs.lemmas.Bool.{le-leb, eqb-true, false≢true}
 use Rattle.std.proofs.lemmas.Option.{none-some, same_Some}
+use Rattle.std.proofs.lemmas.List.{append-nil, drop_all}
 use Rattle.mv_move_types.specs.declared.instruction.Instruction.{Instruction}
+use Rattle.mv_move_types.specs.declared.refusal.Refusal.{Refusal}
+use Rattle.mv_move_types.specs.declared.refusal.Refusal.TheVariants.{Phase, Memory}
+use Rattle.mv_move_types.specs.declared.token.Token.{Token}
+use Rattle.mv_move_types.specs.Refusals.{IsRefusedIn}
+use Rattle.mv_type_states.specs.Answers.{Follows}
 use Rattle.mv_move_types.specs.Options.{◌>>=◌}
 use Rattle.mv_move_types.specs.Module.{Module, FunctionDefinition}
 use Rattle.mv_cfg.specs.declared.Block.{Block}
@@ -83,6 +89,20 @@ module _ (m : Module) (d : FunctionDefinition) where
       ap (λ is. types_each m d is s) (drop-next code n i below) ∙ ap (λ o. s ∷ option_map_or (types_each m d rest) o []) there in
       append_assoc old (s ∷ []) (types_each m d rest after) ∙ ap (λ l. old ++ l) (sym each) ∙ is
 
+  -- where an instruction is refused, so is what is left
+  pub carried_refused : (code : List Instruction) (n : ℕ) (i : Instruction) (s new after : Types) (whole : Option Types) (e : Refusal) → n < length code → whole ≡ types_through m d (drop n code) s
+      → Follows (Err e) (types_after m d (get_or code n i) s) new → Follows (Err e) whole after
+  carried_refused code n i s new after whole (Phase p) below is r =
+      (r.0, is ∙ ap (λ is. types_through m d is s) (drop-next code n i below) ∙ ap (λ o. o >>= λ t. cond (nat_le (length t) 128) (types_through m d (drop (n + 1) code) t) None) r.1)
+  carried_refused code n i s new after whole Memory below is r = tt
+
+  -- where none is left, the types are as they are
+  pub carried_all : (code : List Instruction) (n : ℕ) (s : Types) (whole : Option Types) → length code ≤ n → whole ≡ types_through m d (drop n code) s → whole ≡ Some s
+  carried_all code n s whole end is = is ∙ ap (λ is. types_through m d is s) (drop_all n code end)
+
+  pub listed_all : (code : List Instruction) (n : ℕ) (s : Types) (old whole : List Types) → length code ≤ n → old ++ types_each m d (drop n code) s ≡ whole → old ≡ whole
+  listed_all code n s old whole end is = sym (append-nil old) ∙ ap (λ is. old ++ types_each m d is s) (sym (drop_all n code end)) ∙ is
+
   -- where types go through instructions, heights do
   heights-through : (is : List Instruction) (s t : Types) → types_through m d is s ≡ Some t → height_through m d is (length s) ≡ Some (length t)
   heights-through [] s t e = ap (λ x. Some (length x)) (same_Some s t e)
@@ -125,6 +145,47 @@ module _ (m : Module) (d : FunctionDefinition) where
       let rest = flat_map (types_in m d) (map (basic_block_of g) (drop (k + 1) bs)) in
       ap (λ l. l ++ rest) one ∙ append_assoc old (types_in m d (basic_block_of g b)) rest
       ∙ sym (ap (λ l. old ++ flat_map (types_in m d) (map (basic_block_of g) l)) at) ∙ is
+
+  -- the next of a function's blocks
+  next_block : (bs : List Block) (k : ℕ) (b : Block) → k < length bs → b ≡ get_or bs k b → drop k bs ≡ b ∷ drop (k + 1) bs
+  next_block bs k b below is_b = subst (λ (x : Block). drop k bs ≡ x ∷ drop (k + 1) bs) (sym is_b) (drop-next bs k b below)
+
+  some_height : (o : Option ℕ) → option_map_or (λ h. nat_eq h 0) o false ≡ true → IsSome o
+  some_height None h = absurd (false≢true h)
+  some_height (Some n) h = refl
+
+  -- there is room for the types in the next block
+  pub block_room : (g : Cfg) (bs : List Block) (k : ℕ) (b : Block) (code : List Instruction) (stack : List Token) → k < length bs → b ≡ get_or bs k b → code ≡ d.code → stack ≡ []
+      → IsTrue (list_all (block_is_level m d) (map (basic_block_of g) (drop k bs))) → IsSome (height_through m d (slice_range code b.first (b.last + 1)) (length (reverse stack)))
+  block_room g bs k b code stack below is_b same empty level =
+      let rest = map (basic_block_of g) (drop (k + 1) bs) in
+      let both = both_true (block_is_level m d (basic_block_of g b)) (list_all (block_is_level m d) rest)
+      (subst (λ (xs : List Block). IsTrue (list_all (block_is_level m d) (map (basic_block_of g) xs))) (next_block bs k b below is_b) level) in
+      let here : IsSome (height_through m d (slice_range d.code b.first (b.last + 1)) 0) = some_height (height_through m d (slice_range d.code b.first (b.last + 1)) 0) both.0 in
+      subst (λ (xs : List Instruction). IsSome (height_through m d (slice_range xs b.first (b.last + 1)) (length (reverse stack)))) (sym same)
+      (subst (λ (ts : List Token). IsSome (height_through m d (slice_range d.code b.first (b.last + 1)) (length (reverse ts)))) (sym empty) here)
+
+  -- where the next block is refused, so is the function
+  pub block_refused : (g : Cfg) (bs : List Block) (k : ℕ) (b : Block) (code : List Instruction) (stack : List Token) (new : Types) (whole : Bool) (e : Refusal) → k < length bs → b ≡ get_or bs k b → code ≡ d.code → stack ≡ []
+      → whole ≡ list_all (block_is_typed m d) (map (basic_block_of g) (drop k bs)) → Follows (Err e) (types_through m d (slice_range code b.first (b.last + 1)) (reverse stack)) new
+      → IsRefusedIn 8 (IsTrue whole) e
+  block_refused g bs k b code stack new whole (Phase p) below is_b same empty is r =
+      let rest = list_all (block_is_typed m d) (map (basic_block_of g) (drop (k + 1) bs)) in
+      let none : types_through m d (slice_range d.code b.first (b.last + 1)) [] ≡ None =
+      ap (λ ts. types_through m d (slice_range d.code b.first (b.last + 1)) (reverse ts)) (sym empty)
+      ∙ ap (λ xs. types_through m d (slice_range xs b.first (b.last + 1)) (reverse stack)) (sym same) ∙ r.1 in
+      let no : whole ≡ false =
+      is ∙ ap (λ xs. list_all (block_is_typed m d) (map (basic_block_of g) xs)) (next_block bs k b below is_b)
+      ∙ ap (λ o. option_map_or (λ stack. nat_eq (length stack) 0) o false && rest) none in
+      (r.0, λ yes. false≢true (sym no ∙ yes))
+  block_refused g bs k b code stack new whole Memory below is_b same empty is r = tt
+
+  -- where no block is left, all are well typed and listed
+  pub all_typed : (g : Cfg) (bs : List Block) (k : ℕ) (whole : Bool) → length bs ≤ k → whole ≡ list_all (block_is_typed m d) (map (basic_block_of g) (drop k bs)) → IsTrue whole
+  all_typed g bs k whole end is = is ∙ ap (λ xs. list_all (block_is_typed m d) (map (basic_block_of g) xs)) (drop_all k bs end)
+
+  pub all_listed : (g : Cfg) (bs : List Block) (k : ℕ) (old whole : List Types) → length bs ≤ k → old ++ flat_map (types_in m d) (map (basic_block_of g) (drop k bs)) ≡ whole → old ≡ whole
+  all_listed g bs k old whole end is = sym (append-nil old) ∙ ap (λ xs. old ++ flat_map (types_in m d) (map (basic_block_of g) xs)) (sym (drop_all k bs end)) ∙ is
 
   -- a block that is well typed comes to an end with nothing on the stack
   ends_typed : (o : Option Types) → option_map_or (λ stack. nat_eq (length stack) 0) o false ≡ true → (new : Types) × ((o ≡ Some new) × (length new ≡ 0))

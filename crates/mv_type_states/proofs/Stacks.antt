@@ -1,5 +1,5 @@
 -- Stacks with the topmost last, and what is taken from them.
-use Rattle.std.proofs.Common.{◌≡◌, ℕ, ◌+◌, ◌<◌, Bool, true, false, ◌&&◌, List, [], ◌∷◌, ◌++◌, length, reverse, append_assoc, get_or, set, take, drop, slice_get, Some, None, refl, sym, ap, ◌∙◌, subst, zero, suc, add-one, length-append, length-take, map, arith, IsTrue, nat_eq, vec_len, Vec, Global, Err}
+use Rattle.std.proofs.Common.{◌≡◌, ℕ, ◌+◌, ◌<◌, Bool, true, false, ◌&&◌, List, [], ◌∷◌, ◌++◌, length, reverse, append_assoc, get_or, set, take, drop, slice_get, Option, Some, None, refl, sym, ap, ◌∙◌, subst, zero, suc, add-one, length-append, length-take, map, arith, IsTrue, nat_eq, vec_len, Vec, Global, Result, Err}
 use Rattle.std.proofs.lemmas.List.{reverse-append, reverse-reverse, length-reverse, map-append, take_more, take_all}
 use Rattle.std.proofs.Math.Seq.{set-append_seam}
 use Rattle.std.proofs.lemmas.Bool.{ne_eqb, eqb-false}
@@ -32,6 +32,37 @@ one_and_others false ws s = refl
 pub taken-last : (ws : List Token) (w : Token) (s : Types) → taken (ws ++ w ∷ []) s ≡ (taken (w ∷ []) s >>= λ below. taken ws below)
 taken-last ws w [] = rw (reverse-push ws w, length_push ws w) refl
 taken-last ws w (t ∷ s) = rw (reverse-push ws w, length_push ws w) (one_and_others (same_token t w) ws s)
+
+-- where one can't be taken, two can't
+pub two_refused : (e : Refusal) (w given : Token) (s new after : Types) → Follows (Err e) (taken (w ∷ []) s) new → Follows (Err e) (takes_gives (w ∷ w ∷ []) (given ∷ []) s) after
+two_refused (Phase p) w given s new after r =
+    (r.0, ap (λ o. o >>= λ below. Some (reverse (given ∷ []) ++ below)) (taken-last (w ∷ []) w s ∙ ap (λ o. o >>= λ below. taken (w ∷ []) below) r.1))
+two_refused Memory w given s new after r = tt
+
+-- two are exchanged where one is taken and the next one exchanged
+pub two_exchanged : (done : Result (Unit {0}) Refusal) (w given : Token) (s below new : Types) → taken (w ∷ []) s ≡ Some below → Follows done (takes_gives (w ∷ []) (given ∷ []) below) new
+    → Follows done (takes_gives (w ∷ w ∷ []) (given ∷ []) s) new
+two_exchanged done w given s below new one r =
+    let two : takes_gives (w ∷ w ∷ []) (given ∷ []) s ≡ takes_gives (w ∷ []) (given ∷ []) below =
+    ap (λ o. o >>= λ below. Some (reverse (given ∷ []) ++ below)) (taken-last (w ∷ []) w s ∙ ap (λ o. o >>= λ below. taken (w ∷ []) below) one) in
+    subst (λ o. Follows done o new) (sym two) r
+
+-- one turn of taking types: the last of those that are left, and then the others
+pub taken_turn : (left others : List Token) (last : Token) (s new : Types) (whole : Option Types) → left ≡ others ++ last ∷ [] → taken left s ≡ whole → taken (last ∷ []) s ≡ Some new
+    → taken others new ≡ whole
+taken_turn left others last s new whole cut is one =
+    sym (ap (λ ws. taken ws s) cut ∙ taken-last others last s ∙ ap (λ o. o >>= λ below. taken others below) one) ∙ is
+
+-- where the last of them can't be taken, they can't
+pub taken_refused : (e : Refusal) (left others : List Token) (last : Token) (s new after : Types) (whole : Option Types) → left ≡ others ++ last ∷ [] → taken left s ≡ whole
+    → Follows (Err e) (taken (last ∷ []) s) new → Follows (Err e) whole after
+taken_refused (Phase p) left others last s new after whole cut is r =
+    (r.0, sym is ∙ ap (λ ws. taken ws s) cut ∙ taken-last others last s ∙ ap (λ o. o >>= λ below. taken others below) r.1)
+taken_refused Memory left others last s new after whole cut is r = tt
+
+-- the types of fields, the last of them apart
+pub tokens-last : (left others : List Field) (last : Field) → left ≡ others ++ last ∷ [] → map (λ f. f.token) left ≡ map (λ f. f.token) others ++ last.token ∷ []
+tokens-last left others last cut = ap (map (λ (f : Field). f.token)) cut ∙ map-append (λ (f : Field). f.token) others (last ∷ [])
 
 -- a type in place of the topmost one
 pub exchanged : (xs : List Token) (n : ℕ) (x wanted given : Token) → n + 1 ≡ length xs → x ≡ get_or xs n x → same_token x wanted ≡ true

@@ -20,6 +20,8 @@ ghost use Rattle.std.specs.Prelude.{◌≡◌, ◌<◌, length, map, slice_get, 
 ghost use Rattle.mv_cfg.specs.FlowGraph.{IsFlowGraph};
 ghost use Rattle.mv_move_types.specs.Refusals.{IsRefusedIn};
 ghost use Rattle.mv_cfg.specs.Blocks.{FlowHolds};
+ghost use Rattle.mv_signatures.specs.Signatures.{WellSigned};
+ghost use Rattle.mv_abilities.specs.Abilities.{AbilitiesHold};
 ghost use Rattle.mv_type_states.specs.TypesHold.{TypesHold};
 ghost use Rattle.mv_type_states.specs.Graphs.{AreGraphs};
 ghost use Rattle.mv_type_states.specs.Sound.{IsSound, IsRefusedByTypes, types_before};
@@ -141,13 +143,26 @@ pub fn check<'a>(alloc: Global, m: Bounded<'a>) -> Result<Typed<'a>, Refusal>
     ensures ok { IfOk result (λ t. t ≡ m.entry) }
     ensures refused { IfErr result (IsRefusedByTypes m.entry) }
 {
-    mv_signatures::check(&m)?;
-    mv_abilities::check(&m)?;
-    let graphs = flow_graphs(alloc, &m)?;
-    let stacks = check_functions(alloc, &m, &graphs)?;
+    let found = try_phases(alloc, &m)?;
     Ok(Typed {
         bounded: m,
-        graphs,
-        stacks,
+        graphs: found.0,
+        stacks: found.1,
     })
+}
+
+/// Tries the phases in turn: the flow graphs of the functions, and the types before their instructions.
+fn try_phases(alloc: Global, m: &Bounded<'_>) -> Result<(Vec<Cfg>, Vec<StackTypes>), Refusal>
+    ensures signed { OnOk result (WellSigned m.now) }
+    ensures abilities { OnOk result (AbilitiesHold m.now) }
+    ensures types { OnOk result (TypesHold m.now) }
+    ensures graphs { IfOk result (λ found. AreGraphs m.now.functions (length m.now.functions) found.0.items) }
+    ensures stacks { IfOk result (λ found. found.1.items ≡ map (types_before m.now) m.now.functions) }
+    ensures refused { IfErr result (IsRefusedByTypes m.now) }
+{
+    mv_signatures::check(m)?;
+    mv_abilities::check(m)?;
+    let graphs = flow_graphs(alloc, m)?;
+    let stacks = check_functions(alloc, m, &graphs)?;
+    Ok((graphs, stacks))
 }

@@ -1,9 +1,9 @@
-use Rattle.std.proofs.Common.{◌<◌, ◌-◌, refl, arith, length, get_or, Some, ◌∙◌, ap, set, inr, true}
+use Rattle.std.proofs.Common.{◌<◌, ◌-◌, refl, arith, length, get_or, Some, ◌∙◌, ap, set, inl, inr, true}
 use Rattle.std.proofs.lemmas.Option.{slice_get-get_or, slice_get_within}
 use Rattle.std.proofs.lemmas.Result.{on_ok_weaker}
 use Rattle.mv_lattice.specs.Flow.{IsAt}
 use Rattle.mv_lattice.proofs.Searches.{turn_over, turn_exceeds, turn_fails, turn_done}
-use Rattle.mv_lattice.proofs.Visits.{work_skips, counted_visit}
+use Rattle.mv_lattice.proofs.Visits.{work_skips, counted_visit, fewer_left}
 use Rattle.mv_lattice.proofs.search.turn.Goals as goal
 
 pub returns-then-left-k-eq0-clause-complex : goal.returns-then-left-k-eq0-clause-complex
@@ -83,3 +83,37 @@ returns-clause-limit g c = λ e start has.
     let left : IsAt c.args.left.now k l = slice_get-get_or c.args.left.now k 0 within in
     let some : 0 < l = omega (arith, c.if-left-k-eq0.false) in
     turn_exceeds (m.is_state d) (m.is_small d) (m.below d) (m.steps d) c.args.g.now start c.args.left.now c.args.states.now c.args.waiting.now has k l c.requires.waits c.requires.first left some (c.visit.ensures.exceeds e)
+
+pub visit-requires-clause-graph : goal.visit-requires-clause-graph
+visit-requires-clause-graph g c = c.requires.graph
+
+pub visit-requires-clause-same : goal.visit-requires-clause-same
+visit-requires-clause-same g c = c.requires.same
+
+pub visit-requires-clause-inside : goal.visit-requires-clause-inside
+visit-requires-clause-inside g c =
+    let in' : c.args.k < length c.args.waiting.now = slice_get_within c.args.waiting.now c.args.k true c.requires.waits in
+    omega (arith, in', c.requires.work.marks)
+
+pub returns-clause-work : goal.returns-clause-work
+returns-clause-work g c = c.visit.ensures.work
+
+pub returns-clause-higher : goal.returns-clause-higher
+returns-clause-higher g c = c.visit.ensures.higher
+
+pub returns-clause-least : goal.returns-clause-least
+returns-clause-least g c = c.visit.ensures.least
+
+pub returns-clause-fewer : goal.returns-clause-fewer
+returns-clause-fewer g c =
+    let k = c.args.k in
+    let in' : k < length c.args.waiting.now = slice_get_within c.args.waiting.now k true c.requires.waits in
+    let within : k < length c.args.left.now = omega (arith, c.requires.lefts, c.requires.work.marks) in
+    let some : 0 < get_or c.args.left.now k 0 = omega (arith, c.if-left-k-eq0.false) in
+    on_ok_weaker c.visit.result (λ done. fewer_left c.args.left.now k within some) c.visit.ensures.work
+
+pub returns-clause-need : goal.returns-clause-need
+returns-clause-need g c = c.visit.ensures.need
+
+pub returns-clause-complex : goal.returns-clause-complex
+returns-clause-complex g c = λ e. inl (c.visit.ensures.large e)

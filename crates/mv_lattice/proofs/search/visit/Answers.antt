@@ -1,13 +1,13 @@
-use Rattle.std.proofs.Common.{◌<◌, refl, arith, length, Some, Contains, ◌∙◌, ap}
+use Rattle.std.proofs.Common.{◌<◌, refl, arith, length, Some, All, Contains, sym, ◌∙◌, ap, subst}
 use Rattle.std.proofs.lemmas.Result.{on_ok_weaker}
 use Rattle.std.proofs.lemmas.Option.{slice_get_read, slice_get-get_or}
 use Rattle.mv_cfg.specs.Graph.{IsBlock}
 use Rattle.mv_lattice.specs.Flow.{IsStated}
-use Rattle.mv_lattice.specs.declared.search.SolveError.TheVariants.{Need}
+use Rattle.mv_lattice.specs.declared.search.SolveError.TheVariants.{Need, TooComplex}
 use Rattle.mv_lattice.proofs.Flows.{err_at}
 use Rattle.mv_lattice.specs.Work.{standing}
 use Rattle.mv_lattice.proofs.Searches.{visit_made, visit_exceeds, visit_fails}
-use Rattle.mv_lattice.proofs.Visits.{no_flow, visited_least, worked}
+use Rattle.mv_lattice.proofs.Visits.{no_flow, visited_least, worked, unstated}
 use Rattle.mv_lattice.proofs.search.visit.Goals as goal
 
 pub raise_each-requires-clause-begins : goal.raise_each-requires-clause-begins
@@ -95,3 +95,109 @@ returns-in-Err-clause-fails g c = λ e.
     let within : k < length c.args.states.now = omega (arith, c.requires.work.entries) in
     let stated : IsStated c.args.states.now k c.in-Some.s = slice_get-get_or c.args.states.now k c.index-states-k.result within ∙ ap Some c.in-Some.is in
     visit_fails (m.is_state d) (m.is_small d) (m.below d) (m.steps d) c.args.g.now k b c.in-Some.s block c.args.states.now stated (c.in-Err.ensures.need (err_at c.in-Err.e Need e))
+
+pub returns-in_default-clause-work : goal.returns-in_default-clause-work
+returns-in_default-clause-work g c =
+    let within : c.args.k < length c.args.states.now = omega (arith, c.requires.work.entries) in
+    absurd (unstated c.args.states.now c.args.k c.index-states-k.result c.requires.stated.0 within c.in_default.is c.requires.stated.1)
+
+pub returns-in_default-clause-higher : goal.returns-in_default-clause-higher
+returns-in_default-clause-higher g c =
+    let within : c.args.k < length c.args.states.now = omega (arith, c.requires.work.entries) in
+    absurd (unstated c.args.states.now c.args.k c.index-states-k.result c.requires.stated.0 within c.in_default.is c.requires.stated.1)
+
+pub returns-in_default-clause-least : goal.returns-in_default-clause-least
+returns-in_default-clause-least g c =
+    let within : c.args.k < length c.args.states.now = omega (arith, c.requires.work.entries) in
+    absurd (unstated c.args.states.now c.args.k c.index-states-k.result c.requires.stated.0 within c.in_default.is c.requires.stated.1)
+
+pub returns-in_default-clause-counts : goal.returns-in_default-clause-counts
+returns-in_default-clause-counts g c =
+    let within : c.args.k < length c.args.states.now = omega (arith, c.requires.work.entries) in
+    absurd (unstated c.args.states.now c.args.k c.index-states-k.result c.requires.stated.0 within c.in_default.is c.requires.stated.1)
+
+pub returns-in_default-clause-need : goal.returns-in_default-clause-need
+returns-in_default-clause-need g c =
+    let within : c.args.k < length c.args.states.now = omega (arith, c.requires.work.entries) in
+    absurd (unstated c.args.states.now c.args.k c.index-states-k.result c.requires.stated.0 within c.in_default.is c.requires.stated.1)
+
+pub returns-in_default-clause-large : goal.returns-in_default-clause-large
+returns-in_default-clause-large g c =
+    let within : c.args.k < length c.args.states.now = omega (arith, c.requires.work.entries) in
+    absurd (unstated c.args.states.now c.args.k c.index-states-k.result c.requires.stated.0 within c.in_default.is c.requires.stated.1)
+
+pub returns-in_default-clause-visited : goal.returns-in_default-clause-visited
+returns-in_default-clause-visited g c =
+    let within : c.args.k < length c.args.states.now = omega (arith, c.requires.work.entries) in
+    absurd (unstated c.args.states.now c.args.k c.index-states-k.result c.requires.stated.0 within c.in_default.is c.requires.stated.1)
+
+pub returns-in_default-clause-fails : goal.returns-in_default-clause-fails
+returns-in_default-clause-fails g c =
+    let within : c.args.k < length c.args.states.now = omega (arith, c.requires.work.entries) in
+    absurd (unstated c.args.states.now c.args.k c.index-states-k.result c.requires.stated.0 within c.in_default.is c.requires.stated.1)
+
+pub returns-in_default-clause-exceeds : goal.returns-in_default-clause-exceeds
+returns-in_default-clause-exceeds g c =
+    let within : c.args.k < length c.args.states.now = omega (arith, c.requires.work.entries) in
+    absurd (unstated c.args.states.now c.args.k c.index-states-k.result c.requires.stated.0 within c.in_default.is c.requires.stated.1)
+
+pub carry_through-requires-clause-state : goal.carry_through-requires-clause-state
+carry_through-requires-clause-state g c =
+    let k = c.args.k in
+    let within : k < length c.args.states.now = omega (arith, c.requires.work.entries) in
+    c.requires.work.valid k c.in-Some.s (slice_get-get_or c.args.states.now k c.index-states-k.result within ∙ ap Some c.in-Some.is)
+
+pub carry_through-requires-clause-order : goal.carry_through-requires-clause-order
+carry_through-requires-clause-order g c =
+    let k = c.args.k in
+    let b = c.index-block.result.now in
+    let block : IsBlock c.args.g.now k b = slice_get_read c.args.g.now.blocks.items (length c.args.g.now.blocks.items) k b refl c.requires.inside c.index-block.ensures in
+    c.requires.graph.starts k b block
+
+pub carry_through-requires-clause-inside : goal.carry_through-requires-clause-inside
+carry_through-requires-clause-inside g c =
+    let k = c.args.k in
+    let b = c.index-block.result.now in
+    let block : IsBlock c.args.g.now k b = slice_get_read c.args.g.now.blocks.items (length c.args.g.now.blocks.items) k b refl c.requires.inside c.index-block.ensures in
+    c.requires.graph.ends k b block
+
+pub raise_each-requires-clause-inside : goal.raise_each-requires-clause-inside
+raise_each-requires-clause-inside g c =
+    let k = c.args.k in
+    let b = c.index-block.result.now in
+    let block : IsBlock c.args.g.now k b = slice_get_read c.args.g.now.blocks.items (length c.args.g.now.blocks.items) k b refl c.requires.inside c.index-block.ensures in
+    subst (λ xs. All (λ n. n < length c.args.states.now) xs) (sym c.deref.ensures.value)
+    (subst (λ m. All (λ n. n < m) b.successors.items) (sym c.requires.work.entries) (c.requires.graph.inside k b block))
+
+pub raise_each-requires-clause-marked : goal.raise_each-requires-clause-marked
+raise_each-requires-clause-marked g c = c.requires.work.marks ∙ sym c.requires.work.entries
+
+pub raise_each-requires-clause-state : goal.raise_each-requires-clause-state
+raise_each-requires-clause-state g c = c.in-Ok.ensures.state
+
+pub raise_each-requires-clause-states : goal.raise_each-requires-clause-states
+raise_each-requires-clause-states g c = c.requires.work.valid
+
+pub raise_each-requires-clause-starts : goal.raise_each-requires-clause-starts
+raise_each-requires-clause-starts g c = c.requires.work.begins
+
+pub returns-in-Ok-clause-higher : goal.returns-in-Ok-clause-higher
+returns-in-Ok-clause-higher g c = on_ok_weaker c.raise_each.result (λ r. r.higher) c.raise_each.ensures.ok
+
+pub returns-in-Ok-clause-counts : goal.returns-in-Ok-clause-counts
+returns-in-Ok-clause-counts g c = on_ok_weaker c.raise_each.result (λ r. r.counts) c.raise_each.ensures.ok
+
+pub returns-in-Ok-clause-need : goal.returns-in-Ok-clause-need
+returns-in-Ok-clause-need g c = λ e. absurd (c.raise_each.ensures.need e)
+
+pub returns-in-Ok-clause-large : goal.returns-in-Ok-clause-large
+returns-in-Ok-clause-large g c = c.raise_each.ensures.large
+
+pub returns-in-Ok-clause-fails : goal.returns-in-Ok-clause-fails
+returns-in-Ok-clause-fails g c = λ e. absurd (c.raise_each.ensures.need e)
+
+pub returns-in-Err-clause-large : goal.returns-in-Err-clause-large
+returns-in-Err-clause-large g c = λ e. absurd (c.in-Err.ensures.complex (err_at c.in-Err.e TooComplex e))
+
+pub returns-in-Err-clause-exceeds : goal.returns-in-Err-clause-exceeds
+returns-in-Err-clause-exceeds g c = λ e. absurd (c.in-Err.ensures.complex (err_at c.in-Err.e TooComplex e))

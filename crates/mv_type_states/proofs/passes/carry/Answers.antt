@@ -1,6 +1,7 @@
 use Rattle.std.proofs.Common.{◌++◌, ◌∷◌, [], ◌+◌, drop, reverse, ap, ◌∙◌}
+use Rattle.std.proofs.lemmas.Result.{err_from_is_err_and}
 use Rattle.mv_type_states.specs.Sound.{types_each}
-use Rattle.mv_type_states.proofs.BlockLemmas.{carried, listed}
+use Rattle.mv_type_states.proofs.BlockLemmas.{carried, listed, carried_refused, carried_all, listed_all}
 use Rattle.mv_type_states.proofs.passes.carry.Goals as goal
 
 pub loop-instruction-preserved : goal.loop-instruction-preserved
@@ -16,3 +17,20 @@ loop-instruction-preserved c =
       listed = ap (λ l. l ++ types_each m d (drop (n + 1) code) (reverse c.step.new.stack.items)) (c.in_ok-add.ensures ∙ ap (λ stack. c.loop-instruction.all ++ reverse stack ∷ []) c.deref.ensures.value)
           ∙ listed m d code n _ (reverse c.loop-instruction.stack.items) (reverse c.step.new.stack.items) c.loop-instruction.all _ c.loop-instruction-test.true c.in_ok-step.ensures c.loop-instruction.invariant.listed;
     }
+
+pub returns-in_err-step-clause-types : goal.returns-in_err-step-clause-types
+returns-in_err-step-clause-types c =
+    let p = err_from_is_err_and c.from_residual-in_err-step.result c.from_residual-in_err-step.ensures.1 in
+    rw (p.1, p.2)
+    (carried_refused c.args.scope.now.module.now c.args.scope.now.function.now c.args.code.now c.loop-instruction.instruction-index _ (reverse c.loop-instruction.stack.items) _ _ _ _ c.loop-instruction-test.true
+    c.loop-instruction.invariant.leads c.in_err-step.ensures)
+
+pub returns-clause-types : goal.returns-clause-types
+returns-clause-types c =
+    carried_all c.args.scope.now.module.now c.args.scope.now.function.now c.args.code.now c.loop-instruction.instruction-index (reverse c.loop-instruction.stack.items) _ c.loop-instruction-test.false
+    c.loop-instruction.invariant.leads
+
+pub returns-clause-listed : goal.returns-clause-listed
+returns-clause-listed c =
+    listed_all c.args.scope.now.module.now c.args.scope.now.function.now c.args.code.now c.loop-instruction.instruction-index (reverse c.loop-instruction.stack.items) _ _ c.loop-instruction-test.false
+    c.loop-instruction.invariant.listed

@@ -1,6 +1,6 @@
 use Rattle.std.proofs.lemmas.Bool.{iff_false}
 use Rattle.mv_bounds.specs.Answers.{out_of_bounds, ill_defined}
-use Rattle.mv_bounds.proofs.check.Goals as goal
+use Rattle.mv_bounds.proofs.bounded_places.Goals as goal
 
 pub returns-then-not-in_bounds-clause-refused : goal.returns-then-not-in_bounds-clause-refused
 returns-then-not-in_bounds-clause-refused c = out_of_bounds (iff_false c.in_bounds.ensures c.if-not-in_bounds.true)

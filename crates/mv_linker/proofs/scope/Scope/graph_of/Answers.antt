@@ -9,7 +9,7 @@ use Rattle.mv_linker.specs.Targets.{modules_in}
 use Rattle.mv_linker.proofs.DependenciesStay.{place-there, placed-there}
 use Rattle.mv_linker.proofs.Found.{Contains-at, at-Contains}
 use Rattle.mv_linker.proofs.ReachedLemmas.{search-begins, search-below, search-goes-on, reached-graph}
-use Rattle.mv_linker.proofs.scope.Scope.reached.Goals as goal
+use Rattle.mv_linker.proofs.scope.Scope.graph_of.Goals as goal
 
 pub search-init : goal.search-init
 search-init c =
@@ -17,9 +17,9 @@ search-init c =
     let old = tables_in s.store.now in
     let ns = offered s.new.now in
     let keys = c.numbers_of.new.reached.keys in
-    search-begins (modules_in s) s.places.items c.new-reached.result.keys keys c.in_ok-_first._first.items c.new-graph.result.items c.new-reached.ensures.empty c.new-graph.ensures.items
+    search-begins (modules_in s) s.places.items c.args.reached.now.keys keys c.in_ok-_first._first.items c.new-graph.result.items c.requires.none c.new-graph.ensures.items
     (λ p has. let k = Contains-at s.places.items p has in place-there old ns s.once k.0 p (ap (λ l. slice_get l k.0) (sym s.placed) ∙ k.1))
-    (subst (λ (l : List ℕ). IsExtended c.new-reached.result.keys l keys) c.deref.ensures.value c.in_ok-_first.ensures.extended)
+    (subst (λ (l : List ℕ). IsExtended c.args.reached.now.keys l keys) c.deref.ensures.value c.in_ok-_first.ensures.extended)
     (subst (λ (l : List ℕ). AreNumbers keys l c.in_ok-_first._first.items) c.deref.ensures.value c.in_ok-_first.ensures.numbers)
 
 pub needed_at-needed-requires-clause-place : goal.needed_at-needed-requires-clause-place
