@@ -3,3 +3,6 @@ pub mod Pieces
 pub mod Counts
 pub mod Tallied
 pub mod Below
+pub mod Taken
+pub mod Growing
+pub mod Noting

@@ -2,6 +2,7 @@
 use Rattle.std.proofs.Common.{◌≡◌, ℕ, ◌+◌, ◌-◌, ◌*◌, ◌^◌, ◌≤◌, true, List, [], ◌∷◌, map, Option, refl, sym, ap, ap₂, ◌∙◌, arith}
 use Rattle.std.specs.Prelude.{All, unwrap_or}
 use Rattle.std.proofs.lemmas.List.Elements.{All-head, All-tail, All-map, All-weaker}
+use Rattle.mv_move_types.specs.declared.tables.Definition.{Definition}
 use Rattle.mv_move_types.specs.Names.{StructName}
 use Rattle.mv_move_types.specs.Module.{Module, name_at}
 use Rattle.mv_move_types.specs.Published.{PublishedModule}
@@ -13,7 +14,9 @@ use Rattle.mv_linker.specs.Link.{tables_in}
 use Rattle.mv_linker.specs.Scarce.{is_scarce_in}
 use Rattle.mv_linker.proofs.Found.{some-of}
 use Rattle.mv_frames.specs.Counters.{packs_at, unpacks_at}
+use Rattle.mv_frames.specs.declared.counters.Count.{Count}
 use Rattle.mv_frames.specs.declared.counters.StructTally.{StructTally}
+use Rattle.mv_frames.proofs.Tallied.{tallied-packs, tallied-unpacks}
 use Rattle.mv_interpreter.specs.Runs.{Tallies, AtMost}
 use Rattle.mv_interpreter.specs.Flat.Agreement.{nameless}
 use Rattle.mv_ledger.specs.declared.tallies.Tally.{Tally}
@@ -36,13 +39,17 @@ module _ (published : List PublishedModule) where
       → tallied (tables_in published) (tally_after run t) ≡ tally_with events (tallied (tables_in published) t)
   tally-after run events counted t (named, scarce) =
       let name = some-of (name_at (tables_in published) t.place t.index) named in
+      let d : Definition = record { place = t.place; index = t.index } in
       let struct : name.0 ≡ unwrap_or (name_at (tables_in published) t.place t.index) nameless = ap (λ (o : Option StructName). unwrap_or o nameless) (sym name.1) in
       let made : packs_at t.place t.index run ≡ packs (unwrap_or (name_at (tables_in published) t.place t.index) nameless) events =
-      counted.packed t.place t.index name.0 name.1 scarce ∙ ap (λ (s : StructName). packs s events) struct in
+      tallied-packs run d (did name.0) (counted.scarce t.place t.index name.0 name.1 scarce) ∙ ap (λ (s : StructName). packs s events) struct in
       let taken : unpacks_at t.place t.index run ≡ unpacks (unwrap_or (name_at (tables_in published) t.place t.index) nameless) events =
-      counted.unpacked t.place t.index name.0 name.1 scarce ∙ ap (λ (s : StructName). unpacks s events) struct in
+      tallied-unpacks run d (did name.0) (counted.scarce t.place t.index name.0 name.1 scarce) ∙ ap (λ (s : StructName). unpacks s events) struct in
       ap₂ (λ (m n : ℕ). grown (unwrap_or (name_at (tables_in published) t.place t.index) nameless) (t.packs + m) (t.unpacks + n)) made taken
     where
+      did : StructName → Count
+      did s = record { packs = packs s events; unpacks = unpacks s events }
+
       grown : StructName → ℕ → ℕ → Tallied
       grown s m n = record { struct = s; packs = m; unpacks = n }
 

@@ -1,6 +1,6 @@
 -- What the slots of storage show, and which of them a run has changed.
 use Rattle.std.specs.Prelude.{ℕ, ◌<◌, List, [], ◌∷◌, Bool, cond, true, false, is_some, ◌≡◌, ◌⊎◌, Option, Some, None, unwrap_or, slice_get}
-use Rattle.std.specs.Option.{option_and_then, option_map}
+use Rattle.std.specs.Option.{option_and_then, option_map, option_map_or}
 use Rattle.std.specs.List.{list_any}
 use Rattle.std.specs.Ordering.{nat_cmp, ordering_then}
 use Rattle.std.specs.declared.cmp.Ordering.{Ordering}
@@ -77,6 +77,20 @@ IsVacantAt slots place = (s : Slot) × (slice_get slots place ≡ Some s) × (is
 -- a slot stands at the place, and may be a key's
 abbrev pub IsUsedAt : List Slot → ℕ → Type 0
 IsUsedAt slots place = (s : Slot) × (slice_get slots place ≡ Some s) × (is_vacant s ≡ false)
+
+-- the free place that a slot names, or else this one
+abbrev pub next_free : ℕ → Slot → ℕ
+next_free free (Vacant next) = next
+next_free free Empty = free
+next_free free (One n) = free
+next_free free (Many words) = free
+next_free free (AddedOne n) = free
+next_free free (AddedMany words) = free
+next_free free (Changed versions) = free
+
+-- the free place where the slot at a place is used: of a free one, that which was left before it
+abbrev pub free_after : Places → ℕ → ℕ
+free_after p place = option_map_or (next_free p.free) (slice_get p.slots.items place) p.free
 
 -- the entry of a value that may be absent, before other entries
 abbrev pub shown_before : Key → Option (List ℕ) → FlatStorage → FlatStorage

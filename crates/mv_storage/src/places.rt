@@ -1,10 +1,10 @@
 // Slots in a list, and the place that each key's slot has there. A place that is free holds the next free one, so that
 // taking a key out takes no memory.
-ghost use Rattle.std.specs.Prelude.{◌≡◌, ◌<◌, length, [], true, None, Some, MatchOption, IfOk, OnOk, OnErr, cond, unwrap_or, option_copied, slice_set};
+ghost use Rattle.std.specs.Prelude.{◌≡◌, ◌<◌, ◌↔◌, IsTrue, length, [], None, Some, Ok, MatchOption, IfOk, OnOk, OnErr, cond, unwrap_or, option_copied, slice_set};
 ghost use Rattle.std.specs.BTreeMap.{get, IsOrdered};
 ghost use Rattle.mv_move_types.specs.declared.tables.Key.{Key};
 ghost use Rattle.mv_machine.specs.State.{same_key};
-ghost use Rattle.mv_storage.specs.Slots.{key_cmp, slot_at, IsSound, IsVacantAt, IsRemembered};
+ghost use Rattle.mv_storage.specs.Slots.{key_cmp, slot_at, free_after, IsSound, IsVacantAt, IsRemembered};
 
 use crate::slot::Slot;
 use mv_move_types::Key;
@@ -87,7 +87,7 @@ impl Places {
     // Whether a place is free.
     #[inline]
     fn is_vacant(&self, place: u32) -> bool
-        ensures { result ≡ true → IsVacantAt self.now.slots.items place }
+        ensures { IsTrue result ↔ IsVacantAt self.now.slots.items place }
     {
         match self.slots.get(place as usize) {
             Some(slot) => slot.is_vacant(),
@@ -95,8 +95,8 @@ impl Places {
         }
     }
 
-    // A free place: one that was left, or a new one. It fails where memory runs out or 2^32 places are in use, and nothing
-    // changes then.
+    // A free place: one that was left, which takes no memory, or a new one. It fails where memory runs out or 2^32 places are
+    // in use, and nothing changes then.
     #[inline]
     pub(crate) fn vacancy(&mut self) -> Result<u32, AllocError>
         requires { IsSound self.old }
@@ -104,6 +104,8 @@ impl Places {
         ensures same { (q : Key) → slot_at self.new q ≡ slot_at self.old q }
         ensures tree { self.new.tree ≡ self.old.tree }
         ensures vacant { IfOk result (λ place. IsVacantAt self.new.slots.items place) }
+        ensures free { IfOk result (λ place. self.new.free ≡ place) }
+        ensures left { IsVacantAt self.old.slots.items self.old.free → (result ≡ Ok self.old.free) × (self.new ≡ self.old) }
     {
         if self.is_vacant(self.free) {
             return Ok(self.free);
@@ -117,24 +119,26 @@ impl Places {
         Ok(self.free)
     }
 
-    // Puts a slot at a free place.
+    // Puts a slot at a free place. The one that was left before it is the next to be used.
     #[inline]
     pub(crate) fn fill(&mut self, place: u32, slot: Slot)
         requires { place < length self.old.slots.items }
         ensures tree { self.new.tree ≡ self.old.tree }
         ensures slots { self.new.slots.items ≡ slice_set self.old.slots.items place slot }
+        ensures free { self.new.free ≡ free_after self.old place }
     {
         if let Slot::Vacant(next) = replace(&mut self.slots[place as usize], slot) {
             self.free = next;
         }
     }
 
-    // Takes a key out, with its slot.
+    // Takes a key out, with its slot. Its place is free, and the next to be used.
     pub(crate) fn remove(&mut self, key: &Key, place: u32)
         requires { place < length self.old.slots.items }
         ensures ordered { IsOrdered key_cmp self.new.tree }
         ensures tree { (q : Key) → get key_cmp self.new.tree q ≡ cond (same_key key.now q) None (get key_cmp self.old.tree q) }
         ensures slots { self.new.slots.items ≡ slice_set self.old.slots.items place (Slot.Vacant self.old.free) }
+        ensures free { self.new.free ≡ place }
     {
         self.tree.remove(key);
         self.slots[place as usize] = Slot::Vacant(self.free);

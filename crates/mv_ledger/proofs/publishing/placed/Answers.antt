@@ -27,7 +27,7 @@ each-preserved c =
     ] in
     let counts : AreSameCounts c.args.counters.now c.match-last.counters = λ d.
     elim c.match-last.branch [
-      | in-Some+in_ok-make_room w ↦ ap (λ (tables : List (List Count)). count_of tables d) w.counters-is ∙ w.make_room.ensures d ∙ c.each.invariant.1 d
+      | in-Some+in_ok-make_room w ↦ ap (λ (tables : List (List Count)). count_of tables d) w.counters-is ∙ w.make_room.ensures.same d ∙ c.each.invariant.1 d
       | in_default w ↦ ap (λ (tables : List (List Count)). count_of tables d) w.counters-is ∙ c.each.invariant.1 d
     ] in (
       placing-more c.args.store.now c.args.tallies.now c.args.news.now c.each.new-index c.each.all.items c.each.next c.module-module.result.now c.place_of-found.result

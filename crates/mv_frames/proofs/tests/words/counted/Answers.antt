@@ -11,4 +11,4 @@ count-requires c =
 
 pub loop-value-preserved : goal.loop-value-preserved
 loop-value-preserved c =
-    below-counted (c.loop-value.value-index + 1) _ _ c.loop-value.counters c.count.new.self c.in_ok-count.ensures c.loop-value.invariant
+    below-counted (c.loop-value.value-index + 1) _ _ c.loop-value.counters c.count.new.self c.in_ok-count.ensures.counted c.loop-value.invariant
