@@ -62,7 +62,7 @@ pub record SameStart (n m : Node) (xs ys : List ℕ) : Type 0 where
   pub node : n ≡ m
   pub rest : xs ≡ ys
 
-same_start : (n m : Node) (xs ys : List ℕ) → node_code n ++ xs ≡ node_code m ++ ys → SameStart n m xs ys
+pub same_start : (n m : Node) (xs ys : List ℕ) → node_code n ++ xs ≡ node_code m ++ ys → SameStart n m xs ys
 same_start (Slot i) (Slot j) xs ys h = record { node = cc; rest = cc }
 same_start (Own i) (Own j) xs ys h = record { node = cc; rest = cc }
 same_start (Glob i) (Glob j) xs ys h = record { node = cc; rest = cc }

@@ -53,7 +53,7 @@ impl Eq for Edge {
 }
 
 /// A node as two numbers, by which nodes are ordered.
-fn node_numbers(node: Node) -> [u32; 2]
+pub(crate) fn node_numbers(node: Node) -> [u32; 2]
     ensures { result ≡ node_code node }
 {
     match node {
@@ -65,7 +65,7 @@ fn node_numbers(node: Node) -> [u32; 2]
 }
 
 /// How high a node stands on the stack: an operand as high as there are operands up to it, and any other node at 0.
-fn height(node: Node) -> u32
+pub(crate) fn height(node: Node) -> u32
     ensures { result ≡ height node }
 {
     match node {
@@ -75,7 +75,7 @@ fn height(node: Node) -> u32
 }
 
 /// The larger of two numbers.
-fn larger(a: u32, b: u32) -> u32
+pub(crate) fn larger(a: u32, b: u32) -> u32
     ensures { result ≡ max a b }
 {
     if a < b { b } else { a }
@@ -231,14 +231,14 @@ impl<'a> EdgeView<'a> {
     }
 
     /// How high the higher of the nodes stands.
-    fn height(&self) -> u32
+    pub(crate) fn height(&self) -> u32
         ensures { result ≡ edge_height self.now }
     {
         larger(height(self.from), height(self.to))
     }
 
     /// The numbers of the nodes, behind how high the higher one stands.
-    fn nodes(&self) -> [u32; 5]
+    pub(crate) fn nodes(&self) -> [u32; 5]
         ensures { result ≡ nodes_code self.now }
     {
         let [from_kind, from_index] = node_numbers(self.from);
