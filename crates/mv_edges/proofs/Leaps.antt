@@ -1,6 +1,6 @@
 -- Up to which nodes no edge is at a node, from an edge on that isn't.
 --   Early xs ys, Late xs ys      one list of numbers comes before another, or doesn't, number by number
-use Rattle.std.proofs.Common.{◌≡◌, ℕ, ◌+◌, ◌-◌, ◌<◌, ◌≤◌, ◌⊎◌, inl, inr, max, Bool, true, false, ◌&&◌, List, [], ◌∷◌, ◌++◌, refl, sym, ap, ◌∙◌, subst, arith, true≢false, eqb, ltb}
+use Rattle.std.proofs.Common.{◌≡◌, ℕ, ◌+◌, ◌-◌, ◌<◌, ◌≤◌, ◌⊎◌, inl, inr, max, true, false, ◌&&◌, List, [], ◌∷◌, ◌++◌, refl, sym, ap, ◌∙◌, subst, arith, true≢false, eqb, ltb}
 use Rattle.std.specs.Prelude.{⊤}
 use Rattle.std.proofs.lemmas.Bool.{cases_lt, false_from_ne_true, or_parts, and_cases, ltb-false, eq-eqb, both_ways}
 use Rattle.mv_move_types.specs.declared.borrow.Node.{Node}
@@ -9,7 +9,7 @@ use Rattle.mv_edges.specs.Edges.{Edge, same_node}
 use Rattle.mv_edges.specs.Ascending.{list_before, node_code, height, edge_height, nodes_code}
 use Rattle.mv_edges.specs.Sought.{FailUpTo}
 use Rattle.mv_edges.specs.Equality.{same_node_decides}
-use Rattle.mv_edges.proofs.EdgeOrder.{SameStart, same_start}
+use Rattle.mv_edges.proofs.EdgeOrder.{same_start}
 use Rattle.mv_edges.proofs.Lexicographic.{before_cases}
 
 -- ---- lists of numbers
@@ -218,8 +218,7 @@ none_into_end_of e n h source top lower same higher other behind =
 
 pub lower_nodes : (x e : Edge) (n : Node) → list_before (nodes_code e) (nodes_code x) ≡ false → edge_height e < height n → (same_node x.from n ≡ false) × (same_node x.to n ≡ false)
 lower_nodes x e n later low =
-    let order : edge_height x ≤ edge_height e = elim (late_edges e x later) [ inl h ↦ omega (arith, h) | inr h ↦ let same = h.0 in omega (arith, same) ] in
-    (
+    let order : edge_height x ≤ edge_height e = elim (late_edges e x later) [ inl h ↦ omega (arith, h) | inr h ↦ let same = h.0 in omega (arith, same) ] in (
       false_from_ne_true (same_node x.from n) (λ same. let high = high_from x n ((same_node_decides x.from n).0 same) in omega (arith, high, low, order)),
       false_from_ne_true (same_node x.to n) (λ same. let high = high_to x n ((same_node_decides x.to n).0 same) in omega (arith, high, low, order)),
     )

@@ -19,13 +19,7 @@ fn comes_before(e: &Edge, nodes: &[u32; 5]) -> bool
 }
 
 /// A place so far on, if the edge before it comes before these nodes; else the place that is given.
-fn advanced(
-    items: &[Edge],
-    start: usize,
-    place: usize,
-    stride: usize,
-    nodes: &[u32; 5],
-) -> usize
+fn advanced(items: &[Edge], start: usize, place: usize, stride: usize, nodes: &[u32; 5]) -> usize
     requires ascend { IsTrue (are_ascending items.now) }
     requires within { place ≤ length items.now }
     requires before { ComeBefore nodes.now items.now start place }

@@ -1,4 +1,4 @@
-use Rattle.std.proofs.Common.{◌≡◌, take, sym, ◌∙◌, ap, subst, not, rules}
+use Rattle.std.proofs.Common.{◌≡◌, take, ◌∙◌, ap, subst, not, rules}
 use Rattle.std.proofs.lemmas.Fn.{filter_same}
 use Rattle.mv_edges.specs.Edges.{same_node, but_out_of}
 use Rattle.mv_edges.proofs.ends.remove_out_of.Goals as goal

@@ -1,4 +1,4 @@
-use Rattle.std.proofs.Common.{◌≡◌, ℕ, ◌-◌, ◌<◌, ◌≤◌, ◌++◌, true, length, take, get_or}
+use Rattle.std.proofs.Common.{◌≡◌, ◌-◌, ◌<◌, ◌≤◌, ◌++◌, true, length, take, get_or}
 use Rattle.mv_edges.specs.Edges.{Edge, same_node, renamed, into}
 use Rattle.mv_edges.proofs.renaming.push_renamed_into.Given as goal
 

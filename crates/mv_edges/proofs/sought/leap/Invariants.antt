@@ -1,4 +1,4 @@
-use Rattle.std.proofs.Common.{◌≡◌, ℕ, ◌-◌, ◌<◌, ◌≤◌, length}
+use Rattle.std.proofs.Common.{◌-◌, ◌<◌, ◌≤◌, length}
 use Rattle.mv_edges.specs.Sought.{ComeBefore}
 use Rattle.mv_edges.proofs.sought.leap.Given as goal
 

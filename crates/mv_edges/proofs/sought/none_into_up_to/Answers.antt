@@ -1,6 +1,6 @@
-use Rattle.std.proofs.Common.{◌≡◌, ◌-◌, ◌<◌, max, ◌++◌, ◌∷◌, [], sym, ap, ◌∙◌, subst}
+use Rattle.std.proofs.Common.{◌≡◌, ◌-◌, ◌<◌, max, ◌∷◌, [], sym, ap, ◌∙◌, subst}
 use Rattle.mv_edges.specs.Edges.{same_node}
-use Rattle.mv_edges.specs.Ascending.{list_before, node_code, nodes_code, height, edge_height}
+use Rattle.mv_edges.specs.Ascending.{list_before, node_code, nodes_code, edge_height}
 use Rattle.mv_edges.specs.Sought.{FailUpTo}
 use Rattle.mv_edges.proofs.Leaps.{none_into_first_of, none_into_end_of}
 use Rattle.mv_edges.proofs.sought.none_into_up_to.Goals as goal

@@ -3,7 +3,7 @@ use Rattle.mv_edges.proofs.Passed.{ascending_take_more, ascending_one}
 use Rattle.mv_edges.proofs.unordered.ascend.Goals as goal
 
 pub loop-place-init : goal.loop-place-init
-loop-place-init c = record { some = omega arith; ascend = ascending_one c.args.items.now; }
+loop-place-init c = record { some = omega arith; ascend = ascending_one c.args.items.now }
 
 pub loop-place-preserved : goal.loop-place-preserved
 loop-place-preserved c =

@@ -1,4 +1,4 @@
-use Rattle.std.proofs.Common.{◌≡◌, ℕ, ◌-◌, ◌<◌, ◌≤◌, true, length, take, get_or}
+use Rattle.std.proofs.Common.{◌≡◌, ◌-◌, ◌<◌, ◌≤◌, true, length, take, get_or}
 use Rattle.mv_edges.specs.Edges.{Edge, same_node, inherited, changed}
 use Rattle.mv_edges.proofs.edges.Edges.inherited.Given as goal
 
