@@ -85,7 +85,7 @@ none_out_below n = none_kept_below (λ e. same_node e.from n) (nodes_rise (λ fr
 
 -- ---- changes of lists
 
-contains-filter : (p : Edge → Bool) (es : List Edge) (e : Edge) → Contains es e → p e ≡ true → Contains (filter p es) e
+pub contains-filter : (p : Edge → Bool) (es : List Edge) (e : Edge) → Contains es e → p e ≡ true → Contains (filter p es) e
 contains-filter p [] e c h = absurd (contains_none e c)
 contains-filter p (x ∷ es) e c h =
     elim (contains_cases x es e c) [
@@ -93,7 +93,7 @@ contains-filter p (x ∷ es) e c h =
       | inr d ↦ let rest = contains-filter p es e d h in cond_both (p x) (x ∷ filter p es) (filter p es) (λ ys. Contains ys e) (λ _. contains_there x (filter p es) e rest) (λ _. rest)
     ]
 
-contains_from_filter : (p : Edge → Bool) (es : List Edge) (e : Edge) → Contains (filter p es) e → Contains es e × (p e ≡ true)
+pub contains_from_filter : (p : Edge → Bool) (es : List Edge) (e : Edge) → Contains (filter p es) e → Contains es e × (p e ≡ true)
 contains_from_filter p [] e c = absurd (contains_none e c)
 contains_from_filter p (x ∷ es) e c₀ =
     cond_both (p x) (x ∷ filter p es) (filter p es) (λ ys. Contains ys e → Contains (x ∷ es) e × (p e ≡ true))
@@ -114,7 +114,7 @@ edges_leq-filter p rises es fs h =
 pub none_out_passes_below : (n : Node) (p : Edge → Bool) → IsRising p → (es fs : List Edge) → edges_leq es fs ≡ true → list_any p (out_of n fs) ≡ false → list_any p (out_of n es) ≡ false
 none_out_passes_below n p rises es fs h = none_passes_below p rises (out_of n es) (out_of n fs) (edges_leq-filter (λ e. same_node e.from n) (nodes_rise (λ from _. same_node from n)) es fs h)
 
-contains-map : (h : Edge → Edge) (es : List Edge) (e : Edge) → Contains es e → Contains (map h es) (h e)
+pub contains-map : (h : Edge → Edge) (es : List Edge) (e : Edge) → Contains es e → Contains (map h es) (h e)
 contains-map h [] e c = absurd (contains_none e c)
 contains-map h (x ∷ es) e c =
     elim (contains_cases x es e c) [
@@ -122,7 +122,7 @@ contains-map h (x ∷ es) e c =
       | inr d ↦ contains_there (h x) (map h es) (h e) (contains-map h es e d)
     ]
 
-contains_from_map : (h : Edge → Edge) (es : List Edge) (z : Edge) → Contains (map h es) z → (e : Edge) × (Contains es e × (h e ≡ z))
+pub contains_from_map : (h : Edge → Edge) (es : List Edge) (z : Edge) → Contains (map h es) z → (e : Edge) × (Contains es e × (h e ≡ z))
 contains_from_map h [] z c = absurd (contains_none z c)
 contains_from_map h (x ∷ es) z c =
     elim (contains_cases (h x) (map h es) z c) [

@@ -1,5 +1,5 @@
 -- The order of edges is strict and total.
-use Rattle.std.proofs.Common.{◌≡◌, ℕ, Bool, true, false, not, ◌&&◌, ◌||◌, List, [], ◌++◌, bytes_eq, refl, sym, ap, ◌∙◌, true≢false}
+use Rattle.std.proofs.Common.{◌≡◌, ℕ, Bool, true, false, not, ◌&&◌, ◌||◌, List, [], ◌++◌, bytes_eq, drop, refl, sym, ap, ◌∙◌, true≢false}
 use Rattle.std.specs.Cmp.Lexicographic.{bytes_decides}
 use Rattle.mv_move_types.specs.declared.borrow.Node.{Node}
 use Rattle.mv_move_types.specs.declared.borrow.Node.TheVariants.{Slot, Own, Glob, Temp}
@@ -62,7 +62,7 @@ pub record SameStart (n m : Node) (xs ys : List ℕ) : Type 0 where
   pub node : n ≡ m
   pub rest : xs ≡ ys
 
-same_start : (n m : Node) (xs ys : List ℕ) → node_code n ++ xs ≡ node_code m ++ ys → SameStart n m xs ys
+pub same_start : (n m : Node) (xs ys : List ℕ) → node_code n ++ xs ≡ node_code m ++ ys → SameStart n m xs ys
 same_start (Slot i) (Slot j) xs ys h = record { node = cc; rest = cc }
 same_start (Own i) (Own j) xs ys h = record { node = cc; rest = cc }
 same_start (Glob i) (Glob j) xs ys h = record { node = cc; rest = cc }
@@ -82,7 +82,8 @@ same_start (Temp i) (Glob j) xs ys h = cc
 
 pub same_edges : (a b : Edge) → nodes_code a ≡ nodes_code b → a.label.path ≡ b.label.path → a.label.is_open ≡ b.label.is_open → a ≡ b
 same_edges a b h p o =
-    let first = same_start a.from b.from (node_code a.to) (node_code b.to) h in
+    let nodes : node_code a.from ++ node_code a.to ≡ node_code b.from ++ node_code b.to = ap (drop 1) h in
+    let first = same_start a.from b.from (node_code a.to) (node_code b.to) nodes in
     let second = same_start a.to b.to [] [] (ap (λ xs. xs ++ []) first.rest) in
     λ i. record { from = first.node i; label = record { path = p i; is_open = o i }; to = second.node i }
 

@@ -9,11 +9,11 @@ pub record IsStrictUpTo {X : Type 0} (lt : X → X → Bool) (Same : X → X →
   pub transitive : (x y z : X) → lt x y ≡ true → lt y z ≡ true → lt x z ≡ true
   pub ties : (x y : X) → lt x y ≡ false → lt y x ≡ false → Same x y
 
-irreflexive : (xs : List ℕ) → list_before xs xs ≡ false
+pub irreflexive : (xs : List ℕ) → list_before xs xs ≡ false
 irreflexive [] = refl
 irreflexive (x ∷ xs) = or_from (ltb x x) (eqb x x && list_before xs xs) (le-ltb x x (omega arith)) (and_right (eqb x x) (list_before xs xs) (irreflexive xs))
 
-before_cases : (x : ℕ) (xs : List ℕ) (y : ℕ) (ys : List ℕ) → list_before (x ∷ xs) (y ∷ ys) ≡ true → (x < y) ⊎ ((x ≡ y) × (list_before xs ys ≡ true))
+pub before_cases : (x : ℕ) (xs : List ℕ) (y : ℕ) (ys : List ℕ) → list_before (x ∷ xs) (y ∷ ys) ≡ true → (x < y) ⊎ ((x ≡ y) × (list_before xs ys ≡ true))
 before_cases x xs y ys h =
     elim (or_cases (ltb x y) (eqb x y && list_before xs ys) h) [
       | inl g ↦ inl (ltb-true x y g)
@@ -41,7 +41,7 @@ transitive (x ∷ xs) (y ∷ ys) (z ∷ zs) h g =
       ]
     ]
 
-total : (xs ys : List ℕ) → list_before xs ys ≡ false → list_before ys xs ≡ false → xs ≡ ys
+pub total : (xs ys : List ℕ) → list_before xs ys ≡ false → list_before ys xs ≡ false → xs ≡ ys
 total [] [] h g = refl
 total [] (y ∷ ys) h g = absurd (true≢false h)
 total (x ∷ xs) [] h g = absurd (true≢false g)

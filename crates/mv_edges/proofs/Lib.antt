@@ -4,8 +4,11 @@ pub mod Counting
 pub mod Deduped
 pub mod EdgeOrder
 pub mod Insertion
+pub mod Leaps
 pub mod Lengths
 pub mod Lexicographic
 pub mod Order
+pub mod Passed
+pub mod Renamed
 pub mod Searches
 pub mod Sorting

@@ -1,6 +1,6 @@
 -- The tests of labels and edges decide equality.
 -- It stands in specs/, since a trait's laws may cite nothing of their own crate but its specs/.
-use Rattle.std.proofs.Common.{◌≡◌, Bool, true, false, ◌&&◌, List, bytes_eq, Decides, refl, sym, ap, ◌∙◌, true≢false, eqb-true, eq-eqb}
+use Rattle.std.proofs.Common.{◌≡◌, Bool, true, false, ◌&&◌, bytes_eq, Decides, refl, sym, ap, ◌∙◌, true≢false, eqb-true, eq-eqb}
 use Rattle.std.specs.Bool.{beq}
 use Rattle.std.specs.Cmp.{IsEquivalence, equiv}
 use Rattle.std.specs.Cmp.Lexicographic.{bytes_decides}

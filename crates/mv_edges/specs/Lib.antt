@@ -4,3 +4,4 @@ pub mod Edges
 pub mod Equality
 pub mod Joins
 pub mod Sorted
+pub mod Sought

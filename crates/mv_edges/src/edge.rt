@@ -1,7 +1,7 @@
 // An edge, and the order of edges.
-ghost use Rattle.std.specs.Prelude.{◌≡◌, ◌≤◌, length, IfOk};
+ghost use Rattle.std.specs.Prelude.{◌≡◌, ◌≤◌, max, length, IfOk};
 ghost use Rattle.mv_edges.specs.Edges.{an_edge, same_node, renamed_node, changed, edge_leq, opened_at};
-ghost use Rattle.mv_edges.specs.Ascending.{node_code, nodes_code, edge_before, edge_order};
+ghost use Rattle.mv_edges.specs.Ascending.{node_code, height, edge_height, nodes_code, edge_before, edge_order};
 
 use super::label::{Change, Label};
 use mv_move_types::Node;
@@ -53,15 +53,32 @@ impl Eq for Edge {
 }
 
 /// A node as two numbers, by which nodes are ordered.
-fn node_numbers(node: Node) -> [u16; 2]
+pub(crate) fn node_numbers(node: Node) -> [u32; 2]
     ensures { result ≡ node_code node }
 {
     match node {
-        Node::Slot(local) => [0, local],
-        Node::Own(local) => [1, local],
-        Node::Glob(definition) => [2, definition],
-        Node::Temp(place) => [3, place],
+        Node::Slot(local) => [0, u32::from(local)],
+        Node::Own(local) => [1, u32::from(local)],
+        Node::Glob(definition) => [2, u32::from(definition)],
+        Node::Temp(place) => [3, u32::from(place)],
     }
+}
+
+/// How high a node stands on the stack: an operand as high as there are operands up to it, and any other node at 0.
+pub(crate) fn height(node: Node) -> u32
+    ensures { result ≡ height node }
+{
+    match node {
+        Node::Temp(place) => u32::from(place) + 1,
+        Node::Slot(_) | Node::Own(_) | Node::Glob(_) => 0,
+    }
+}
+
+/// The larger of two numbers.
+pub(crate) fn larger(a: u32, b: u32) -> u32
+    ensures { result ≡ max a b }
+{
+    if a < b { b } else { a }
 }
 
 impl Edge {
@@ -213,16 +230,23 @@ impl<'a> EdgeView<'a> {
         }
     }
 
-    /// The numbers of the nodes.
-    fn nodes(&self) -> [u16; 4]
+    /// How high the higher of the nodes stands.
+    pub(crate) fn height(&self) -> u32
+        ensures { result ≡ edge_height self.now }
+    {
+        larger(height(self.from), height(self.to))
+    }
+
+    /// The numbers of the nodes, behind how high the higher one stands.
+    pub(crate) fn nodes(&self) -> [u32; 5]
         ensures { result ≡ nodes_code self.now }
     {
         let [from_kind, from_index] = node_numbers(self.from);
         let [to_kind, to_index] = node_numbers(self.to);
-        [from_kind, from_index, to_kind, to_index]
+        [self.height(), from_kind, from_index, to_kind, to_index]
     }
 
-    /// Which of two edges comes first: by the nodes, then by the positions, then exact before open.
+    /// Which of two edges comes first: by the higher of the nodes, then by the nodes, then by the positions, then exact before open.
     pub(crate) fn order(&self, other: &EdgeView<'_>) -> Ordering
         ensures { result ≡ edge_order self.now other.now }
     {

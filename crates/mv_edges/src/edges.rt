@@ -1,11 +1,14 @@
 // A list of edges in their order.
 ghost use Rattle.std.specs.Prelude.{◌≡◌, max, ◌+◌, ◌-◌, ◌<◌, ◌≤◌, ◌==◌, ◌++◌, ◌∷◌, List, [], length, take, drop, slice_get, not, ◌&&◌, if◌then◌else◌, IsTrue, IfOk, OnOk, OnErr, option_copied, false};
 ghost use Rattle.std.specs.List.{list_any};
-ghost use Rattle.mv_edges.specs.Edges.{same_node, agrees, out_of, but_out_of, without, renamed, longest};
+ghost use Rattle.mv_edges.specs.Edges.{agrees, out_of, but_out_of, without, renamed, longest};
 ghost use Rattle.mv_edges.specs.Ascending.{are_ascending};
 ghost use Rattle.mv_edges.specs.Sorted.{inserted, sorted};
 
 use super::Edge;
+use super::ends::{remove_at, remove_out_of};
+use super::renaming::renamed_at;
+use super::sought::{any_agrees, any_out_of};
 use super::unordered::{add_in_order, put_in_order};
 use mv_move_types::Node;
 use std::alloc::{AllocError, Global};
@@ -192,52 +195,34 @@ impl Edges {
         Ok(())
     }
 
-    /// Takes away the edges at a node.
+    /// Takes away the edges at a node. Those at the topmost operand go without a look at the others.
     pub fn remove_at(&mut self, n: Node)
         ensures edges { self.new ≡ without n self.old }
         ensures sorted { self.new ≡ sorted (without n self.old) }
     {
-        self.items.retain(|e| !e.starts_at(n) && !e.ends_at(n));
+        remove_at(&mut self.items, n);
     }
 
-    /// Takes away the edges that lead out of a node.
+    /// Takes away the edges that lead out of a node. Those out of the topmost operand go without a look at the others.
     pub fn remove_out_of(&mut self, n: Node)
         ensures edges { self.new ≡ but_out_of n self.old }
         ensures sorted { self.new ≡ sorted (but_out_of n self.old) }
     {
-        self.items.retain(|e| !e.starts_at(n));
-    }
-
-    /// Whether one of the edges leads out of a node.
-    fn any_starts_at(&self, n: Node) -> bool
-        ensures { result ≡ list_any (λ e. same_node e.from n) self.now }
-    {
-        self.items.iter().any(|e| e.starts_at(n))
+        remove_out_of(&mut self.items, n);
     }
 
     /// Whether an edge leads out of a node.
-    #[tactic(auto, using(crate::proofs::Sorting::any_passes))]
     pub fn has_out_of(&self, n: Node) -> bool
         ensures { result ≡ not (length (out_of n self.now) == 0) }
     {
-        self.any_starts_at(n)
-    }
-
-    /// Whether one of the edges leads out of a node, and agrees with a position.
-    fn any_agrees(&self, n: Node, position: u8) -> bool
-        ensures { result ≡ list_any (λ e. same_node e.from n && agrees position e.label) self.now }
-    {
-        self.items
-            .iter()
-            .any(|e| e.starts_at(n) && e.label().agrees(position))
+        any_out_of(self.as_slice(), n)
     }
 
     /// Whether an edge that leads out of a node agrees with a position.
-    #[tactic(auto, using(crate::proofs::Sorting::any_filter))]
     pub fn has_agreeing_out_of(&self, n: Node, position: u8) -> bool
         ensures { result ≡ list_any (λ e. agrees position e.label) (out_of n self.now) }
     {
-        self.any_agrees(n, position)
+        any_agrees(self.as_slice(), n, position)
     }
 
     /// Equal edges.
@@ -252,15 +237,17 @@ impl Edges {
         Ok(Edges { items })
     }
 
-    /// The edges with one node in place of another, in their order.
+    /// The edges with one node in place of another, in their order: those at it are taken out, renamed and put back.
+    #[tactic(auto, using(crate::proofs::Renamed::renamed_whole))]
     pub fn rename(self, alloc: Global, old: Node, new: Node) -> Result<Self, AllocError>
         ensures edges { IfOk result (λ s. s ≡ sorted (renamed old new self)) }
         ensures ascending { IfOk result (λ s. IsTrue (are_ascending s)) }
     {
-        let mut items = Vec::with_capacity(alloc, self.len())?;
-        for e in self.into_items() {
-            items.push(e.renamed(old, new))?;
-        }
-        Edges::of_unordered(items)
+        let pieces = renamed_at(alloc, self.as_slice(), old, new)?;
+        let moved = Edges::of_unordered(pieces)?;
+        let mut edges = self;
+        edges.remove_at(old);
+        edges.add_all(moved)?;
+        Ok(edges)
     }
 }

@@ -20,8 +20,11 @@
 
 mod edge;
 mod edges;
+mod ends;
 mod label;
+mod renaming;
 mod search;
+mod sought;
 mod union;
 mod unordered;
 

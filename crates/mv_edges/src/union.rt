@@ -5,6 +5,7 @@ ghost use Rattle.mv_edges.specs.Ascending.{are_ascending};
 ghost use Rattle.mv_edges.specs.Sorted.{sorted};
 ghost use Rattle.mv_edges.specs.Joins.{IsJoin};
 
+use super::sought::next_into;
 use super::{Change, Edge, Edges};
 use mv_move_types::Node;
 use std::alloc::{AllocError, Global};
@@ -77,11 +78,12 @@ impl Edges {
         ensures edges { IfOk result (λ s. s ≡ sorted (inherited (changed change) old new self.now)) }
         ensures ascending { IfOk result (λ s. IsTrue (are_ascending s)) }
     {
+        let edges = self.as_slice();
         let mut items = Vec::new(alloc);
-        for e in self.as_slice() {
-            if e.ends_at(old) {
-                items.push(e.inherited(alloc, change, new)?)?;
-            }
+        let mut place = next_into(edges, old, 0);
+        while place < edges.len() {
+            items.push(edges[place].inherited(alloc, change, new)?)?;
+            place = next_into(edges, old, place + 1);
         }
         Edges::of_unordered(items)
     }

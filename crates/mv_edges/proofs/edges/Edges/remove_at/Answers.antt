@@ -1,14 +1,11 @@
-use Rattle.std.proofs.Common.{◌≡◌, true, sym, ◌∙◌, ap, subst, not, ◌&&◌, rules}
-use Rattle.std.proofs.lemmas.Fn.{filter_same}
-use Rattle.mv_edges.specs.Edges.{same_node, without}
+use Rattle.std.proofs.Common.{◌≡◌, true, sym, ◌∙◌, ap, subst}
+use Rattle.mv_edges.specs.Edges.{without}
 use Rattle.mv_edges.specs.Ascending.{are_ascending}
 use Rattle.mv_edges.proofs.Sorting.{ascending-without, sorted-ascending}
 use Rattle.mv_edges.proofs.edges.Edges.remove_at.Goals as goal
 
 pub returns-clause-edges : goal.returns-clause-edges
-returns-clause-edges c =
-    filter_same _ (λ e. not (same_node e.from c.args.n) && not (same_node e.to c.args.n)) _ (λ x b f k. search rules) _ _ c.retain.ensures.filtered
-    ∙ ap (without c.args.n) c.self.view_is
+returns-clause-edges c = c.remove_at.ensures ∙ ap (without c.args.n) c.self.view_is
 
 pub returns-clause-sorted : goal.returns-clause-sorted
 returns-clause-sorted c =

@@ -1,14 +1,11 @@
-use Rattle.std.proofs.Common.{◌≡◌, true, sym, ◌∙◌, ap, subst, not, rules}
-use Rattle.std.proofs.lemmas.Fn.{filter_same}
+use Rattle.std.proofs.Common.{◌≡◌, true, sym, ◌∙◌, ap, subst, not}
 use Rattle.mv_edges.specs.Edges.{same_node, but_out_of}
 use Rattle.mv_edges.specs.Ascending.{are_ascending}
 use Rattle.mv_edges.proofs.Sorting.{ascending-filter, sorted-ascending}
 use Rattle.mv_edges.proofs.edges.Edges.remove_out_of.Goals as goal
 
 pub returns-clause-edges : goal.returns-clause-edges
-returns-clause-edges c =
-    filter_same _ (λ e. not (same_node e.from c.args.n)) _ (λ x b f k. search rules) _ _ c.retain.ensures.filtered
-    ∙ ap (but_out_of c.args.n) c.self.view_is
+returns-clause-edges c = c.remove_out_of.ensures ∙ ap (but_out_of c.args.n) c.self.view_is
 
 pub returns-clause-sorted : goal.returns-clause-sorted
 returns-clause-sorted c =

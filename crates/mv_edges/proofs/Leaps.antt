@@ -1,0 +1,224 @@
+-- Up to which nodes no edge is at a node, from an edge on that isn't.
+--   Early xs ys, Late xs ys      one list of numbers comes before another, or doesn't, number by number
+use Rattle.std.proofs.Common.{◌≡◌, ℕ, ◌+◌, ◌-◌, ◌<◌, ◌≤◌, ◌⊎◌, inl, inr, max, true, false, ◌&&◌, List, [], ◌∷◌, ◌++◌, refl, sym, ap, ◌∙◌, subst, arith, true≢false, eqb, ltb}
+use Rattle.std.specs.Prelude.{⊤}
+use Rattle.std.proofs.lemmas.Bool.{cases_lt, false_from_ne_true, or_parts, and_cases, ltb-false, eq-eqb, both_ways}
+use Rattle.mv_move_types.specs.declared.borrow.Node.{Node}
+use Rattle.mv_move_types.specs.declared.borrow.Node.TheVariants.{Slot, Own, Glob, Temp}
+use Rattle.mv_edges.specs.Edges.{Edge, same_node}
+use Rattle.mv_edges.specs.Ascending.{list_before, node_code, height, edge_height, nodes_code}
+use Rattle.mv_edges.specs.Sought.{FailUpTo}
+use Rattle.mv_edges.specs.Equality.{same_node_decides}
+use Rattle.mv_edges.proofs.EdgeOrder.{same_start}
+use Rattle.mv_edges.proofs.Lexicographic.{before_cases}
+
+-- ---- lists of numbers
+
+abbrev pub Early : List ℕ → List ℕ → Type 0
+Early xs [] = ⊥
+Early [] (y ∷ ys) = ⊤
+Early (x ∷ xs) (y ∷ ys) = (x < y) ⊎ ((x ≡ y) × Early xs ys)
+
+abbrev pub Late : List ℕ → List ℕ → Type 0
+Late xs [] = ⊤
+Late [] (y ∷ ys) = ⊥
+Late (x ∷ xs) (y ∷ ys) = (y < x) ⊎ ((x ≡ y) × Late xs ys)
+
+pub early : (xs ys : List ℕ) → list_before xs ys ≡ true → Early xs ys
+early xs [] h = absurd (true≢false (sym h))
+early [] (y ∷ ys) h = tt
+early (x ∷ xs) (y ∷ ys) h = elim (before_cases x xs y ys h) [ inl g ↦ inl g | inr g ↦ inr (g.0, early xs ys g.1) ]
+
+pub late : (xs ys : List ℕ) → list_before xs ys ≡ false → Late xs ys
+late xs [] h = tt
+late [] (y ∷ ys) h = absurd (true≢false h)
+late (x ∷ xs) (y ∷ ys) h =
+    let parts = or_parts (ltb x y) (eqb x y && list_before xs ys) h in
+    let low = ltb-false x y parts.0 in
+    elim (cases_lt y x) [
+      | inl g ↦ inl g
+      | inr g ↦
+          let same : x ≡ y = omega (arith, low, g) in
+          elim (and_cases (eqb x y) (list_before xs ys) parts.1) [ inl n ↦ absurd (both_ways (eqb x y) n (eq-eqb x y same)) | inr n ↦ inr (same, late xs ys n) ]
+    ]
+
+-- ---- nodes and edges as numbers
+
+abbrev pub kind : Node → ℕ
+kind (Slot l) = 0
+kind (Own l) = 1
+kind (Glob t) = 2
+kind (Temp k) = 3
+
+abbrev pub index : Node → ℕ
+index (Slot l) = l
+index (Own l) = l
+index (Glob t) = t
+index (Temp k) = k
+
+node_numbers : (n : Node) → node_code n ≡ kind n ∷ index n ∷ []
+node_numbers (Slot l) = refl
+node_numbers (Own l) = refl
+node_numbers (Glob t) = refl
+node_numbers (Temp k) = refl
+
+edge_numbers : (e : Edge) → nodes_code e ≡ edge_height e ∷ kind e.from ∷ index e.from ∷ kind e.to ∷ index e.to ∷ []
+edge_numbers e = ap (λ xs. edge_height e ∷ xs ++ node_code e.to) (node_numbers e.from) ∙ ap (λ xs. edge_height e ∷ kind e.from ∷ index e.from ∷ xs) (node_numbers e.to)
+
+node_from_numbers : (n m : Node) → kind n ≡ kind m → index n ≡ index m → n ≡ m
+node_from_numbers n m k j =
+    (same_start n m [] [] (ap (λ xs. xs ++ []) (node_numbers n ∙ ap (λ a. a ∷ index n ∷ []) k ∙ ap (λ b. kind m ∷ b ∷ []) j ∙ sym (node_numbers m)))).node
+
+low_kind : (n : Node) → kind n ≤ 3
+low_kind (Slot l) = omega arith
+low_kind (Own l) = omega arith
+low_kind (Glob t) = omega arith
+low_kind (Temp k) = omega arith
+
+-- what is higher than another node is an operand
+high_node : (n : Node) → 0 < height n → (kind n ≡ 3) × (index n + 1 ≡ height n)
+high_node (Slot l) h = absurd (omega (arith, h))
+high_node (Own l) h = absurd (omega (arith, h))
+high_node (Glob t) h = absurd (omega (arith, h))
+high_node (Temp k) h = (refl, refl)
+
+-- ---- edges out of a node
+
+out_first_numbers : (hx a b c d he a' b' c' d' h hn k i : ℕ) → a ≡ k → b ≡ i → hn ≤ hx → h ≡ max he hn → Late (hx ∷ a ∷ b ∷ c ∷ d ∷ []) (he ∷ a' ∷ b' ∷ c' ∷ d' ∷ []) → Early (hx ∷ a ∷ b ∷ c ∷ d ∷ []) (h ∷ k ∷ i ∷ 0 ∷ 0 ∷ []) → ⊥
+out_first_numbers hx a b c d he a' b' c' d' h hn k i ak bi high top from before = grind arith
+
+out_end_numbers : (hx a b c d he a' b' c' d' h hn k i : ℕ) → a ≡ k → b ≡ i → hn ≤ hx → h ≡ max he hn → Late (hx ∷ a ∷ b ∷ c ∷ d ∷ []) (he ∷ a' ∷ b' ∷ c' ∷ d' ∷ []) → Late (he ∷ a' ∷ b' ∷ c' ∷ d' ∷ []) (h ∷ k ∷ i ∷ 0 ∷ 0 ∷ []) → Early (hx ∷ a ∷ b ∷ c ∷ d ∷ []) (h ∷ 4 ∷ 0 ∷ 0 ∷ 0 ∷ []) → (a' ≡ k) × (b' ≡ i)
+out_end_numbers hx a b c d he a' b' c' d' h hn k i ak bi high top from behind before = (grind arith, grind arith)
+
+-- ---- edges into a node
+
+into_first_numbers : (hx a b c d he a' b' c' d' h hn k i f g : ℕ) → c ≡ k → d ≡ i → hn ≤ hx → (hn < hx → (a ≡ 3) × (b + 1 ≡ hx)) → h ≡ max he hn → (he < hn → (f ≡ 0) × (g ≡ 0)) → (he ≡ hn → (f ≡ a') × (g ≡ b')) → (hn < he → (f ≡ 3) × (g ≡ he - 1)) → Late (hx ∷ a ∷ b ∷ c ∷ d ∷ []) (he ∷ a' ∷ b' ∷ c' ∷ d' ∷ []) → Early (hx ∷ a ∷ b ∷ c ∷ d ∷ []) (h ∷ f ∷ g ∷ k ∷ i ∷ []) → ⊥
+into_first_numbers hx a b c d he a' b' c' d' h hn k i f g ck di high up top lower same higher from before = grind arith
+
+into_end_numbers : (hx a b c d he a' b' c' d' h hn k i f g : ℕ) → c ≡ k → d ≡ i → k ≤ 3 → hn ≤ hx → (hn < hx → (a ≡ 3) × (b + 1 ≡ hx)) → h ≡ max he hn → (he < hn → (f ≡ 0) × (g ≡ 0)) → (he ≡ hn → (f ≡ a') × (g ≡ b')) → (hn < he → (f ≡ 3) × (g ≡ he - 1)) → Late (hx ∷ a ∷ b ∷ c ∷ d ∷ []) (he ∷ a' ∷ b' ∷ c' ∷ d' ∷ []) → Late (he ∷ a' ∷ b' ∷ c' ∷ d' ∷ []) (h ∷ f ∷ g ∷ k ∷ i ∷ []) → Early (hx ∷ a ∷ b ∷ c ∷ d ∷ []) (h ∷ f ∷ g ∷ 4 ∷ 0 ∷ []) → (c' ≡ k) × (d' ≡ i)
+into_end_numbers hx a b c d he a' b' c' d' h hn k i f g ck di low high up top lower same higher from behind before = (grind arith, grind arith)
+
+-- ---- the same of edges
+
+-- an edge is at least as high as its nodes
+high_from : (e : Edge) (n : Node) → e.from ≡ n → height n ≤ edge_height e
+high_from e n h = let same = ap height h in omega (arith, same)
+
+high_to : (e : Edge) (n : Node) → e.to ≡ n → height n ≤ edge_height e
+high_to e n h = let same = ap height h in omega (arith, same)
+
+-- where it is higher than the second one, it leads out of the operand that stands so high
+high_source : (e : Edge) (n : Node) → e.to ≡ n → height n < edge_height e → (kind e.from ≡ 3) × (index e.from + 1 ≡ edge_height e)
+high_source e n h g =
+    let same = ap height h in
+    let from : height e.from ≡ edge_height e = omega (arith, same, g) in
+    let high = high_node e.from (omega (arith, same, g)) in
+    (high.0, high.1 ∙ from)
+
+abbrev numbers : Edge → List ℕ
+numbers e = edge_height e ∷ kind e.from ∷ index e.from ∷ kind e.to ∷ index e.to ∷ []
+
+late_edge : (x : Edge) (nodes : List ℕ) → list_before (nodes_code x) nodes ≡ false → Late (numbers x) nodes
+late_edge x nodes h = late (numbers x) nodes (ap (λ xs. list_before xs nodes) (sym (edge_numbers x)) ∙ h)
+
+early_edge : (x : Edge) (nodes : List ℕ) → list_before (nodes_code x) nodes ≡ true → Early (numbers x) nodes
+early_edge x nodes h = early (numbers x) nodes (ap (λ xs. list_before xs nodes) (sym (edge_numbers x)) ∙ h)
+
+late_edges : (x e : Edge) → list_before (nodes_code x) (nodes_code e) ≡ false → Late (numbers x) (numbers e)
+late_edges x e h = late_edge x (numbers e) (ap (list_before (nodes_code x)) (sym (edge_numbers e)) ∙ h)
+
+-- the first nodes of an edge out of a node
+abbrev pub out_first : ℕ → Node → List ℕ
+out_first h n = h ∷ node_code n ++ 0 ∷ 0 ∷ []
+
+out_first_is : (h : ℕ) (n : Node) → out_first h n ≡ h ∷ kind n ∷ index n ∷ 0 ∷ 0 ∷ []
+out_first_is h n = ap (λ xs. h ∷ xs ++ 0 ∷ 0 ∷ []) (node_numbers n)
+
+pub none_out_first : (e : Edge) (n : Node) (h : ℕ) → h ≡ max (edge_height e) (height n) → FailUpTo (λ x. same_node x.from n) e (out_first h n)
+none_out_first e n h top x from before =
+    false_from_ne_true (same_node x.from n)
+    (λ same.
+    let at = (same_node_decides x.from n).0 same in
+    out_first_numbers (edge_height x) (kind x.from) (index x.from) (kind x.to) (index x.to) (edge_height e) (kind e.from) (index e.from) (kind e.to) (index e.to) h (height n) (kind n) (index n)
+    (ap kind at) (ap index at) (high_from x n at) top (late_edges x e from) (early_edge x (h ∷ kind n ∷ index n ∷ 0 ∷ 0 ∷ []) (ap (list_before (nodes_code x)) (sym (out_first_is h n)) ∙ before)))
+
+pub none_out_end : (e : Edge) (n : Node) (h : ℕ) → h ≡ max (edge_height e) (height n) → same_node e.from n ≡ false → list_before (nodes_code e) (out_first h n) ≡ false → FailUpTo (λ x. same_node x.from n) e (h ∷ 4 ∷ 0 ∷ 0 ∷ 0 ∷ [])
+none_out_end e n h top other behind x from before =
+    false_from_ne_true (same_node x.from n)
+    (λ same.
+    let at = (same_node_decides x.from n).0 same in
+    let both =
+    out_end_numbers (edge_height x) (kind x.from) (index x.from) (kind x.to) (index x.to) (edge_height e) (kind e.from) (index e.from) (kind e.to) (index e.to) h (height n) (kind n) (index n)
+    (ap kind at) (ap index at) (high_from x n at) top (late_edges x e from) (late_edge e (h ∷ kind n ∷ index n ∷ 0 ∷ 0 ∷ []) (ap (list_before (nodes_code e)) (sym (out_first_is h n)) ∙ behind))
+    (early_edge x (h ∷ 4 ∷ 0 ∷ 0 ∷ 0 ∷ []) before) in
+    true≢false (sym ((same_node_decides e.from n).1 (node_from_numbers e.from n both.0 both.1)) ∙ other))
+
+-- the first nodes of an edge into a node, from such a source on
+abbrev pub into_first : ℕ → List ℕ → Node → List ℕ
+into_first h source n = h ∷ source ++ node_code n
+
+module _ (e : Edge) (n : Node) (h f g : ℕ) (top : h ≡ max (edge_height e) (height n)) (lower : edge_height e < height n → f ∷ g ∷ [] ≡ 0 ∷ 0 ∷ []) (same : edge_height e ≡ height n → f ∷ g ∷ [] ≡ node_code e.from) (higher : height n < edge_height e → f ∷ g ∷ [] ≡ 3 ∷ (edge_height e - 1) ∷ []) where
+  into_first_is : h ∷ f ∷ g ∷ node_code n ≡ h ∷ f ∷ g ∷ kind n ∷ index n ∷ []
+  into_first_is = ap (λ xs. h ∷ f ∷ g ∷ xs) (node_numbers n)
+
+  lower_numbers : edge_height e < height n → (f ≡ 0) × (g ≡ 0)
+  lower_numbers k = let both = lower k in (cc, cc)
+
+  same_numbers : edge_height e ≡ height n → (f ≡ kind e.from) × (g ≡ index e.from)
+  same_numbers k = let both = same k ∙ node_numbers e.from in (cc, cc)
+
+  higher_numbers : height n < edge_height e → (f ≡ 3) × (g ≡ edge_height e - 1)
+  higher_numbers k = let both = higher k in (cc, cc)
+
+  pub none_into_first : FailUpTo (λ x. same_node x.to n) e (h ∷ f ∷ g ∷ node_code n)
+  none_into_first x from before =
+      false_from_ne_true (same_node x.to n)
+      (λ is.
+      let at = (same_node_decides x.to n).0 is in
+      into_first_numbers (edge_height x) (kind x.from) (index x.from) (kind x.to) (index x.to) (edge_height e) (kind e.from) (index e.from) (kind e.to) (index e.to) h (height n) (kind n) (index n) f g
+      (ap kind at) (ap index at) (high_to x n at) (high_source x n at) top lower_numbers same_numbers higher_numbers (late_edges x e from)
+      (early_edge x (h ∷ f ∷ g ∷ kind n ∷ index n ∷ []) (ap (list_before (nodes_code x)) (sym into_first_is) ∙ before)))
+
+  pub none_into_end : same_node e.to n ≡ false → list_before (nodes_code e) (h ∷ f ∷ g ∷ node_code n) ≡ false → FailUpTo (λ x. same_node x.to n) e (h ∷ f ∷ g ∷ 4 ∷ 0 ∷ [])
+  none_into_end other behind x from before =
+      false_from_ne_true (same_node x.to n)
+      (λ is.
+      let at = (same_node_decides x.to n).0 is in
+      let both =
+      into_end_numbers (edge_height x) (kind x.from) (index x.from) (kind x.to) (index x.to) (edge_height e) (kind e.from) (index e.from) (kind e.to) (index e.to) h (height n) (kind n) (index n) f g
+      (ap kind at) (ap index at) (low_kind n) (high_to x n at) (high_source x n at) top lower_numbers same_numbers higher_numbers (late_edges x e from)
+      (late_edge e (h ∷ f ∷ g ∷ kind n ∷ index n ∷ []) (ap (list_before (nodes_code e)) (sym into_first_is) ∙ behind)) (early_edge x (h ∷ f ∷ g ∷ 4 ∷ 0 ∷ []) before) in
+      true≢false (sym ((same_node_decides e.to n).1 (node_from_numbers e.to n both.0 both.1)) ∙ other))
+
+-- the source as two numbers, one way or another
+two_numbers : (e : Edge) (n : Node) (source : List ℕ) → (edge_height e < height n → source ≡ 0 ∷ 0 ∷ []) → (edge_height e ≡ height n → source ≡ node_code e.from) → (height n < edge_height e → source ≡ 3 ∷ (edge_height e - 1) ∷ []) → (f : ℕ) × ((g : ℕ) × (source ≡ f ∷ g ∷ []))
+two_numbers e n source lower same higher =
+    elim (cases_lt (edge_height e) (height n)) [
+      | inl a ↦ (0, (0, lower a))
+      | inr a ↦ elim (cases_lt (height n) (edge_height e)) [
+        | inl b ↦ (3, (edge_height e - 1, higher b))
+        | inr b ↦ (kind e.from, (index e.from, same (omega (arith, a, b)) ∙ node_numbers e.from))
+      ]
+    ]
+
+pub none_into_first_of : (e : Edge) (n : Node) (h : ℕ) (source : List ℕ) → h ≡ max (edge_height e) (height n) → (edge_height e < height n → source ≡ 0 ∷ 0 ∷ []) → (edge_height e ≡ height n → source ≡ node_code e.from) → (height n < edge_height e → source ≡ 3 ∷ (edge_height e - 1) ∷ []) → FailUpTo (λ x. same_node x.to n) e (h ∷ source ++ node_code n)
+none_into_first_of e n h source top lower same higher =
+    let two = two_numbers e n source lower same higher in
+    let is = two.1.1 in
+    subst (λ s. FailUpTo (λ x. same_node x.to n) e (h ∷ s ++ node_code n)) (sym is) (none_into_first e n h two.0 two.1.0 top (λ k. sym is ∙ lower k) (λ k. sym is ∙ same k) (λ k. sym is ∙ higher k))
+
+pub none_into_end_of : (e : Edge) (n : Node) (h : ℕ) (source : List ℕ) → h ≡ max (edge_height e) (height n) → (edge_height e < height n → source ≡ 0 ∷ 0 ∷ []) → (edge_height e ≡ height n → source ≡ node_code e.from) → (height n < edge_height e → source ≡ 3 ∷ (edge_height e - 1) ∷ []) → same_node e.to n ≡ false → list_before (nodes_code e) (h ∷ source ++ node_code n) ≡ false → FailUpTo (λ x. same_node x.to n) e (h ∷ source ++ 4 ∷ 0 ∷ [])
+none_into_end_of e n h source top lower same higher other behind =
+    let two = two_numbers e n source lower same higher in
+    let is = two.1.1 in
+    subst (λ s. FailUpTo (λ x. same_node x.to n) e (h ∷ s ++ 4 ∷ 0 ∷ [])) (sym is)
+    (none_into_end e n h two.0 two.1.0 top (λ k. sym is ∙ lower k) (λ k. sym is ∙ same k) (λ k. sym is ∙ higher k) other (subst (λ s. list_before (nodes_code e) (h ∷ s ++ node_code n) ≡ false) is behind))
+
+-- ---- what stands lower than a node is not at it
+
+pub lower_nodes : (x e : Edge) (n : Node) → list_before (nodes_code e) (nodes_code x) ≡ false → edge_height e < height n → (same_node x.from n ≡ false) × (same_node x.to n ≡ false)
+lower_nodes x e n later low =
+    let order : edge_height x ≤ edge_height e = elim (late_edges e x later) [ inl h ↦ omega (arith, h) | inr h ↦ let same = h.0 in omega (arith, same) ] in (
+      false_from_ne_true (same_node x.from n) (λ same. let high = high_from x n ((same_node_decides x.from n).0 same) in omega (arith, high, low, order)),
+      false_from_ne_true (same_node x.to n) (λ same. let high = high_to x n ((same_node_decides x.to n).0 same) in omega (arith, high, low, order)),
+    )

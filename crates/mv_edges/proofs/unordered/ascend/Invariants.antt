@@ -1,0 +1,12 @@
+use Rattle.std.proofs.Common.{◌≡◌, ◌-◌, ◌<◌, true, length, take}
+use Rattle.mv_edges.specs.Ascending.{are_ascending}
+use Rattle.mv_edges.proofs.unordered.ascend.Given as goal
+
+abbrev pub invariant-loop-place : goal.invariant-loop-place
+invariant-loop-place l = record {
+  some : 0 < l.place;
+  ascend : are_ascending (take l.place l.items) ≡ true;
+}
+
+abbrev pub decreases-loop-place : goal.decreases-loop-place
+decreases-loop-place l = length l.items - l.place
