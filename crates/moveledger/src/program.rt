@@ -3,13 +3,13 @@ ghost use Rattle.std.specs.Prelude.{◌≡◌, ◌+◌, ◌-◌, ◌^◌, IfOk, 
 ghost use Rattle.std.specs.Fs.{file_type, metadata_len, IsFile};
 
 use crate::authoring::{check_module, prove_module};
-use crate::command::{LineError, Task, command, not_text};
+use crate::command::{LineError, Task, command, not_text, words_of};
 use crate::keeping::keep;
 use crate::meter::{Counted, Meter, Report, Screen};
 use crate::pacing::{Gathering, Prompt};
 use crate::reporting::report;
-use crate::saved::{loaded, migrated, text_to_keep};
-use crate::status::{End, end_of_keeping, end_of_words, ended};
+use crate::saved::{end_of_text, loaded, migrated, text_to_keep};
+use crate::status::{End, end_of_words, ended};
 use mv_ledger::Ledger;
 use std::env;
 use std::fs::{self, File, Metadata};
@@ -34,12 +34,9 @@ fn asked(rt: &HostRuntime) -> End {
             return End::Memory;
         }
     }
-    let mut words: Vec<&str> = Vec::new(rt.alloc());
-    for word in &owned {
-        if words.push(word.as_str()).is_err() {
-            return End::Memory;
-        }
-    }
+    let Ok(words) = words_of(rt.alloc(), &owned) else {
+        return End::Memory;
+    };
     match command(rt.alloc(), words.as_slice()) {
         Ok(Task::Apply { file, load, save }) => apply(rt, file, load, save),
         Ok(Task::Migrate(old, new)) => migrate(rt, old, new),
@@ -93,10 +90,7 @@ fn load_file(rt: &HostRuntime, path: &str) -> Result<Ledger, End> {
 
 /// Puts a ledger into the place of a file, if its records ended well.
 fn save_file(rt: &HostRuntime, path: &str, end: End, ledger: &Ledger) -> End {
-    match text_to_keep(end, ledger) {
-        Ok(text) => end_of_keeping(keep(rt, path, &text)),
-        Err(end) => end,
-    }
+    end_of_text(text_to_keep(end, ledger), |text| keep(rt, path, text))
 }
 
 /// Puts the ledger that one file keeps, in the form of today, into the place of another.
@@ -105,10 +99,8 @@ fn migrate(rt: &HostRuntime, old: &str, new: &str) -> End {
         return End::Read;
     };
     let expected = expected_bytes(regular_size(file.metadata()));
-    match migrated(rt.alloc(), file, expected, &mut io::writer(rt)) {
-        Ok(text) => end_of_keeping(keep(rt, new, &text)),
-        Err(end) => end,
-    }
+    let text = migrated(rt.alloc(), file, expected, &mut io::writer(rt));
+    end_of_text(text, |text| keep(rt, new, text))
 }
 
 /// Room for a file's bytes, and for one more: a read of it then finds the end.

@@ -68,6 +68,7 @@ fn held_after(alloc: Global, row: &Row, records: usize) -> Result<Vec<u8>, Fail>
 
 // What came of a fault: the engine's answer, how many bytes were read, what was written, how often what failed was asked from
 // then on, and what the ledger holds.
+#[derive(Drop)]
 struct Outcome {
     answer: Result<u64, EngineError>,
     read: usize,
