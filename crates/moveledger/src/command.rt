@@ -1,5 +1,5 @@
 // The command line.
-ghost use Rattle.std.specs.Prelude.{◌≡◌, [], ◌∷◌, IfOk, IfErr, OnOk, false, map, option_map, string_bytes};
+ghost use Rattle.std.specs.Prelude.{◌≡◌, [], ◌∷◌, IfOk, IfErr, OnOk, false, map, option_map};
 ghost use Rattle.clap.specs.Words.{app_of, fault_of, first_of, found_of, rows_of, rule_of, subcommand_of, subcommand_rows_of, takes};
 ghost use Rattle.clap.specs.declared.builder.Command.TheViews.{out-Command};
 ghost use Rattle.moveledger.specs.Line.{apply, check, given_as, ledger_commands, migrate, moveledger, name_of, named_task, path_option, prove, task_in, seen, IsOfKind, IsWords};
@@ -177,13 +177,6 @@ pub fn not_text(alloc: Global) -> LineError
         Ok(e) => LineError::Words(e),
         Err(_) => LineError::Memory,
     }
-}
-
-/// The words of a command line.
-pub fn words_of<'a>(alloc: Global, owned: &'a [String]) -> Result<Vec<&'a str>, AllocError>
-    ensures { IfOk result (λ words. map (λ w. w.now) words.items ≡ map string_bytes owned.entry.now) }
-{
-    owned.iter().map(|word| word.as_str()).collect(alloc)
 }
 
 /// The task that a command line asks for.

@@ -3,7 +3,7 @@ ghost use Rattle.std.specs.Prelude.{◌≡◌, ◌+◌, ◌-◌, ◌^◌, IfOk, 
 ghost use Rattle.std.specs.Fs.{file_type, metadata_len, IsFile};
 
 use crate::authoring::{check_module, prove_module};
-use crate::command::{LineError, Task, command, not_text, words_of};
+use crate::command::{LineError, Task, command, not_text};
 use crate::keeping::keep;
 use crate::meter::{Counted, Meter, Report, Screen};
 use crate::pacing::{Gathering, Prompt};
@@ -34,9 +34,12 @@ fn asked(rt: &HostRuntime) -> End {
             return End::Memory;
         }
     }
-    let Ok(words) = words_of(rt.alloc(), &owned) else {
-        return End::Memory;
-    };
+    let mut words: Vec<&str> = Vec::new(rt.alloc());
+    for word in &owned {
+        if words.push(word.as_str()).is_err() {
+            return End::Memory;
+        }
+    }
     match command(rt.alloc(), words.as_slice()) {
         Ok(Task::Apply { file, load, save }) => apply(rt, file, load, save),
         Ok(Task::Migrate(old, new)) => migrate(rt, old, new),

@@ -1,6 +1,3 @@
-use Rattle.std.proofs.Common.{◌≡◌, subst, sym}
-use Rattle.moveledger.specs.Outcome.{Ends}
-use Rattle.moveledger.specs.declared.status.End.{End}
 use Rattle.moveledger.proofs.Endings.{ends_after}
 use Rattle.moveledger.proofs.reporting.report.Goals as goal
 
