@@ -1,6 +1,7 @@
 pub mod Taken
 pub mod Lengths
 pub mod Whole
+pub mod Unfinished
 pub mod Steps
 pub mod One
 pub mod OneRequest

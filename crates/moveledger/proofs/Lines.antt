@@ -14,7 +14,7 @@ use Rattle.mv_ledger.specs.Counting.Headline.{IsBalanced}
 use Rattle.mv_ledger.specs.declared.Reply.{Reply}
 use Rattle.mv_ledger.specs.declared.Reply.TheVariants.{Published, Refused, Rejected, Ran, Memory}
 use Rattle.moveledger.proofs.HeadlineLemmas.{answers_whole}
-use Rattle.moveledger.specs.Answered.{IsAnswered, MayBeAnswered, WritesReply, WritesReplyPart, line_of}
+use Rattle.moveledger.specs.Answered.{IsAnswered, IsBegun, MayBeAnswered, WritesReply, WritesReplyPart, line_of}
 
 -- ---- a reply has one line
 
@@ -77,6 +77,18 @@ begun_answers read n kind same payload reply old new held holds (Ok v) is replie
 begun_answers read n kind same payload reply old new held holds (Err e) is replies written =
     let P : ℕ → Type 0 = λ k. Replies k payload reply old new in
     (written.0, may_be_answered n kind payload reply old new held holds (subst P (sym is) replies) written.1)
+
+is_begun : (n kind : ℕ) (payload : List ℕ) (reply : Option Told) (old new : LedgerView) (held holds : Option (List ℕ)) → (reply ≢ None) → Replies kind payload reply old new → WritesReplyPart n reply held holds → IsBegun n kind payload old new held holds
+is_begun n kind payload None old new held holds some replies written = absurd (some refl)
+is_begun n kind payload (Some t) old new held holds some replies written = (reply_lines t, ((t, (answers_whole kind payload t old new replies, refl)), written))
+
+-- a write fails only where something is told
+pub failed_write_begins : {T E : Type 0} (read write : E) (n kind same : ℕ) (payload : List ℕ) (reply : Option Told) (old new : LedgerView) (held holds : Option (List ℕ)) (r : Result T E) → kind ≡ same → Replies same payload reply old new
+    → IfErr r (λ e. (e ≢ read) × WritesReplyPart n reply held holds) → (r ≡ Err write → reply ≢ None) → r ≡ Err write → IsBegun n kind payload old new held holds
+failed_write_begins read write n kind same payload reply old new held holds (Ok v) is replies written some failed = cc
+failed_write_begins read write n kind same payload reply old new held holds (Err e) is replies written some failed =
+    let P : ℕ → Type 0 = λ k. Replies k payload reply old new in
+    is_begun n kind payload reply old new held holds (some failed) (subst P (sym is) replies) written.1
 
 -- a payload of a kind of no record has no shape
 shapeless : (kind : ℕ) (payload : List ℕ) → (kind ≢ 1) → (kind ≢ 2) → (kind ≢ 3) → (kind ≢ 4) → IsShapeless kind payload

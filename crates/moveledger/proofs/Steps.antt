@@ -1,16 +1,18 @@
 -- From one record to the next.
-use Rattle.std.proofs.Common.{◌≡◌, ◌≢◌, ℕ, ◌+◌, ◌-◌, ◌^◌, List, [], ◌∷◌, ◌++◌, length, arith, refl, sym, ap, ◌∙◌, subst, append_assoc, append-nil, length-append, Option, Some, None, inl, inr, flat_map}
+use Rattle.std.proofs.Common.{◌≡◌, ◌≢◌, ℕ, ◌+◌, ◌-◌, ◌^◌, List, [], ◌∷◌, ◌++◌, length, arith, refl, sym, ap, ◌∙◌, subst, append_assoc, append-nil, length-append, take_all, le_refl, Option, Some, None, Result, Err, inl, inr, flat_map}
 use Rattle.std.specs.Io.{StartsWith}
 use Rattle.std.specs.Io.KnownBytes.{Consumes, Appends}
 use Rattle.std.proofs.KnownBytes.{Consumes-nil, Appends-nil, Consumes-trans, Appends-trans}
 use Rattle.mv_ledger.specs.View.{LedgerView}
 use Rattle.mv_machine.specs.Lines.{numbered}
-use Rattle.moveledger.specs.Records.{Record, Whole, Cut, IsText, NoWhole, Begins, AreRecords}
+use Rattle.moveledger.specs.Records.{Record, Whole, Cut, IsText, Begins, AreRecords}
 use Rattle.moveledger.specs.Headline.{Step, Reports, Tells, Headline}
-use Rattle.moveledger.specs.Outcome.{left_of, Stops, StopsReading}
+use Rattle.moveledger.specs.Reading.{IsCutAt, IsTaken, IsUnfinished}
+use Rattle.moveledger.specs.Outcome.{left_of, ReadsAll, Stops, StopsReading, StopsWriting}
 use Rattle.moveledger.specs.Progress.{Progress}
-use Rattle.moveledger.specs.Answered.{MayBeAnswered}
+use Rattle.moveledger.specs.Answered.{IsBegun, MayBeAnswered}
 use Rattle.moveledger.proofs.Taken.{Tells-taken}
+use Rattle.moveledger.proofs.Unfinished.{NoWhole-cut, some-cut}
 
 -- one more record after others
 
@@ -81,79 +83,114 @@ Progress-next given gives gives2 held holds holds2 old new new2 n kind took item
       report = Reports-push p.records 1 old new new2 r p.text lines p.report step;
     }
 
--- nothing was written since the last record, and the ledger stayed
-pub Progress-stops : (given gives held holds : Option (List ℕ)) (old new : LedgerView) (n : ℕ) → Progress given gives held holds old new n → Stops given held holds old new
-Progress-stops given gives held holds old new n p = record {
-  input = p.whole ++ left_of gives;
-  records = p.records;
-  tail = left_of gives;
-  text = p.text;
-  part = [];
-  mid = new;
-  told = Tells-taken given gives p.whole p.taken;
-  read = p.read (left_of gives);
-  report = p.report;
-  last = inl (refl, refl);
-  written = subst (Appends held holds) (sym (append-nil p.text)) p.written;
-}
-
--- one record more came, and a part of its lines was written
-pub Stops-next : (given gives held holds holds2 : Option (List ℕ)) (old new new2 : LedgerView) (n : ℕ) (r : Record) (tail rest part : List ℕ) (lines : List (List ℕ))
-    → Progress given gives held holds old new n → Tells gives tail → Begins tail r rest → Step new r lines new2
-    → StartsWith (flat_map (numbered (n + 1)) lines) part → Appends holds holds2 part → Stops given held holds2 old new2
-Stops-next given gives held holds holds2 old new new2 n r tail rest part lines p told begins step front written =
+-- one more record was read, which takes the ledger on, and a part of its lines was written
+pub Stops-writing : (given gives gives2 held holds holds2 : Option (List ℕ)) (old new new2 : LedgerView) (n : ℕ) (r : Record) (took part : List ℕ) (lines : List (List ℕ))
+    → Progress given gives held holds old new n → Consumes gives gives2 took → IsTaken took (left_of gives2) r → Step new r lines new2
+    → StartsWith (flat_map (numbered (n + 1)) lines) part → Appends holds holds2 part → StopsWriting given gives2 held holds2 old new2
+Stops-writing given gives gives2 held holds holds2 old new new2 n r took part lines p taken is step front written =
     let number : n + 1 ≡ 1 + length p.records = omega (arith, p.count) in
     let P : ℕ → Type 0 = λ m. StartsWith (flat_map (numbered m) lines) part in
     record {
-      input = p.whole ++ tail;
+      whole = p.whole;
+      took = took;
       records = p.records;
-      tail = tail;
       text = p.text;
       part = part;
       mid = new;
-      told = Tells-trans given gives p.whole tail p.taken told;
-      read = p.read tail;
+      taken = Consumes-trans given gives gives2 p.whole took p.taken taken;
+      read = p.read;
       report = p.report;
-      last = inr (r, rest, lines, begins, step, subst P number front);
+      last = (r, lines, is, step, subst P number front);
       written = Appends-trans held holds holds2 p.text part p.written written;
     }
 
--- a writer took nothing more, and the ledger stayed
-Progress-idle : (given gives held holds holds2 : Option (List ℕ)) (old new : LedgerView) (n : ℕ) → Progress given gives held holds old new n → Appends holds holds2 [] → Stops given held holds2 old new
-Progress-idle given gives held holds holds2 old new n p none = record {
-  input = p.whole ++ left_of gives;
+-- a failed write is one of the ways in which it stops
+pub Stops-written : (given gives held holds : Option (List ℕ)) (old new : LedgerView) → StopsWriting given gives held holds old new → Stops given gives held holds old new
+Stops-written given gives held holds old new h = record {
+  whole = h.whole;
+  took = h.took;
+  records = h.records;
+  text = h.text;
+  part = h.part;
+  mid = h.mid;
+  taken = h.taken;
+  read = h.read;
+  report = h.report;
+  last = inr h.last;
+  written = h.written;
+}
+
+-- and so is a failed read
+pub Stops-read : (given gives held holds : Option (List ℕ)) (old new : LedgerView) → StopsReading given gives held holds old new → Stops given gives held holds old new
+Stops-read given gives held holds old new h = record {
+  whole = h.whole;
+  took = h.part;
+  records = h.records;
+  text = h.text;
+  part = [];
+  mid = new;
+  taken = h.taken;
+  read = h.read;
+  report = h.report;
+  last = inl (inl h.cut, refl, refl);
+  written = subst (Appends held holds) (sym (append-nil h.text)) h.written;
+}
+
+-- one more record was read and nothing came of it
+Stops-idle : (given gives gives2 held holds holds2 : Option (List ℕ)) (old new : LedgerView) (n : ℕ) (r : Record) (took : List ℕ)
+    → Progress given gives held holds old new n → Consumes gives gives2 took → IsTaken took (left_of gives2) r → Appends holds holds2 [] → Stops given gives2 held holds2 old new
+Stops-idle given gives gives2 held holds holds2 old new n r took p taken is none = record {
+  whole = p.whole;
+  took = took;
   records = p.records;
-  tail = left_of gives;
   text = p.text;
   part = [];
   mid = new;
-  told = Tells-taken given gives p.whole p.taken;
-  read = p.read (left_of gives);
+  taken = Consumes-trans given gives gives2 p.whole took p.taken taken;
+  read = p.read;
   report = p.report;
-  last = inl (refl, refl);
+  last = inl (inr (r, is), refl, refl);
   written = Appends-trans held holds holds2 p.text [] p.written none;
 }
 
--- one record more came, and may have been answered
-pub Stops-answered : (given gives held holds holds2 : Option (List ℕ)) (old new new2 : LedgerView) (n kind : ℕ) (payload tail rest : List ℕ) → Progress given gives held holds old new n → Tells gives tail → Begins tail (Whole kind payload) rest
-    → MayBeAnswered (n + 1) kind payload new new2 holds holds2 → Stops given held holds2 old new2
-Stops-answered given gives held holds holds2 old new new2 n kind payload tail rest p told begins (inl h) =
-    let P : LedgerView → Type 0 = λ s. Stops given held holds2 old s in
-    subst P (sym h.0) (Progress-idle given gives held holds holds2 old new n p h.1)
-Stops-answered given gives held holds holds2 old new new2 n kind payload tail rest p told begins (inr h) =
-    Stops-next given gives held holds holds2 old new new2 n (Whole kind payload) tail rest h.1.1.0 h.0 p told begins h.1.0 h.1.1.1 h.1.1.2
+-- one more record was read, and its answer begun
+pub Stops-begun : (given gives gives2 held holds holds2 : Option (List ℕ)) (old new new2 : LedgerView) (n kind : ℕ) (payload took : List ℕ)
+    → Progress given gives held holds old new n → Consumes gives gives2 took → IsText took kind payload
+    → IsBegun (n + 1) kind payload new new2 holds holds2 → StopsWriting given gives2 held holds2 old new2
+Stops-begun given gives gives2 held holds holds2 old new new2 n kind payload took p taken is h =
+    Stops-writing given gives gives2 held holds holds2 old new new2 n (Whole kind payload) took h.1.1.0 h.0 p taken is h.1.0 h.1.1.1 h.1.1.2
+
+-- or it may have been
+pub Stops-answered : (given gives gives2 held holds holds2 : Option (List ℕ)) (old new new2 : LedgerView) (n kind : ℕ) (payload took : List ℕ)
+    → Progress given gives held holds old new n → Consumes gives gives2 took → IsText took kind payload
+    → MayBeAnswered (n + 1) kind payload new new2 holds holds2 → Stops given gives2 held holds2 old new2
+Stops-answered given gives gives2 held holds holds2 old new new2 n kind payload took p taken is (inl h) =
+    let P : LedgerView → Type 0 = λ s. Stops given gives2 held holds2 old s in
+    subst P (sym h.0) (Stops-idle given gives gives2 held holds holds2 old new n (Whole kind payload) took p taken is h.1)
+Stops-answered given gives gives2 held holds holds2 old new new2 n kind payload took p taken is (inr h) =
+    Stops-written given gives2 held holds2 old new2 (Stops-begun given gives gives2 held holds holds2 old new new2 n kind payload took p taken is h)
+
+-- a text begins with itself
+pub StartsWith-whole : (text : List ℕ) → StartsWith text text
+StartsWith-whole text = take_all (length text) text (le_refl _)
+
+-- the error of a result that was handed on
+pub error-is : {S E : Type 0} (r : Result S E) (x f e : E) → r ≡ Err x → x ≡ f → r ≡ Err e → f ≡ e
+error-is r x f e is same given =
+    let one : x ≡ e = cc in
+    sym same ∙ one
 
 -- a read failed in a record
 pub Progress-stops_reading : (given gives gives2 held holds : Option (List ℕ)) (old new : LedgerView) (n : ℕ) (took : List ℕ)
-    → Progress given gives held holds old new n → Consumes gives gives2 took → NoWhole took → StopsReading given gives2 held holds old new
-Progress-stops_reading given gives gives2 held holds old new n took p taken none = record {
+    → Progress given gives held holds old new n → Consumes gives gives2 took → IsUnfinished took → StopsReading given gives2 held holds old new
+Progress-stops_reading given gives gives2 held holds old new n took p taken part = record {
   whole = p.whole;
   part = took;
   records = p.records;
   text = p.text;
   taken = Consumes-trans given gives gives2 p.whole took p.taken taken;
   read = p.read;
-  cut = none;
+  cut = part;
   written = p.written;
   report = p.report;
 }
@@ -174,6 +211,30 @@ Progress-ends given gives gives2 held holds old new n took p taken none end = re
   report = p.report;
 }
 
+-- and all of it was read
+pub Progress-reads : (given gives gives2 held holds : Option (List ℕ)) (old new : LedgerView) (n : ℕ) (took : List ℕ)
+    → Progress given gives held holds old new n → Consumes gives gives2 took → took ≡ [] → left_of gives2 ≡ [] → ReadsAll given gives2 n
+Progress-reads given gives gives2 held holds old new n took p taken none end = record {
+  whole = p.whole;
+  part = took;
+  records = p.records;
+  taken = Consumes-trans given gives gives2 p.whole took p.taken taken;
+  read = p.read;
+  end = inl (p.count, none, inl end);
+}
+
+-- the last record was cut, and read up to where it is
+pub Progress-reads_cut : (given gives gives2 held holds : Option (List ℕ)) (old new : LedgerView) (n : ℕ) (took : List ℕ)
+    → Progress given gives held holds old new n → Consumes gives gives2 took → IsCutAt took (left_of gives2) → ReadsAll given gives2 (n + 1)
+Progress-reads_cut given gives gives2 held holds old new n took p taken cut = record {
+  whole = p.whole;
+  part = took;
+  records = p.records;
+  taken = Consumes-trans given gives gives2 p.whole took p.taken taken;
+  read = p.read;
+  end = inr (ap (λ m. m + 1) p.count, cut);
+}
+
 -- the numbers ended
 pub Progress-full : (given gives held holds : Option (List ℕ)) (old new : LedgerView) (n m : ℕ)
     → Progress given gives held holds old new n → m ≡ n → m ≡ 2 ^ 64 - 1 → Headline given held holds old new m
@@ -190,11 +251,23 @@ Progress-full given gives held holds old new n m p same full = record {
   report = p.report;
 }
 
+-- as many were read as there are numbers
+pub Progress-reads_full : (given gives held holds : Option (List ℕ)) (old new : LedgerView) (n m : ℕ)
+    → Progress given gives held holds old new n → m ≡ n → m ≡ 2 ^ 64 - 1 → ReadsAll given gives m
+Progress-reads_full given gives held holds old new n m p same full = record {
+  whole = p.whole;
+  part = [];
+  records = p.records;
+  taken = subst (Consumes given gives) (sym (append-nil p.whole)) p.taken;
+  read = p.read;
+  end = inl (same ∙ p.count, refl, inr full);
+}
+
 -- the last record was cut
 pub Progress-cut : (given gives gives2 held holds holds2 : Option (List ℕ)) (old new : LedgerView) (n : ℕ) (took text : List ℕ) (lines : List (List ℕ))
-    → Progress given gives held holds old new n → Consumes gives gives2 took → (took ≢ []) → NoWhole (took ++ left_of gives2)
+    → Progress given gives held holds old new n → Consumes gives gives2 took → IsCutAt took (left_of gives2)
     → Step new Cut lines new → text ≡ flat_map (numbered (n + 1)) lines → Appends holds holds2 text → Headline given held holds2 old new (n + 1)
-Progress-cut given gives gives2 held holds holds2 old new n took text lines p taken some none step said written =
+Progress-cut given gives gives2 held holds holds2 old new n took text lines p taken cut step said written =
     let r : Record = Cut in
     let tail : List ℕ = took ++ left_of gives2 in
     let number : n + 1 ≡ 1 + length p.records = omega (arith, p.count) in
@@ -205,12 +278,9 @@ Progress-cut given gives gives2 held holds holds2 old new n took text lines p ta
       rest = [];
       text = p.text ++ flat_map (numbered (1 + length p.records)) lines;
       told = Tells-trans given gives p.whole tail p.taken (Tells-taken gives gives2 took taken);
-      read = AreRecords-push p.records (p.whole ++ tail) tail [] r (p.read tail) (nonempty took (left_of gives2) some, none, refl);
+      read = AreRecords-push p.records (p.whole ++ tail) tail [] r (p.read tail) (nonempty took (left_of gives2) (some-cut took (left_of gives2) cut), NoWhole-cut took (left_of gives2) cut, refl);
       all = inl refl;
       answered = omega (arith, p.count, length-push p.records r);
       written = subst (Appends held holds2) (ap (λ l. p.text ++ l) line) (Appends-trans held holds holds2 p.text text p.written written);
       report = Reports-push p.records 1 old new new r p.text lines p.report step;
     }
-
-pub tail_of_cut : (took left : List ℕ) → (took ≢ []) → NoWhole (took ++ left) → Begins (took ++ left) Cut []
-tail_of_cut took left some none = (nonempty took left some, none, refl)

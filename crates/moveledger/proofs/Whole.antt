@@ -1,5 +1,5 @@
 -- Where no whole record stands.
-use Rattle.std.proofs.Common.{◌≡◌, ℕ, ◌+◌, ◌≤◌, ◌<◌, List, [], ◌∷◌, ◌++◌, length, arith, refl, sym, ap, ◌∙◌, append_assoc, length-append, subst, append-nil}
+use Rattle.std.proofs.Common.{◌≡◌, ℕ, ◌+◌, ◌≤◌, ◌<◌, List, [], ◌∷◌, ◌++◌, length, arith, refl, sym, ap, ◌∙◌, append_assoc, length-append, subst}
 use Rattle.mv_uleb.specs.Uleb.{IsUleb}
 use Rattle.mv_uleb.proofs.Spelled.{one_form}
 use Rattle.moveledger.specs.Records.{IsText, NoWhole, payload_limit}
@@ -30,11 +30,6 @@ NoWhole-payload k n len took u lt kind payload front more t e =
     sym (length-append len took) ∙ ap length h ∙ length-append t.0 (payload ++ more) ∙ ap (λ m. length t.0 + m) (length-append payload more) in
     let same : length len ≡ length t.0 = ap length one.0 in
     omega (arith, sizes, same, one.1)
-
-pub NoWhole-payload-end : (k n : ℕ) (len took left : List ℕ) → IsUleb len n → length took < n → left ≡ [] → NoWhole ((k ∷ (len ++ took)) ++ left)
-NoWhole-payload-end k n len took left u lt e =
-    let P : List ℕ → Type 0 = λ l. NoWhole l in
-    subst P (sym (ap (λ z. (k ∷ (len ++ took)) ++ z) e ∙ append-nil (k ∷ (len ++ took)))) (NoWhole-payload k n len took u lt)
 
 -- a length and a payload of that many bytes are a record
 pub IsText-from : (k n : ℕ) (len took items : List ℕ) → IsUleb len n → n ≤ payload_limit → items ≡ took → length took ≡ n → IsText (k ∷ (len ++ took)) k items

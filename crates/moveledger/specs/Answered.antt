@@ -30,10 +30,15 @@ abbrev pub IsAnswered : ℕ → ℕ → List ℕ → LedgerView → LedgerView �
 IsAnswered n kind payload old new held holds =
     (lines : List (List ℕ)) × (Step old (Whole kind payload) lines new × Writes n lines held holds)
 
--- the ledger went on to new, and a prefix of the record's lines was written; or nothing happened
+-- the ledger went on to new, and a prefix of the record's lines was written
+abbrev pub IsBegun : ℕ → ℕ → List ℕ → LedgerView → LedgerView → Option (List ℕ) → Option (List ℕ) → Type 0
+IsBegun n kind payload old new held holds =
+    (lines : List (List ℕ)) × (Step old (Whole kind payload) lines new × WritesPart n lines held holds)
+
+-- that, or nothing happened
 abbrev pub MayBeAnswered : ℕ → ℕ → List ℕ → LedgerView → LedgerView → Option (List ℕ) → Option (List ℕ) → Type 0
 MayBeAnswered n kind payload old new held holds =
-    ((new ≡ old) × Appends held holds []) ⊎ ((lines : List (List ℕ)) × (Step old (Whole kind payload) lines new × WritesPart n lines held holds))
+    ((new ≡ old) × Appends held holds []) ⊎ IsBegun n kind payload old new held holds
 
 -- the first of some lines
 abbrev pub first_line : List (List ℕ) → List ℕ

@@ -1,11 +1,12 @@
--- What stands where the engine ends with an error.
-use Rattle.std.specs.Prelude.{◌≡◌, ℕ, ◌+◌, List, [], ◌++◌, length, Option, Some, None, ◌⊎◌, flat_map}
+-- What stands where the engine ends: what was read, what was written, and the ledger.
+use Rattle.std.specs.Prelude.{◌≡◌, ℕ, ◌+◌, ◌-◌, ◌^◌, List, [], ◌++◌, length, Option, Some, None, ◌⊎◌, flat_map}
 use Rattle.std.specs.Io.{StartsWith}
 use Rattle.std.specs.Io.KnownBytes.{Appends, Consumes}
 use Rattle.mv_ledger.specs.View.{LedgerView}
-use Rattle.moveledger.specs.Records.{Record, AreRecords, AreWhole, NoWhole, Begins}
+use Rattle.moveledger.specs.Records.{Record, AreWhole}
+use Rattle.moveledger.specs.Reading.{IsCutAt, IsTaken, IsUnfinished}
 use Rattle.mv_machine.specs.Lines.{numbered}
-use Rattle.moveledger.specs.Headline.{Headline, Step, Reports, Tells}
+use Rattle.moveledger.specs.Headline.{Headline, Step, Reports}
 use Rattle.moveledger.specs.declared.status.End.{End}
 use Rattle.moveledger.specs.declared.status.End.TheVariants.{Done, Read, Write, Memory, Words, Refused, LoadRefused, TooComplex}
 
@@ -14,29 +15,48 @@ abbrev pub left_of : Option (List ℕ) → List ℕ
 left_of None = []
 left_of (Some xs) = xs
 
--- nothing more happened
-abbrev pub Stays : LedgerView → List ℕ → LedgerView → List ℕ → Type 0
-Stays old tail new part = (new ≡ old) × (part ≡ [])
+-- where so many records were answered, of which so many are whole: the input ends behind them, or the numbers do; or one more,
+-- which is cut, is the last
+abbrev pub EndsReading : ℕ → ℕ → List ℕ → List ℕ → Type 0
+EndsReading n wholes took left = ((n ≡ wholes) × (took ≡ []) × ((left ≡ []) ⊎ (n ≡ 2 ^ 64 - 1))) ⊎ ((n ≡ wholes + 1) × IsCutAt took left)
 
--- one more record, which has this number, was answered, and a prefix of its lines was written
-abbrev pub Begun : ℕ → LedgerView → List ℕ → LedgerView → List ℕ → Type 0
-Begun n old tail new part = (r : Record) × (rest : List ℕ) × (lines : List (List ℕ)) × Begins tail r rest × Step old r lines new
+-- What was read is as many records as were answered, and no byte behind them: whole ones, and one that is cut if it is the last.
+pub record ReadsAll (given gives : Option (List ℕ)) (n : ℕ) : Type 0 where
+  pub whole : List ℕ
+  pub part : List ℕ
+  pub records : List Record
+  pub taken : Consumes given gives (whole ++ part)
+  pub read : AreWhole whole records
+  pub end : EndsReading n (length records) part (left_of gives)
+
+-- no more than a part of a record was read, or a record and nothing came of it
+abbrev pub Stays : List ℕ → List ℕ → LedgerView → LedgerView → List ℕ → Type 0
+Stays took left old new part = (IsUnfinished took ⊎ ((r : Record) × IsTaken took left r)) × (new ≡ old) × (part ≡ [])
+
+-- a record was read, which has this number, and answered, and a prefix of its lines was written
+abbrev pub Begun : ℕ → List ℕ → List ℕ → LedgerView → LedgerView → List ℕ → Type 0
+Begun n took left old new part = (r : Record) × (lines : List (List ℕ)) × IsTaken took left r × Step old r lines new
     × StartsWith (flat_map (numbered n) lines) part
 
--- All lines of some records of the input were written, and a prefix of those of at most one more. The
--- ledger is as these records left it.
-pub record Stops (given : Option (List ℕ)) (held holds : Option (List ℕ)) (old new : LedgerView) : Type 0 where
-  pub input : List ℕ
+-- What was read is whole records, and some bytes behind them of which there is this to say. All lines of the whole records
+-- were written, and what is said of the others. The ledger is as the whole records left it, and then as is said.
+pub record StopsWith (Last : ℕ → List ℕ → List ℕ → LedgerView → LedgerView → List ℕ → Type 0) (given gives held holds : Option (List ℕ)) (old new : LedgerView) : Type 0 where
+  pub whole : List ℕ
+  pub took : List ℕ
   pub records : List Record
-  pub tail : List ℕ
   pub text : List ℕ
   pub part : List ℕ
   pub mid : LedgerView
-  pub told : Tells given input
-  pub read : AreRecords input records tail
+  pub taken : Consumes given gives (whole ++ took)
+  pub read : AreWhole whole records
   pub report : Reports 1 old records text mid
-  pub last : Stays mid tail new part ⊎ Begun (1 + length records) mid tail new part
+  pub last : Last (1 + length records) took (left_of gives) mid new part
   pub written : Appends held holds (text ++ part)
+
+-- All lines of some whole records of the input were written, and a prefix of those of at most one more record. The ledger is as
+-- these records left it. No byte was read behind the last record of which anything was read.
+abbrev pub Stops : (given gives held holds : Option (List ℕ)) → (old new : LedgerView) → Type 0
+Stops = StopsWith (λ n took left old new part. Stays took left old new part ⊎ Begun n took left old new part)
 
 -- What was read is whole records and a part of one. The ledger is as the whole ones left it, and what was
 -- written is exactly their report.
@@ -47,17 +67,26 @@ pub record StopsReading (given gives : Option (List ℕ)) (held holds : Option (
   pub text : List ℕ
   pub taken : Consumes given gives (whole ++ part)
   pub read : AreWhole whole records
-  pub cut : NoWhole part
+  pub cut : IsUnfinished part
   pub written : Appends held holds text
   pub report : Reports 1 old records text new
+
+-- What was read is whole records and the one that was being answered, and no byte behind it. What was written is the report on the
+-- whole ones and a prefix of the lines of that one, and nothing behind it. The ledger is as that one left it.
+abbrev pub StopsWriting : (given gives held holds : Option (List ℕ)) → (old new : LedgerView) → Type 0
+StopsWriting = StopsWith Begun
+
+-- so many records were read and answered, and all there were
+abbrev pub AnswersAll : (given gives held holds : Option (List ℕ)) → (old new : LedgerView) → Type 0
+AnswersAll given gives held holds old new = (n : ℕ) × Headline given held holds old new n × ReadsAll given gives n
 
 -- What an end says of an input that was answered. Where it is a failed write, what the writer holds may be the whole report,
 -- of which a part couldn't be written out.
 abbrev pub Ends : End → (given gives held holds : Option (List ℕ)) → (old new : LedgerView) → Type 0
-Ends Done given gives held holds old new = (n : ℕ) × Headline given held holds old new n
+Ends Done given gives held holds old new = AnswersAll given gives held holds old new
 Ends Read given gives held holds old new = StopsReading given gives held holds old new
-Ends Write given gives held holds old new = Stops given held holds old new ⊎ ((n : ℕ) × Headline given held holds old new n)
-Ends Memory given gives held holds old new = Stops given held holds old new
+Ends Write given gives held holds old new = Stops given gives held holds old new ⊎ AnswersAll given gives held holds old new
+Ends Memory given gives held holds old new = Stops given gives held holds old new
 Ends Words given gives held holds old new = ⊥
 Ends (Refused phase) given gives held holds old new = ⊥
 Ends (LoadRefused number) given gives held holds old new = ⊥

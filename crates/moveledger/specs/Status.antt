@@ -1,5 +1,10 @@
 -- How the program ends: its fault's line, and its exit status.
-use Rattle.std.specs.Prelude.{ℕ, List, Bool, true, false, Result, Ok, Err, Option, Some, None, codes}
+use Rattle.std.specs.Prelude.{◌≡◌, ℕ, List, [], Bool, true, false, Result, Ok, Err, Option, Some, None, codes, unwrap_or}
+use Rattle.std.specs.Io.{StartsWith}
+use Rattle.std.specs.Io.KnownBytes.{Appends}
+use Rattle.moveledger.specs.Printing.{line}
+use Rattle.moveledger.specs.declared.command.LineError.{LineError}
+use Rattle.moveledger.specs.declared.command.LineError.TheVariants as words
 use Rattle.moveledger.specs.declared.engine.EngineError.{EngineError}
 use Rattle.moveledger.specs.declared.engine.EngineError.TheVariants as error
 use Rattle.moveledger.specs.declared.keeping.KeepError.{KeepError}
@@ -38,16 +43,25 @@ end_after_keeping (Ok done) = Done
 end_after_keeping (Err keep.Write) = Write
 end_after_keeping (Err keep.Memory) = Memory
 
+-- the end where a command line isn't understood, or asks for help
+abbrev pub end_after_words : LineError → End
+end_after_words (words.Words text) = Words
+end_after_words words.Memory = Memory
+
 -- the line of a fault
 abbrev pub fault_line : End → Option (List ℕ)
 fault_line Done = None
-fault_line Read = Some (codes "fault: read")
-fault_line Write = Some (codes "fault: write")
-fault_line Memory = Some (codes "fault: memory")
+fault_line Read = Some (line (codes "fault: read"))
+fault_line Write = Some (line (codes "fault: write"))
+fault_line Memory = Some (line (codes "fault: memory"))
 fault_line Words = None
 fault_line (Refused phase) = None
 fault_line (LoadRefused number) = None
 fault_line TooComplex = None
+
+-- what is said of a fault
+abbrev pub fault_said : End → List ℕ
+fault_said end = unwrap_or (fault_line end) []
 
 -- 0 where it is done, 1 at a fault, 2 where the command line isn't understood, 3 where a module is refused or too complex, or a
 -- saved ledger is refused
@@ -60,3 +74,9 @@ status_of Words = 2
 status_of (Refused phase) = 3
 status_of (LoadRefused number) = 3
 status_of TooComplex = 3
+
+-- The program ends with the status of this end, and standard error took the line of its fault, or the front of it that it takes, and
+-- nothing else.
+abbrev pub EndsSo : End → Option (List ℕ) → Option (List ℕ) → ℕ → Type 0
+EndsSo end held holds status =
+    (status ≡ status_of end) × (part : List ℕ) × StartsWith (fault_said end) part × Appends held holds part

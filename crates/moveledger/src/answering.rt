@@ -1,10 +1,10 @@
 // What is written for a record.
-ghost use Rattle.std.specs.Prelude.{◌≡◌, ◌≢◌, ℕ, List, [], ◌∷◌, ◌++◌, None, Some, IfOk, IfErr, OnOk, MatchOption, codes, decimal, string_bytes};
+ghost use Rattle.std.specs.Prelude.{◌≡◌, ◌≢◌, ℕ, List, [], ◌∷◌, ◌++◌, None, Some, Err, IfOk, IfErr, OnOk, MatchOption, codes, decimal, string_bytes};
 ghost use Rattle.std.specs.Io.{StartsWith};
 ghost use Rattle.std.specs.Io.KnownBytes.{Appends};
 ghost use Rattle.mv_machine.specs.Lines.{Reply as Told, numbered, kind_text, stop_text};
 ghost use Rattle.mv_ledger.specs.Answering.{told, told_ending, told_lines};
-ghost use Rattle.moveledger.specs.Answered.{IsAnswered, MayBeAnswered, Writes, WritesPart, WritesReply, WritesReplyPart, line_of};
+ghost use Rattle.moveledger.specs.Answered.{IsAnswered, IsBegun, MayBeAnswered, Writes, WritesPart, WritesReply, WritesReplyPart, line_of};
 
 use crate::engine::EngineError;
 use mv_ledger::{Ledger, Lines, Reply};
@@ -162,6 +162,7 @@ pub fn write_reply<W: Write>(
     ensures ok { OnOk result (WritesReply number (told reply) (W.contents writer.old) (W.contents writer.new)) }
     ensures err { IfErr result (λ e. (e ≢ EngineError.Read)
         × WritesReplyPart number (told reply) (W.contents writer.old) (W.contents writer.new)) }
+    ensures write { result ≡ Err EngineError.Write → told reply ≢ None }
 {
     match words(alloc, reply)? {
         Some(text) => write_line(alloc, writer, number, text.as_bytes()),
@@ -179,6 +180,7 @@ fn write_report<W: Write>(
     ensures ok { OnOk result (WritesReply number (told_lines report.entry) (W.contents writer.old) (W.contents writer.new)) }
     ensures err { IfErr result (λ e. (e ≢ EngineError.Read)
         × WritesReplyPart number (told_lines report.entry) (W.contents writer.old) (W.contents writer.new)) }
+    ensures write { result ≡ Err EngineError.Write → told_lines report.entry ≢ None }
 {
     match report {
         Ok(lines) => write_lines(alloc, writer, number, lines),
@@ -212,6 +214,9 @@ pub fn answer<W: Write>(
         (W.contents writer.old) (W.contents writer.new)) }
     ensures err { IfErr result (λ e. (e ≢ EngineError.Read) × MayBeAnswered number kind payload.now ledger.old ledger.new
         (W.contents writer.old) (W.contents writer.new)) }
+    // A write fails only where there is something to write: the ledger is as after the record then.
+    ensures write { result ≡ Err EngineError.Write → IsBegun number kind payload.now ledger.old ledger.new
+        (W.contents writer.old) (W.contents writer.new) }
 {
     if kind == PUBLISH {
         return write_reply(alloc, writer, number, ledger.publish(payload));

@@ -3,7 +3,7 @@ ghost use Rattle.std.specs.Prelude.{◌≡◌, ℕ, List, [], IfOk, IfErr, Err};
 ghost use Rattle.moveledger.specs.Records.{Record, AreRecords};
 ghost use Rattle.moveledger.specs.Headline.{Headline};
 ghost use Rattle.moveledger.specs.OneReport.{OneReport};
-ghost use Rattle.moveledger.specs.Outcome.{Stops, StopsReading};
+ghost use Rattle.moveledger.specs.Outcome.{ReadsAll, Stops, StopsReading, StopsWriting};
 
 use crate::answering::{answer, write_reply};
 use crate::pacing::{AfterRecord, Gathering};
@@ -43,9 +43,8 @@ impl From<AllocError> for EngineError {
 ///
 /// # Errors
 ///
-/// `Read` if a read failed; `Write` if a write failed or took nothing; `Memory` if an allocation failed. The ledger and the
-/// writer stand as the clauses say. After `Write` and `Memory` no clause says how much of the input was read: to go on, count
-/// the lines of the report.
+/// `Read` if a read failed; `Write` if a write failed or took nothing; `Memory` if an allocation failed. Reader, writer and
+/// ledger stand as the clauses say. No read and no write is tried again.
 pub fn engine<R: Read, W: Write>(
     reader: &mut R,
     writer: &mut W,
@@ -54,11 +53,16 @@ pub fn engine<R: Read, W: Write>(
     // For every input: the headline.
     ensures ok { IfOk result (λ n. Headline (R.remaining reader.old)
         (W.contents writer.old) (W.contents writer.new) ledger.old ledger.new n) }
+    // What was read of it: all there was, up to the end of a cut record.
+    ensures taken { IfOk result (λ n. ReadsAll (R.remaining reader.old) (R.remaining reader.new) n) }
     // Whatever the error: a prefix of the report, and the ledger as some records left it.
     ensures err { IfErr result (λ _. Stops (R.remaining reader.old)
-        (W.contents writer.old) (W.contents writer.new) ledger.old ledger.new) }
+        (R.remaining reader.new) (W.contents writer.old) (W.contents writer.new) ledger.old ledger.new) }
     // A failed read: exactly the lines of the records that were read whole.
     ensures read { result ≡ Err EngineError.Read → StopsReading (R.remaining reader.old)
+        (R.remaining reader.new) (W.contents writer.old) (W.contents writer.new) ledger.old ledger.new }
+    // A failed write: nothing behind a prefix of the lines of the record that was being answered, and nothing read behind it.
+    ensures write { result ≡ Err EngineError.Write → StopsWriting (R.remaining reader.old)
         (R.remaining reader.new) (W.contents writer.old) (W.contents writer.new) ledger.old ledger.new }
 {
     answer_all(reader, writer, ledger, &mut Gathering)
@@ -74,9 +78,12 @@ pub fn answer_all<R: Read, W: Write, A: AfterRecord<R, W>>(
 ) -> Result<u64, EngineError>
     ensures ok { IfOk result (λ n. Headline (R.remaining reader.old)
         (W.contents writer.old) (W.contents writer.new) ledger.old ledger.new n) }
+    ensures taken { IfOk result (λ n. ReadsAll (R.remaining reader.old) (R.remaining reader.new) n) }
     ensures err { IfErr result (λ _. Stops (R.remaining reader.old)
-        (W.contents writer.old) (W.contents writer.new) ledger.old ledger.new) }
+        (R.remaining reader.new) (W.contents writer.old) (W.contents writer.new) ledger.old ledger.new) }
     ensures read { result ≡ Err EngineError.Read → StopsReading (R.remaining reader.old)
+        (R.remaining reader.new) (W.contents writer.old) (W.contents writer.new) ledger.old ledger.new }
+    ensures write { result ≡ Err EngineError.Write → StopsWriting (R.remaining reader.old)
         (R.remaining reader.new) (W.contents writer.old) (W.contents writer.new) ledger.old ledger.new }
 {
     let alloc = ledger.allocator();

@@ -29,10 +29,8 @@ mod status;
 #[cfg(test)]
 mod tests;
 
-use status::status as exit_status;
 use std::process::ExitCode;
 
 fn main(rt: HostRuntime) -> ExitCode {
-    let end = program::run(&rt);
-    ExitCode::from(exit_status(&end))
+    ExitCode::from(program::run(&rt))
 }

@@ -1,5 +1,5 @@
 // The program: its command line, its files, and what it prints.
-ghost use Rattle.std.specs.Prelude.{◌≡◌, IfOk, IfSome, None};
+ghost use Rattle.std.specs.Prelude.{◌≡◌, ◌+◌, ◌-◌, ◌^◌, IfOk, IfSome, None, min, unwrap_or};
 ghost use Rattle.std.specs.Fs.{file_type, metadata_len, IsFile};
 
 use crate::authoring::{check_module, prove_module};
@@ -8,20 +8,17 @@ use crate::keeping::keep;
 use crate::meter::{Counted, Meter, Report, Screen};
 use crate::pacing::{Gathering, Prompt};
 use crate::reporting::report;
-use crate::saved::{loaded, migrated, text_to_keep};
-use crate::status::{End, end_of_keeping, fault_text};
+use crate::saved::{end_of_text, loaded, migrated, text_to_keep};
+use crate::status::{End, end_of_words, ended};
 use mv_ledger::Ledger;
 use std::env;
 use std::fs::{self, File, Metadata};
 use std::io::{self, BufReader, BufWriter, ErrorKind, IsTerminal, Read, Write};
 
-/// Runs the program, and says how it ended. A fault has its line on standard error.
-pub fn run(rt: &HostRuntime) -> End {
+/// Runs the program, and gives the status that it ends with. A fault has its line on standard error.
+pub fn run(rt: &HostRuntime) -> u8 {
     let end = asked(rt);
-    if let Some(line) = fault_text(&end) {
-        let _ = rt.eprintln(line);
-    }
-    end
+    ended(&mut rt.stderr(), &end)
 }
 
 /// Reads the command line, and does what it asks for.
@@ -54,13 +51,11 @@ fn asked(rt: &HostRuntime) -> End {
 
 /// Says on standard error why there is no task.
 fn refused(rt: &HostRuntime, error: LineError) -> End {
-    match error {
-        LineError::Words(text) => {
-            let _ = rt.eprint(text);
-            End::Words
-        }
-        LineError::Memory => End::Memory,
+    let end = end_of_words(&error);
+    if let LineError::Words(text) = error {
+        let _ = rt.eprint(text);
     }
+    end
 }
 
 /// The name of standard input.
@@ -98,10 +93,7 @@ fn load_file(rt: &HostRuntime, path: &str) -> Result<Ledger, End> {
 
 /// Puts a ledger into the place of a file, if its records ended well.
 fn save_file(rt: &HostRuntime, path: &str, end: End, ledger: &Ledger) -> End {
-    match text_to_keep(end, ledger) {
-        Ok(text) => end_of_keeping(keep(rt, path, &text)),
-        Err(end) => end,
-    }
+    end_of_text(text_to_keep(end, ledger), |text| keep(rt, path, text))
 }
 
 /// Puts the ledger that one file keeps, in the form of today, into the place of another.
@@ -110,14 +102,14 @@ fn migrate(rt: &HostRuntime, old: &str, new: &str) -> End {
         return End::Read;
     };
     let expected = expected_bytes(regular_size(file.metadata()));
-    match migrated(rt.alloc(), file, expected, &mut io::writer(rt)) {
-        Ok(text) => end_of_keeping(keep(rt, new, &text)),
-        Err(end) => end,
-    }
+    let text = migrated(rt.alloc(), file, expected, &mut io::writer(rt));
+    end_of_text(text, |text| keep(rt, new, text))
 }
 
 /// Room for a file's bytes, and for one more: a read of it then finds the end.
-fn expected_bytes(size: Option<u64>) -> usize {
+fn expected_bytes(size: Option<u64>) -> usize
+    ensures { result ≡ min (unwrap_or size 0 + 1) (2 ^ 64 - 1) }
+{
     let size = usize::try_from(size.unwrap_or(0)).unwrap_or(0);
     size.saturating_add(1)
 }

@@ -1,9 +1,9 @@
 // Reading records from a reader.
-ghost use Rattle.std.specs.Prelude.{◌≡◌, ◌≢◌, ℕ, ◌≤◌, ◌<◌, List, [], ◌∷◌, ◌++◌, length, min, take, IfOk, IfErr, MatchOption};
+ghost use Rattle.std.specs.Prelude.{◌≡◌, ◌≢◌, ℕ, ◌≤◌, ◌<◌, List, [], ◌∷◌, length, min, take, IfOk, IfErr, MatchOption};
 ghost use Rattle.std.specs.Io.KnownBytes.{Consumes, IsAtEnd};
 ghost use Rattle.mv_uleb.specs.Uleb.{IsUleb};
-ghost use Rattle.moveledger.specs.Records.{IsText, NoWhole, payload_limit};
-ghost use Rattle.moveledger.specs.Reading.{NoLength, piece_limit};
+ghost use Rattle.moveledger.specs.Records.{payload_limit};
+ghost use Rattle.moveledger.specs.Reading.{HasNoLength, IsLengthBegun, IsUnfinished, piece_limit};
 ghost use Rattle.moveledger.specs.Next.{IsNext};
 ghost use Rattle.moveledger.specs.Outcome.{left_of};
 
@@ -52,10 +52,10 @@ const PAYLOAD_LIMIT: u64 = 33_554_432;
 fn read_length<R: Read>(reader: &mut R) -> Result<Option<u64>, EngineError>
     ensures ok { IfOk result (λ len. (took : List ℕ)
         × Consumes (R.remaining reader.old) (R.remaining reader.new) took
-        × MatchOption len (NoLength (took ++ left_of (R.remaining reader.new)))
+        × MatchOption len (HasNoLength took (left_of (R.remaining reader.new)))
         (λ n. IsUleb took n × (n ≤ payload_limit))) }
     ensures err { IfErr result (λ e. (e ≡ EngineError.Read) × (took : List ℕ)
-        × Consumes (R.remaining reader.old) (R.remaining reader.new) took × NoLength took) }
+        × Consumes (R.remaining reader.old) (R.remaining reader.new) took × IsLengthBegun took) }
 {
     let mut bytes = [0u8; 10];
     for i in 0..10 {
@@ -131,7 +131,7 @@ pub fn next_record<R: Read>(alloc: Global, reader: &mut R) -> Result<Next, Engin
         × Consumes (R.remaining reader.old) (R.remaining reader.new) took
         × IsNext took (left_of (R.remaining reader.new)) next) }
     ensures err { IfErr result (λ e. (e ≢ EngineError.Write) × (took : List ℕ)
-        × Consumes (R.remaining reader.old) (R.remaining reader.new) took × NoWhole took) }
+        × Consumes (R.remaining reader.old) (R.remaining reader.new) took × IsUnfinished took) }
 {
     let Some(kind) = read_byte(reader)? else {
         return Ok(Next::End);

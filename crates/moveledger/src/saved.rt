@@ -1,14 +1,18 @@
 // The commands over saved ledgers, over what their files give and what they print.
-ghost use Rattle.std.specs.Prelude.{◌≡◌, ◌≢◌, ◌⊎◌, List, ℕ, IfErr, IfOk, IfSome, OnOk};
+ghost use Rattle.std.specs.Prelude.{◌≡◌, ◌≢◌, ◌⊎◌, List, ℕ, Result, IfErr, IfOk, IfSome, OnOk};
+ghost use Rattle.std.specs.Fn.{FnOnceReturnsAt};
 ghost use Rattle.mv_ledger.specs.Loading.{IsLoadRefusal, IsLoaded};
 ghost use Rattle.mv_ledger.specs.SavedText.{IsSavedText, Second};
 ghost use Rattle.mv_ledger.specs.View.{state_of};
 ghost use Rattle.moveledger.specs.Saved.{IsMigrated, IsNotLoaded};
+ghost use Rattle.moveledger.specs.Status.{end_after_keeping};
+ghost use Rattle.moveledger.specs.declared.keeping.KeepError.{KeepError};
 
 use crate::authoring::printed;
 use crate::inputs::all_bytes;
+use crate::keeping::KeepError;
 use crate::printing::load_refused_line;
-use crate::status::End;
+use crate::status::{End, end_of_keeping};
 use mv_ledger::{Ledger, LoadError};
 use std::alloc::Global;
 use std::io::{Read, Write};
@@ -48,6 +52,23 @@ pub fn text_to_keep(end: End, ledger: &Ledger) -> Result<Vec<u8>, End>
             Err(_) => Err(End::Memory),
         },
         fault => Err(fault),
+    }
+}
+
+/// The end once a text is to take the place of a file: that of what keeps it, which is called with that text alone, and where
+/// there is no text isn't called.
+pub fn end_of_text<F: FnOnce(&[u8]) -> Result<(), KeepError>>(
+    text: Result<Vec<u8>, End>,
+    keep: F,
+) -> End
+    requires { F.IsAlwaysCallable keep }
+    ensures kept { IfOk text (λ t. (kept : Result (Unit {0}) KeepError) × FnOnceReturnsAt F.FnOnce keep t.items kept
+        × (result ≡ end_after_keeping kept)) }
+    ensures fault { IfErr text (λ end. result ≡ end) }
+{
+    match text {
+        Ok(text) => end_of_keeping(keep(&text)),
+        Err(end) => end,
     }
 }
 

@@ -1,11 +1,16 @@
 // How the program ends: its fault's line, and its exit status.
-ghost use Rattle.std.specs.Prelude.{◌≡◌, option_map};
-ghost use Rattle.moveledger.specs.Status.{end_after, end_after_check, end_after_keeping, end_after_proof, fault_line, status_of};
+ghost use Rattle.std.specs.Prelude.{◌≡◌, ℕ, List, IfErr, OnOk, option_map};
+ghost use Rattle.std.specs.Io.{StartsWith};
+ghost use Rattle.std.specs.Io.KnownBytes.{Appends};
+ghost use Rattle.moveledger.specs.Status.{EndsSo, end_after, end_after_check, end_after_keeping, end_after_proof, end_after_words, fault_line, fault_said, status_of};
 
+use crate::answering::write_text;
+use crate::command::LineError;
 use crate::engine::EngineError;
 use crate::keeping::KeepError;
 use mv_analyser::ProveError;
 use mv_move_types::Refusal;
+use std::io::Write;
 
 /// How the program ends.
 #[derive(Clone, Copy, Debug, PartialEq, Eq)]
@@ -78,15 +83,25 @@ pub fn end_of_keeping(kept: Result<(), KeepError>) -> End
     }
 }
 
+/// The end where a command line asks for nothing that can be done.
+pub fn end_of_words(error: &LineError) -> End
+    ensures { result ≡ end_after_words error.now }
+{
+    match error {
+        LineError::Words(_) => End::Words,
+        LineError::Memory => End::Memory,
+    }
+}
+
 /// The line of a fault. None where there is none: a command line that isn't understood has clap's text.
 pub fn fault_text(end: &End) -> Option<&'static str>
     ensures { option_map (λ s. s.now) result ≡ fault_line end.now }
 {
     match end {
         End::Done | End::Words | End::Refused(_) | End::LoadRefused(_) | End::TooComplex => None,
-        End::Read => Some("fault: read"),
-        End::Write => Some("fault: write"),
-        End::Memory => Some("fault: memory"),
+        End::Read => Some("fault: read\n"),
+        End::Write => Some("fault: write\n"),
+        End::Memory => Some("fault: memory\n"),
     }
 }
 
@@ -101,4 +116,25 @@ pub fn status(end: &End) -> u8
         End::Words => 2,
         End::Refused(_) | End::LoadRefused(_) | End::TooComplex => 3,
     }
+}
+
+/// Writes the line of a fault to standard error; nothing where there is none.
+fn say_fault<W: Write>(errors: &mut W, end: &End) -> Result<(), EngineError>
+    ensures ok { OnOk result (Appends (W.contents errors.old) (W.contents errors.new) (fault_said end.now)) }
+    ensures err { IfErr result (λ e. (e ≡ EngineError.Write) × (part : List ℕ) × StartsWith (fault_said end.now) part
+        × Appends (W.contents errors.old) (W.contents errors.new) part) }
+{
+    match fault_text(end) {
+        Some(line) => write_text(errors, line.as_bytes()),
+        None => Ok(()),
+    }
+}
+
+/// Says on standard error which fault there was, and gives the status that the program ends with. Where standard error takes no
+/// line, the status tells it alone.
+pub fn ended<W: Write>(errors: &mut W, end: &End) -> u8
+    ensures { EndsSo end.now (W.contents errors.old) (W.contents errors.new) result }
+{
+    let _ = say_fault(errors, end);
+    status(end)
 }

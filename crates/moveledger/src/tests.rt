@@ -3,6 +3,7 @@
 mod altered;
 mod authoring;
 mod fakes;
+mod faults;
 mod keeping;
 mod line;
 mod rows;
@@ -18,25 +19,6 @@ use std::test::Fail;
 
 const MANY: usize = usize::MAX;
 
-// Errors of readers and writers, one that other programs would try again among them.
-const KINDS: [ErrorKind; 6] = [
-    ErrorKind::Interrupted,
-    ErrorKind::WouldBlock,
-    ErrorKind::UnexpectedEof,
-    ErrorKind::BrokenPipe,
-    ErrorKind::OutOfMemory,
-    ErrorKind::Other,
-];
-
-// What a writer without room does: it takes nothing, or fails.
-const FULL: [Option<ErrorKind>; 5] = [
-    None,
-    Some(ErrorKind::Interrupted),
-    Some(ErrorKind::WouldBlock),
-    Some(ErrorKind::OutOfMemory),
-    Some(ErrorKind::Other),
-];
-
 fn whole(bytes: &[u8]) -> Pieces<'_> {
     Pieces {
         bytes,
@@ -44,6 +26,7 @@ fn whole(bytes: &[u8]) -> Pieces<'_> {
         until: MANY,
         error: ErrorKind::Other,
         most_asked: 0,
+        calls: 0,
     }
 }
 
@@ -53,6 +36,7 @@ fn room(alloc: Global) -> Room {
         each: MANY,
         room: MANY,
         error: None,
+        calls: 0,
     }
 }
 
@@ -69,11 +53,11 @@ fn roomy(alloc: Global) -> Option<Room> {
 
 // How many records were answered.
 fn answered(
-    mut reader: Pieces<'_>,
+    reader: &mut Pieces<'_>,
     writer: &mut Room,
     ledger: &mut Ledger,
 ) -> Result<u64, EngineError> {
-    engine(&mut reader, writer, ledger)
+    engine(reader, writer, ledger)
 }
 
 // How many records an input has, and the report on them.
@@ -86,13 +70,13 @@ fn report(
         return Err(Fail::from("the input is shorter"));
     };
     let mut writer = room(alloc);
-    let count = answered(whole(bytes), &mut writer, ledger)?;
+    let count = answered(&mut whole(bytes), &mut writer, ledger)?;
     Ok((count, writer.taken))
 }
 
 // How many records an input has, given and taken in pieces, and the report on them.
 fn in_pieces(alloc: Global, bytes: &[u8], each: usize) -> Result<(u64, Vec<u8>), EngineError> {
-    let reader = Pieces {
+    let mut reader = Pieces {
         each,
         ..whole(bytes)
     };
@@ -101,7 +85,7 @@ fn in_pieces(alloc: Global, bytes: &[u8], each: usize) -> Result<(u64, Vec<u8>),
         ..room(alloc)
     };
     let mut ledger = Ledger::new(alloc);
-    let count = answered(reader, &mut writer, &mut ledger)?;
+    let count = answered(&mut reader, &mut writer, &mut ledger)?;
     Ok((count, writer.taken))
 }
 
@@ -142,67 +126,6 @@ fn long_payloads_are_read_in_pieces(rt: HostRuntime) -> Result<(), Fail> {
     Ok(())
 }
 
-// What comes of an input whose reader fails after so many bytes, and the report.
-fn read_until(
-    alloc: Global,
-    bytes: &[u8],
-    until: usize,
-    error: ErrorKind,
-) -> (Result<u64, EngineError>, Vec<u8>) {
-    let reader = Pieces {
-        until,
-        error,
-        ..whole(bytes)
-    };
-    let mut writer = room(alloc);
-    let mut ledger = Ledger::new(alloc);
-    let result = answered(reader, &mut writer, &mut ledger);
-    (result, writer.taken)
-}
-
-#[test]
-fn failed_reads_end_it(rt: HostRuntime) -> Result<(), Fail> {
-    let (bytes, report) = row_that_shows(rt.alloc(), MINTED_TWICE)?;
-    for (until, length) in [(0, 0), (123, 0), (124, 14), (125, 14), (176, 27)] {
-        for error in KINDS {
-            let (result, written) = read_until(rt.alloc(), &bytes, until, error);
-            assert_eq!(rt; result, Err(EngineError::Read));
-            assert_eq!(rt; Some(written.as_slice()), report.as_bytes().get(..length));
-        }
-    }
-    Ok(())
-}
-
-// What comes of an input whose writer has no more than this room, and the report.
-fn written_until(
-    alloc: Global,
-    bytes: &[u8],
-    left: usize,
-    error: Option<ErrorKind>,
-) -> (Result<u64, EngineError>, Vec<u8>) {
-    let mut writer = Room {
-        room: left,
-        error,
-        ..room(alloc)
-    };
-    let mut ledger = Ledger::new(alloc);
-    let result = answered(whole(bytes), &mut writer, &mut ledger);
-    (result, writer.taken)
-}
-
-#[test]
-fn failed_writes_end_it(rt: HostRuntime) -> Result<(), Fail> {
-    let (bytes, report) = row_that_shows(rt.alloc(), MINTED_TWICE)?;
-    for left in [0, 3, 16] {
-        for error in FULL {
-            let (result, written) = written_until(rt.alloc(), &bytes, left, error);
-            assert_eq!(rt; result, Err(EngineError::Write));
-            assert_eq!(rt; Some(written.as_slice()), report.as_bytes().get(..left));
-        }
-    }
-    Ok(())
-}
-
 // After a fault a ledger answers the records after those that it was changed by. They count from 1 again.
 
 #[test]
@@ -210,11 +133,11 @@ fn ledgers_go_on_after_failed_reads(rt: HostRuntime) -> Result<(), Fail> {
     let (bytes, _) = row_that_shows(rt.alloc(), MINTED_TWICE)?;
     // It fails within the second record: the module is published, and no coin minted.
     let mut ledger = Ledger::new(rt.alloc());
-    let reader = Pieces {
+    let mut reader = Pieces {
         until: 150,
         ..whole(bytes.as_slice())
     };
-    let result = answered(reader, &mut room(rt.alloc()), &mut ledger);
+    let result = answered(&mut reader, &mut room(rt.alloc()), &mut ledger);
     assert_eq!(rt; result, Err(EngineError::Read));
     let (count, next) = report(rt.alloc(), bytes.get(124..), &mut ledger)?;
     assert_eq!(rt; count, 2);
@@ -234,7 +157,7 @@ fn ledgers_go_on_after_failed_writes(rt: HostRuntime) -> Result<(), Fail> {
         room: 16,
         ..room(rt.alloc())
     };
-    let result = answered(whole(&bytes), &mut writer, &mut ledger);
+    let result = answered(&mut whole(&bytes), &mut writer, &mut ledger);
     assert_eq!(rt; result, Err(EngineError::Write));
     let (count, next) = report(rt.alloc(), bytes.get(176..), &mut ledger)?;
     assert_eq!(rt; count, 1);
@@ -247,10 +170,10 @@ fn after(alloc: Global, first: &[u8], bytes: &[u8]) -> Option<(Vec<u8>, Vec<u8>)
     let mut ledger = Ledger::new(alloc);
     let mut writer = room(alloc);
     let mut writer_again = room(alloc);
-    if answered(whole(first), &mut writer, &mut ledger).is_err() {
+    if answered(&mut whole(first), &mut writer, &mut ledger).is_err() {
         return None;
     }
-    match answered(whole(bytes), &mut writer_again, &mut ledger) {
+    match answered(&mut whole(bytes), &mut writer_again, &mut ledger) {
         Ok(_) => Some((writer.taken, writer_again.taken)),
         Err(_) => None,
     }
@@ -301,14 +224,16 @@ fn ledgers_stand_where_memory_runs_out(rt: HostRuntime) -> Result<(), Fail> {
             return Ok(());
         };
         let mut ledger = Ledger::new(rt.alloc());
-        let result = answered(whole(&bytes), &mut writer, &mut ledger);
+        let result = answered(&mut whole(&bytes), &mut writer, &mut ledger);
         let written = writer.taken.as_slice();
         let Err(error) = result else {
             assert_eq!(rt; written, report.as_bytes(), "{shows}");
             continue;
         };
         assert_eq!(rt; error, EngineError::Memory);
-        if answered(whole(&bytes), &mut writer_again, &mut ledger).is_ok() {
+        // What refuses requests ends with this.
+        let _ = rt.eprintln("memory is back");
+        if answered(&mut whole(&bytes), &mut writer_again, &mut ledger).is_ok() {
             let again = writer_again.taken.as_slice();
             assert!(rt;
                 is_left_by_some(rt.alloc(), &row, &bytes, written, again),

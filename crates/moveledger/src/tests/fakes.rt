@@ -5,8 +5,8 @@ ghost use Rattle.std.specs.Prelude.{Some};
 use std::io;
 use std::io::{ErrorKind, Read, Write};
 
-/// A reader over memory that gives at most `each` bytes a call, and fails with `error` once it has given `until`. It notes
-/// the most bytes that a call asked for.
+/// A reader over memory that gives at most `each` bytes a call. Once it has given `until`, it fails with `error`, and goes on
+/// where it is asked again. It notes the most bytes that a call asked for, and how many calls there were from the failed one on.
 #[derive(Drop)]
 pub struct Pieces<'a> {
     pub bytes: &'a [u8],
@@ -14,6 +14,7 @@ pub struct Pieces<'a> {
     pub until: usize,
     pub error: ErrorKind,
     pub most_asked: usize,
+    pub calls: usize,
 }
 
 impl Read for Pieces<'_> {
@@ -22,7 +23,12 @@ impl Read for Pieces<'_> {
 
     fn read(&mut self, buf: &mut [u8]) -> io::Result<usize> {
         self.most_asked = self.most_asked.max(buf.len());
+        if self.calls > 0 {
+            self.calls = self.calls.saturating_add(1);
+        }
         if self.until == 0 {
+            self.until = usize::MAX;
+            self.calls = 1;
             return Err(io::Error::from(self.error));
         }
         let most = self
@@ -39,21 +45,27 @@ impl Read for Pieces<'_> {
     }
 }
 
-/// A writer into memory that takes at most `each` bytes a call and `room` bytes in all. Then it fails with `error`, or
-/// takes nothing.
+/// A writer into memory that takes at most `each` bytes a call. Once it has taken `room`, it fails with `error`, or takes
+/// nothing, and goes on where it is asked again. It notes how many calls there were from the failed one on.
 #[derive(Drop)]
 pub struct Room {
     pub taken: Vec<u8>,
     pub each: usize,
     pub room: usize,
     pub error: Option<ErrorKind>,
+    pub calls: usize,
 }
 
 impl Write for Room {
     ghost contents = { λ w. Some w.taken.items };
 
     fn write(&mut self, buf: &[u8]) -> io::Result<usize> {
+        if self.calls > 0 {
+            self.calls = self.calls.saturating_add(1);
+        }
         if self.room == 0 {
+            self.room = usize::MAX;
+            self.calls = 1;
             return match self.error {
                 Some(kind) => Err(io::Error::from(kind)),
                 None => Ok(0),

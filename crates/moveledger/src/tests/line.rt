@@ -66,9 +66,9 @@ fn modules_are_proved_and_checked(rt: HostRuntime) -> Result<(), Fail> {
 fn ends_have_their_line_and_status(rt: HostRuntime) {
     for (end, line, wanted) in [
         (End::Done, None, 0),
-        (End::Read, Some("fault: read"), 1),
-        (End::Write, Some("fault: write"), 1),
-        (End::Memory, Some("fault: memory"), 1),
+        (End::Read, Some("fault: read\n"), 1),
+        (End::Write, Some("fault: write\n"), 1),
+        (End::Memory, Some("fault: memory\n"), 1),
         (End::Words, None, 2),
         (End::Refused(10), None, 3),
         (End::LoadRefused(5), None, 3),

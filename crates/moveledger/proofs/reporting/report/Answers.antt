@@ -1,9 +1,6 @@
-use Rattle.std.proofs.Common.{◌≡◌, subst, sym}
-use Rattle.moveledger.specs.Outcome.{Ends}
-use Rattle.moveledger.specs.declared.status.End.{End}
 use Rattle.moveledger.proofs.Endings.{ends_after}
 use Rattle.moveledger.proofs.reporting.report.Goals as goal
 
 pub returns-clause-ends : goal.returns-clause-ends
 returns-clause-ends g c =
-    rw (c.end_of.ensures) (ends_after c.answer_all-answered.result c.is_ok-is_flushed.result _ _ _ _ _ _ _ c.answer_all-answered.ensures.ok c.answer_all-answered.ensures.err c.answer_all-answered.ensures.read c.flush.ensures.bytes)
+    rw (c.end_of.ensures) (ends_after c.answer_all-answered.result c.is_ok-is_flushed.result _ _ _ _ _ _ _ c.answer_all-answered.ensures.ok c.answer_all-answered.ensures.taken c.answer_all-answered.ensures.err c.answer_all-answered.ensures.read c.flush.ensures.bytes)
