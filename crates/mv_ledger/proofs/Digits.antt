@@ -30,7 +30,7 @@ same_at (suc n) k h lt =
 digit : (d : ℕ) → d < 16 → slice_index lower_digits d ≡ hex_digit d
 digit d lt = eqb-true (slice_index lower_digits d) (hex_digit d) (same_at 16 d refl lt)
 
-byte_at-lt : (k n : ℕ) → byte_at k n < 256
+pub byte_at-lt : (k n : ℕ) → byte_at k n < 256
 byte_at-lt zero n = omega arith
 byte_at-lt (suc i) n = omega arith
 

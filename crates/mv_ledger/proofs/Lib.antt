@@ -30,6 +30,9 @@ pub mod Fields
 pub mod Structs
 pub mod Audits
 pub mod Listed
+pub mod NamePieces
+pub mod PlainTexts
+pub mod Names
 pub mod Objects
 pub mod Reports
 pub mod SavedOnce

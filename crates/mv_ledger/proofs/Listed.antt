@@ -1,40 +1,51 @@
--- Objects with a comma between each two, one after the other.
-use Rattle.std.proofs.Common.{◌≡◌, ℕ, Bool, true, false, List, [], ◌∷◌, ◌++◌, append_assoc, refl, sym, ap, ap₂, ◌∙◌, codes}
-use Rattle.mv_machine.specs.Lines.{with_commas}
-use Rattle.mv_ledger.specs.Showing.{comma_if}
+-- Objects as values, one after the other.
+use Rattle.std.proofs.Common.{◌≡◌, ℕ, List, [], ◌∷◌, ◌++◌, append_assoc, sym, ap, ◌∙◌, subst, map}
+use Rattle.serde_json.specs.declared.value.Value.{Value}
+use Rattle.std.specs.List.{AllByRecursion}
+use Rattle.mv_machine.specs.Lines.{Tallied}
+use Rattle.mv_ledger.specs.Auditing.{count_object, stored_of}
+use Rattle.mv_ledger.specs.JsonValues.{IsWrittenAs, AreWrittenAs}
+use Rattle.mv_ledger.proofs.Names.{IsPlainTallied}
 
--- whether there is one
-abbrev is_some : List (List ℕ) → Bool
-is_some [] = false
-is_some (t ∷ ts) = true
+written-push : (vs : List Value) (ts : List (List ℕ)) (v : Value) (t : List ℕ) → AreWrittenAs vs ts → IsWrittenAs v t → AreWrittenAs (vs ++ v ∷ []) (ts ++ t ∷ [])
+written-push [] [] v t h is = (is, tt)
+written-push [] (u ∷ ts) v t h is = absurd h
+written-push (w ∷ vs) [] v t h is = absurd h
+written-push (w ∷ vs) (u ∷ ts) v t h is = (h.0, written-push vs ts v t h.1 is)
 
-with_commas-push : (done : List (List ℕ)) (t : List ℕ) → with_commas (done ++ t ∷ []) ≡ (with_commas done ++ comma_if (is_some done)) ++ t
-with_commas-push [] t = refl
-with_commas-push (d ∷ []) t = refl
-with_commas-push (d ∷ e ∷ done) t =
-    ap (λ l. (d ++ codes ",") ++ l) (with_commas-push (e ∷ done) t)
-    ∙ sym (append_assoc (d ++ codes ",") (with_commas (e ∷ done) ++ codes ",") t)
-    ∙ ap (λ l. l ++ t) (sym (append_assoc (d ++ codes ",") (with_commas (e ∷ done)) (codes ",")))
-
--- some of the objects are put after the beginning of a line, and these are left
-pub record IsListed (front : List ℕ) (whole left : List (List ℕ)) (later : Bool) (text : List ℕ) : Type 0 where
+-- of these texts of objects the first are values, and these are left
+pub record IsListed (whole left : List (List ℕ)) (values : List Value) : Type 0 where
   pub done : List (List ℕ)
   pub whole_is : whole ≡ done ++ left
-  pub later_is : later ≡ is_some done
-  pub text_is : text ≡ front ++ with_commas done
+  pub written : AreWrittenAs values done
 
-some-push : (done : List (List ℕ)) (t : List ℕ) → true ≡ is_some (done ++ t ∷ [])
-some-push [] t = refl
-some-push (d ∷ done) t = refl
-
-module _ (front : List ℕ) (whole left : List (List ℕ)) (later : Bool) (text : List ℕ) (is : IsListed front whole left later text) where
+module _ (whole left : List (List ℕ)) (values : List Value) (is : IsListed whole left values) where
   -- the next one
-  pub listed-more : (object : List ℕ) (rest : List (List ℕ)) (comma more : List ℕ) → left ≡ object ∷ rest → comma ≡ text ++ comma_if later → more ≡ comma ++ object → IsListed front whole rest true more
-  listed-more object rest comma more first put_comma put_object = record {
+  pub listed-more : (object : List ℕ) (rest : List (List ℕ)) (v : Value) (more : List Value) → left ≡ object ∷ rest → IsWrittenAs v object → more ≡ values ++ v ∷ [] → IsListed whole rest more
+  listed-more object rest v more first written push = record {
     done = is.done ++ object ∷ [];
     whole_is = is.whole_is ∙ ap (λ l. is.done ++ l) first ∙ sym (append_assoc is.done (object ∷ []) rest);
-    later_is = some-push is.done object;
-    text_is =
-        put_object ∙ ap (λ l. l ++ object) (put_comma ∙ ap₂ (λ l b. l ++ comma_if b) is.text_is is.later_is ∙ append_assoc front (with_commas is.done) (comma_if (is_some is.done)))
-        ∙ append_assoc front (with_commas is.done ++ comma_if (is_some is.done)) object ∙ ap (λ l. front ++ l) (sym (with_commas-push is.done object));
+    written = subst (λ (l : List Value). AreWrittenAs l (is.done ++ object ∷ [])) (sym push) (written-push values is.done v object is.written written);
+  }
+
+-- the same of the objects of counts, of structs with plain names
+pub record IsCounted (whole : List (List ℕ)) (left : List Tallied) (values : List Value) : Type 0 where
+  pub listed : IsListed whole (map (λ t. count_object (stored_of t) t) left) values
+  pub plain : AllByRecursion IsPlainTallied left
+
+pub counted-none : (all left : List Tallied) (values : List Value) → left ≡ all → values ≡ [] → AllByRecursion IsPlainTallied all → IsCounted (map (λ t. count_object (stored_of t) t) all) left values
+counted-none all left values is none plain = record {
+  listed = record {
+    done = [];
+    whole_is = ap (map (λ t. count_object (stored_of t) t)) (sym is);
+    written = subst (λ (l : List Value). AreWrittenAs l []) (sym none) tt;
+  };
+  plain = subst (AllByRecursion IsPlainTallied) (sym is) plain;
+}
+
+module _ (whole : List (List ℕ)) (left rest : List Tallied) (t : Tallied) (first : left ≡ t ∷ rest) where
+  pub counted-more : (values more : List Value) (v : Value) → IsCounted whole left values → IsWrittenAs v (count_object (stored_of t) t) → more ≡ values ++ v ∷ [] → IsCounted whole rest more
+  counted-more values more v is written push = record {
+    listed = listed-more whole _ values is.listed _ _ v more (ap (map (λ t. count_object (stored_of t) t)) first) written push;
+    plain = (subst (AllByRecursion IsPlainTallied) first is.plain).1;
   }

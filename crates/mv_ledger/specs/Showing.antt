@@ -1,5 +1,5 @@
 -- How the lines of a show and of an audit are made, and which of them are left.
-use Rattle.std.specs.Prelude.{Bool, cond, codes, ◌≡◌, ℕ, ◌+◌, List, [], ◌∷◌, ◌++◌, map, length, Option, Some, None, option_map, unwrap_or}
+use Rattle.std.specs.Prelude.{◌≡◌, ℕ, ◌+◌, List, [], ◌∷◌, ◌++◌, map, length, Option, Some, None, option_map, unwrap_or}
 use Rattle.std.specs.Borrow.{Bor}
 use Rattle.mv_move_types.specs.Names.{StructName}
 use Rattle.mv_move_types.specs.Module.{Module}
@@ -32,7 +32,3 @@ key_value_text modules name words =
 -- the lines of a show over these entries, after so many others
 abbrev pub show_from : List Module → List FlatEntry → ℕ → List (List ℕ)
 show_from modules entries n = map (entry_line modules) (storage_of modules entries) ++ end_line (n + length entries) ∷ []
-
--- what stands before an object of a list: a comma after another
-abbrev pub comma_if : Bool → List ℕ
-comma_if later = cond later (codes ",") []

@@ -18,7 +18,7 @@
 mod audit;
 mod executing;
 mod format;
-mod json;
+mod json_lines;
 mod laws;
 mod layouts;
 mod lines;
@@ -26,6 +26,7 @@ mod loading;
 mod payload;
 mod publishing;
 mod saving;
+mod strings;
 mod tallies;
 mod texts;
 mod values;
@@ -39,7 +40,7 @@ ghost use Rattle.mv_ledger.specs.SavedText.{IsSavedText, Second};
 
 use executing::{Barred, admitted};
 use format::{Format, read_format};
-use json::{json_of_storage, json_of_tallies};
+use json_lines::{json_of_storage, json_of_tallies};
 pub use laws::{
     each_ledger_has_one_text, each_load_is_one, each_load_is_saved, each_load_is_sound,
     each_record_is_well, each_save_is_loaded, each_second_form_comes_back,

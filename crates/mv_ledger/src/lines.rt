@@ -1,5 +1,5 @@
 // The lines of a show and of an audit.
-ghost use Rattle.std.specs.Prelude.{◌≡◌, ◌∷◌, [], ◌+◌, ◌<◌, ◌^◌, length, map, IfOk, MatchOption};
+ghost use Rattle.std.specs.Prelude.{◌≡◌, ◌∷◌, [], ◌+◌, ◌<◌, ◌^◌, length, map, IfOk, OnErr, MatchOption};
 ghost use Rattle.mv_linker.specs.Link.{tables_in};
 ghost use Rattle.mv_machine.specs.Flat.{storage_of, value_under};
 ghost use Rattle.mv_machine.specs.Lines.{end_line, entry_line, show_lines};
@@ -177,9 +177,10 @@ impl<'a> Lines<'a> {
         }
     }
 
-    /// The next line; none where all were told.
+    /// The next line; none where all were told. After an error no line is left.
     pub fn next(&mut self) -> Result<Option<Vec<u8>>, AllocError>
-        ensures { IfOk result (λ line. MatchOption line ((self.old ≡ []) × (self.new ≡ [])) (λ text. self.old ≡ text.items ∷ self.new)) }
+        ensures line { IfOk result (λ line. MatchOption line ((self.old ≡ []) × (self.new ≡ [])) (λ text. self.old ≡ text.items ∷ self.new)) }
+        ensures ended { OnErr result (self.new ≡ []) }
     {
         match mem::replace(&mut self.left, Left::Nothing) {
             Left::Nothing => Ok(None),

@@ -1,4 +1,4 @@
-use Rattle.mv_ledger.proofs.Objects.{name_put}
+use Rattle.mv_ledger.proofs.NamePieces.{name_put}
 use Rattle.mv_ledger.proofs.texts.put_name.Goals as goal
 
 pub returns : goal.returns

@@ -3,10 +3,9 @@ use Rattle.mv_linker.specs.Link.{tables_in}
 use Rattle.mv_machine.specs.Flat.{storage_of}
 use Rattle.mv_machine.specs.Lines.{entry_object}
 use Rattle.mv_ledger.proofs.Listed.{listed-more}
-use Rattle.mv_ledger.proofs.json.json_of_storage.Goals as goal
+use Rattle.mv_ledger.proofs.json_lines.json_of_storage.Goals as goal
 
 pub each-preserved : goal.each-preserved
 each-preserved c =
     let modules = tables_in c.args.store.now in
-    listed-more _ _ _ c.each.later c.each.text.items c.each.invariant _ _ c.put_comma.new.text.items c.put_entry.new.text.items
-    (ap (λ es. map (entry_object modules) (storage_of modules es)) c.in-Some.ensures) c.in_ok-put_comma.ensures c.in_ok-put_entry.ensures
+    listed-more _ _ _ c.each.invariant _ _ _ _ (ap (λ es. map (entry_object modules) (storage_of modules es)) c.in-Some.ensures) c.in_ok-entry_value.ensures c.in_ok-push.ensures.items
