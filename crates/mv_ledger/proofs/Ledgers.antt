@@ -10,10 +10,11 @@ use Rattle.mv_frames.specs.Counters.{AreSameCounts, IsClear}
 use Rattle.mv_frames.specs.declared.counters.Count.{Count}
 use Rattle.mv_interpreter.specs.Runs.{IsFineWords}
 use Rattle.mv_ledger.specs.declared.tallies.Tally.{Tally}
-use Rattle.mv_ledger.specs.View.{state_of, view_of, all_of, IsLedger, AreSized, IsNamed, IsSmall, AreScarce}
+use Rattle.mv_ledger.specs.View.{state_of, view_of, all_of, IsLedger, AreSized, IsNamed, IsSmall, AreScarce, AreCountable}
 use Rattle.mv_ledger.specs.Judging.{IsAcceptedBy}
 use Rattle.mv_ledger.specs.Tallying.{AddsTallies}
 use Rattle.mv_ledger.specs.Accepted.SoundLedger.{IsSoundLedger}
+use Rattle.mv_ledger.proofs.Countable.{none-countable}
 use Rattle.mv_ledger.proofs.Staying.{stored-stays}
 use Rattle.mv_ledger.proofs.Accepted.Sound.{empty_sound}
 use Rattle.mv_ledger.proofs.Replying.{sound_with}
@@ -29,6 +30,7 @@ no_ledger counters clear = record {
   named = All-nil (IsNamed []);
   small = All-nil (IsSmall 0);
   clear = clear;
+  countable = none-countable counters [] refl;
   counted = omega arith;
   sound = empty_sound;
 }
@@ -43,9 +45,9 @@ still-clear : (counters counted : List (List Count)) → AreSameCounts counters 
 still-clear counters counted counts clear d = counts d ∙ clear d
 
 -- a ledger with other counters that are clear
-with_counters : (published : List PublishedModule) (stored : List FlatEntry) (tallies : List (List Tally)) (counters counted : List (List Count)) (runs : ℕ) → IsClear counted → IsLedger published stored tallies counters runs
+with_counters : (published : List PublishedModule) (stored : List FlatEntry) (tallies : List (List Tally)) (counters counted : List (List Count)) (runs : ℕ) → IsClear counted → AreCountable counted tallies → IsLedger published stored tallies counters runs
     → IsLedger published stored tallies counted runs
-with_counters published stored tallies counters counted runs clear is = record {
+with_counters published stored tallies counters counted runs clear countable is = record {
   few = is.few;
   sized = is.sized;
   fine = is.fine;
@@ -54,6 +56,7 @@ with_counters published stored tallies counters counted runs clear is = record {
   named = is.named;
   small = is.small;
   clear = clear;
+  countable = countable;
   counted = is.counted;
   sound = is.sound;
 }
@@ -62,8 +65,8 @@ with_counters published stored tallies counters counted runs clear is = record {
 pub ledger-published : {T E : Type 0} (r : Result T E) (old new : List PublishedModule) (stored : List FlatEntry) (before after : List (List Tally)) (counters counted : List (List Count)) (runs : ℕ)
     → OnOk r (length new ≤ 4096) → OnOk r (AreSized new) → OnOk r (All (IsFineWords (tables_in old)) stored → All (IsFineWords (tables_in new)) stored) → OnErr r (new ≡ old) → OnErr r (after ≡ before)
     → length after ≡ length new → AreScarce (tables_in new) after → OnOk r (All (IsNamed (tables_in new)) (all_of after)) → All (IsSmall runs) (all_of after)
-    → OnOk r (IsSoundLedger (state_of (view_of new stored (all_of after) runs))) → AreSameCounts counters counted → IsLedger old stored before counters runs → IsLedger new stored after counted runs
-ledger-published (Ok x) old new stored before after counters counted runs room sized stays kept same placed scarce named small sound counts is = record {
+    → OnOk r (IsSoundLedger (state_of (view_of new stored (all_of after) runs))) → AreSameCounts counters counted → AreCountable counted after → IsLedger old stored before counters runs → IsLedger new stored after counted runs
+ledger-published (Ok x) old new stored before after counters counted runs room sized stays kept same placed scarce named small sound counts countable is = record {
   few = room;
   sized = sized;
   fine = stays is.fine;
@@ -72,17 +75,18 @@ ledger-published (Ok x) old new stored before after counters counted runs room s
   named = named;
   small = small;
   clear = still-clear counters counted counts is.clear;
+  countable = countable;
   counted = is.counted;
   sound = sound;
 }
-ledger-published (Err e) old new stored before after counters counted runs room sized stays kept same placed scarce named small sound counts is =
-    subst (λ (l : List PublishedModule). IsLedger l stored after counted runs) (sym kept) (subst (λ (tss : List (List Tally)). IsLedger old stored tss counted runs) (sym same) (with_counters old stored before counters counted runs (still-clear counters counted counts is.clear) is))
+ledger-published (Err e) old new stored before after counters counted runs room sized stays kept same placed scarce named small sound counts countable is =
+    subst (λ (l : List PublishedModule). IsLedger l stored after counted runs) (sym kept) (subst (λ (tss : List (List Tally)). IsLedger old stored tss counted runs) (sym same) (with_counters old stored before counters counted runs (still-clear counters counted counts is.clear) (subst (AreCountable counted) same countable) is))
 
 -- a ledger whose storage and tallies a run changed
 pub ledger-run : (published : List PublishedModule) (old new : List FlatEntry) (before after : List (List Tally)) (counters counted : List (List Count)) (runs : ℕ) → All (IsFineWords (tables_in published)) new → length after ≡ length before
     → AreScarce (tables_in published) after → All (IsNamed (tables_in published)) (all_of after) → (All (IsSmall runs) (all_of before) → All (IsSmall (runs + 1)) (all_of after)) → runs < 4294967296
-    → IsSoundLedger (state_of (view_of published new (all_of after) (runs + 1))) → IsClear counted → IsLedger published old before counters runs → IsLedger published new after counted (runs + 1)
-ledger-run published old new before after counters counted runs fine placed scarce named small few sound clear is = record {
+    → IsSoundLedger (state_of (view_of published new (all_of after) (runs + 1))) → IsClear counted → AreCountable counted after → IsLedger published old before counters runs → IsLedger published new after counted (runs + 1)
+ledger-run published old new before after counters counted runs fine placed scarce named small few sound clear countable is = record {
   few = is.few;
   sized = is.sized;
   fine = fine;
@@ -91,14 +95,15 @@ ledger-run published old new before after counters counted runs fine placed scar
   named = named;
   small = small is.small;
   clear = clear;
+  countable = countable;
   counted = omega (arith, few);
   sound = sound;
 }
 
 -- memory ran out in a run
 pub ledger-kept : (published : List PublishedModule) (old new : List FlatEntry) (before after : List (List Tally)) (counters counted : List (List Count)) (runs : ℕ) → new ≡ old → length after ≡ length before → AreScarce (tables_in published) after → all_of after ≡ all_of before
-    → IsClear counted → IsLedger published old before counters runs → IsLedger published new after counted runs
-ledger-kept published old new before after counters counted runs p placed scarce same clear is = record {
+    → IsClear counted → AreCountable counted after → IsLedger published old before counters runs → IsLedger published new after counted runs
+ledger-kept published old new before after counters counted runs p placed scarce same clear countable is = record {
   few = is.few;
   sized = is.sized;
   fine = subst (λ (es : List FlatEntry). All (IsFineWords (tables_in published)) es) (sym p) is.fine;
@@ -107,6 +112,7 @@ ledger-kept published old new before after counters counted runs p placed scarce
   named = subst (λ (ts : List Tally). All (IsNamed (tables_in published)) ts) (sym same) is.named;
   small = subst (λ (ts : List Tally). All (IsSmall runs) ts) (sym same) is.small;
   clear = clear;
+  countable = countable;
   counted = is.counted;
   sound =
       subst (λ (es : List FlatEntry). IsSoundLedger (state_of (view_of published es (all_of after) runs))) (sym p)

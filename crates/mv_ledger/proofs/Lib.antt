@@ -10,6 +10,7 @@ pub mod Replying
 pub mod ShapesOfArguments
 pub mod Shapes
 pub mod ScarceTallies
+pub mod Countable
 pub mod TalliesFound
 pub mod TalliesAfter
 pub mod TalliesAdding

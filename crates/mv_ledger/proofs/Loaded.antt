@@ -40,6 +40,7 @@ use Rattle.mv_ledger.specs.SavedText.{head_text, body_text, tally_text, storage_
 use Rattle.mv_ledger.specs.View.{state_of, view_of, all_of, tallied, IsSmall, IsLedger}
 use Rattle.mv_ledger.proofs.Accepted.Stores.{accepted_store}
 use Rattle.mv_ledger.proofs.LoadedHead.{head-parts, head-whole, head-had}
+use Rattle.mv_ledger.proofs.Countable.{still-countable}
 use Rattle.mv_ledger.proofs.LoadedTallies.{counts-are, still-long, still-many, still-scarce, still-named, still-tallied}
 use Rattle.mv_ledger.proofs.Phases.{phase-no-memory}
 use Rattle.mv_ledger.proofs.Spelling.{passed-spelled}
@@ -224,6 +225,7 @@ module _ (bytes : List ℕ) (head : SavedHead) (rest : List ℕ) (are : AreBytes
           named = still-named (tables_in ps) tss uss kept joined.named;
           small = small-counts (tables_in ps) head.runs (storage_of (tables_in ps) stored) (all_of uss) counted;
           clear = joined.clear;
+          countable = still-countable counters tss uss kept joined.countable;
           counted = head-is.had;
           sound = sound;
         }

@@ -25,7 +25,7 @@ use Rattle.mv_ledger.specs.Loading.{AreLinked}
 use Rattle.mv_ledger.specs.LoadedParts.{reason_of, AreJoined, AreNotJoined}
 use Rattle.mv_ledger.specs.Publishing.{AllPass, IsRefusedAmong}
 use Rattle.mv_ledger.specs.Tallying.{AreWithin, ArePlacedFor, with_placed}
-use Rattle.mv_ledger.specs.View.{IsNamed}
+use Rattle.mv_ledger.specs.View.{AreCountable, IsNamed}
 use Rattle.mv_ledger.proofs.Joining.{joined-within, after-length, after-scarce, after-named, after-tallied}
 use Rattle.mv_ledger.proofs.Stores.{one_name-turns}
 
@@ -114,7 +114,7 @@ module _ (old : List PublishedModule) (tss : List (List Tally)) (none : old ≡ 
   within-first = subst (λ (us : List (List Tally)). AreWithin (length us) placed) (sym nothing) (joined-within [] ps [] placed None no_modules whole-first first at-first tt tt refl)
 
   module _ (offers : List Offer) (passed : AllPass offers ps) (store : List PublishedModule) (tallies : List (List Tally)) (counters : List (List Count)) (store_was : store ≡ with_modules old ps) (tallies_were : tallies ≡ with_placed tss placed)
-      (clear : IsClear counters) where
+      (clear : IsClear counters) (countable : AreCountable counters tallies) where
     store_is : store ≡ with_modules [] ps
     store_is = store_was ∙ ap (λ (s : List PublishedModule). with_modules s ps) none
 
@@ -136,4 +136,5 @@ module _ (old : List PublishedModule) (tss : List (List Tally)) (none : old ≡ 
           ap (map (λ (t : Tallied). t.struct)) (after-tallied [] ps [] placed None no_modules whole-first first at-first tt tt store tallies store_is tallies_are (All-nil (IsNamed [])))
           ∙ structs-of (scarce_structs (tables_in store));
       clear = clear;
+      countable = countable;
     }

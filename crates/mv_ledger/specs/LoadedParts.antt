@@ -38,7 +38,7 @@ use Rattle.mv_ledger.specs.Loading.{AreLinked}
 use Rattle.mv_ledger.specs.Payloads.{offer_from}
 use Rattle.mv_ledger.specs.Publishing.{AllPass, FailsAmong}
 use Rattle.mv_ledger.specs.SavedText.{Form, First, Second, tally_text, tally_fits, storage_text}
-use Rattle.mv_ledger.specs.View.{all_of, tallied, AreScarce, IsNamed}
+use Rattle.mv_ledger.specs.View.{AreCountable, all_of, tallied, AreScarce, IsNamed}
 
 -- why bytes are not loaded where a part of them is refused
 abbrev pub reason_of : LoadError → Refusal → LoadError
@@ -84,7 +84,7 @@ head_of h = record { form = form_of h.form; runs = h.runs; offers = offers_of h.
 -- ---- the modules
 
 -- The offers pass and are linked, as these modules, and there is a tally of each of their structs with neither copy nor drop.
--- Nothing is counted in the counters.
+-- Nothing is counted in the counters, which have room for each of those structs.
 pub record AreJoined (offers : List Offer) (published : List PublishedModule) (tallies : List (List Tally)) (counters : List (List Count)) : Type 0 where
   pub passed : AllPass offers published
   pub linked : AreLinked published
@@ -94,6 +94,7 @@ pub record AreJoined (offers : List Offer) (published : List PublishedModule) (t
   pub named : All (IsNamed (tables_in published)) (all_of tallies)
   pub tallied : map (λ t. t.struct) (map (tallied (tables_in published)) (all_of tallies)) ≡ scarce_structs (tables_in published)
   pub clear : IsClear counters
+  pub countable : AreCountable counters tallies
 
 -- one of the offers fails a phase, or they pass and are not linked
 abbrev pub AreNotJoined : List Offer → LoadError → Type 0

@@ -11,7 +11,7 @@ ghost use Rattle.mv_ledger.specs.Answering.{told};
 ghost use Rattle.mv_ledger.specs.Asking.{request_of};
 ghost use Rattle.mv_ledger.specs.Running.{IsAdmitted, IsSettled};
 ghost use Rattle.mv_ledger.specs.Tallying.{HasRoomLeft};
-ghost use Rattle.mv_ledger.specs.View.{all_of, IsNamed, IsSmall, AreScarce};
+ghost use Rattle.mv_ledger.specs.View.{all_of, IsNamed, IsSmall, AreScarce, AreCountable};
 
 use crate::Reply;
 use crate::payload::RunRecord;
@@ -151,7 +151,7 @@ pub fn admitted(store: &Store, runs: u64, asked: RunRecord<'_>) -> Result<Call, 
 }
 
 /// Runs a call. A run that returns keeps what it made of the storage, and its tally is added; any other leaves both. The
-/// counters are zero again after each.
+/// counters are zero again after each, and have the room that they had.
 pub fn execute(
     alloc: Global,
     store: &Store,
@@ -169,7 +169,9 @@ pub fn execute(
     requires budget { call.now.budget ≤ 10000000 }
     requires scarce { AreScarce (tables_in store.now) tallies.old }
     requires clear { IsClear counters.old }
+    requires countable { AreCountable counters.old tallies.old }
     ensures clear { IsClear counters.new }
+    ensures countable { AreCountable counters.new tallies.new }
     ensures scarce { AreScarce (tables_in store.now) tallies.new }
     ensures stored { All (IsFineWords (tables_in store.now)) storage.new }
     ensures placed { length tallies.new ≡ length tallies.old }

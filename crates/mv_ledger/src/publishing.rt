@@ -7,12 +7,12 @@ ghost use Rattle.mv_move_types.specs.Published.{with_modules};
 ghost use Rattle.mv_certificate.specs.Certificate.{Certificate};
 ghost use Rattle.mv_linker.specs.Link.{IsStore, tables_in};
 ghost use Rattle.mv_linker.specs.News.{AreTexts, HasItsTexts, published_of};
-ghost use Rattle.mv_frames.specs.Counters.{AreSameCounts};
+ghost use Rattle.mv_frames.specs.Counters.{AreSameCounts, KeepsCounts};
 ghost use Rattle.mv_ledger.specs.Asking.{offer_of, offers_of};
 ghost use Rattle.mv_ledger.specs.Publishing.{Passes, AllPass, IsRefusedOffer, IsRefusedAmong};
 ghost use Rattle.mv_ledger.specs.Judging.{IsAcceptedBy, IsRefusedBy};
 ghost use Rattle.mv_ledger.specs.Tallying.{AddsTallies, ArePlacedFor};
-ghost use Rattle.mv_ledger.specs.View.{all_of, ArePlaced, IsNamed, IsSmall, AreScarce};
+ghost use Rattle.mv_ledger.specs.View.{all_of, ArePlaced, IsNamed, IsSmall, AreScarce, AreCountable};
 
 use crate::payload::{Offered, read_bundle};
 use crate::tallies::{Placed, Tallies, scarce_structs};
@@ -64,6 +64,18 @@ pub fn all_verified<'a>(alloc: Global, offers: &[Offered<'a>]) -> Result<Vec<New
     Ok(all)
 }
 
+/// How many of a module's structs have to have a count, where these are to be counted: all up to the last of them.
+fn counted_structs(structs: &[u16]) -> usize
+    ensures all { All (λ i. i < result) structs.now }
+    ensures least { (n : ℕ) → All (λ i. i < n) structs.now → result ≤ n }
+{
+    let mut most = 0;
+    for index in structs {
+        most = most.max(usize::from(*index) + 1);
+    }
+    most
+}
+
 /// Where each of these modules is to stand, with its tallies: in the place of the published one of its name, whose tallies it
 /// keeps, or in the next place. The counters get room for its structs, up to the last one with neither copy nor drop.
 pub fn placed(
@@ -75,9 +87,12 @@ pub fn placed(
 ) -> Result<Vec<Placed>, AllocError>
     requires few { length store.now + length news.now < 65536 }
     requires all { length tallies.now ≡ length store.now }
+    requires countable { AreCountable counters.old tallies.now }
     ensures placed { IfOk result (λ v. ArePlacedFor (tables_in store.now) tallies.now (length store.now) (tables_in (published_of news.now)) v.items) }
     ensures theirs { ArePlaced 0 tallies.now }
     ensures counts { AreSameCounts counters.old counters.new }
+    ensures kept { KeepsCounts counters.old counters.new }
+    ensures countable { IfOk result (λ v. AreCountable counters.new (map (λ p. p.tallies.items) v.items)) }
 {
     let mut all = Vec::new(alloc);
     let mut next = tallies.len();
@@ -86,9 +101,7 @@ pub fn placed(
         let found = place_of(store, module);
         let place = found.unwrap_or(next);
         let structs = scarce_structs(alloc, module)?;
-        if let Some(last) = structs.last() {
-            counters.make_room(place as u16, usize::from(*last) + 1)?;
-        }
+        counters.make_room(place as u16, counted_structs(&structs))?;
         all.push(Placed {
             place,
             tallies: tallies.extended(alloc, place, &structs)?,
@@ -117,7 +130,7 @@ fn is_too_much(placed: &[Placed], count: usize) -> bool
 }
 
 /// Publishes the bundle that a payload has, and says how many modules it has: they join the store, and each of their structs
-/// with neither copy nor drop has the tally that it had, or an empty one. What is counted stays.
+/// with neither copy nor drop has the tally that it had, or an empty one, and room in the counters. What is counted stays.
 ///
 /// # Errors
 ///
@@ -134,12 +147,14 @@ pub fn publish(
     requires placed { length tallies.old ≡ length store.old }
     requires named { All (IsNamed (tables_in store.old)) (all_of tallies.old) }
     requires scarce { AreScarce (tables_in store.old) tallies.old }
+    requires countable { AreCountable counters.old tallies.old }
     ensures store { OnOk result (IsStore store.old) }
     ensures whole { OnOk result (IsStore store.new) }
     ensures room { OnOk result (length store.new ≤ 4096) }
     ensures err { OnErr result (store.new ≡ store.old) }
     ensures kept { OnErr result (tallies.new ≡ tallies.old) }
     ensures counts { AreSameCounts counters.old counters.new }
+    ensures countable { AreCountable counters.new tallies.new }
     ensures accepted { IfOk result (λ n. IsAcceptedBy n store.old payload.now store.new) }
     ensures refused { IfErr result (IsRefusedBy store.old payload.now) }
     ensures placed { length tallies.new ≡ length store.new }

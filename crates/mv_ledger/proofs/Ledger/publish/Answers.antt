@@ -18,7 +18,7 @@ invariant_of-self c =
     (c.publish.ensures.small c.self.inside.runs c.self.invariant.small)
     (sound-published c.publish.result c.self.inside.store c.publish.new.store c.args.payload.now c.self.inside.storage (all_of c.self.inside.tallies) (all_of c.publish.new.tallies) c.self.inside.runs
     c.publish.ensures.whole c.publish.ensures.accepted c.publish.ensures.tallied c.self.invariant.fine c.self.invariant.sound)
-    c.publish.ensures.counts c.self.invariant
+    c.publish.ensures.counts c.publish.ensures.countable c.self.invariant
 
 pub returns : goal.returns
 returns c =

@@ -8,7 +8,8 @@ use Rattle.mv_frames.specs.declared.counters.StructTally.{StructTally}
 use Rattle.mv_interpreter.specs.Runs.{IsFineWords, Agrees, AtMost}
 use Rattle.mv_ledger.specs.declared.tallies.Tally.{Tally}
 use Rattle.mv_ledger.specs.Tallying.{tally_after}
-use Rattle.mv_ledger.specs.View.{all_of, IsNamed, IsSmall, AreScarce}
+use Rattle.mv_ledger.specs.View.{all_of, IsNamed, IsSmall, AreScarce, AreCountable}
+use Rattle.mv_ledger.proofs.Countable.{all-countable-kept, run-countable}
 use Rattle.mv_ledger.proofs.StoredRuns.{run-same, tallied-after, settled-returned, settled-kept, small-kept}
 use Rattle.mv_ledger.proofs.ScarceTallies.{all-scarce, scarce-ordered}
 use Rattle.mv_ledger.proofs.TalliesAfter.{named-after, most-after, small-after, scarce-after}
@@ -68,6 +69,17 @@ returns-after-eq-clause-scarce c =
           (scarce-after w.deref-then-eq.result.now (tables_in c.args.store.now) c.args.tallies.now c.requires.scarce)
       | else-eq w ↦ rw w.tallies-is c.requires.scarce
     ]
+
+pub returns-after-eq-clause-countable : goal.returns-after-eq-clause-countable
+returns-after-eq-clause-countable c =
+    let had = all-countable-kept c.args.counters.now c.run.new.counters c.args.tallies.now c.run.ensures.kept c.requires.countable in
+    elim c.if-eq.branch [
+      | then-eq w ↦ subst (AreCountable c.run.new.counters) (sym (w.tallies-is ∙ w.add_run.ensures)) (run-countable c.run.new.counters w.deref-then-eq.result.now c.args.tallies.now had)
+      | else-eq w ↦ rw w.tallies-is had
+    ]
+
+pub returns-in-Err-Memory-clause-countable : goal.returns-in-Err-Memory-clause-countable
+returns-in-Err-Memory-clause-countable c = all-countable-kept c.args.counters.now c.run.new.counters c.args.tallies.now c.run.ensures.kept c.requires.countable
 
 pub returns-after-eq-clause-settled : goal.returns-after-eq-clause-settled
 returns-after-eq-clause-settled c =

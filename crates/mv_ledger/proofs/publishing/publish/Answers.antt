@@ -9,6 +9,8 @@ use Rattle.mv_ledger.specs.declared.payload.Offered.{Offered}
 use Rattle.mv_ledger.specs.Asking.{offers_of}
 use Rattle.mv_ledger.specs.Publishing.{AllPass, IsRefusedAmong}
 use Rattle.mv_ledger.specs.Tallying.{ArePlacedFor}
+use Rattle.mv_ledger.specs.View.{AreCountable}
+use Rattle.mv_ledger.proofs.Countable.{all-countable-kept, with-placed-countable}
 use Rattle.mv_ledger.specs.Exact.{no_bundle}
 use Rattle.mv_ledger.proofs.Verifying.{as-many}
 use Rattle.mv_ledger.proofs.Phases.{phase-no-memory, refused_among, refused_link, refused_room, accepted}
@@ -126,3 +128,9 @@ returns-then-is_too_much-clause-refused c =
     (subst (λ (ns : List New). ArePlacedFor (tables_in c.args.store.now) c.args.tallies.now (length c.args.store.now) (tables_in (published_of ns)) c.in_ok-placed.placed.items) c.deref-2.ensures.value c.in_ok-placed.ensures.placed)
     c.in_ok-placed.ensures.theirs c.requires.scarce
     c.len-published.result c.deref-3.result.now c.len-published.ensures.count c.deref-3.ensures.value (sym c.is_too_much.ensures ∙ c.if-is_too_much.true))
+
+pub returns-clause-countable : goal.returns-clause-countable
+returns-clause-countable c =
+    let counters = c.placed.new.counters in
+    let had = all-countable-kept c.args.counters.now counters c.args.tallies.now c.in_ok-placed.ensures.kept c.requires.countable in
+    subst (AreCountable counters) (sym c.in_ok-join.ensures.tallied) (with-placed-countable counters c.args.tallies.now c.in_ok-placed.placed.items had c.in_ok-placed.ensures.countable)

@@ -9,6 +9,8 @@ use Rattle.mv_ledger.specs.Asking.{offer_of, offers_of}
 use Rattle.mv_ledger.specs.LoadedParts.{AreNotJoined}
 use Rattle.mv_ledger.specs.Tallying.{ArePlacedFor}
 use Rattle.mv_ledger.proofs.LoadedModules.{not-linked, within-first, are-joined}
+use Rattle.mv_ledger.specs.View.{AreCountable}
+use Rattle.mv_ledger.proofs.Countable.{none-countable, with-placed-countable}
 use Rattle.mv_ledger.proofs.Verifying.{as-many}
 use Rattle.mv_ledger.proofs.loading.modules.join_all.Goals as goal
 
@@ -44,3 +46,8 @@ returns-clause-joined c =
     (offers_of c.args.offers.now) c.in-Ok.ensures.passed c.join.new.store c.join.new.self c.placed.new.counters
     (c.in_ok-join.ensures.ok ∙ ap (with_modules c.new-store.result) c.in-Ok-link.ensures.ok) c.in_ok-join.ensures.tallied
     (λ d. c.in_ok-placed.ensures.counts d ∙ c.new-counters.ensures d)
+    (subst (AreCountable c.placed.new.counters) (sym c.in_ok-join.ensures.tallied)
+    (with-placed-countable c.placed.new.counters c.new-tallies.result c.in_ok-placed.placed.items (none-countable c.placed.new.counters c.new-tallies.result c.new-tallies.ensures) c.in_ok-placed.ensures.countable))
+
+pub placed-requires-clause-countable : goal.placed-requires-clause-countable
+placed-requires-clause-countable c = none-countable c.new-counters.result c.new-tallies.result c.new-tallies.ensures
