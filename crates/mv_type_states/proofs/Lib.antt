@@ -8,3 +8,4 @@ pub mod BlockLemmas
 pub mod PartLemmas
 pub mod TopLemmas
 pub mod Functions
+pub mod Found

@@ -1,10 +1,8 @@
-use Rattle.std.proofs.Common.{◌≡◌, ◌<◌, ◌≤◌, ◌+◌, ℕ, List, Contains, Some, Vec, Global, length, map, slice_get, refl, sym, ap, ◌∙◌, subst, arith}
+use Rattle.std.proofs.Common.{◌≡◌, ◌<◌, ◌≤◌, ◌+◌, ℕ, List, Contains, Some, Vec, Global, length, map, slice_get, sym, ap, ◌∙◌, subst, arith}
 use Rattle.std.proofs.lemmas.List.{length-map, length_push}
-use Rattle.mv_move_types.specs.Module.{Module}
 use Rattle.mv_linker.specs.Link.{tables_in}
-use Rattle.mv_linker.specs.Ordering.{AreDependenciesAt}
 use Rattle.mv_linker.specs.Reached.{AreNumbers, IsExtended}
-use Rattle.mv_linker.specs.Scope.{offered, places_in}
+use Rattle.mv_linker.specs.Scope.{offered}
 use Rattle.mv_linker.specs.Targets.{modules_in}
 use Rattle.mv_linker.proofs.DependenciesStay.{place-there, placed-there}
 use Rattle.mv_linker.proofs.Found.{Contains-at, at-Contains}
