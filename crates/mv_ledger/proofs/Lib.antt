@@ -45,6 +45,7 @@ pub mod SavedLimits
 pub mod BodyReading
 pub mod LoadedHead
 pub mod LoadedModules
+pub mod Grouping
 pub mod LoadedTallies
 pub mod Loaded
 pub mod BodyTallies

@@ -54,7 +54,7 @@ spot-below (q ∷ qs) m e = step (have_one_name m q.tables) e (spot-below qs m)
     step false e ih = let lt : spot qs m < length qs = ih e in omega (arith, lt)
 
 -- where the one of a name is
-found : (name : ModuleName) (old : List PublishedModule) → module_place (tables_in old) name ≡ cond (list_any (is_module name) (tables_in old)) (Some (spot_of (Some name) old)) None
+pub found : (name : ModuleName) (old : List PublishedModule) → module_place (tables_in old) name ≡ cond (list_any (is_module name) (tables_in old)) (Some (spot_of (Some name) old)) None
 found name [] = refl
 found name (q ∷ qs) = step (is_module name q.tables) (list_any (is_module name) (tables_in qs)) (find_index (is_module name) (tables_in qs)) (spot_of (Some name) qs) (found name qs)
   where
@@ -104,7 +104,7 @@ spot-with (q ∷ qs) n m e = by_case (has_name_of n.tables q) refl (spot-with qs
     by_case true h ih = ap (λ (b : Bool). cond b 0 (suc (spot qs m))) (one_name-same m n.tables q.tables h)
     by_case false h ih = rest (have_one_name m q.tables) e ih
 
-length-with : (cur : List PublishedModule) (n : PublishedModule) → length (with_module cur n) ≡ cond (is_there cur n.tables) (length cur) (length cur + 1)
+pub length-with : (cur : List PublishedModule) (n : PublishedModule) → length (with_module cur n) ≡ cond (is_there cur n.tables) (length cur) (length cur + 1)
 length-with [] n = refl
 length-with (q ∷ qs) n = by_case (has_name_of n.tables q) (length-with qs n)
   where

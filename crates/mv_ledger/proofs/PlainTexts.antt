@@ -1,5 +1,5 @@
 -- Plain texts: they are UTF-8, and JSON writes them with no escape. Numbers and addresses have them.
-use Rattle.std.proofs.Common.{◌≡◌, ℕ, zero, suc, ◌<◌, ◌≤◌, ◌/◌, ◌%◌, ◌+◌, true, false, not, ◌&&◌, ◌==◌, ◌++◌, List, [], ◌∷◌, refl, ap, ap₂, sym, ◌∙◌, arith, decimal, subst}
+use Rattle.std.proofs.Common.{◌≡◌, ℕ, zero, suc, ◌<◌, ◌≤◌, ◌/◌, ◌%◌, true, false, not, ◌&&◌, ◌==◌, ◌++◌, List, [], ◌∷◌, refl, ap, ap₂, sym, ◌∙◌, arith, decimal, subst}
 use Rattle.std.specs.Prelude.{nat_le, nat_lt, String}
 use Rattle.std.specs.declared.alloc.Global.{Global}
 use Rattle.std.specs.Int.{bytes_high_first, byte_at}

@@ -24,6 +24,7 @@ pub mod Layouts
 pub mod BodyParts
 pub mod LayoutParts
 pub mod LoadedParts
+pub mod Groups
 pub mod Inside
 pub mod CountRows
 pub mod Saving

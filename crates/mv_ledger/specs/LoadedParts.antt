@@ -1,6 +1,7 @@
 -- The parts of which the loading of a ledger is made, and how they stand to its text.
 --   head_from       how a text begins. read_head reads it
 --   AreJoined       what a ledger has of its modules before its tallies are read. join_all gives it
+--   IsJoined        the same of modules that join one group after the other
 --   AreNotJoined    why it has none
 --   body_from       what follows the modules: the tallies, which Tallies::read reads, and the values, which read_storage does
 --   IsNoBody        the bytes are no such thing with nothing after it
@@ -95,6 +96,10 @@ pub record AreJoined (offers : List Offer) (published : List PublishedModule) (t
   pub tallied : map (λ t. t.struct) (map (tallied (tables_in published)) (all_of tallies)) ≡ scarce_structs (tables_in published)
   pub clear : IsClear counters
   pub countable : AreCountable counters tallies
+
+-- what modules have that joined so far
+abbrev pub IsJoined : List PublishedModule → List (List Tally) → List (List Count) → Type 0
+IsJoined published tallies counters = (offers : List Offer) × AreJoined offers published tallies counters
 
 -- one of the offers fails a phase, or they pass and are not linked
 abbrev pub AreNotJoined : List Offer → LoadError → Type 0

@@ -8,6 +8,7 @@ ghost use Rattle.mv_ledger.specs.View.{state_of};
 
 mod body;
 mod counts;
+mod groups;
 pub(crate) mod head;
 mod modules;
 pub(crate) mod tallies;

@@ -51,6 +51,52 @@ fn prefixes_of_ledgers_are_refused(rt: HostRuntime) -> Result<(), Fail> {
     Ok(())
 }
 
+// A module of the name M, with its certificate, by the last byte of its address and of that of the M that it names, if any.
+fn module(alloc: Global, own: u8, named: Option<u8>) -> Result<Vec<u8>, Fail> {
+    let own = hex::encode(alloc, &[own])?;
+    let text = match named {
+        None => ALONE.replace(alloc, "OWN", own.as_str())?,
+        Some(named) => {
+            let named = hex::encode(alloc, &[named])?;
+            let text = NAMING.replace(alloc, "OWN", own.as_str())?;
+            text.replace(alloc, "NAMED", named.as_str())?
+        }
+    };
+    Ok(hex::decode(alloc, text.as_str())?)
+}
+
+// The text of a ledger of 200 modules. Each names the one before it, the first one none, but for those that are given by their
+// place, with their address and what they name.
+fn text_of_chain(alloc: Global, others: &[(u8, u8, Option<u8>)]) -> Result<Vec<u8>, Fail> {
+    let mut text = hex::decode(alloc, "4d564c3200c801")?;
+    for place in 0..200u8 {
+        let mut own = place;
+        let mut named = place.checked_sub(1);
+        for (other, address, instead) in others {
+            if *other == place {
+                own = *address;
+                named = *instead;
+            }
+        }
+        text.extend_from_slice(&module(alloc, own, named)?)?;
+    }
+    Ok(text)
+}
+
+// Modules are linked in groups: none of that is seen.
+#[test]
+fn ledgers_of_many_modules_are_loaded_or_refused(rt: HostRuntime) -> Result<(), Fail> {
+    let alloc = rt.alloc();
+    for row in &CHAINS {
+        let text = text_of_chain(alloc, row.others)?;
+        let loaded = hex::encode(alloc, &text)?;
+        let wanted = row.refused.unwrap_or(loaded.as_str());
+        let found = said(alloc, &text)?;
+        assert_eq!(rt; found.as_str().trim_end(), wanted, "{}", row.shows);
+    }
+    Ok(())
+}
+
 #[test]
 fn loaded_ledgers_go_on(rt: HostRuntime) -> Result<(), Fail> {
     let alloc = rt.alloc();
@@ -74,6 +120,63 @@ fn loaded_ledgers_go_on(rt: HostRuntime) -> Result<(), Fail> {
     }
     Ok(())
 }
+
+// A module that names none, and one that names another.
+const ALONE: &str =
+    "27a11ceb0b05000000030100020702020804100000014d000000000000000000000000000000OWN0000";
+
+const NAMING: &str =
+    "39a11ceb0b050000000301000407040208062000000100014d000000000000000000000000000000OWN000000000000000000000000000000NAMED0000";
+
+// What a ledger of many modules shows, which of them are others than those of a chain, and the line of its refusal, if any.
+struct Chain {
+    shows: &'static str,
+    others: &'static [(u8, u8, Option<u8>)],
+    refused: Option<&'static str>,
+}
+
+const CHAINS: [Chain; 8] = [
+    Chain {
+        shows: "each module may name the one before it",
+        others: &[],
+        refused: None,
+    },
+    Chain {
+        shows: "a module may name a later one, be it the 65th that the 64th names",
+        others: &[(63, 63, Some(64)), (64, 64, None)],
+        refused: None,
+    },
+    Chain {
+        shows: "it may come much later",
+        others: &[(70, 70, Some(199)), (199, 199, None)],
+        refused: None,
+    },
+    Chain {
+        shows: "each module that is named is there",
+        others: &[(100, 100, Some(250))],
+        refused: Some("load refused 3"),
+    },
+    Chain {
+        shows: "modules that stand far from each other don't name each other",
+        others: &[(10, 10, Some(150)), (150, 150, Some(10))],
+        refused: Some("load refused 3"),
+    },
+    Chain {
+        shows: "no name stands twice, however far apart",
+        others: &[(130, 3, Some(2)), (131, 131, Some(129))],
+        refused: Some("load refused 3"),
+    },
+    Chain {
+        shows: "a module that fails is told before one that names none that is there",
+        others: &[(20, 20, Some(250)), (150, 150, Some(150))],
+        refused: Some("load refused 2"),
+    },
+    Chain {
+        shows: "so is one that fails behind two of one name",
+        others: &[(70, 3, Some(2)), (71, 71, Some(69)), (199, 199, Some(199))],
+        refused: Some("load refused 2"),
+    },
+];
 
 // A ledger with one coin, in the old form.
 const OLD_FORM: &str =

@@ -1,53 +1,63 @@
-use Rattle.std.proofs.Common.{List, length, None, arith, sym, ap, ◌∙◌, subst}
-use Rattle.std.proofs.lemmas.List.{length-map}
-use Rattle.mv_move_types.specs.Published.{PublishedModule, with_modules}
-use Rattle.mv_move_types.specs.Refusals.{IsRefusedIn}
-use Rattle.mv_linker.specs.declared.New.{New}
-use Rattle.mv_linker.specs.Link.{MayJoin, IsStore, tables_in}
-use Rattle.mv_linker.specs.News.{published_of, published_one}
-use Rattle.mv_ledger.specs.Asking.{offer_of, offers_of}
-use Rattle.mv_ledger.specs.LoadedParts.{AreNotJoined}
-use Rattle.mv_ledger.specs.Tallying.{ArePlacedFor}
-use Rattle.mv_ledger.proofs.LoadedModules.{not-linked, within-first, are-joined}
-use Rattle.mv_ledger.specs.View.{AreCountable}
-use Rattle.mv_ledger.proofs.Countable.{none-countable, with-placed-countable}
-use Rattle.mv_ledger.proofs.Verifying.{as-many}
+use Rattle.std.proofs.Common.{◌≤◌, ◌++◌, List, take, length, arith, subst}
+use Rattle.std.proofs.lemmas.Result.{err_from_is_err_and}
+use Rattle.mv_machine.specs.Ledger.{Offer}
+use Rattle.mv_ledger.specs.Asking.{offers_of}
+use Rattle.mv_ledger.specs.LoadedParts.{AreJoined, AreNotJoined}
+use Rattle.mv_ledger.proofs.LoadedModules.{left-few, left-all, left-more, left-same, left-none}
 use Rattle.mv_ledger.proofs.loading.modules.join_all.Goals as goal
 
-pub placed-requires-clause-few : goal.placed-requires-clause-few
-placed-requires-clause-few c =
-    let many = as-many (offers_of c.args.offers.now) (published_of c.in-Ok.news.items) c.in-Ok.ensures.passed in
-    omega (arith, many, length-map c.in-Ok.news.items published_one, length-map c.args.offers.now offer_of, ap length c.deref.ensures.value, ap length c.new-store.ensures, c.requires)
+pub join_group-requires-clause-few : goal.join_group-requires-clause-few
+join_group-requires-clause-few c = left-few c.args.offers.now c.split_at.result.1.now c.loop-done.done c.split_at.ensures.back c.loop-done.joined.store c.loop-done.invariant.joined.passed c.requires
 
-pub link-requires-clause-few : goal.link-requires-clause-few
-link-requires-clause-few c =
-    let many = as-many (offers_of c.args.offers.now) (published_of c.in-Ok.news.items) c.in-Ok.ensures.passed in
-    omega (arith, many, length-map c.in-Ok.news.items published_one, length-map c.args.offers.now offer_of, ap length c.new-store.ensures, c.requires)
+pub join_group-requires-clause-joined : goal.join_group-requires-clause-joined
+join_group-requires-clause-joined c = (take c.loop-done.done (offers_of c.args.offers.now), c.loop-done.invariant.joined)
 
-pub returns-in-Err-link-clause-refused : goal.returns-in-Err-link-clause-refused
-returns-in-Err-link-clause-refused c =
-    let ps = published_of c.in-Ok.news.items in
-    let refused = subst (λ (s : List PublishedModule). IsRefusedIn 13 (MayJoin None (tables_in s) (tables_in ps) (tables_in (with_modules s ps))) c.in-Err-link.refusal) c.new-store.ensures c.in-Err-link.ensures.refused in
-    subst (AreNotJoined (offers_of c.args.offers.now)) (sym c.because-in-Err-link.ensures) (not-linked (offers_of c.args.offers.now) ps c.in-Err-link.refusal c.in-Ok.ensures.passed refused)
+pub join-requires-clause-few : goal.join-requires-clause-few
+join-requires-clause-few c =
+    let before = take c.loop-done.done (offers_of c.args.offers.now) in
+    let same = subst (λ (os : List Offer). AreJoined os c.join_group.new.self.store c.join_group.new.self.tallies c.join_group.new.self.counters)
+    (left-same before (offers_of c.split_at.result.1.now) c.in_ok-count.count c.if-count-eq0.true) (c.in_ok-count.ensures.joined before c.loop-done.invariant.joined) in
+    left-few c.args.offers.now c.split_at.result.1.now c.loop-done.done c.split_at.ensures.back c.join_group.new.self.store same.passed c.requires
 
-pub join-requires-clause-placed : goal.join-requires-clause-placed
-join-requires-clause-placed c =
-    within-first c.new-store.result c.new-tallies.result c.new-store.ensures c.new-tallies.ensures (published_of c.in-Ok.news.items) c.in_ok-placed.placed.items
-    (subst (λ (ns : List New). ArePlacedFor (tables_in c.new-store.result) c.new-tallies.result (length c.new-store.result) (tables_in (published_of ns)) c.in_ok-placed.placed.items) c.deref.ensures.value c.in_ok-placed.ensures.placed)
-    c.in-Ok-link.ensures.joins
-    (subst (λ (l : List PublishedModule). IsStore (with_modules c.new-store.result l)) c.in-Ok-link.ensures.ok c.in-Ok-link.ensures.linked.whole)
+pub join-requires-clause-joined : goal.join-requires-clause-joined
+join-requires-clause-joined c =
+    let before = take c.loop-done.done (offers_of c.args.offers.now) in
+    (before ++ take c.in_ok-count.count (offers_of c.split_at.result.1.now), c.in_ok-count.ensures.joined before c.loop-done.invariant.joined)
+
+pub loop-done-preserved : goal.loop-done-preserved
+loop-done-preserved c =
+    let before = take c.loop-done.done (offers_of c.args.offers.now) in
+    record {
+      within = omega (arith, c.in_ok-count.ensures.few, c.split_at.ensures.back_len);
+      joined =
+          subst (λ (os : List Offer). AreJoined os c.join_group.new.self.store c.join_group.new.self.tallies c.join_group.new.self.counters)
+          (left-more c.args.offers.now c.split_at.result.1.now c.loop-done.done c.split_at.ensures.back c.in_ok-count.count) (c.in_ok-count.ensures.joined before c.loop-done.invariant.joined);
+    }
 
 pub returns-clause-joined : goal.returns-clause-joined
 returns-clause-joined c =
-    are-joined c.new-store.result c.new-tallies.result c.new-store.ensures c.new-tallies.ensures (published_of c.in-Ok.news.items) c.in_ok-placed.placed.items
-    (subst (λ (ns : List New). ArePlacedFor (tables_in c.new-store.result) c.new-tallies.result (length c.new-store.result) (tables_in (published_of ns)) c.in_ok-placed.placed.items) c.deref.ensures.value c.in_ok-placed.ensures.placed)
-    c.in-Ok-link.ensures.joins
-    (subst (λ (l : List PublishedModule). IsStore (with_modules c.new-store.result l)) c.in-Ok-link.ensures.ok c.in-Ok-link.ensures.linked.whole)
-    (offers_of c.args.offers.now) c.in-Ok.ensures.passed c.join.new.store c.join.new.self c.placed.new.counters
-    (c.in_ok-join.ensures.ok ∙ ap (with_modules c.new-store.result) c.in-Ok-link.ensures.ok) c.in_ok-join.ensures.tallied
-    (λ d. c.in_ok-placed.ensures.counts d ∙ c.new-counters.ensures d)
-    (subst (AreCountable c.placed.new.counters) (sym c.in_ok-join.ensures.tallied)
-    (with-placed-countable c.placed.new.counters c.new-tallies.result c.in_ok-placed.placed.items (none-countable c.placed.new.counters c.new-tallies.result c.new-tallies.ensures) c.in_ok-placed.ensures.countable))
+    let past : length c.args.offers.now ≤ c.loop-done.done = omega (arith, c.loop-done-test.false) in
+    subst (λ (os : List Offer). AreJoined os c.loop-done.joined.store c.loop-done.joined.tallies c.loop-done.joined.counters) (left-none c.args.offers.now c.loop-done.done past) c.loop-done.invariant.joined
 
-pub placed-requires-clause-countable : goal.placed-requires-clause-countable
-placed-requires-clause-countable c = none-countable c.new-counters.result c.new-tallies.result c.new-tallies.ensures
+pub returns-then-count-eq0-clause-joined : goal.returns-then-count-eq0-clause-joined
+returns-then-count-eq0-clause-joined c =
+    let before = take c.loop-done.done (offers_of c.args.offers.now) in
+    let same = subst (λ (os : List Offer). AreJoined os c.join_group.new.self.store c.join_group.new.self.tallies c.join_group.new.self.counters)
+    (left-same before (offers_of c.split_at.result.1.now) c.in_ok-count.count c.if-count-eq0.true) (c.in_ok-count.ensures.joined before c.loop-done.invariant.joined) in
+    subst (λ (os : List Offer). AreJoined os c.join.new.self.store c.join.new.self.tallies c.join.new.self.counters) (left-all c.args.offers.now c.split_at.result.1.now c.loop-done.done c.split_at.ensures.back) (c.in_ok-join.ensures.joined before same)
+
+pub returns-in_err-count-clause-refused : goal.returns-in_err-count-clause-refused
+returns-in_err-count-clause-refused c =
+    let p = err_from_is_err_and c.from_residual.result c.from_residual.ensures.1 in
+    rw (p.1, p.2)
+    (subst (λ (os : List Offer). AreNotJoined os c.in_err-count.field-0.0) (left-all c.args.offers.now c.split_at.result.1.now c.loop-done.done c.split_at.ensures.back)
+    (c.in_err-count.ensures.refused (take c.loop-done.done (offers_of c.args.offers.now)) c.loop-done.invariant.joined))
+
+pub returns-in_err-join-clause-refused : goal.returns-in_err-join-clause-refused
+returns-in_err-join-clause-refused c =
+    let before = take c.loop-done.done (offers_of c.args.offers.now) in
+    let same = subst (λ (os : List Offer). AreJoined os c.join_group.new.self.store c.join_group.new.self.tallies c.join_group.new.self.counters)
+    (left-same before (offers_of c.split_at.result.1.now) c.in_ok-count.count c.if-count-eq0.true) (c.in_ok-count.ensures.joined before c.loop-done.invariant.joined) in
+    let p = err_from_is_err_and c.from_residual-in_err-join.result c.from_residual-in_err-join.ensures.1 in
+    rw (p.1, p.2)
+    (subst (λ (os : List Offer). AreNotJoined os c.in_err-join.field-0.0) (left-all c.args.offers.now c.split_at.result.1.now c.loop-done.done c.split_at.ensures.back) (c.in_err-join.ensures.refused before same))
