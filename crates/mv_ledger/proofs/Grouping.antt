@@ -1,5 +1,5 @@
 -- Which of the next modules name none that comes later.
-use Rattle.std.proofs.Common.{◌≡◌, ℕ, zero, suc, ◌+◌, ◌<◌, ◌≤◌, Bool, true, false, cond, List, [], ◌∷◌, ◌++◌, map, take, length, get_or, Option, Some, None, option_map, IsTrue, refl, sym, ap, ◌∙◌, subst, arith, add-one, nat_cmp, is_lt, Less, Equal, Greater}
+use Rattle.std.proofs.Common.{◌≡◌, ℕ, zero, suc, ◌+◌, ◌<◌, ◌≤◌, Bool, true, false, cond, List, [], ◌∷◌, map, take, length, get_or, Option, Some, None, option_map, IsTrue, refl, sym, ap, ◌∙◌, subst, arith, add-one, nat_cmp, is_lt, Less, Equal, Greater}
 use Rattle.std.specs.Prelude.{◌||◌, ◌&&◌, ◌==◌, nat_lt, nat_le, is_some}
 use Rattle.std.specs.List.{list_any, list_all, position}
 use Rattle.std.specs.Option.{option_map_or}

@@ -1,5 +1,5 @@
 -- Which modules of a saved ledger are linked together: the first ones that name none that comes later.
-use Rattle.std.specs.Prelude.{◌≡◌, ℕ, ◌≤◌, IsTrue, List, ◌++◌, take, length, Option, Some, None}
+use Rattle.std.specs.Prelude.{ℕ, ◌≤◌, IsTrue, List, ◌++◌, take, length, Option, Some, None}
 use Rattle.std.specs.List.{list_all}
 use Rattle.mv_move_types.specs.Module.{Module}
 use Rattle.mv_move_types.specs.Published.{PublishedModule}

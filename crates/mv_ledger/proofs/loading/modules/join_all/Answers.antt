@@ -1,4 +1,4 @@
-use Rattle.std.proofs.Common.{◌≤◌, ◌++◌, List, take, length, arith, sym, subst}
+use Rattle.std.proofs.Common.{◌≤◌, ◌++◌, List, take, length, arith, subst}
 use Rattle.std.proofs.lemmas.Result.{err_from_is_err_and}
 use Rattle.mv_machine.specs.Ledger.{Offer}
 use Rattle.mv_ledger.specs.Asking.{offers_of}
