@@ -287,24 +287,58 @@ fn functions_defined_once(alloc: Global, m: &Module) -> Result<bool, AllocError>
     defined_once(alloc, &homes, m.own(), &defined)
 }
 
+/// Whether no handle of a module stands twice.
+fn handles_differ(alloc: Global, m: &Module) -> Result<bool, AllocError>
+    ensures { IfOk result (λ b. IsTrue b ↔ (IsTrue (all_differ (λ (x y : ModuleHandle). (x.address == y.address) && (x.name == y.name)) m.now.module_handles)
+        × IsTrue (all_differ (λ (x y : FieldHandle). (x.definition == y.definition) && (x.position == y.position)) m.now.field_handles)
+        × IsTrue (all_differ (λ (x y : StructHandle). (x.module == y.module) && (x.name == y.name)) m.now.struct_handles)
+        × IsTrue (all_differ (λ (x y : FunctionHandle). (x.module == y.module) && (x.name == y.name)) m.now.function_handles))) }
+{
+    Ok(
+        module_handles_differ(alloc, m)?
+            && field_handles_differ(alloc, m)?
+            && struct_handles_differ(alloc, m)?
+            && function_handles_differ(alloc, m)?,
+    )
+}
+
+/// Whether no signature, constant, identifier or address of a module stands twice.
+fn contents_differ(alloc: Global, m: &Module) -> Result<bool, AllocError>
+    ensures { IfOk result (λ b. IsTrue b ↔ (IsTrue (all_differ same_tokens m.now.signatures) × IsTrue (all_differ same_constant m.now.constants)
+        × IsTrue (all_differ bytes_eq m.now.identifiers) × IsTrue (all_differ ◌==◌ m.now.addresses))) }
+{
+    Ok(
+        signatures_differ(alloc, m)?
+            && constants_differ(alloc, m.constants())?
+            && identifiers_differ(alloc, m)?
+            && addresses_differ(alloc, m)?,
+    )
+}
+
+/// Whether what is a module's own is defined once, and its structs have fields of different names.
+fn definitions_hold(alloc: Global, m: &Module) -> Result<bool, AllocError>
+    ensures { IfOk result (λ b. IsTrue b ↔ (IsTrue (defined_once (struct_home m.now) m.now.own (length m.now.struct_handles) (map (λ (d : StructTable). d.handle) m.now.structs))
+        × IsTrue (defined_once (function_home m.now) m.now.own (length m.now.function_handles) (map (λ (d : FunctionTable). d.handle) m.now.functions))
+        × IsTrue (list_all (λ (d : StructTable). all_differ (λ (x y : FieldEntry). x.name == y.name) d.fields) m.now.structs)
+        × IsTrue (list_all (λ (d : StructTable). nat_lt 0 (length d.fields)) m.now.structs))) }
+{
+    Ok(
+        structs_defined_once(alloc, m)?
+            && functions_defined_once(alloc, m)?
+            && all_field_names_differ(m)
+            && all_have_fields(m),
+    )
+}
+
 /// Whether no entry of a module stands twice, and what is its own is defined once, by structs that are finite.
 pub fn well_defined(alloc: Global, m: &Module) -> Result<bool, AllocError>
     requires { InBounds m.now }
     ensures { IfOk result (λ b. IsTrue b ↔ WellDefined m.now) }
 {
     Ok(
-        module_handles_differ(alloc, m)?
-            && signatures_differ(alloc, m)?
-            && constants_differ(alloc, m.constants())?
-            && identifiers_differ(alloc, m)?
-            && addresses_differ(alloc, m)?
-            && field_handles_differ(alloc, m)?
-            && struct_handles_differ(alloc, m)?
-            && function_handles_differ(alloc, m)?
-            && structs_defined_once(alloc, m)?
-            && functions_defined_once(alloc, m)?
-            && all_field_names_differ(m)
-            && all_have_fields(m)
+        handles_differ(alloc, m)?
+            && contents_differ(alloc, m)?
+            && definitions_hold(alloc, m)?
             && are_finite(alloc, m)?,
     )
 }
