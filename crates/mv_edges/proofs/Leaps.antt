@@ -5,7 +5,7 @@ use Rattle.std.specs.Prelude.{⊤}
 use Rattle.std.proofs.lemmas.Bool.{cases_lt, false_from_ne_true, or_parts, and_cases, ltb-false, eq-eqb, both_ways}
 use Rattle.mv_move_types.specs.declared.borrow.Node.{Node}
 use Rattle.mv_move_types.specs.declared.borrow.Node.TheVariants.{Slot, Own, Glob, Temp}
-use Rattle.mv_edges.specs.Edges.{Edge, same_node}
+use Rattle.mv_edges.specs.Edges.{Edge, is_global_node, same_node}
 use Rattle.mv_edges.specs.Ascending.{list_before, node_code, height, edge_height, nodes_code}
 use Rattle.mv_edges.specs.Sought.{FailUpTo}
 use Rattle.mv_edges.specs.Equality.{same_node_decides}
@@ -222,3 +222,39 @@ lower_nodes x e n later low =
       false_from_ne_true (same_node x.from n) (λ same. let high = high_from x n ((same_node_decides x.from n).0 same) in omega (arith, high, low, order)),
       false_from_ne_true (same_node x.to n) (λ same. let high = high_to x n ((same_node_decides x.to n).0 same) in omega (arith, high, low, order)),
     )
+
+-- ---- edges out of globals
+
+global_kind : (n : Node) → is_global_node n ≡ true → kind n ≡ 2
+global_kind (Slot l) h = absurd (true≢false (sym h))
+global_kind (Own l) h = absurd (true≢false (sym h))
+global_kind (Glob t) h = refl
+global_kind (Temp k) h = absurd (true≢false (sym h))
+
+other_kind : (n : Node) → is_global_node n ≡ false → kind n ≡ 2 → ⊥
+other_kind (Slot l) h e = omega (arith, e)
+other_kind (Own l) h e = omega (arith, e)
+other_kind (Glob t) h e = true≢false h
+other_kind (Temp k) h e = omega (arith, e)
+
+global_first_numbers : (hx a b c d he a' b' c' d' : ℕ) → a ≡ 2 → Late (hx ∷ a ∷ b ∷ c ∷ d ∷ []) (he ∷ a' ∷ b' ∷ c' ∷ d' ∷ []) → Early (hx ∷ a ∷ b ∷ c ∷ d ∷ []) (he ∷ 2 ∷ 0 ∷ 0 ∷ 0 ∷ []) → ⊥
+global_first_numbers hx a b c d he a' b' c' d' two from before = grind arith
+
+global_end_numbers : (hx a b c d he a' b' c' d' : ℕ) → a ≡ 2 → Late (hx ∷ a ∷ b ∷ c ∷ d ∷ []) (he ∷ a' ∷ b' ∷ c' ∷ d' ∷ []) → Late (he ∷ a' ∷ b' ∷ c' ∷ d' ∷ []) (he ∷ 2 ∷ 0 ∷ 0 ∷ 0 ∷ []) → Early (hx ∷ a ∷ b ∷ c ∷ d ∷ []) (he ∷ 4 ∷ 0 ∷ 0 ∷ 0 ∷ []) → a' ≡ 2
+global_end_numbers hx a b c d he a' b' c' d' two from behind before = grind arith
+
+pub none_global_first : (e : Edge) (h : ℕ) → h ≡ edge_height e → FailUpTo (λ x. is_global_node x.from) e (h ∷ 2 ∷ 0 ∷ 0 ∷ 0 ∷ [])
+none_global_first e h is x from before =
+    false_from_ne_true (is_global_node x.from)
+    (λ global.
+    global_first_numbers (edge_height x) (kind x.from) (index x.from) (kind x.to) (index x.to) (edge_height e) (kind e.from) (index e.from) (kind e.to) (index e.to)
+    (global_kind x.from global) (late_edges x e from) (early_edge x (edge_height e ∷ 2 ∷ 0 ∷ 0 ∷ 0 ∷ []) (ap (λ k. list_before (nodes_code x) (k ∷ 2 ∷ 0 ∷ 0 ∷ 0 ∷ [])) (sym is) ∙ before)))
+
+pub none_global_end : (e : Edge) (h : ℕ) → h ≡ edge_height e → is_global_node e.from ≡ false → list_before (nodes_code e) (h ∷ 2 ∷ 0 ∷ 0 ∷ 0 ∷ []) ≡ false → FailUpTo (λ x. is_global_node x.from) e (h ∷ 4 ∷ 0 ∷ 0 ∷ 0 ∷ [])
+none_global_end e h is other behind x from before =
+    false_from_ne_true (is_global_node x.from)
+    (λ global.
+    other_kind e.from other
+    (global_end_numbers (edge_height x) (kind x.from) (index x.from) (kind x.to) (index x.to) (edge_height e) (kind e.from) (index e.from) (kind e.to) (index e.to)
+    (global_kind x.from global) (late_edges x e from) (late_edge e (edge_height e ∷ 2 ∷ 0 ∷ 0 ∷ 0 ∷ []) (ap (λ k. list_before (nodes_code e) (k ∷ 2 ∷ 0 ∷ 0 ∷ 0 ∷ [])) (sym is) ∙ behind))
+    (early_edge x (edge_height e ∷ 4 ∷ 0 ∷ 0 ∷ 0 ∷ []) (ap (λ k. list_before (nodes_code x) (k ∷ 4 ∷ 0 ∷ 0 ∷ 0 ∷ [])) (sym is) ∙ before))))

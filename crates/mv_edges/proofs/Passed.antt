@@ -220,3 +220,28 @@ ascending_one (x ∷ es) = refl
 
 pub ascending_whole : (es : List Edge) (place : ℕ) → length es ≤ place → are_ascending (take place es) ≡ true → are_ascending es ≡ true
 ascending_whole es place h a = subst (λ xs. are_ascending xs ≡ true) (take_all place es h) a
+
+pub some_pass : (p : Edge → Bool) (es : List Edge) (found : ℕ) → IsNext p es 0 found → ltb found (length es) ≡ list_any p es
+some_pass p es found next = any_found p es found next ∙ sym (any_passes p es)
+
+-- ---- edges at a node and at another
+
+filter_cond : (p : Edge → Bool) (b : Bool) (x : Edge) (ys : List Edge) → filter p (cond b (x ∷ ys) ys) ≡ cond b (cond (p x) (x ∷ filter p ys) (filter p ys)) (filter p ys)
+filter_cond p true x ys = refl
+filter_cond p false x ys = refl
+
+cond_swap : (a b : Bool) (x : Edge) (ys : List Edge) → cond b (cond a (x ∷ ys) ys) ys ≡ cond a (cond b (x ∷ ys) ys) ys
+cond_swap true true x ys = refl
+cond_swap true false x ys = refl
+cond_swap false true x ys = refl
+cond_swap false false x ys = refl
+
+-- what is taken away first is nothing to what is left
+filter-swap : (p q : Edge → Bool) (es : List Edge) → filter p (filter q es) ≡ filter q (filter p es)
+filter-swap p q [] = refl
+filter-swap p q (x ∷ es) =
+    filter_cond p (q x) x (filter q es) ∙ cond_swap (p x) (q x) x (filter p (filter q es))
+    ∙ ap (λ zs. cond (p x) (cond (q x) (x ∷ zs) zs) zs) (filter-swap p q es) ∙ sym (filter_cond q (p x) x (filter p es))
+
+pub without-swap : (n m : Node) (es : List Edge) → without n (without m es) ≡ without m (without n es)
+without-swap n m = filter-swap (λ e. not (same_node e.from n) && not (same_node e.to n)) (λ e. not (same_node e.from m) && not (same_node e.to m))

@@ -1,6 +1,6 @@
 // An edge, and the order of edges.
 ghost use Rattle.std.specs.Prelude.{◌≡◌, ◌≤◌, max, length, IfOk};
-ghost use Rattle.mv_edges.specs.Edges.{an_edge, same_node, renamed_node, changed, edge_leq, opened_at};
+ghost use Rattle.mv_edges.specs.Edges.{an_edge, is_global_node, same_node, renamed_node, changed, edge_leq, opened_at};
 ghost use Rattle.mv_edges.specs.Ascending.{node_code, height, edge_height, nodes_code, edge_before, edge_order};
 
 use super::label::{Change, Label};
@@ -115,6 +115,16 @@ impl Edge {
         ensures { result ≡ same_node self.now.from n }
     {
         is_same(self.from, n)
+    }
+
+    /// Whether the edge leads out of a global.
+    pub(crate) fn starts_at_global(&self) -> bool
+        ensures { result ≡ is_global_node self.now.from }
+    {
+        match self.from {
+            Node::Glob(_) => true,
+            Node::Slot(_) | Node::Own(_) | Node::Temp(_) => false,
+        }
     }
 
     /// Whether the edge leads to the node.

@@ -1,7 +1,7 @@
 // Edges at a node, found by leaps over the others.
 ghost use Rattle.std.specs.Prelude.{◌≡◌, ◌+◌, ◌-◌, ◌<◌, ◌≤◌, ◌++◌, ◌∷◌, [], false, not, ◌==◌, max, length, IsTrue};
 ghost use Rattle.std.specs.List.{list_any};
-ghost use Rattle.mv_edges.specs.Edges.{same_node, agrees, into, out_of};
+ghost use Rattle.mv_edges.specs.Edges.{is_global_node, same_node, agrees, into, out_of};
 ghost use Rattle.mv_edges.specs.Ascending.{list_before, node_code, height, edge_height, nodes_code, are_ascending};
 ghost use Rattle.mv_edges.specs.Sought.{IsNext, FailUpTo, ComeBefore};
 
@@ -130,6 +130,36 @@ fn none_into_up_to(e: &Edge, n: Node) -> [u32; 5]
     }
 }
 
+/// Up to which nodes no edge leads out of a global, from an edge on that doesn't.
+fn none_out_of_globals_up_to(e: &Edge) -> [u32; 5]
+    requires { is_global_node e.now.from ≡ false }
+    ensures { FailUpTo (λ x. is_global_node x.from) e.now result }
+{
+    let high = e.view().height();
+    let first = [high, 2, 0, 0, 0];
+    if comes_before(e, &first) {
+        first
+    } else {
+        [high, 4, 0, 0, 0]
+    }
+}
+
+/// The place of the first of ascending edges that leads out of a global, or their number if none does.
+fn first_out_of_globals(items: &[Edge]) -> usize
+    requires { IsTrue (are_ascending items.now) }
+    ensures { IsNext (λ e. is_global_node e.from) items.now 0 result }
+{
+    let mut place = 0;
+    while place < items.len() {
+        let e = &items[place];
+        if e.starts_at_global() {
+            return place;
+        }
+        place = leap(items, place, &none_out_of_globals_up_to(e));
+    }
+    place
+}
+
 /// The place of the first of ascending edges from a place on that leads out of a node, or their number if none does.
 pub(crate) fn next_out_of(items: &[Edge], n: Node, start: usize) -> usize
     requires ascend { IsTrue (are_ascending items.now) }
@@ -172,6 +202,14 @@ pub(crate) fn any_out_of(items: &[Edge], n: Node) -> bool
     next_out_of(items, n, 0) < items.len()
 }
 
+/// Whether one of ascending edges leads out of a global.
+fn any_out_of_globals(items: &[Edge]) -> bool
+    requires { IsTrue (are_ascending items.now) }
+    ensures { result ≡ list_any (λ e. is_global_node e.from) items.now }
+{
+    first_out_of_globals(items) < items.len()
+}
+
 /// Whether one of ascending edges leads into a node.
 pub(crate) fn any_into(items: &[Edge], n: Node) -> bool
     requires { IsTrue (are_ascending items.now) }
@@ -202,5 +240,12 @@ impl Edges {
         ensures { IsNext (λ e. same_node e.from n) self.now start result }
     {
         next_out_of(self.as_slice(), n, start)
+    }
+
+    /// Whether an edge leads out of a global.
+    pub fn has_out_of_globals(&self) -> bool
+        ensures { result ≡ list_any (λ e. is_global_node e.from) self.now }
+    {
+        any_out_of_globals(self.as_slice())
     }
 }
