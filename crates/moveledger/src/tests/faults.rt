@@ -79,7 +79,7 @@ struct Outcome {
 
 // What comes of an input with a reader that gives 7 bytes a call and fails after so many, and a writer that takes 5 and fails
 // after so many. With no error the writer takes nothing there.
-fn outcome(
+fn came_of(
     alloc: Global,
     bytes: &[u8],
     (until, left): (usize, usize),
@@ -118,7 +118,7 @@ fn failed_reads_end_it(rt: HostRuntime) -> Result<(), Fail> {
     for (shows, at, length, records) in READERS {
         let kept = held_after(rt.alloc(), &row, records)?;
         for kind in KINDS {
-            let came = outcome(rt.alloc(), &bytes, (at, MANY), Some(kind))?;
+            let came = came_of(rt.alloc(), &bytes, (at, MANY), Some(kind))?;
             let written = Some(came.written.as_slice());
             assert_eq!(rt; came.answer, Err(EngineError::Read), "{shows}");
             assert_eq!(rt; (came.read, came.calls), (at, 1), "{shows}");
@@ -136,7 +136,7 @@ fn failed_writes_end_it(rt: HostRuntime) -> Result<(), Fail> {
     for (shows, at, read, records) in WRITERS {
         let kept = held_after(rt.alloc(), &row, records)?;
         for kind in KINDS {
-            let came = outcome(rt.alloc(), &bytes, (MANY, at), Some(kind))?;
+            let came = came_of(rt.alloc(), &bytes, (MANY, at), Some(kind))?;
             let written = Some(came.written.as_slice());
             assert_eq!(rt; came.answer, Err(EngineError::Write), "{shows}");
             assert_eq!(rt; (came.read, came.calls), (read, 1), "{shows}");
@@ -152,7 +152,7 @@ fn failed_writes_end_it(rt: HostRuntime) -> Result<(), Fail> {
 fn writers_that_take_nothing_end_it(rt: HostRuntime) -> Result<(), Fail> {
     let (bytes, report) = row_that_shows(rt.alloc(), MINTED_TWICE)?;
     for at in 0..report.len() {
-        let came = outcome(rt.alloc(), &bytes, (MANY, at), None)?;
+        let came = came_of(rt.alloc(), &bytes, (MANY, at), None)?;
         let written = Some(came.written.as_slice());
         assert_eq!(rt; came.answer, Err(EngineError::Write), "{at}");
         assert_eq!(rt; came.calls, 1, "{at}");
