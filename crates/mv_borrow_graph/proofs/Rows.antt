@@ -17,12 +17,13 @@ use Rattle.mv_move_types.specs.Module.{own_acquires}
 use Rattle.mv_type_states.specs.TypesHold.{Point}
 use Rattle.mv_edges.specs.declared.label.Change.TheVariants.{Kept, Extended, Opened}
 use Rattle.mv_lattice.specs.declared.StepError.{StepError}
-use Rattle.mv_edges.specs.Edges.{Edge, same_node, here, changed, extended, opened, inherited, out_of, without, an_edge}
+use Rattle.mv_edges.specs.Edges.{Edge, is_global_node, same_node, here, changed, extended, opened, inherited, out_of, without, an_edge}
 use Rattle.mv_edges.specs.Ascending.{are_ascending}
 use Rattle.mv_edges.specs.Sorted.{sorted}
-use Rattle.mv_edges.proofs.Sorting.{sorted-ascending, ascending-sorted, sorted-append_swap, sorted-append_sorted, any_filter}
+use Rattle.mv_edges.proofs.Passed.{without-swap}
+use Rattle.mv_edges.proofs.Sorting.{sorted-ascending, ascending-sorted, sorted-append_swap, sorted-append_sorted}
 use Rattle.mv_borrow_graph.specs.BorrowRules.{next_temp, top_temp, no_edge_out, copy_edges, field_edges, opened_edges, result_edges, reference_nodes, without_all, call_edges, is_mutable_token, is_reference_token}
-use Rattle.mv_borrow_graph.specs.Domain.{is_global_node, ordered, Follows}
+use Rattle.mv_borrow_graph.specs.Domain.{ordered, Follows}
 
 -- edges that ascend are in their order
 pub kept_order : (es : List Edge) → are_ascending es ≡ true → sorted es ≡ es
@@ -31,10 +32,6 @@ kept_order = sorted-ascending
 -- the first part may be sorted first
 pub sorted_first : (es fs : List Edge) → sorted (sorted es ++ fs) ≡ sorted (es ++ fs)
 sorted_first es fs = sorted-append_swap (sorted es) fs ∙ sorted-append_sorted fs es ∙ sorted-append_swap fs es
-
--- a test of the edges out of a node
-pub none_out : (n : Node) (p : Edge → Bool) (s : List Edge) (found : Bool) → found ≡ list_any (λ e. same_node e.from n && p e) s → not found ≡ not (list_any p (out_of n s))
-none_out n p s found is = ap not (is ∙ sym (any_filter (λ e. same_node e.from n) p s))
 
 -- a copied reference has the edges of its original
 pub with_copy : (slot next : Node) (p : Point) (s new all : List Edge) → next ≡ next_temp p → new ≡ sorted (inherited (changed Kept) slot next s) → all ≡ sorted (s ++ new)
@@ -165,6 +162,24 @@ one_not_free place i types d s whole h found rest =
     let others : Bool = list_all p (reference_nodes is_mutable_token (place + (i + 1)) (drop (i + 1) types)) in
     ap (λ b. b && others) (sym found) ∙ sym (tested_more p (is_mutable_token (get_or types i d)) (Temp (place + i)) (reference_nodes is_mutable_token (place + (i + 1)) (drop (i + 1) types)))
     ∙ ap (list_all p) (sym (nodes_more is_mutable_token place i types d h)) ∙ rest
+
+-- ---- nodes from the last one on
+
+without_all-swap : (n : Node) (ns : List Node) (s : List Edge) → without n (without_all ns s) ≡ without_all ns (without n s)
+without_all-swap n [] s = refl
+without_all-swap n (m ∷ ns) s = without_all-swap n ns (without m s) ∙ ap (without_all ns) (without-swap n m s)
+
+without_all-push : (ns : List Node) (n : Node) (s : List Edge) → without_all (ns ++ n ∷ []) s ≡ without n (without_all ns s)
+without_all-push [] n s = refl
+without_all-push (m ∷ ns) n s = without_all-push ns n (without m s)
+
+-- the edges at the last of the nodes go first
+pub without_last : (nodes : List Node) (count : ℕ) (d : Node) (s after : List Edge) → 0 < count → count ≤ length nodes → after ≡ without (get_or nodes (count - 1) d) s → without_all (take (count - 1) nodes) after ≡ without_all (take count nodes) s
+without_last nodes count d s after some within is =
+    let k = count - 1 in
+    let next : count ≡ k + 1 = omega (arith, some) in
+    ap (without_all (take k nodes)) is ∙ sym (without_all-swap (get_or nodes k d) (take k nodes) s) ∙ sym (without_all-push (take k nodes) (get_or nodes k d) s)
+    ∙ ap (λ ns. without_all ns s) (sym (take_more nodes k d (omega (arith, some, within))) ∙ ap (λ j. take j nodes) (sym next))
 
 -- ---- globals
 

@@ -57,13 +57,6 @@ Follows (Ok done) new after = after ≡ Some new
 Follows (Err Need) new after = after ≡ None
 Follows (Err Memory) new after = IsSome after
 
--- whether a node is a global
-abbrev pub is_global_node : Node → Bool
-is_global_node (Slot l) = false
-is_global_node (Own l) = false
-is_global_node (Glob t) = true
-is_global_node (Temp k) = false
-
 -- whether a local is of a reference type
 abbrev pub is_reference_local : Module → FunctionDefinition → ℕ → Bool
 is_reference_local m d l = option_map_or is_reference_token (local_type m d l) false

@@ -1,9 +1,9 @@
 // What types and nodes are, and which nodes the references among types have.
 ghost use Rattle.std.specs.Prelude.{◌≡◌, ◌+◌, ◌≤◌, ◌^◌, ◌++◌, ◌∷◌, ◌||◌, [], not, length, IfOk, OnOk, if◌then◌else◌};
-ghost use Rattle.std.specs.List.{list_all, list_any};
+ghost use Rattle.std.specs.List.{list_all};
 ghost use Rattle.mv_move_types.specs.declared.borrow.Node.TheVariants.{Glob};
 ghost use Rattle.mv_borrow_graph.specs.BorrowRules.{is_mutable_token, is_reference_token, is_root_node, is_temp, no_edge_out, reference_nodes};
-ghost use Rattle.mv_borrow_graph.specs.Domain.{is_global_node, is_picked};
+ghost use Rattle.mv_borrow_graph.specs.Domain.{is_picked};
 
 use mv_edges::Edges;
 use mv_move_types::{Node, Token};
@@ -47,23 +47,6 @@ pub fn is_root(node: Node) -> bool
         Node::Own(_) | Node::Glob(_) => true,
         Node::Slot(_) | Node::Temp(_) => false,
     }
-}
-
-/// Whether a node is a global.
-fn is_global(node: Node) -> bool
-    ensures { result ≡ is_global_node node }
-{
-    match node {
-        Node::Glob(_) => true,
-        Node::Slot(_) | Node::Own(_) | Node::Temp(_) => false,
-    }
-}
-
-/// Whether an edge leads out of a global.
-pub fn any_leaves_global(s: &Edges) -> bool
-    ensures { result ≡ list_any (λ e. is_global_node e.from) s.now }
-{
-    s.as_slice().iter().any(|e| is_global(e.from()))
 }
 
 /// Whether no edge leads out of a node.

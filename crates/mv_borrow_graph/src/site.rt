@@ -1,10 +1,10 @@
 // Where an instruction stands in its function, and what it does to the edges.
-ghost use Rattle.std.specs.Prelude.{◌≡◌, ◌-◌, ◌&&◌, List, length, reverse, slice_get, Some, Err, IsTrue};
+ghost use Rattle.std.specs.Prelude.{◌≡◌, ◌-◌, List, length, reverse, slice_get, Some, Err, IsTrue};
 ghost use Rattle.std.specs.List.{list_any};
 ghost use Rattle.mv_move_types.specs.declared.borrow.Node.TheVariants.{Temp};
 ghost use Rattle.mv_move_types.specs.Module.{local_type as type_of_local};
 ghost use Rattle.mv_type_states.specs.TypesHold.{Point};
-ghost use Rattle.mv_edges.specs.Edges.{Edge as EdgeRecord, same_node};
+ghost use Rattle.mv_edges.specs.Edges.{Edge as EdgeRecord, out_of};
 ghost use Rattle.mv_edges.specs.Ascending.{are_ascending};
 ghost use Rattle.mv_borrow_graph.specs.BorrowRules.{edges_after, is_mutable, next_temp, top_temp, no_mutable_from};
 ghost use Rattle.mv_borrow_graph.specs.Domain.{Finds, Follows, ordered, places_reference};
@@ -130,11 +130,17 @@ impl<'d, 'm> Site<'d, 'm> {
 
     /// Whether an edge leads from a node to a mutable reference.
     fn leads_to_mutable(&self, from: Node, s: &Edges) -> bool
-        ensures { result ≡ list_any (λ e. same_node e.from from && is_mutable self.now e.to) s.now }
+        ensures { result ≡ list_any (λ e. is_mutable self.now e.to) (out_of from s.now) }
     {
-        s.as_slice()
-            .iter()
-            .any(|e| e.starts_at(from) && self.is_mutable(e.to()))
+        let edges = s.as_slice();
+        let mut place = s.next_out_of(from, 0);
+        while place < edges.len() {
+            if self.is_mutable(edges[place].to()) {
+                return true;
+            }
+            place = s.next_out_of(from, place + 1);
+        }
+        false
     }
 
     /// Whether no edge leads from a node to a mutable reference, so that what it stands for may be read.

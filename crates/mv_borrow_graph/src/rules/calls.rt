@@ -10,19 +10,23 @@ ghost use Rattle.mv_borrow_graph.specs.BorrowRules.{call_edges, is_mutable, is_m
 ghost use Rattle.mv_borrow_graph.specs.Domain.{Follows, ordered};
 
 use crate::changes::keep;
-use crate::nodes::{any_leaves_global, are_free, are_free_globals, is_operand, is_root, nodes_of};
+use crate::nodes::{are_free, are_free_globals, is_operand, is_root, nodes_of};
 use crate::site::Site;
 use mv_edges::{Change, Edge, Edges};
 use mv_lattice::StepError;
 use mv_move_types::{FunctionHandle, Node, Token};
 use std::alloc::{AllocError, Global};
 
-/// Takes away the edges at these nodes.
+/// Takes away the edges at these nodes, from the last node to the first: the edges at operands stand as these do, so that all
+/// of them go from the end.
+#[tactic(auto, using(crate::proofs::Rows::without_last))]
 fn remove_at_all(s: &mut Edges, nodes: &[Node])
     ensures { s.new ≡ without_all nodes.now s.old }
 {
-    for n in nodes {
-        s.remove_at(*n);
+    let mut count = nodes.len();
+    while count > 0 {
+        count -= 1;
+        s.remove_at(nodes[count]);
     }
 }
 
@@ -158,7 +162,7 @@ impl<'d, 'm> Site<'d, 'm> {
     fn are_acquired_free(&self, callee: u16, s: &Edges) -> bool
         ensures { result ≡ list_all (λ t. no_edge_out (Glob t) s.now) (own_acquires self.now.home callee) }
     {
-        if !any_leaves_global(s) {
+        if !s.has_out_of_globals() {
             return true;
         }
         are_free_globals(self.module.own_acquires(callee), s)

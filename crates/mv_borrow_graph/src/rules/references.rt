@@ -1,13 +1,13 @@
 // References: to fields, read, written and frozen.
 ghost use Rattle.std.specs.Prelude.{◌≡◌, ◌&&◌, not, slice_get, Some, Err};
 ghost use Rattle.std.specs.List.{list_any};
-ghost use Rattle.mv_edges.specs.Edges.{same_node, agrees, out_of, but_out_of};
+ghost use Rattle.mv_edges.specs.Edges.{agrees, out_of, but_out_of};
 ghost use Rattle.std.specs.Bool.{then_some};
 ghost use Rattle.mv_borrow_graph.specs.BorrowRules.{is_mutable, no_mutable_from, position_of, top_temp, field_edges, mutable_field_edges, immutable_field_edges};
 ghost use Rattle.mv_borrow_graph.specs.Domain.{Finds, Follows, ordered};
 
 use crate::site::Site;
-use mv_edges::{Change, Edges};
+use mv_edges::{Change, Edge, Edges};
 use mv_lattice::StepError;
 use mv_move_types::{FieldHandle, Node};
 use std::alloc::Global;
@@ -59,13 +59,26 @@ impl<'d, 'm> Site<'d, 'm> {
         self.field_reference(alloc, position, s)
     }
 
+    /// Whether an edge leads to a mutable reference, and agrees with a position.
+    fn is_mutable_at(&self, e: &Edge, position: u8) -> bool
+        ensures { result ≡ (is_mutable self.now e.now.to && agrees position e.now.label) }
+    {
+        self.is_mutable(e.to()) && e.label().agrees(position)
+    }
+
     /// Whether an edge leads from a node to a mutable reference, and agrees with a position.
     fn leads_to_mutable_at(&self, from: Node, position: u8, s: &Edges) -> bool
-        ensures { result ≡ list_any (λ e. same_node e.from from && (is_mutable self.now e.to && agrees position e.label)) s.now }
+        ensures { result ≡ list_any (λ e. is_mutable self.now e.to && agrees position e.label) (out_of from s.now) }
     {
-        s.as_slice().iter().any(|e| {
-            e.starts_at(from) && (self.is_mutable(e.to()) && e.label().agrees(position))
-        })
+        let edges = s.as_slice();
+        let mut place = s.next_out_of(from, 0);
+        while place < edges.len() {
+            if self.is_mutable_at(&edges[place], position) {
+                return true;
+            }
+            place = s.next_out_of(from, place + 1);
+        }
+        false
     }
 
     /// Whether no edge that agrees with a position leads from a node to a mutable reference.

@@ -1,0 +1,13 @@
+use Rattle.std.proofs.Common.{◌≡◌, ◌-◌, ◌<◌, length, ap, sym, ◌∙◌, arith}
+use Rattle.mv_borrow_graph.specs.BorrowRules.{without_all}
+use Rattle.mv_borrow_graph.proofs.Rows.{without_last}
+use Rattle.mv_borrow_graph.proofs.rules.calls.remove_at_all.Goals as goal
+
+pub loop-count-preserved : goal.loop-count-preserved
+loop-count-preserved c =
+    let some = c.loop-count-test.true in
+    let within = c.loop-count.invariant.within in
+    record {
+      within = omega (arith, within);
+      left = without_last c.args.nodes.now c.loop-count.count _ c.loop-count.s c.remove_at.new.self some within c.remove_at.ensures.edges ∙ c.loop-count.invariant.left;
+    }
