@@ -1,6 +1,6 @@
 -- Comparisons that a search by halves takes.
 use Rattle.std.proofs.Common.{◌≡◌, ℕ, zero, suc, ◌+◌, ◌-◌, ◌/◌, ◌^◌, ◌<◌, ◌≤◌, arith}
-use Rattle.mv_edges.specs.Counts.{IsWithin}
+use Rattle.mv_edges.specs.Counts.{IsWithin, IsCounted, counted}
 
 -- what is left fits fewer halvings, by those that are counted already
 abbrev pub Spends : ℕ → ℕ → ℕ → ℕ → Type 0
@@ -45,3 +45,14 @@ within_fewer edges n m old new k f r h = let a = f r h in grind (arith, a, k)
 -- at most ten searches, of at most eleven comparisons
 pub within_110 : (edges depth old new : ℕ) → IsWithin edges (depth + 2) old new → edges ≤ 1024 → depth ≤ 8 → new ≤ old + 110
 within_110 edges depth old new f h g = let a = within_fewer edges (depth + 2) 10 old new (omega (arith, g)) f 11 (omega (arith, h)) in omega (arith, a)
+
+-- one comparison more
+pub counted_more : (old count next : ℕ) → old ≤ count → count ≤ next → next ≡ counted 1 count → (counted 1 old ≤ next) × (old ≤ next)
+counted_more old count next kept more h = (omega (arith, kept, h), omega (arith, kept, more))
+
+-- so many comparisons, and at least one more
+pub counted_on : (edges k old count next : ℕ) → (0 < edges → counted k old ≤ count) → IsCounted edges count next → 0 < edges → counted (k + 1) old ≤ next
+counted_on edges k old count next each one some =
+    let before = each some in
+    let more = one.least some in
+    omega (arith, before, more)

@@ -1,9 +1,9 @@
 // A search by halves, and the order of edges.
-ghost use Rattle.std.specs.Prelude.{◌≡◌, ◌+◌, ◌*◌, ◌^◌, ◌≤◌, ◌-◌, min, Some, length, take, drop, slice_get, IfOk, IfErr, IsTrue};
+ghost use Rattle.std.specs.Prelude.{◌≡◌, ◌+◌, ◌*◌, ◌<◌, ◌≤◌, min, Some, length, take, drop, slice_get, IfOk, IfErr, IsTrue};
 ghost use Rattle.std.specs.List.{list_all, list_any};
 ghost use Rattle.mv_edges.specs.Edges.{same_edge, edge_leq, edges_leq, longest};
 ghost use Rattle.mv_edges.specs.Ascending.{edge_before, edge_order, are_ascending};
-ghost use Rattle.mv_edges.specs.Counts.{IsWithin};
+ghost use Rattle.mv_edges.specs.Counts.{IsWithin, IsCounted, counted};
 
 use super::edge::EdgeView;
 use super::{Edge, Edges};
@@ -19,7 +19,8 @@ fn smaller(a: usize, b: usize) -> usize
 /// Compares two edges, and counts it.
 fn counted_order(a: &EdgeView<'_>, b: &EdgeView<'_>, comparisons: &mut u64) -> Ordering
     ensures order { result ≡ edge_order a.now b.now }
-    ensures count { comparisons.new ≡ min (comparisons.old + 1) (2 ^ 64 - 1) }
+    ensures count { comparisons.new ≡ counted 1 comparisons.old }
+    ensures kept { comparisons.old ≤ comparisons.new }
 {
     *comparisons = comparisons.saturating_add(1);
     a.order(b)
@@ -33,6 +34,7 @@ fn place_of(items: &[Edge], e: &EdgeView<'_>, comparisons: &mut u64) -> Result<u
     ensures before { IfErr result (λ place. IsTrue (list_all (λ x. edge_before x e.now) (take place items.now))) }
     ensures after { IfErr result (λ place. IsTrue (list_all (edge_before e.now) (drop place items.now))) }
     ensures count { IsWithin (length items.now) 1 comparisons.old comparisons.new }
+    ensures counted { IsCounted (length items.now) comparisons.old comparisons.new }
 {
     let mut low = 0;
     let mut high = items.len();
@@ -55,6 +57,7 @@ impl Edges {
         ensures before { IfErr result (λ place. IsTrue (list_all (λ x. edge_before x e.now) (take place self.now))) }
         ensures after { IfErr result (λ place. IsTrue (list_all (edge_before e.now) (drop place self.now))) }
         ensures count { IsWithin (length self.now) 1 comparisons.old comparisons.new }
+        ensures counted { IsCounted (length self.now) comparisons.old comparisons.new }
     {
         place_of(self.as_slice(), e, comparisons)
     }
@@ -63,6 +66,7 @@ impl Edges {
     fn has(&self, e: &EdgeView<'_>, comparisons: &mut u64) -> bool
         ensures value { result ≡ list_any (same_edge e.now) self.now }
         ensures count { IsWithin (length self.now) 1 comparisons.old comparisons.new }
+        ensures counted { IsCounted (length self.now) comparisons.old comparisons.new }
     {
         self.search(e, comparisons).is_ok()
     }
@@ -73,6 +77,7 @@ impl Edges {
         requires { deepest ≡ longest self.now }
         ensures value { result ≡ list_any (edge_leq e.now) self.now }
         ensures count { IsWithin (length self.now) (longest self.now + 2) comparisons.old comparisons.new }
+        ensures counted { IsCounted (length self.now) comparisons.old comparisons.new }
     {
         if self.has(e, comparisons) {
             return true;
@@ -98,9 +103,12 @@ impl Edges {
     /// `u64::MAX`.
     ///
     /// Where `b` has at most 1,024 edges and lists of at most 8 positions, that is at most 110 for each edge of `a`: 10
-    /// searches of at most 11 comparisons.
+    /// searches of at most 11 comparisons. Where `b` has an edge, it is at least one for each edge of `a` that is looked up: for
+    /// all of them, where each is below one of `b`.
     pub fn leq_counted(a: &Edges, b: &Edges, comparisons: &mut u64) -> bool
         ensures value { result ≡ edges_leq a.now b.now }
+        ensures each { IsTrue result → 0 < length b.now → counted (length a.now) comparisons.old ≤ comparisons.new }
+        ensures some { 0 < length a.now → 0 < length b.now → counted 1 comparisons.old ≤ comparisons.new }
         ensures count { length b.now ≤ 1024 → longest b.now ≤ 8 → comparisons.new ≤ comparisons.old + 110 * length a.now }
     {
         let deepest = b.longest();

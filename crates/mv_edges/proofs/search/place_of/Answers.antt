@@ -2,7 +2,7 @@ use Rattle.std.proofs.Common.{◌≡◌, ◌+◌, ◌-◌, ◌/◌, ◌<◌, tru
 use Rattle.std.proofs.lemmas.Option.{slice_get-get_or}
 use Rattle.mv_edges.specs.Ascending.{edge_before, edge_order}
 use Rattle.mv_edges.proofs.Comparisons.{order_same, order_less, order_greater}
-use Rattle.mv_edges.proofs.Counting.{middle_below, lower_half, upper_half, spends_half, spends_found}
+use Rattle.mv_edges.proofs.Counting.{counted_more, middle_below, lower_half, upper_half, spends_half, spends_found}
 use Rattle.mv_edges.proofs.Sorting.{all_before_at, all_after_at}
 use Rattle.mv_edges.proofs.search.place_of.Goals as goal
 
@@ -18,11 +18,14 @@ loop-low-preserved-in-Less c =
     let within = c.loop-low.invariant.within in
     let before : edge_before x e ≡ true = order_less x e (ap (λ v. edge_order v e) (sym c.view.ensures) ∙ sym c.in-Less.ensures.order) in
     let next = c.counted_order.ensures.count in
+    let more = counted_more c.args.comparisons.now c.loop-low.comparisons c.counted_order.new.comparisons c.loop-low.invariant.kept c.counted_order.ensures.kept next in
     record {
       order = omega (arith, below);
       within = within;
       before = all_before_at c.args.items.now middle x e (omega (arith, below, within)) c.requires (subst (λ y. edge_before y e ≡ true) c.index-items-middle.is before);
       after = c.loop-low.invariant.after;
+      least = λ _. more.0;
+      kept = more.1;
       count = spends_half (high - low) (high - (middle + 1)) (length c.args.items.now) c.args.comparisons.now c.loop-low.comparisons c.counted_order.new.comparisons (upper_half low high test) (omega (arith, test)) (omega (arith, next)) c.loop-low.invariant.count;
     }
 
@@ -44,6 +47,11 @@ returns-in-Equal-clause-count c =
     let next = c.counted_order.ensures.count in
     spends_found (c.loop-low.high - c.loop-low.low) (length c.args.items.now) c.args.comparisons.now c.loop-low.comparisons c.counted_order.new.comparisons (omega (arith, test)) (omega (arith, next)) c.loop-low.invariant.count
 
+pub returns-in-Equal-clause-counted : goal.returns-in-Equal-clause-counted
+returns-in-Equal-clause-counted c =
+    let more = counted_more c.args.comparisons.now c.loop-low.comparisons c.counted_order.new.comparisons c.loop-low.invariant.kept c.counted_order.ensures.kept c.counted_order.ensures.count in
+    record { least = λ _. more.0; kept = more.1 }
+
 pub loop-low-preserved : goal.loop-low-preserved
 loop-low-preserved c =
     let low = c.loop-low.low in
@@ -56,10 +64,13 @@ loop-low-preserved c =
     let within = c.loop-low.invariant.within in
     let after : edge_before e x ≡ true = order_greater x e (ap (λ v. edge_order v e) (sym c.view.ensures) ∙ sym c.in-Greater.ensures.order) in
     let next = c.counted_order.ensures.count in
+    let more = counted_more c.args.comparisons.now c.loop-low.comparisons c.counted_order.new.comparisons c.loop-low.invariant.kept c.counted_order.ensures.kept next in
     record {
       order = omega arith;
       within = omega (arith, below, within);
       before = c.loop-low.invariant.before;
       after = all_after_at c.args.items.now middle x e (omega (arith, below, within)) c.requires (subst (λ y. edge_before e y ≡ true) c.index-items-middle.is after);
+      least = λ _. more.0;
+      kept = more.1;
       count = spends_half (high - low) (middle - low) (length c.args.items.now) c.args.comparisons.now c.loop-low.comparisons c.counted_order.new.comparisons (lower_half low high test) (omega (arith, test)) (omega (arith, next)) c.loop-low.invariant.count;
     }

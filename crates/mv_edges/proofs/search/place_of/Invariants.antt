@@ -1,6 +1,7 @@
-use Rattle.std.proofs.Common.{◌≡◌, ◌-◌, ◌≤◌, true, length, take, drop}
+use Rattle.std.proofs.Common.{◌≡◌, ◌-◌, ◌<◌, ◌≤◌, true, length, take, drop}
 use Rattle.std.specs.List.{list_all}
 use Rattle.mv_edges.specs.Ascending.{edge_before}
+use Rattle.mv_edges.specs.Counts.{counted}
 use Rattle.mv_edges.proofs.Counting.{Spends}
 use Rattle.mv_edges.proofs.search.place_of.Given as goal
 
@@ -11,6 +12,8 @@ invariant-loop-low l = record {
   before : list_all (λ x. edge_before x l.e) (take l.low l.items) ≡ true;
   after : list_all (edge_before l.e) (drop l.high l.items) ≡ true;
   count : Spends (l.high - l.low) (length l.items) l.fn.comparisons l.comparisons;
+  least : l.high - l.low < length l.items → counted 1 l.fn.comparisons ≤ l.comparisons;
+  kept : l.fn.comparisons ≤ l.comparisons;
 }
 
 abbrev pub decreases-loop-low : goal.decreases-loop-low

@@ -3,7 +3,7 @@ use Rattle.std.specs.List.{list_all, list_any}
 use Rattle.std.proofs.lemmas.Bool.{and_from}
 use Rattle.std.proofs.lemmas.List.Folds.{list_all_more}
 use Rattle.mv_edges.specs.Edges.{edge_leq, longest}
-use Rattle.mv_edges.proofs.Counting.{within_110}
+use Rattle.mv_edges.proofs.Counting.{within_110, counted_on}
 use Rattle.mv_edges.proofs.edges.Edges.leq_counted.Goals as goal
 
 pub returns-then-not-reach-clause-count : goal.returns-then-not-reach-clause-count
@@ -31,6 +31,7 @@ loop-e-preserved c =
       below =
           list_all_more (λ e. list_any (edge_leq e) b) a i x inside
           ∙ and_from (list_all (λ e. list_any (edge_leq e) b) (take i a)) (list_any (edge_leq (get_or a i x)) b) c.loop-e.invariant.below at;
+      each = counted_on (length b) i c.args.comparisons.now c.loop-e.comparisons c.reach.new.comparisons c.loop-e.invariant.each c.reach.ensures.counted;
       count = λ h g.
           let before = c.loop-e.invariant.count h g in
           let one = within_110 (length b) (longest b) c.loop-e.comparisons c.reach.new.comparisons c.reach.ensures.count h g in
