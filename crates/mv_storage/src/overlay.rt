@@ -225,6 +225,15 @@ impl Overlay {
         )
     }
 
+    /// Keeps what the run has made so far, and goes on from there with nothing noted. It takes no memory.
+    pub fn keep(&mut self)
+        ensures committed { self.new.committed ≡ self.old.current }
+        ensures current { self.new.current ≡ self.old.current }
+    {
+        settle(&mut self.places, &mut self.touched, Layer::Current);
+        self.last = None;
+    }
+
     // The storage that holds one layer.
     fn settled(self, layer: Layer) -> Storage
         ensures { result ≡ seen layer self }

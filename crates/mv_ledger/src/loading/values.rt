@@ -1,6 +1,7 @@
 // Reading the stored values of a saved ledger.
-ghost use Rattle.std.specs.Prelude.{◌≡◌, ◌⊎◌, [], None, Some, Err, IfOk, IfErr, OnOk, option_map};
+ghost use Rattle.std.specs.Prelude.{◌≡◌, ◌⊎◌, [], None, Some, Err, IfOk, IfErr, OnOk, cond, is_some, not, option_map};
 ghost use Rattle.mv_move_types.specs.declared.tables.Definition.{Definition as DefinitionAt};
+ghost use Rattle.mv_storage.specs.FlatStorage.{words_under, with_words};
 ghost use Rattle.mv_ledger.specs.BodyParts.{form_of, leaves_from, struct_from, entry_from, is_after, rising_into, group_into, groups_into, storage_into};
 ghost use Rattle.mv_ledger.specs.Layouts.{kinds_under};
 
@@ -10,7 +11,10 @@ use crate::payload::leaf;
 use mv_module_text::Reader;
 use mv_move_types::{Definition, Key, LeafKind, Refusal};
 use mv_storage::{Overlay, Storage, Value};
-use std::alloc::Global;
+use std::alloc::{AllocError, Global};
+
+// After how many values those that were put are kept, so that the room for what is noted of each stays small.
+const KEPT_AFTER: u64 = 4096;
 
 // What the reader refuses malformed bytes with. So do the functions here.
 const MALFORMED: Refusal = Refusal::Phase(2);
@@ -106,6 +110,18 @@ fn follows(last: Option<Key>, key: &Key) -> bool
     }
 }
 
+/// Puts the value of a number where none is stored under its key, and says whether it did.
+fn put(storage: &mut Overlay, number: u64, next: Stored) -> Result<bool, AllocError>
+    ensures done { IfOk result (λ done. done ≡ not (is_some (words_under storage.old.current next.key))) }
+    ensures current { IfOk result (λ done. storage.new.current ≡ cond done (with_words storage.old.current next.key next.value) storage.old.current) }
+{
+    let is_put = storage.put(next.key, next.value)?;
+    if number % KEPT_AFTER == 0 {
+        storage.keep();
+    }
+    Ok(is_put)
+}
+
 /// Reads values by ascending key after their number, and puts them into a storage.
 fn group(
     alloc: Global,
@@ -120,13 +136,13 @@ fn group(
 {
     let count = reader.number(u64::MAX)?;
     let mut last = None;
-    'each: for _ in 0..count {
+    'each: for number in 0..count {
         let next = entry(alloc, layouts, reader, known)?;
         if !follows(last, &next.key) {
             return Err(MALFORMED);
         }
         last = Some(next.key);
-        storage.put(next.key, next.value)?;
+        put(storage, number, next)?;
     }
     Ok(())
 }
