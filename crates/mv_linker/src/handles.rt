@@ -7,12 +7,12 @@ ghost use Rattle.mv_bounds.specs.Definitions.{WellDefined};
 ghost use Rattle.mv_linker.specs.Links.{struct_is_there, structs_are_there, function_fits, function_is_there};
 ghost use Rattle.mv_linker.specs.Targets.{modules_in, AreTargets, declared_at, struct_matches, function_matches, IsStructIn, IsFunctionIn, IsStructAt, IsFunctionAt, AreStructsAt, AreFunctionsAt};
 
+use crate::likely::{likely_functions, likely_structs};
 use crate::names::{likely_function_place, likely_struct_place, name_of, struct_name};
 use crate::scope::{Scope, is_module};
 use crate::targets::Target;
 use crate::types::{are_same, same_signature};
 use mv_binary_format::{FunctionDefinition, Module};
-use mv_bounds::{function_places, struct_places};
 use mv_move_types::{Abilities, Definition, FunctionHandle, Refusal, StructHandle, Visibility};
 use std::alloc::Global;
 
@@ -205,13 +205,13 @@ impl<'a> Scope<'a> {
         ensures refused { IfErr result (IsRefusedIn 13 (IsTrue (structs_are_there (modules_in self.now) m.now 0 m.now.struct_handles))) }
     {
         let mut found = Vec::new(alloc);
-        // A search for an own handle's definition begins with it. This is for speed alone.
-        let own = struct_places(alloc, m)?;
+        // Lent again, since they have one lifetime there.
+        let likely = likely_structs(alloc, &*m, &*targets)?;
         for h in 0..m.struct_handles().len() {
             let Some(handle) = struct_handle(m, h) else {
                 unreachable!();
             };
-            match self.structure(m, targets, h, handle, own[h]) {
+            match self.structure(m, targets, h, handle, likely[h]) {
                 Ok(definition) => pushed(&mut found, definition)?,
                 Err(e) => return Err(e),
             }
@@ -261,13 +261,13 @@ impl<'a> Scope<'a> {
         ensures refused { IfErr result (IsRefusedIn 13 (IsTrue (list_all (function_is_there (modules_in self.now) m.now) m.now.function_handles))) }
     {
         let mut found = Vec::new(alloc);
-        // A search for an own handle's definition begins with it. This is for speed alone.
-        let own = function_places(alloc, m)?;
+        // Lent again, since they have one lifetime there.
+        let likely = likely_functions(alloc, &*m, &*targets)?;
         for h in 0..m.function_handles().len() {
             let Some(handle) = function_handle(m, h) else {
                 unreachable!();
             };
-            match self.function(m, targets, h, handle, own[h]) {
+            match self.function(m, targets, h, handle, likely[h]) {
                 Ok(definition) => pushed(&mut found, definition)?,
                 Err(e) => return Err(e),
             }

@@ -37,7 +37,7 @@ unreachable-unreachable c =
     cc
 
 pub index-requires : goal.index-requires
-index-requires c = omega (arith, c.loop-h-test.true, ap length c.function_handles-h-end.ensures, c.in_ok-own.ensures.len)
+index-requires c = omega (arith, c.loop-h-test.true, ap length c.function_handles-h-end.ensures, c.in_ok-likely.ensures)
 
 pub returns-in_err-pushed-in-Ok-clause-refused : goal.returns-in_err-pushed-in-Ok-clause-refused
 returns-in_err-pushed-in-Ok-clause-refused c =
