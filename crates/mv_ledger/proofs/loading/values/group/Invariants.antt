@@ -3,4 +3,4 @@ use Rattle.mv_ledger.proofs.BodyReading.{RisingOn}
 use Rattle.mv_ledger.proofs.loading.values.group.Given as goal
 
 abbrev pub invariant-each : goal.invariant-each
-invariant-each l = RisingOn (entry_from l.layouts l.known) l.count l.counter l.fn.storage.current l.initial.reader l.last l.storage.current l.reader
+invariant-each l = RisingOn (entry_from l.layouts l.known) l.count l.number l.fn.storage.current l.initial.reader l.last l.storage.current l.reader
