@@ -7,6 +7,7 @@ ghost use Rattle.mv_ledger.specs.Answering.{told, told_ending, told_lines};
 ghost use Rattle.moveledger.specs.Answered.{IsAnswered, IsBegun, MayBeAnswered, Writes, WritesPart, WritesReply, WritesReplyPart, line_of};
 
 use crate::engine::EngineError;
+use itoa::Buffer;
 use mv_ledger::{Ledger, Lines, Reply};
 use mv_machine::{Ending, Kind, Stop};
 use mv_move_types::Refusal;
@@ -109,12 +110,17 @@ fn words(alloc: Global, reply: Reply) -> Result<Option<String>, AllocError>
     })
 }
 
+// The bytes of a line that stand around its text at most: 20 digits, a blank and a line end.
+const NUMBER_ROOM: usize = 22;
+
 /// A line of the report: the record's number, a blank, the text and a line end.
 fn numbered_line(alloc: Global, number: u64, text: &[u8]) -> Result<Vec<u8>, AllocError>
     ensures { IfOk result (λ line. line.items ≡ numbered number text.now) }
 {
-    let mut line = Vec::new(alloc);
-    line.extend_from_slice(format!(in alloc; "{number} ")?.as_bytes())?;
+    let mut digits = Buffer::new();
+    let mut line = Vec::with_capacity(alloc, text.len().saturating_add(NUMBER_ROOM))?;
+    line.extend_from_slice(digits.format(number).as_bytes())?;
+    line.push(b' ')?;
     line.extend_from_slice(text)?;
     line.push(b'\n')?;
     Ok(line)
