@@ -20,10 +20,10 @@ before_cases x xs y ys h =
       | inr g ↦ let parts = and_parts (eqb x y) (list_before xs ys) g in inr (eqb-true x y parts.0, parts.1)
     ]
 
-before_first : (x : ℕ) (xs : List ℕ) (y : ℕ) (ys : List ℕ) → x < y → list_before (x ∷ xs) (y ∷ ys) ≡ true
+pub before_first : (x : ℕ) (xs : List ℕ) (y : ℕ) (ys : List ℕ) → x < y → list_before (x ∷ xs) (y ∷ ys) ≡ true
 before_first x xs y ys h = or_left (ltb x y) (eqb x y && list_before xs ys) (lt-ltb x y h)
 
-before_later : (x : ℕ) (xs : List ℕ) (y : ℕ) (ys : List ℕ) → x ≡ y → list_before xs ys ≡ true → list_before (x ∷ xs) (y ∷ ys) ≡ true
+pub before_later : (x : ℕ) (xs : List ℕ) (y : ℕ) (ys : List ℕ) → x ≡ y → list_before xs ys ≡ true → list_before (x ∷ xs) (y ∷ ys) ≡ true
 before_later x xs y ys h g = or_right (ltb x y) (eqb x y && list_before xs ys) (and_from (eqb x y) (list_before xs ys) (eq-eqb x y h) g)
 
 transitive : (xs ys zs : List ℕ) → list_before xs ys ≡ true → list_before ys zs ≡ true → list_before xs zs ≡ true

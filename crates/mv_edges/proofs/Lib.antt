@@ -7,6 +7,7 @@ pub mod Insertion
 pub mod Leaps
 pub mod Lengths
 pub mod Lexicographic
+pub mod Moved
 pub mod Order
 pub mod Passed
 pub mod Renamed

@@ -85,6 +85,9 @@ impl Edges {
             items.push(edges[place].inherited(alloc, change, new)?)?;
             place = next_into(edges, old, place + 1);
         }
-        Edges::of_unordered(items)
+        match change {
+            Change::Kept => Ok(Edges::of_items(items)),
+            Change::Extended(_) | Change::Opened => Edges::of_unordered(items),
+        }
     }
 }
