@@ -2,13 +2,13 @@
 --   dependencies-stay    of a module that stays
 --   bundled-dependencies, kept-dependencies    what stands at a place
 --   no-dependencies, keeps-dependencies        those that are kept, at first and once a bundle's are put
-use Rattle.std.proofs.Common.{◌≡◌, ◌↔◌, ◌⊎◌, ℕ, zero, suc, ◌<◌, Bool, true, false, List, [], ◌∷◌, length, map, Option, Some, None, option_map, slice_get, Contains, Vec, Global, refl, sym, ap, ap₂, ◌∙◌, subst, arith, inl, inr}
+use Rattle.std.proofs.Common.{◌≡◌, ℕ, zero, suc, ◌<◌, true, false, List, [], ◌∷◌, length, map, Option, Some, None, option_map, slice_get, Contains, Vec, Global, refl, sym, ap, ap₂, ◌∙◌, subst, arith, inl, inr}
 use Rattle.std.specs.Prelude.{not, ◌&&◌, ◌||◌, ◌==◌, position}
-use Rattle.std.specs.List.{list_all, zip}
+use Rattle.std.specs.List.{zip}
 use Rattle.std.specs.Option.{option_map_or}
 use Rattle.std.proofs.lemmas.List.{length-map}
 use Rattle.std.proofs.lemmas.Option.{same_Some, none-some, slice_get_within, slice_get-map}
-use Rattle.mv_move_types.specs.Names.{ModuleName, same_module}
+use Rattle.mv_move_types.specs.Names.{ModuleName}
 use Rattle.mv_move_types.specs.Module.{Module, own_name, module_name}
 use Rattle.mv_move_types.specs.Named.{is_module, have_one_name}
 use Rattle.mv_bounds.specs.Definitions.{all_differ}
@@ -18,7 +18,7 @@ use Rattle.mv_linker.specs.Links.{Links, depends_on, names_module, modules_are_t
 use Rattle.mv_linker.specs.Order.{AreDependencies}
 use Rattle.mv_linker.specs.Ordering.{AreDependenciesAt, AreDependenciesIn, ArePlaces, count_after}
 use Rattle.mv_linker.specs.Scope.{with_tables, places_in}
-use Rattle.mv_linker.specs.Stored.{AreDependenciesOf, KeepsDependencies, with_dependencies}
+use Rattle.mv_linker.specs.Stored.{AreDependenciesOf, KeepsDependencies}
 use Rattle.mv_linker.proofs.Bundled.{bundle-at, old-at, place-at}
 use Rattle.mv_linker.proofs.DependencyLemmas.{count-places, length-places, places-within}
 use Rattle.mv_linker.proofs.Found.{Contains-at, at-Contains, each, there_at}
@@ -134,14 +134,17 @@ placed-at (p ∷ places) (v ∷ graph) (suc k) d e = placed-at places graph k d 
 -- once they are put, each module has its dependencies
 pub keeps-dependencies : (old ns : List Module) → all_differ have_one_name old ≡ true → all_differ have_one_name ns ≡ true → Links old → (places : List ℕ) → places ≡ places_in old ns
     → (graph : List (Vec ℕ Global)) → AreDependenciesIn (with_tables old ns) ns (map (λ (v : Vec ℕ Global). v.items) graph) → KeepsDependencies old (with_tables old ns) (placed places graph)
-keeps-dependencies old ns once apart links places e graph are kept was = record {
-  len =
-      length-put_all place dependencies_of kept (placed places graph) within
-      ∙ ap (λ l. count_after l (length kept)) (taken ∙ e) ∙ ap (count_after (places_in old ns)) was.len ∙ count-places old ns;
-  each = λ q m d at d_at. elim (from-put_all place dependencies_of kept (placed places graph) within q d d_at) [
-    | inl put ↦ put_there q m d at put
-    | inr there ↦ left_there q m d at there (position (λ p. p == q) places) refl
-  ];
+keeps-dependencies old ns once apart links places e graph are = record {
+  places = among;
+  keeps = λ kept was. record {
+    len =
+        length-put_all place dependencies_of kept (placed places graph) (within kept was)
+        ∙ ap (λ l. count_after l (length kept)) (taken ∙ e) ∙ ap (count_after (places_in old ns)) was.len ∙ count-places old ns;
+    each = λ q m d at d_at. elim (from-put_all place dependencies_of kept (placed places graph) (within kept was) q d d_at) [
+      | inl put ↦ put_there q m d at put
+      | inr there ↦ left_there kept was q m d at there (position (λ p. p == q) places) refl
+    ];
+  };
 }
   where
     long : length graph ≡ length places
@@ -150,8 +153,11 @@ keeps-dependencies old ns once apart links places e graph are kept was = record 
     taken : map place (placed places graph) ≡ places
     taken = places-placed places graph long
 
-    within : ArePlaces (map place (placed places graph)) (length kept)
-    within = subst (λ n. ArePlaces (map place (placed places graph)) n) (sym was.len) (subst (λ l. ArePlaces l (length old)) (sym (taken ∙ e)) (places-within old ns))
+    among : ArePlaces (map place (placed places graph)) (length old)
+    among = subst (λ l. ArePlaces l (length old)) (sym (taken ∙ e)) (places-within old ns)
+
+    within : (kept : List Dependencies) → AreDependenciesOf old kept → ArePlaces (map place (placed places graph)) (length kept)
+    within kept was = subst (λ n. ArePlaces (map place (placed places graph)) n) (sym was.len) among
 
     put_there : (q : ℕ) (m : Module) (d : Dependencies) → slice_get (with_tables old ns) q ≡ Some m → WasPut place dependencies_of (placed places graph) q d → AreDependencies (with_tables old ns) m d.places.items
     put_there q m d at put =
@@ -162,11 +168,11 @@ keeps-dependencies old ns once apart links places e graph are kept was = record 
         slice_get-map (λ (v : Vec ℕ Global). v.items) graph k.0 ∙ ap (option_map (λ (v : Vec ℕ Global). v.items)) parts.1 ∙ ap (λ (x : Dependencies). Some x.places.items) put.is in
         bundled-dependencies old ns once apart links (map (λ (v : Vec ℕ Global). v.items) graph) are k.0 q d.places.items standing row m at
 
-    left_there : (q : ℕ) (m : Module) (d : Dependencies) → slice_get (with_tables old ns) q ≡ Some m → WasThere place kept (placed places graph) q d → (o : Option ℕ) → position (λ p. p == q) places ≡ o → AreDependencies (with_tables old ns) m d.places.items
-    left_there q m d at there (Some k) f =
+    left_there : (kept : List Dependencies) → AreDependenciesOf old kept → (q : ℕ) (m : Module) (d : Dependencies) → slice_get (with_tables old ns) q ≡ Some m → WasThere place kept (placed places graph) q d → (o : Option ℕ) → position (λ p. p == q) places ≡ o → AreDependencies (with_tables old ns) m d.places.items
+    left_there kept was q m d at there (Some k) f =
         let standing : slice_get places k ≡ Some q = place-at q k places f in
         let one = mapped-at place (placed places graph) k q (ap (λ l. slice_get l k) taken ∙ standing) in
         absurd (there.none one.0 (at-Contains (placed places graph) k one.0 one.1) one.2)
-    left_there q m d at there None f =
+    left_there kept was q m d at there None f =
         let none : position (λ p. p == q) (places_in old ns) ≡ None = sym (ap (position (λ p. p == q)) e) ∙ f in
         kept-dependencies old ns once apart links q d.places.items none (λ x x_at. was.each q x d x_at there.at) m at

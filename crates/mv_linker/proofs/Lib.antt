@@ -40,6 +40,7 @@ pub mod JoinedCodes
 pub mod Bundled
 pub mod HandleDefinitions
 pub mod WithAt
+pub mod NamerLemmas
 pub mod RelinkingLemmas
 pub mod StoredCodes
 pub mod DependantLemmas

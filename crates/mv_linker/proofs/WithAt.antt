@@ -83,7 +83,7 @@ pub record WasThere {E A : Type 0} (place : E → ℕ) (xs : List A) (es : List 
 later : {E : Type 0} (e x : E) (es : List E) → Contains es x → Contains (e ∷ es) x
 later e x es c = let at = Contains-at es x c in at-Contains (e ∷ es) (suc at.0) x at.1
 
-first_or_later : {E : Type 0} (e x : E) (es : List E) → Contains (e ∷ es) x → (e ≡ x) ⊎ Contains es x
+pub first_or_later : {E : Type 0} (e x : E) (es : List E) → Contains (e ∷ es) x → (e ≡ x) ⊎ Contains es x
 first_or_later e x es c = let at = Contains-at (e ∷ es) x c in by_place at.0 at.1
   where
     by_place : (k : ℕ) → slice_get (e ∷ es) k ≡ Some x → (e ≡ x) ⊎ Contains es x

@@ -9,6 +9,7 @@ pub mod Link
 pub mod Linked
 pub mod LinkedBy
 pub mod Links
+pub mod Namers
 pub mod News
 pub mod Operations
 pub mod Order

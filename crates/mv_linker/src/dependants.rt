@@ -1,14 +1,16 @@
 // The published modules that stay and have to be linked again, since they name a module of the bundle.
-ghost use Rattle.std.specs.Prelude.{◌≡◌, ◌↔◌, ◌<◌, ◌≤◌, ◌==◌, None, is_some, length, nat_lt, position, slice_get, IsTrue, IfOk, IfSome, MatchOption};
+ghost use Rattle.std.specs.Prelude.{◌≡◌, ◌↔◌, ◌<◌, ◌≤◌, ◌==◌, None, is_some, length, position, slice_get, IsTrue, IfOk, IfSome, MatchOption};
 ghost use Rattle.std.specs.List.{list_any};
 ghost use Rattle.mv_linker.specs.Link.{tables_in};
 ghost use Rattle.mv_linker.specs.Links.{names_hold};
+ghost use Rattle.mv_linker.specs.Namers.{AreNamersOfAll};
 ghost use Rattle.mv_linker.specs.Relinked.{Joins, NamesBundle, IsApart, IsDependant, AreDependants};
 ghost use Rattle.mv_linker.specs.Stored.{AreNames};
 ghost use Rattle.mv_linker.specs.Targets.{modules_in};
 
 use crate::links::Names;
 use crate::scope::Scope;
+use indexmap::IndexSet;
 use mv_binary_format::Module;
 use mv_move_types::Refusal;
 use mv_type_states::Tops;
@@ -43,12 +45,18 @@ impl<'a> Scope<'a> {
         self.has_bundled(self.store.dependencies_at(place))
     }
 
-    /// Whether the bundle takes the place of a published module.
-    fn replaces(&self) -> bool
-        ensures { result ≡ list_any (λ p. nat_lt p (length self.now.store.now)) self.now.places.items }
+    /// The places of the modules that name one whose place the bundle takes. Others are not looked at.
+    fn namers(&self, alloc: Global) -> Result<IndexSet<usize>, AllocError>
+        requires { length self.now.store.now ≤ 65536 }
+        ensures { IfOk result (λ v. AreNamersOfAll (tables_in self.now.store.now) self.now.places.items v.keys) }
     {
-        let published = self.store.len();
-        self.places.iter().any(|p| *p < published)
+        let mut namers = IndexSet::new(alloc);
+        for place in &self.places {
+            if *place < self.store.len() {
+                self.store.put_namers(*place, &mut namers)?;
+            }
+        }
+        Ok(namers)
     }
 
     /// What the handles of a module name, where all that they name is there.
@@ -94,13 +102,14 @@ impl<'a> Scope<'a> {
         requires few { length (modules_in self.now) ≤ 65536 }
         ensures { IfOk result (λ v. AreDependants self.now v.items) }
     {
+        let namers = self.namers(alloc)?;
         let mut dependants = Vec::new(alloc);
-        if !self.replaces() {
-            return Ok(dependants);
-        }
-        for place in 0..self.store.len() {
-            if let Some(d) = self.dependant_at(alloc, place)? {
-                dependants.push(d)?;
+        for place in namers.as_slice() {
+            // None stands there if memory ran out when one was to be put there.
+            if *place < self.store.len() {
+                if let Some(d) = self.dependant_at(alloc, *place)? {
+                    dependants.push(d)?;
+                }
             }
         }
         Ok(dependants)

@@ -1,32 +1,48 @@
-use Rattle.std.proofs.Common.{◌≡◌, ◌+◌, sym, ap, subst, ◌∙◌, Vec, Global, arith}
+use Rattle.std.proofs.Common.{◌≡◌, ◌+◌, ℕ, List, Some, Vec, Global, get_or, slice_get, sym, ap, ◌∙◌, subst, arith}
 use Rattle.std.specs.Prelude.{⊤}
-use Rattle.std.proofs.lemmas.Option.{MatchOption-at_some, MatchOption-at_none}
+use Rattle.std.proofs.lemmas.Option.{MatchOption-at_some, MatchOption-at_none, slice_get-get_or}
 use Rattle.mv_linker.specs.declared.dependants.Dependant.{Dependant}
-use Rattle.mv_linker.specs.Relinked.{AreDependants, IsApart, IsDependant}
-use Rattle.mv_linker.proofs.DependantLemmas.{DependantsSoFar, no-dependants, next-apart, next-dependant, all-dependants}
+use Rattle.mv_linker.specs.Link.{tables_in}
+use Rattle.mv_linker.specs.Namers.{AreNamersOfAll}
+use Rattle.mv_linker.specs.Relinked.{IsApart, IsDependant}
+use Rattle.mv_linker.proofs.DependantLemmas.{DependantsSoFar, no-fewer, no-dependants, next-apart, next-dependant, all-dependants, apart-far}
 use Rattle.mv_linker.proofs.scope.Scope.dependants.Goals as goal
-use Rattle.mv_linker.proofs.scope.Scope.dependants.Goals.{in-Some+in_ok-push, in_default}
+use Rattle.mv_linker.proofs.scope.Scope.dependants.Goals.{then-place-len+in_ok-d+in-Some+in_ok-push, then-place-len+in_ok-d+in_default, else-place-len}
 
-pub returns-then-not-replaces : goal.returns-then-not-replaces
-returns-then-not-replaces c =
-    let s = c.args.self.now in
-    subst (λ l. AreDependants s l) (sym c.new-dependants.ensures.items) (no-dependants s c.requires.joins (sym c.replaces.ensures ∙ c.if-not-replaces.true))
+pub namers-requires : goal.namers-requires
+namers-requires c = omega (arith, no-fewer c.args.self.now, c.requires.few)
+
+pub loop-place-init : goal.loop-place-init
+loop-place-init c =
+    let places = c.as_slice-place-items.result.now in
+    subst (λ l. DependantsSoFar c.args.self.now l places 0) (sym c.new-dependants.ensures.items) (no-dependants c.args.self.now places)
 
 pub loop-place-preserved : goal.loop-place-preserved
 loop-place-preserved c =
     let s = c.args.self.now in
-    let i = c.loop-place.place in
+    let places = c.as_slice-place-items.result.now in
+    let i = c.loop-place.place-index in
+    let p = get_or places i 0 in
+    let ds = c.loop-place.dependants.items in
     let so = c.loop-place.invariant in
-    elim c.match-branch-2.branch [
-      | in-Some+in_ok-push w ↦
+    let at : slice_get places i ≡ Some p = slice_get-get_or places i 0 c.loop-place-test.true in
+    elim c.if-place-len.branch [
+      | then-place-len+in_ok-d+in-Some+in_ok-push w ↦
           let d = w.in-Some.d in
-          let is : IsDependant s d = MatchOption-at_some (IsApart s i) (IsDependant s) d w.in-Some.is c.in_ok-d.ensures.apart in
-          let place : d.place ≡ i = MatchOption-at_some ⊤ (λ (d : Dependant). d.place ≡ i) d w.in-Some.is c.in_ok-d.ensures.place in
-          next-dependant s c.loop-place.dependants.items c.match-branch-2.dependants.items i d so (ap (λ (v : Vec Dependant Global). v.items) w.dependants-is ∙ w.in_ok-push.ensures.items) place is
-      | in_default w ↦
-          let apart : IsApart s i = MatchOption-at_none (IsApart s i) (IsDependant s) w.in_default.is c.in_ok-d.ensures.apart in
-          subst (λ (v : Vec Dependant Global). DependantsSoFar s v.items (i + 1)) (sym w.dependants-is) (next-apart s c.loop-place.dependants.items i so apart)
+          let is : IsDependant s d = MatchOption-at_some (IsApart s p) (IsDependant s) d w.in-Some.is w.in_ok-d.ensures.apart in
+          let place : d.place ≡ p = MatchOption-at_some ⊤ (λ (d : Dependant). d.place ≡ p) d w.in-Some.is w.in_ok-d.ensures.place in
+          next-dependant s ds c.if-place-len.dependants.items places i p d so at (ap (λ (v : Vec Dependant Global). v.items) w.dependants-is ∙ w.in_ok-push.ensures.items) place is
+      | then-place-len+in_ok-d+in_default w ↦
+          let apart : IsApart s p = MatchOption-at_none (IsApart s p) (IsDependant s) w.in_default.is w.in_ok-d.ensures.apart in
+          subst (λ (v : Vec Dependant Global). DependantsSoFar s v.items places (i + 1)) (sym w.dependants-is) (next-apart s ds places i p so at apart)
+      | else-place-len w ↦
+          let apart : IsApart s p = apart-far s c.requires.joins p (omega (arith, w.if-place-len.false, c.len.ensures.count)) in
+          subst (λ (v : Vec Dependant Global). DependantsSoFar s v.items places (i + 1)) (sym w.dependants-is) (next-apart s ds places i p so at apart)
     ]
 
 pub returns : goal.returns
-returns c = all-dependants c.args.self.now c.loop-place.dependants.items c.loop-place.place c.loop-place.invariant (omega arith)
+returns c =
+    let s = c.args.self.now in
+    let places = c.as_slice-place-items.result.now in
+    let all : AreNamersOfAll (tables_in s.store.now) s.places.items places = subst (λ (l : List ℕ). AreNamersOfAll (tables_in s.store.now) s.places.items l) (sym c.as_slice-place-items.ensures.keys) c.in_ok-namers.ensures in
+    all-dependants s c.requires.joins c.loop-place.dependants.items places c.loop-place.place-index all c.loop-place.invariant (omega (arith, c.loop-place-test.false))

@@ -1,0 +1,69 @@
+use Rattle.std.proofs.Common.{◌≡◌, ℕ, List, sym, ap, ap₂, ◌∙◌, subst}
+use Rattle.mv_move_types.specs.Published.{PublishedModule, with_modules}
+use Rattle.mv_linker.specs.declared.code.Code.{Code}
+use Rattle.mv_linker.specs.declared.dependencies.Dependencies.{Dependencies}
+use Rattle.mv_linker.specs.declared.entry.Name.{Name}
+use Rattle.mv_linker.specs.declared.entry.Texts.{Texts}
+use Rattle.mv_linker.specs.Kept.{AreKeyed, published_under}
+use Rattle.mv_linker.specs.Link.{IsStore, tables_in}
+use Rattle.mv_linker.specs.Namers.{AreNamed, AreNamers}
+use Rattle.mv_linker.specs.Stored.{AreCodesOf, AreDependenciesOf, with_codes, with_dependencies}
+use Rattle.mv_linker.proofs.NamerLemmas.{namers-grow, namers-join}
+use Rattle.mv_linker.proofs.add.Goals as goal
+
+-- what a store keeps holds together
+abbrev IsWhole : List (Name × Texts) → List Code → List Dependencies → List (ℕ × ℕ) → Type 0
+IsWhole entries codes kept pairs =
+    IsStore (published_under entries) × AreKeyed entries × AreCodesOf (tables_in (published_under entries)) codes × AreDependenciesOf (tables_in (published_under entries)) kept × AreNamers pairs kept
+
+-- as before, with other pairs
+still : (entries was_entries : List (Name × Texts)) (codes was_codes : List Code) (kept was_kept : List Dependencies) (pairs was : List (ℕ × ℕ)) → entries ≡ was_entries → codes ≡ was_codes → kept ≡ was_kept
+    → AreNamers pairs was_kept → IsWhole was_entries was_codes was_kept was → IsWhole entries codes kept pairs
+still entries was_entries codes was_codes kept was_kept pairs was e c k namers whole =
+    subst (λ l. IsWhole l codes kept pairs) (sym e)
+    (subst (λ l. IsWhole was_entries l kept pairs) (sym c)
+    (subst (λ l. IsWhole was_entries was_codes l pairs) (sym k) (whole.0, whole.1, whole.2, whole.3, namers)))
+
+pub invariant_of-s-in_err-reserve-3 : goal.invariant_of-s-in_err-reserve-3
+invariant_of-s-in_err-reserve-3 c = still _ _ _ _ _ _ _ _ c.reserve.ensures.entries c.reserve-2.ensures.items c.reserve-3.ensures.items c.s.invariant.4 c.s.invariant
+
+pub invariant_of-s-in_err-gone : goal.invariant_of-s-in_err-gone
+invariant_of-s-in_err-gone c = still _ _ _ _ _ _ _ _ c.reserve.ensures.entries c.reserve-2.ensures.items c.reserve-3.ensures.items c.s.invariant.4 c.s.invariant
+
+pub invariant_of-s-in_err-put_all : goal.invariant_of-s-in_err-put_all
+invariant_of-s-in_err-put_all c =
+    still _ _ _ _ _ _ _ _ c.reserve.ensures.entries c.reserve-2.ensures.items c.reserve-3.ensures.items
+    (namers-grow c.s.inside.namers c.put_all.new.self c.s.inside.dependencies.items c.s.invariant.4 c.put_all.ensures.stays) c.s.invariant
+
+pub forget-requires : goal.forget-requires
+forget-requires c =
+    let old = tables_in c.args.s.now in
+    let kept = c.s.inside.dependencies.items in
+    let more = c.args.l.dependencies in
+    let pairs = c.put_all.new.self in
+    let are : AreDependenciesOf old kept = subst (λ (l : List PublishedModule). AreDependenciesOf (tables_in l) kept) c.s.view_is c.s.invariant.3 in
+    let named : AreNamed pairs more = subst (AreNamed pairs) (c.deref-3.ensures.value ∙ ap (λ l. l.dependencies) c.l.view_is) c.in_ok-put_all.ensures.put in
+    let is : with_dependencies kept more ≡ c.deref-4.result.now =
+    sym (c.deref-4.ensures.value ∙ c.put_dependencies.ensures ∙ ap₂ with_dependencies c.reserve-3.ensures.items (ap (λ l. l.dependencies) c.l.view_is)) in
+    subst (AreNamers pairs) is (namers-join old (tables_in (with_modules c.args.s.now c.args.l.published)) kept more c.s.inside.namers pairs are c.requires.dependencies c.s.invariant.4 c.put_all.ensures.stays named)
+
+pub invariant_of-s-2 : goal.invariant_of-s-2
+invariant_of-s-2 c =
+    let old = c.args.s.now in
+    let codes = c.s.inside.codes.items in
+    let kept = c.s.inside.dependencies.items in
+    let joined : published_under c.put_modules.new.modules.entries ≡ with_modules old c.args.l.published =
+    c.put_modules.ensures.modules ∙ ap₂ with_modules (ap published_under c.reserve.ensures.entries ∙ c.s.view_is) (ap (λ l. l.published) c.l.view_is) in
+    let coded : AreCodesOf (tables_in old) codes = subst (λ (l : List PublishedModule). AreCodesOf (tables_in l) codes) c.s.view_is c.s.invariant.2 in
+    let put_codes : c.put_codes.new.codes.items ≡ with_codes codes c.args.l.codes = c.put_codes.ensures ∙ ap₂ with_codes c.reserve-2.ensures.items (ap (λ l. l.codes) c.l.view_is) in
+    let depend : AreDependenciesOf (tables_in old) kept = subst (λ (l : List PublishedModule). AreDependenciesOf (tables_in l) kept) c.s.view_is c.s.invariant.3 in
+    let put_kept : c.put_dependencies.new.kept.items ≡ with_dependencies kept c.args.l.dependencies =
+    c.put_dependencies.ensures ∙ ap₂ with_dependencies c.reserve-3.ensures.items (ap (λ l. l.dependencies) c.l.view_is) in (
+      subst IsStore (sym joined) c.requires.whole,
+      c.put_modules.ensures.keyed,
+      subst (λ (l : List PublishedModule). AreCodesOf (tables_in l) c.put_codes.new.codes.items) (sym joined)
+          (subst (AreCodesOf (tables_in (with_modules old c.args.l.published))) (sym put_codes) (c.requires.codes codes coded)),
+      subst (λ (l : List PublishedModule). AreDependenciesOf (tables_in l) c.put_dependencies.new.kept.items) (sym joined)
+          (subst (AreDependenciesOf (tables_in (with_modules old c.args.l.published))) (sym put_kept) (c.requires.dependencies.keeps kept depend)),
+      subst (AreNamers c.forget.new.self) c.deref-4.ensures.value c.forget.ensures,
+    )

@@ -1,0 +1,5 @@
+use Rattle.mv_linker.specs.Namers.{AreNamers}
+use Rattle.mv_linker.proofs.namers.Namers.forget.Given as goal
+
+abbrev pub invariant-loop-named : goal.invariant-loop-named
+invariant-loop-named l = AreNamers l.self l.kept

@@ -1,0 +1,5 @@
+use Rattle.mv_linker.proofs.NamerLemmas.{PutSoFar, PutOf}
+use Rattle.mv_linker.proofs.namers.Namers.put_all.Given as goal
+
+abbrev pub invariant-loop-d : goal.invariant-loop-d
+invariant-loop-d l = PutSoFar PutOf l.fn.self l.self l.more l.d-index
