@@ -1,11 +1,11 @@
 // Reading entries from the front of bytes.
 
-ghost use Rattle.std.specs.Prelude.{◌≡◌, ◌<◌, ◌^◌, ◌≤◌, IfOk, IsTrue, ◌↔◌, []};
+ghost use Rattle.std.specs.Prelude.{◌≡◌, ◌<◌, ◌^◌, ◌≤◌, IfOk, IsTrue, ◌↔◌, [], ℕ, List};
 ghost use Rattle.mv_move_types.specs.declared.token.Width.TheVariants.{U16, U32, U64, U128};
 ghost use Rattle.mv_move_types.specs.Tokens.{width_bits};
 ghost use Rattle.mv_move_types.specs.Versions.{version_number};
 ghost use Rattle.mv_uleb.specs.Parsing.{number_from};
-ghost use Rattle.mv_module_text.specs.Parsing.{index_from, byte_from, mark_from, bytes_from, number_of_from, counted_from, kind_of, value_type_by, value_type_from, token_from, module_handle_from, struct_handle_from, function_handle_from, signature_from, constant_from, identifier_from, address_from, field_from, field_handle_from, visibility_from, entry_from, instruction_from};
+ghost use Rattle.mv_module_text.specs.Parsing.{Read, index_from, byte_from, mark_from, bytes_from, number_of_from, counted_from, kind_of, value_type_by, value_type_from, token_from, module_handle_from, struct_handle_from, function_handle_from, signature_from, constant_from, identifier_from, address_from, field_from, field_handle_from, visibility_from, entry_from, instruction_from};
 ghost use Rattle.mv_module_text.specs.Reads.{Reads, ReadsAs, Marks, Collects};
 
 use crate::Constant;
@@ -432,15 +432,7 @@ impl<'a> Reader<'a> {
     pub fn signature(&mut self, alloc: Global, version: Version) -> Result<Vec<Token>, Refusal>
         ensures { Collects (signature_from (version_number version)) self.old result self.new }
     {
-        let mut ahead = Reader { rest: self.rest };
-        let count = ahead.number(MOST_TYPES)?;
-        let mut tokens = Vec::with_capacity(alloc, count as usize)?;
-        'tokens: for _ in 0..count {
-            let token = ahead.token(version)?;
-            tokens.push(token).map_err(|_| Refusal::Memory)?;
-        }
-        self.rest = ahead.rest;
-        Ok(tokens)
+        self.collect(alloc, version, MOST_TYPES)
     }
 
     /// Reads the fields of a struct, of which there are at most 32, after their number.
@@ -450,15 +442,7 @@ impl<'a> Reader<'a> {
     pub fn fields(&mut self, alloc: Global, version: Version) -> Result<Vec<Field>, Refusal>
         ensures { Collects (counted_from 32 (field_from (version_number version))) self.old result self.new }
     {
-        let mut ahead = Reader { rest: self.rest };
-        let count = ahead.number(MOST_FIELDS)?;
-        let mut fields = Vec::with_capacity(alloc, count as usize)?;
-        'fields: for _ in 0..count {
-            let field = ahead.field(version)?;
-            fields.push(field).map_err(|_| Refusal::Memory)?;
-        }
-        self.rest = ahead.rest;
-        Ok(fields)
+        self.collect(alloc, version, MOST_FIELDS)
     }
 
     /// Reads indices after their number, which is at most 65,535.
@@ -468,16 +452,10 @@ impl<'a> Reader<'a> {
     pub fn indices(&mut self, alloc: Global) -> Result<Vec<u16>, Refusal>
         ensures { Collects (counted_from 65535 index_from) self.old result self.new }
     {
-        let mut ahead = Reader { rest: self.rest };
-        let count = ahead.number(MOST_INDEX)?;
-        let mut indices = Vec::with_capacity(alloc, count as usize)?;
-        'indices: for _ in 0..count {
-            let index = ahead.index()?;
-            indices.push(index).map_err(|_| Refusal::Memory)?;
-        }
-        self.rest = ahead.rest;
-        Ok(indices)
+        // All versions have the same indices.
+        self.collect(alloc, Version::Five, MOST_INDEX)
     }
+
     /// Reads the code of a function: its instructions, as the version has them, after their number, which is at most
     /// 4,096.
     ///
@@ -490,14 +468,72 @@ impl<'a> Reader<'a> {
     ) -> Result<Vec<Instruction>, Refusal>
         ensures { Collects (counted_from 4096 (instruction_from (version_number version))) self.old result self.new }
     {
+        self.collect(alloc, version, MOST_INSTRUCTIONS)
+    }
+
+    // Reads entries after their number, which is at most `most`.
+    fn collect<T: Entry>(
+        &mut self,
+        alloc: Global,
+        version: Version,
+        most: u64,
+    ) -> Result<Vec<T>, Refusal>
+        ensures { Collects (counted_from most (T.from (version_number version))) self.old result self.new }
+    {
         let mut ahead = Reader { rest: self.rest };
-        let count = ahead.number(MOST_INSTRUCTIONS)?;
-        let mut code = Vec::with_capacity(alloc, count as usize)?;
-        'code: for _ in 0..count {
-            let instruction = ahead.instruction(version)?;
-            code.push(instruction).map_err(|_| Refusal::Memory)?;
+        let count = ahead.number(most)?;
+        let mut entries = Vec::with_capacity(alloc, count as usize)?;
+        'entries: for _ in 0..count {
+            let entry = T::read(&mut ahead, version)?;
+            entries.push(entry).map_err(|_| Refusal::Memory)?;
         }
         self.rest = ahead.rest;
-        Ok(code)
+        Ok(entries)
+    }
+}
+
+// An entry of a list.
+trait Entry: Copy {
+    // the one at the front of bytes, as a version has it
+    ghost from: { ℕ → List ℕ → Read Self };
+
+    // Reads one.
+    fn read(reader: &mut Reader, version: Version) -> Result<Self, Refusal>
+        ensures { Reads (from (version_number version)) reader.old result reader.new };
+}
+
+impl Entry for Token {
+    ghost from = { token_from };
+
+    #[inline(always)]
+    fn read(reader: &mut Reader, version: Version) -> Result<Self, Refusal> {
+        reader.token(version)
+    }
+}
+
+impl Entry for Field {
+    ghost from = { field_from };
+
+    #[inline(always)]
+    fn read(reader: &mut Reader, version: Version) -> Result<Self, Refusal> {
+        reader.field(version)
+    }
+}
+
+impl Entry for u16 {
+    ghost from = { λ _. index_from };
+
+    #[inline(always)]
+    fn read(reader: &mut Reader, _: Version) -> Result<Self, Refusal> {
+        reader.index()
+    }
+}
+
+impl Entry for Instruction {
+    ghost from = { instruction_from };
+
+    #[inline(always)]
+    fn read(reader: &mut Reader, version: Version) -> Result<Self, Refusal> {
+        reader.instruction(version)
     }
 }
