@@ -1,5 +1,5 @@
 -- What is read is what was written: definitions of structs and functions.
-use Rattle.std.proofs.Common.{◌≡◌, ℕ, ◌≤◌, List, [], ◌∷◌, ◌++◌, length, arith, refl, ap, suc, sym, ◌∙◌, subst, append_assoc, Some, None, IsTrue, Bool, true, false, cond, eqb, ◌&&◌, nat_le, inl, inr}
+use Rattle.std.proofs.Common.{◌≡◌, ℕ, ◌≤◌, List, [], ◌∷◌, ◌++◌, length, arith, refl, ap, suc, ◌∙◌, subst, append_assoc, Some, None, Bool, true, false, cond, eqb, ◌&&◌, nat_le, inl, inr}
 use Rattle.std.specs.List.{list_all}
 use Rattle.std.proofs.lemmas.Bool.{and_parts, and_from, leb-true, le-leb}
 use Rattle.std.proofs.lemmas.Option.{none-some, same_Some}

@@ -2,6 +2,7 @@ pub mod Entries
 pub mod Texts
 pub mod Numbers
 pub mod Rows
+pub mod Forms
 pub mod Tokens
 pub mod Opcodes
 pub mod Handles

@@ -1,5 +1,5 @@
 -- What is read is what was written: instructions, by the table of opcodes.
-use Rattle.std.proofs.Common.{◌≡◌, ℕ, ◌^◌, List, [], ◌∷◌, ◌++◌, refl, ap, sym, ◌∙◌, subst, Option, Some, IsTrue, Bool, true, not, ◌&&◌, ◌||◌, nat_lt, option_map, lt-ltb, ltb-true}
+use Rattle.std.proofs.Common.{◌≡◌, ℕ, ◌^◌, List, [], ◌∷◌, ◌++◌, refl, ap, sym, ◌∙◌, subst, Some, IsTrue, Bool, true, not, ◌||◌, nat_lt, option_map, lt-ltb, ltb-true}
 use Rattle.std.specs.Prelude.{◌==◌}
 use Rattle.std.proofs.lemmas.Bool.{and_parts, and_from, eqb-true}
 use Rattle.std.proofs.lemmas.Option.{some_pair_parts}

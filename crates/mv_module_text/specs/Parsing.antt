@@ -19,7 +19,7 @@ use Rattle.mv_move_types.specs.declared.token.Token.{Token}
 use Rattle.mv_move_types.specs.declared.token.Token.TheVariants.{Plain, Reference, MutableReference}
 use Rattle.mv_move_types.specs.declared.token.Abilities.{Abilities}
 use Rattle.mv_move_types.specs.declared.instruction.Instruction.{Instruction}
-use Rattle.mv_move_types.specs.Instructions.{Form, Bare, Indexed, Numbered, row_of, given}
+use Rattle.mv_move_types.specs.Instructions.{Form, Bare, Indexed, Numbered, Row, row_of, given}
 use Rattle.mv_move_types.specs.Numbers.{little_endian}
 use Rattle.mv_move_types.specs.Tokens.{width_bytes}
 use Rattle.mv_move_types.specs.Options.{◌>>=◌}
@@ -227,6 +227,22 @@ abbrev pub immediate_from : Form → List ℕ → Read ℕ
 immediate_from (Bare instruction) bytes = Some (0, bytes)
 immediate_from (Indexed make) bytes = index_from bytes
 immediate_from (Numbered width make) bytes = number_of_from width bytes
+
+-- the form of an opcode in a version
+abbrev pub form_of : ℕ → ℕ → Option Form
+form_of version code = option_map (λ (r : Row). r.form) (row_of version code)
+
+-- the instruction of a form that has neither
+abbrev pub bare_of : Form → Option Instruction
+bare_of (Bare instruction) = Some instruction
+bare_of (Indexed make) = None
+bare_of (Numbered width make) = None
+
+-- that of a form that has an index
+abbrev pub indexed_of : ℕ → Form → Option Instruction
+indexed_of index (Bare instruction) = None
+indexed_of index (Indexed make) = Some (make index)
+indexed_of index (Numbered width make) = None
 
 -- an instruction by its opcode, with its immediate after it
 abbrev pub instruction_by : ℕ → ℕ → List ℕ → Read Instruction

@@ -15,6 +15,7 @@
 #![tactic(auto)]
 
 mod abilities;
+mod codes;
 mod constant;
 mod identifiers;
 mod laws;

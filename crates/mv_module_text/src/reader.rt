@@ -1,14 +1,14 @@
 // Reading entries from the front of bytes.
 
-ghost use Rattle.std.specs.Prelude.{◌≡◌, ◌<◌, ◌^◌, ◌≤◌, IfOk, IsTrue, ◌↔◌, []};
+ghost use Rattle.std.specs.Prelude.{◌≡◌, ◌<◌, ◌^◌, ◌≤◌, IfOk, IsTrue, ◌↔◌, [], ℕ, List, None, option_and_then};
 ghost use Rattle.mv_move_types.specs.declared.token.Width.TheVariants.{U16, U32, U64, U128};
 ghost use Rattle.mv_move_types.specs.Tokens.{width_bits};
 ghost use Rattle.mv_move_types.specs.Versions.{version_number};
 ghost use Rattle.mv_uleb.specs.Parsing.{number_from};
-ghost use Rattle.mv_module_text.specs.Parsing.{index_from, byte_from, mark_from, bytes_from, number_of_from, counted_from, kind_of, value_type_by, value_type_from, token_from, module_handle_from, struct_handle_from, function_handle_from, signature_from, constant_from, identifier_from, address_from, field_from, field_handle_from, visibility_from, entry_from, instruction_from};
+ghost use Rattle.mv_module_text.specs.Parsing.{Read, index_from, byte_from, mark_from, bytes_from, number_of_from, counted_from, kind_of, value_type_by, value_type_from, token_from, module_handle_from, struct_handle_from, function_handle_from, signature_from, constant_from, identifier_from, address_from, field_from, field_handle_from, visibility_from, entry_from, form_of, bare_of, instruction_by, instruction_from};
 ghost use Rattle.mv_module_text.specs.Reads.{Reads, ReadsAs, Marks, Collects};
 
-use crate::Constant;
+use crate::{Constant, codes};
 use byteorder::{BigEndian, ByteOrder, LittleEndian};
 use mv_move_types::{
     Field, FieldHandle, FunctionHandle, Instruction, LeafKind, ModuleHandle, Refusal, StructHandle,
@@ -362,65 +362,33 @@ impl<'a> Reader<'a> {
     pub fn instruction(&mut self, version: Version) -> Result<Instruction, Refusal>
         ensures { Reads (instruction_from (version_number version)) self.old result self.new }
     {
-        match self.byte()? {
-            0x01 => Ok(Instruction::Pop),
-            0x02 => Ok(Instruction::Ret),
-            0x03 => Ok(Instruction::BrTrue(self.index()?)),
-            0x04 => Ok(Instruction::BrFalse(self.index()?)),
-            0x05 => Ok(Instruction::Branch(self.index()?)),
+        let code = self.byte()?;
+        match codes::bare(version, code) {
+            Some(instruction) => Ok(instruction),
+            None => self.holding(version, code),
+        }
+    }
+
+    // Reads an instruction that holds an index or a number, after its opcode.
+    #[inline(always)]
+    fn holding(&mut self, version: Version, code: u8) -> Result<Instruction, Refusal>
+        requires { option_and_then bare_of (form_of (version_number version) code) ≡ None }
+        ensures { Reads (instruction_by (version_number version) code) self.old result self.new }
+    {
+        match code {
             0x06 => Ok(Instruction::LdU64(self.u64()?)),
-            0x07 => Ok(Instruction::LdConst(self.index()?)),
-            0x08 => Ok(Instruction::LdTrue),
-            0x09 => Ok(Instruction::LdFalse),
-            0x0A => Ok(Instruction::CopyLoc(self.index()?)),
-            0x0B => Ok(Instruction::MoveLoc(self.index()?)),
-            0x0C => Ok(Instruction::StLoc(self.index()?)),
-            0x0D => Ok(Instruction::MutBorrowLoc(self.index()?)),
-            0x0E => Ok(Instruction::ImmBorrowLoc(self.index()?)),
-            0x0F => Ok(Instruction::MutBorrowField(self.index()?)),
-            0x10 => Ok(Instruction::ImmBorrowField(self.index()?)),
-            0x11 => Ok(Instruction::Call(self.index()?)),
-            0x12 => Ok(Instruction::Pack(self.index()?)),
-            0x13 => Ok(Instruction::Unpack(self.index()?)),
-            0x14 => Ok(Instruction::ReadRef),
-            0x15 => Ok(Instruction::WriteRef),
-            0x16 => Ok(Instruction::Add),
-            0x17 => Ok(Instruction::Sub),
-            0x18 => Ok(Instruction::Mul),
-            0x19 => Ok(Instruction::Mod),
-            0x1A => Ok(Instruction::Div),
-            0x1B => Ok(Instruction::BitOr),
-            0x1C => Ok(Instruction::BitAnd),
-            0x1D => Ok(Instruction::Xor),
-            0x1E => Ok(Instruction::Or),
-            0x1F => Ok(Instruction::And),
-            0x20 => Ok(Instruction::Not),
-            0x21 => Ok(Instruction::Eq),
-            0x22 => Ok(Instruction::Neq),
-            0x23 => Ok(Instruction::Lt),
-            0x24 => Ok(Instruction::Gt),
-            0x25 => Ok(Instruction::Le),
-            0x26 => Ok(Instruction::Ge),
-            0x27 => Ok(Instruction::Abort),
-            0x28 => Ok(Instruction::Nop),
-            0x29 => Ok(Instruction::Exists(self.index()?)),
-            0x2A => Ok(Instruction::MutBorrowGlobal(self.index()?)),
-            0x2B => Ok(Instruction::ImmBorrowGlobal(self.index()?)),
-            0x2C => Ok(Instruction::MoveFrom(self.index()?)),
-            0x2D => Ok(Instruction::MoveTo(self.index()?)),
-            0x2E => Ok(Instruction::FreezeRef),
-            0x2F => Ok(Instruction::Shl),
-            0x30 => Ok(Instruction::Shr),
             0x31 => Ok(Instruction::LdU8(self.byte()?)),
             0x32 => Ok(Instruction::LdU128(self.u128()?)),
-            0x33 => Ok(Instruction::CastU8),
-            0x34 => Ok(Instruction::CastU64),
-            0x35 => Ok(Instruction::CastU128),
-            0x48 if version == Version::Six => Ok(Instruction::LdU16(self.u16()?)),
-            0x49 if version == Version::Six => Ok(Instruction::LdU32(self.u32()?)),
-            0x4B if version == Version::Six => Ok(Instruction::CastU16),
-            0x4C if version == Version::Six => Ok(Instruction::CastU32),
-            _ => Err(MALFORMED),
+            0x48 | 0x49 if version != Version::Six => Err(MALFORMED),
+            0x48 => Ok(Instruction::LdU16(self.u16()?)),
+            0x49 => Ok(Instruction::LdU32(self.u32()?)),
+            _ => {
+                let index = self.index()?;
+                match codes::indexed(code, index) {
+                    Some(instruction) => Ok(instruction),
+                    None => Err(MALFORMED),
+                }
+            }
         }
     }
 
@@ -432,15 +400,7 @@ impl<'a> Reader<'a> {
     pub fn signature(&mut self, alloc: Global, version: Version) -> Result<Vec<Token>, Refusal>
         ensures { Collects (signature_from (version_number version)) self.old result self.new }
     {
-        let mut ahead = Reader { rest: self.rest };
-        let count = ahead.number(MOST_TYPES)?;
-        let mut tokens = Vec::with_capacity(alloc, count as usize)?;
-        'tokens: for _ in 0..count {
-            let token = ahead.token(version)?;
-            tokens.push(token).map_err(|_| Refusal::Memory)?;
-        }
-        self.rest = ahead.rest;
-        Ok(tokens)
+        self.collect(alloc, version, MOST_TYPES)
     }
 
     /// Reads the fields of a struct, of which there are at most 32, after their number.
@@ -450,15 +410,7 @@ impl<'a> Reader<'a> {
     pub fn fields(&mut self, alloc: Global, version: Version) -> Result<Vec<Field>, Refusal>
         ensures { Collects (counted_from 32 (field_from (version_number version))) self.old result self.new }
     {
-        let mut ahead = Reader { rest: self.rest };
-        let count = ahead.number(MOST_FIELDS)?;
-        let mut fields = Vec::with_capacity(alloc, count as usize)?;
-        'fields: for _ in 0..count {
-            let field = ahead.field(version)?;
-            fields.push(field).map_err(|_| Refusal::Memory)?;
-        }
-        self.rest = ahead.rest;
-        Ok(fields)
+        self.collect(alloc, version, MOST_FIELDS)
     }
 
     /// Reads indices after their number, which is at most 65,535.
@@ -468,16 +420,10 @@ impl<'a> Reader<'a> {
     pub fn indices(&mut self, alloc: Global) -> Result<Vec<u16>, Refusal>
         ensures { Collects (counted_from 65535 index_from) self.old result self.new }
     {
-        let mut ahead = Reader { rest: self.rest };
-        let count = ahead.number(MOST_INDEX)?;
-        let mut indices = Vec::with_capacity(alloc, count as usize)?;
-        'indices: for _ in 0..count {
-            let index = ahead.index()?;
-            indices.push(index).map_err(|_| Refusal::Memory)?;
-        }
-        self.rest = ahead.rest;
-        Ok(indices)
+        // All versions have the same indices.
+        self.collect(alloc, Version::Five, MOST_INDEX)
     }
+
     /// Reads the code of a function: its instructions, as the version has them, after their number, which is at most
     /// 4,096.
     ///
@@ -490,14 +436,72 @@ impl<'a> Reader<'a> {
     ) -> Result<Vec<Instruction>, Refusal>
         ensures { Collects (counted_from 4096 (instruction_from (version_number version))) self.old result self.new }
     {
+        self.collect(alloc, version, MOST_INSTRUCTIONS)
+    }
+
+    // Reads entries after their number, which is at most `most`.
+    fn collect<T: Entry>(
+        &mut self,
+        alloc: Global,
+        version: Version,
+        most: u64,
+    ) -> Result<Vec<T>, Refusal>
+        ensures { Collects (counted_from most (T.from (version_number version))) self.old result self.new }
+    {
         let mut ahead = Reader { rest: self.rest };
-        let count = ahead.number(MOST_INSTRUCTIONS)?;
-        let mut code = Vec::with_capacity(alloc, count as usize)?;
-        'code: for _ in 0..count {
-            let instruction = ahead.instruction(version)?;
-            code.push(instruction).map_err(|_| Refusal::Memory)?;
+        let count = ahead.number(most)?;
+        let mut entries = Vec::with_capacity(alloc, count as usize)?;
+        'entries: for _ in 0..count {
+            let entry = T::read(&mut ahead, version)?;
+            entries.push(entry).map_err(|_| Refusal::Memory)?;
         }
         self.rest = ahead.rest;
-        Ok(code)
+        Ok(entries)
+    }
+}
+
+// An entry of a list.
+trait Entry: Copy {
+    // the one at the front of bytes, as a version has it
+    ghost from: { ℕ → List ℕ → Read Self };
+
+    // Reads one.
+    fn read(reader: &mut Reader, version: Version) -> Result<Self, Refusal>
+        ensures { Reads (from (version_number version)) reader.old result reader.new };
+}
+
+impl Entry for Token {
+    ghost from = { token_from };
+
+    #[inline(always)]
+    fn read(reader: &mut Reader, version: Version) -> Result<Self, Refusal> {
+        reader.token(version)
+    }
+}
+
+impl Entry for Field {
+    ghost from = { field_from };
+
+    #[inline(always)]
+    fn read(reader: &mut Reader, version: Version) -> Result<Self, Refusal> {
+        reader.field(version)
+    }
+}
+
+impl Entry for u16 {
+    ghost from = { λ _. index_from };
+
+    #[inline(always)]
+    fn read(reader: &mut Reader, _: Version) -> Result<Self, Refusal> {
+        reader.index()
+    }
+}
+
+impl Entry for Instruction {
+    ghost from = { instruction_from };
+
+    #[inline(always)]
+    fn read(reader: &mut Reader, version: Version) -> Result<Self, Refusal> {
+        reader.instruction(version)
     }
 }

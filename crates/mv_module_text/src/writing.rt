@@ -1,6 +1,6 @@
 // Writing entries after bytes.
 
-ghost use Rattle.std.specs.Prelude.{◌≡◌, ◌<◌, ◌^◌, ◌∷◌, [], take, OnOk, OnErr, IsTrue};
+ghost use Rattle.std.specs.Prelude.{◌≡◌, ◌<◌, ◌^◌, ◌∷◌, [], take, OnOk, OnErr, IsTrue, ℕ, List};
 ghost use Rattle.mv_uleb.specs.Uleb.{uleb};
 ghost use Rattle.mv_move_types.specs.Tokens.{width_bits};
 ghost use Rattle.mv_module_text.specs.Fits.{immediate_fits};
@@ -140,12 +140,7 @@ pub fn write_function_handle(handle: FunctionHandle, out: &mut Vec<u8>) -> Resul
 pub fn write_signature(tokens: &[Token], out: &mut Vec<u8>) -> Result<(), AllocError>
     ensures { Writes (signature_text tokens.now) out.old.items result out.new.items }
 {
-    let count = out.len();
-    mv_uleb::write(tokens.len() as u64, out)?;
-    for token in tokens {
-        or_undo(write_token(*token, out), count, out)?;
-    }
-    Ok(())
+    write_list(tokens, out)
 }
 
 // Writes the number of bytes, and the bytes after it.
@@ -189,18 +184,6 @@ pub fn write_field(field: Field, out: &mut Vec<u8>) -> Result<(), AllocError>
     or_undo(write_token(field.token, out), count, out)
 }
 
-// Writes fields after their number.
-fn write_fields(fields: &[Field], out: &mut Vec<u8>) -> Result<(), AllocError>
-    ensures { Writes (counted field_text fields.now) out.old.items result out.new.items }
-{
-    let count = out.len();
-    mv_uleb::write(fields.len() as u64, out)?;
-    for field in fields {
-        or_undo(write_field(*field, out), count, out)?;
-    }
-    Ok(())
-}
-
 /// Writes a struct definition: its handle and its fields.
 pub fn write_struct_definition(
     handle: u16,
@@ -212,7 +195,7 @@ pub fn write_struct_definition(
     let count = out.len();
     write_index(handle, out)?;
     or_undo(write_byte(2, out), count, out)?;
-    or_undo(write_fields(fields, out), count, out)
+    or_undo(write_list(fields, out), count, out)
 }
 
 // Writes a number in as many bytes as its width has, little-endian.
@@ -255,30 +238,6 @@ pub fn write_instruction(instruction: Instruction, out: &mut Vec<u8>) -> Result<
     or_undo(write_immediate(instruction.immediate(), out), count, out)
 }
 
-// Writes indices after their number.
-fn write_indices(indices: &[u16], out: &mut Vec<u8>) -> Result<(), AllocError>
-    ensures { Writes (counted uleb indices.now) out.old.items result out.new.items }
-{
-    let count = out.len();
-    mv_uleb::write(indices.len() as u64, out)?;
-    for index in indices {
-        or_undo(write_index(*index, out), count, out)?;
-    }
-    Ok(())
-}
-
-// Writes instructions after their number.
-fn write_instructions(code: &[Instruction], out: &mut Vec<u8>) -> Result<(), AllocError>
-    ensures { Writes (counted instruction_text code.now) out.old.items result out.new.items }
-{
-    let count = out.len();
-    mv_uleb::write(code.len() as u64, out)?;
-    for instruction in code {
-        or_undo(write_instruction(*instruction, out), count, out)?;
-    }
-    Ok(())
-}
-
 /// A function definition to write.
 #[derive(Clone, Copy)]
 pub struct FunctionParts<'a> {
@@ -309,9 +268,9 @@ pub fn write_function_definition(parts: FunctionParts, out: &mut Vec<u8>) -> Res
     write_index(parts.handle, out)?;
     or_undo(write_byte(visibility, out), count, out)?;
     or_undo(write_byte(flags, out), count, out)?;
-    or_undo(write_indices(parts.acquires, out), count, out)?;
+    or_undo(write_list(parts.acquires, out), count, out)?;
     or_undo(write_index(parts.locals, out), count, out)?;
-    or_undo(write_instructions(parts.code, out), count, out)
+    or_undo(write_list(parts.code, out), count, out)
 }
 
 /// Writes a field handle: its struct definition and its position there.
@@ -321,4 +280,58 @@ pub fn write_field_handle(handle: FieldHandle, out: &mut Vec<u8>) -> Result<(), 
     let count = out.len();
     write_index(handle.definition, out)?;
     or_undo(write_index(handle.position, out), count, out)
+}
+
+// An entry of a list.
+trait Entry: Copy {
+    // its bytes
+    ghost text: { Self → List ℕ };
+
+    // Writes it.
+    fn write(self, out: &mut Vec<u8>) -> Result<(), AllocError>
+        ensures { Writes (text self) out.old.items result out.new.items };
+}
+
+impl Entry for Token {
+    ghost text = { token_text };
+
+    fn write(self, out: &mut Vec<u8>) -> Result<(), AllocError> {
+        write_token(self, out)
+    }
+}
+
+impl Entry for Field {
+    ghost text = { field_text };
+
+    fn write(self, out: &mut Vec<u8>) -> Result<(), AllocError> {
+        write_field(self, out)
+    }
+}
+
+impl Entry for u16 {
+    ghost text = { uleb };
+
+    fn write(self, out: &mut Vec<u8>) -> Result<(), AllocError> {
+        write_index(self, out)
+    }
+}
+
+impl Entry for Instruction {
+    ghost text = { instruction_text };
+
+    fn write(self, out: &mut Vec<u8>) -> Result<(), AllocError> {
+        write_instruction(self, out)
+    }
+}
+
+// Writes entries after their number.
+fn write_list<T: Entry>(entries: &[T], out: &mut Vec<u8>) -> Result<(), AllocError>
+    ensures { Writes (counted T.text entries.now) out.old.items result out.new.items }
+{
+    let count = out.len();
+    mv_uleb::write(entries.len() as u64, out)?;
+    for entry in entries {
+        or_undo(entry.write(out), count, out)?;
+    }
+    Ok(())
 }

@@ -1,5 +1,7 @@
 // Going over what is stored.
-ghost use Rattle.std.specs.Prelude.{◌≡◌, ◌∷◌, [], MatchOption};
+ghost use Rattle.std.specs.Prelude.{◌≡◌, ◌∷◌, [], MatchOption, option_copied, slice_get};
+ghost use Rattle.mv_storage.specs.Slots.{layer_at};
+ghost use Rattle.mv_storage.specs.declared.slot.Layer.TheVariants.{Committed};
 
 use crate::slot::Slot;
 use mv_move_types::Key;
@@ -31,12 +33,20 @@ impl<'a> Entries<'a> {
         ensures { MatchOption result ((self.old ≡ []) × (self.new ≡ [])) (λ e. self.old ≡ record { key = e.0; words = e.1.now } ∷ self.new) }
     {
         while let Some((key, place)) = self.places.next() {
-            if let Some(slot) = self.slots.get(*place as usize) {
-                if let Some(words) = slot.committed() {
-                    return Some((*key, words));
-                }
+            if let Some(words) = committed_at(self.slots, *place) {
+                return Some((*key, words));
             }
         }
         None
+    }
+}
+
+// The committed words of the slot at a place.
+fn committed_at(slots: &[Slot], place: u32) -> Option<&[u128]>
+    ensures { option_copied result ≡ layer_at Committed (slice_get slots.now place) }
+{
+    match slots.get(place as usize) {
+        Some(slot) => slot.committed(),
+        None => None,
     }
 }

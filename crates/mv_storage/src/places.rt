@@ -1,6 +1,6 @@
 // Slots in a list, and the place that each key's slot has there. A place that is free holds the next free one, so that
 // taking a key out takes no memory.
-ghost use Rattle.std.specs.Prelude.{◌≡◌, ◌<◌, ◌↔◌, IsTrue, length, [], None, Some, Ok, MatchOption, IfOk, OnOk, OnErr, cond, unwrap_or, option_copied, slice_set};
+ghost use Rattle.std.specs.Prelude.{◌≡◌, ◌<◌, ◌↔◌, ◌∷◌, ◌++◌, [], IsTrue, length, None, Some, Ok, MatchOption, IfOk, OnOk, OnErr, cond, is_some, unwrap_or, option_copied, slice_set};
 ghost use Rattle.std.specs.BTreeMap.{get, IsOrdered};
 ghost use Rattle.mv_move_types.specs.declared.tables.Key.{Key};
 ghost use Rattle.mv_machine.specs.State.{same_key};
@@ -163,11 +163,7 @@ pub(crate) fn recalled(last: &Option<(Key, u32)>, key: &Key) -> Option<u32>
 // Gives a key a place if it has none, and tells the one that it had. It fails only where memory runs out, and nothing
 // changes then.
 #[inline]
-pub(crate) fn enter(
-    tree: &mut BTreeMap<Key, u32>,
-    key: Key,
-    place: u32,
-) -> Result<Option<u32>, AllocError>
+fn enter(tree: &mut BTreeMap<Key, u32>, key: Key, place: u32) -> Result<Option<u32>, AllocError>
     ensures ordered { IsOrdered key_cmp tree.new }
     ensures had { IfOk result (λ had. had ≡ get key_cmp tree.old key) }
     ensures has { IfOk result (λ had. (q : Key) → get key_cmp tree.new q ≡ cond (same_key key q) (Some (unwrap_or had place)) (get key_cmp tree.old q)) }
@@ -178,6 +174,32 @@ pub(crate) fn enter(
         Entry::Vacant(entry) => {
             entry.insert(place);
             Ok(None)
+        }
+    }
+}
+
+// Gives a key a place and notes it, if it has none, and tells the one that it had. It fails only where memory runs out, and
+// nothing changes then.
+#[inline]
+pub(crate) fn enter_noted(
+    tree: &mut BTreeMap<Key, u32>,
+    touched: &mut Vec<(Key, u32)>,
+    key: Key,
+    place: u32,
+) -> Result<Option<u32>, AllocError>
+    requires { IsOrdered key_cmp tree.old }
+    ensures ordered { IsOrdered key_cmp tree.new }
+    ensures had { IfOk result (λ had. had ≡ get key_cmp tree.old key) }
+    ensures has { IfOk result (λ had. (q : Key) → get key_cmp tree.new q ≡ cond (same_key key q) (Some (unwrap_or had place)) (get key_cmp tree.old q)) }
+    ensures noted { IfOk result (λ had. touched.new.items ≡ cond (is_some had) touched.old.items (touched.old.items ++ (key, place) ∷ [])) }
+    ensures err { OnErr result ((tree.new.entries ≡ tree.old.entries) × (touched.new.items ≡ touched.old.items)) }
+{
+    touched.push((key, place))?;
+    match enter(tree, key, place) {
+        Ok(None) => Ok(None),
+        had => {
+            touched.pop();
+            had
         }
     }
 }

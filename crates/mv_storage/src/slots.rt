@@ -10,7 +10,7 @@ ghost use Rattle.mv_storage.specs.Slots.{key_cmp, value_at, edited, ShowsSame, S
 ghost use Rattle.mv_storage.specs.declared.slot.Layer.TheVariants.{Committed, Current};
 
 use crate::Value;
-use crate::places::{Places, enter, recalled};
+use crate::places::{Places, enter_noted, recalled};
 use crate::slot::{Layer, Slot};
 use mv_move_types::Key;
 use std::alloc::{AllocError, Global};
@@ -122,21 +122,16 @@ fn put_new(
 {
     let _place = key.place;
     let fresh = places.vacancy()?;
-    touched.push((key, fresh))?;
-    match enter(&mut places.tree, key, fresh) {
-        Ok(None) => {
+    let had = enter_noted(&mut places.tree, touched, key, fresh)?;
+    match had {
+        None => {
             places.fill(fresh, Slot::added(value));
             *last = Some((key, fresh));
             Ok(true)
         }
-        Ok(Some(place)) => {
-            touched.pop();
+        Some(place) => {
             *last = Some((key, place));
             Ok(places.slots[place as usize].put(value))
-        }
-        Err(error) => {
-            touched.pop();
-            Err(error)
         }
     }
 }
