@@ -22,7 +22,7 @@ use Rattle.mv_edges.specs.Ascending.{are_ascending}
 use Rattle.mv_edges.specs.Sorted.{sorted}
 use Rattle.mv_edges.proofs.Passed.{without-swap}
 use Rattle.mv_edges.proofs.Sorting.{sorted-ascending, ascending-sorted, sorted-append_swap, sorted-append_sorted}
-use Rattle.mv_borrow_graph.specs.BorrowRules.{next_temp, top_temp, no_edge_out, copy_edges, field_edges, opened_edges, result_edges, reference_nodes, without_all, call_edges, is_mutable_token, is_reference_token}
+use Rattle.mv_borrow_graph.specs.BorrowRules.{next_temp, top_temp, no_edge_out, copy_edges, field_edges, position_of, opened_edges, result_edges, reference_nodes, without_all, call_edges, is_mutable_token, is_reference_token}
 use Rattle.mv_borrow_graph.specs.Domain.{ordered, Follows}
 
 -- edges that ascend are in their order
@@ -61,6 +61,19 @@ pub field_made : (p : Point) (f : ℕ) (s new removed all : List Edge) (top : No
     → ordered (Some (field_edges p f s)) ≡ Some all
 field_made p f s new removed all top is_top is_new is_removed is =
     ap Some (sym (is ∙ (λ i. sorted (is_removed i ++ is_new i)) ∙ sorted-append_sorted (without top s) (inherited (changed (Extended f)) top top s) ∙ ap (λ n. sorted (without n s ++ inherited (changed (Extended f)) n n s)) is_top))
+
+-- a field is borrowed, by the position that its handle names, where nothing forbids it
+pub field_borrowed : (p : Point) (i f : ℕ) (s after : List Edge) (forbids : ℕ → Bool) (r : Result (Unit {0}) StepError) → position_of p i ≡ Some f → not (forbids f) ≡ true
+    → Follows r after (ordered (Some (field_edges p f s))) → Follows r after (ordered (position_of p i >>= λ g. then_some (not (forbids g)) (field_edges p g s)))
+field_borrowed p i f s after forbids r is free given =
+    subst (λ (o : Option ℕ). Follows r after (ordered (o >>= λ g. then_some (not (forbids g)) (field_edges p g s)))) (sym is)
+    (subst (λ (b : Bool). Follows r after (ordered (then_some b (field_edges p f s)))) (sym free) given)
+
+-- where something does, a need fails
+pub field_refused : (p : Point) (i f : ℕ) (s : List Edge) (forbids : ℕ → Bool) → position_of p i ≡ Some f → not (forbids f) ≡ false
+    → ordered (position_of p i >>= λ g. then_some (not (forbids g)) (field_edges p g s)) ≡ None
+field_refused p i f s forbids is held =
+    ap (λ (o : Option ℕ). ordered (o >>= λ g. then_some (not (forbids g)) (field_edges p g s))) is ∙ ap (λ (b : Bool). ordered (then_some b (field_edges p f s))) held
 
 -- ---- calls
 
@@ -136,6 +149,22 @@ nodes_more test place i types d h =
     let next : place + i + 1 ≡ place + (i + 1) = omega arith in
     ap (λ ts. reference_nodes test (place + i) ts) (drop_more types i d h)
     ∙ ap (λ k. (if test (get_or types i d) then (Temp (place + i) ∷ []) else []) ++ reference_nodes test k (drop (i + 1) types)) next
+
+-- one more node, if it is picked
+pub picked_more : (test : Token → Bool) (place i : ℕ) (types : List Token) (d : Token) (picked : Bool) (done new whole : List Node) → i < length types
+    → picked ≡ test (get_or types i d) → new ≡ done ++ (if picked then (Temp (place + i) ∷ []) else [])
+    → done ++ reference_nodes test (place + i) (drop i types) ≡ whole → new ++ reference_nodes test (place + (i + 1)) (drop (i + 1) types) ≡ whole
+picked_more test place i types d picked done new whole h tested is rest =
+    let one : Bool → List Node = λ b. if b then (Temp (place + i) ∷ []) else [] in
+    let others : List Node = reference_nodes test (place + (i + 1)) (drop (i + 1) types) in
+    ap (λ x. x ++ others) (is ∙ ap (λ b. done ++ one b) tested) ∙ append_assoc done (one (test (get_or types i d))) others
+    ∙ ap (λ x. done ++ x) (sym (nodes_more test place i types d h)) ∙ rest
+
+-- no type is left
+pub picked_all : (test : Token → Bool) (place i : ℕ) (types : List Token) (done whole : List Node) → length types ≤ i
+    → done ++ reference_nodes test (place + i) (drop i types) ≡ whole → done ≡ whole
+picked_all test place i types done whole h rest =
+    sym (append-nil done) ∙ ap (λ ts. done ++ reference_nodes test (place + i) ts) (sym (drop_all i types h)) ∙ rest
 
 -- a test of a node that is there only if it is asked for
 tested_more : (p : Node → Bool) (asked : Bool) (n : Node) (ns : List Node) → list_all p ((if asked then (n ∷ []) else []) ++ ns) ≡ ((not asked || p n) && list_all p ns)

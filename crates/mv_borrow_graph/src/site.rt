@@ -76,7 +76,7 @@ impl<'d, 'm> Site<'d, 'm> {
     }
 
     /// The type of a local.
-    fn type_of(&self, local: u16) -> Result<Token, StepError>
+    pub fn type_of(&self, local: u16) -> Result<Token, StepError>
         ensures { Finds result (type_of_local self.now.home self.now.function local) }
     {
         match self.local(local) {
@@ -173,17 +173,13 @@ impl<'d, 'm> Site<'d, 'm> {
             }
             Instruction::Ret => self.hand_out(s),
             Instruction::Call(callee) => self.call(alloc, callee, s),
-            Instruction::CopyLoc(local) => self.copy_local(alloc, local, self.type_of(local)?, s),
-            Instruction::MoveLoc(local) => self.move_local(alloc, local, self.type_of(local)?, s),
-            Instruction::StLoc(local) => self.store_local(alloc, local, self.type_of(local)?, s),
+            Instruction::CopyLoc(local) => self.copy_local(alloc, local, s),
+            Instruction::MoveLoc(local) => self.move_local(alloc, local, s),
+            Instruction::StLoc(local) => self.store_local(alloc, local, s),
             Instruction::MutBorrowLoc(local) => self.borrow_local_mutably(alloc, local, s),
             Instruction::ImmBorrowLoc(local) => self.borrow_local(alloc, local, s),
-            Instruction::MutBorrowField(field) => {
-                self.borrow_field_mutably(alloc, self.position(field)?, s)
-            }
-            Instruction::ImmBorrowField(field) => {
-                self.borrow_field(alloc, self.position(field)?, s)
-            }
+            Instruction::MutBorrowField(field) => self.borrow_field_mutably(alloc, field, s),
+            Instruction::ImmBorrowField(field) => self.borrow_field(alloc, field, s),
             Instruction::ReadRef => release(self.is_readable(self.top(), s), self.top(), s),
             Instruction::WriteRef => release(is_free(self.top(), s), self.top(), s),
             Instruction::FreezeRef => self.freeze(s),

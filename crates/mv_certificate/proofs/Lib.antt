@@ -9,4 +9,5 @@ pub mod SameEdges
 pub mod Holds
 pub mod Whole
 pub mod Functions
+pub mod Lists
 pub mod OneCertificate

@@ -23,6 +23,7 @@ mod shape;
 mod writing;
 
 ghost use Rattle.std.specs.Prelude.{◌≡◌, Err, IfOk, IfErr, OnOk, IsTrue, ◌⊎◌};
+ghost use Rattle.mv_acquires.specs.Acquires.{AcquiresHold};
 ghost use Rattle.mv_certificate.specs.Shape.{AllStatedFit};
 ghost use Rattle.mv_certificate.specs.Certificate.{Certificate, certificate_holds};
 ghost use Rattle.mv_certificate.specs.CertificateText.{certificate_text, IsCertificateText};
@@ -108,6 +109,18 @@ pub fn encode(alloc: Global, c: &Cert) -> Result<Vec<u8>, AllocError>
     Ok(out)
 }
 
+/// Tries phases 10, 11 and 12 in turn.
+fn try_phases(alloc: Global, m: &Typed<'_>, c: &Cert) -> Result<(), Refusal>
+    requires { AllStatedFit m.now m.now.functions c.now }
+    ensures holds { OnOk result (IsTrue (certificate_holds m.now c.now)) }
+    ensures acquires { OnOk result (AcquiresHold m.now) }
+    ensures refused { IfErr result (IsRefusedByCertificate m.now c.now) }
+{
+    checking::check_locals(alloc, m, c)?;
+    checking::check_edges(alloc, m, c)?;
+    checking::check_acquires(alloc, m)
+}
+
 /// Tries phases 10, 11 and 12 with a certificate of the module's shape: the module, where they hold; else the first that
 /// fails.
 pub fn check<'a>(alloc: Global, m: Typed<'a>, c: &Cert) -> Result<Verified<'a>, Refusal>
@@ -116,9 +129,7 @@ pub fn check<'a>(alloc: Global, m: Typed<'a>, c: &Cert) -> Result<Verified<'a>, 
     ensures holds { OnOk result (IsTrue (certificate_holds m.entry c.now)) }
     ensures refused { IfErr result (IsRefusedByCertificate m.entry c.now) }
 {
-    checking::check_locals(alloc, &m, c)?;
-    checking::check_edges(alloc, &m, c)?;
-    checking::check_acquires(alloc, &m)?;
+    try_phases(alloc, &m, c)?;
     Ok(Verified {
         tops: m.into_tops(alloc)?,
     })

@@ -1,6 +1,6 @@
 // What a certificate's edges may lead from and to.
 
-ghost use Rattle.std.specs.Prelude.{◌≡◌, length, ◌<◌, ◌≤◌, Some, slice_get, option_map, nat_lt, IsSome, IsTrue};
+ghost use Rattle.std.specs.Prelude.{◌≡◌, ◌++◌, length, ◌<◌, ◌≤◌, Some, slice_get, option_map, nat_lt, IsSome, IsTrue};
 ghost use Rattle.std.specs.List.{list_all};
 ghost use Rattle.mv_bounds.specs.Bounds.{local_count as function_locals};
 ghost use Rattle.mv_cfg.specs.FlowGraph.{IsFlowGraph};
@@ -60,13 +60,24 @@ pub fn has_start(m: &Typed<'_>, f: usize, function: &FunctionDefinition)
     let _others = bounded.other_locals(f);
 }
 
-/// The type of a local, parameters first.
-pub fn local_type(m: &Module<'_>, d: &FunctionDefinition, local: u16) -> Option<Token>
-    ensures { result ≡ type_of_local m.now d.now local }
+/// The types of a function's parameters, and of its other locals.
+fn signatures_of<'t>(
+    m: &'t Module<'_>,
+    d: &FunctionDefinition,
+) -> Option<(&'t [Token], &'t [Token])>
+    ensures { option_map (λ p. p.0.now ++ p.1.now) result ≡ local_tokens m.entry.now d.now }
 {
     let handle = m.function_handles().get(usize::from(d.handle()))?;
     let parameters = m.signature(usize::from(handle.parameters))?;
     let others = m.signature(usize::from(d.locals()))?;
+    Some((parameters, others))
+}
+
+/// The type of a local, parameters first.
+pub fn local_type(m: &Module<'_>, d: &FunctionDefinition, local: u16) -> Option<Token>
+    ensures { result ≡ type_of_local m.now d.now local }
+{
+    let (parameters, others) = signatures_of(m, d)?;
     let place = usize::from(local);
     if place < parameters.len() {
         parameters.get(place).copied()
@@ -79,9 +90,7 @@ pub fn local_type(m: &Module<'_>, d: &FunctionDefinition, local: u16) -> Option<
 pub fn local_count(m: &Module<'_>, d: &FunctionDefinition) -> Option<usize>
     ensures { result ≡ option_map length (local_tokens m.now d.now) }
 {
-    let handle = m.function_handles().get(usize::from(d.handle()))?;
-    let parameters = m.signature(usize::from(handle.parameters))?;
-    let others = m.signature(usize::from(d.locals()))?;
+    let (parameters, others) = signatures_of(m, d)?;
     Some(parameters.len() + others.len())
 }
 

@@ -1,6 +1,6 @@
 -- All functions of a module, one after another, and the phases.
 use Rattle.std.proofs.Common.{◌≡◌, ℕ, ◌+◌, ◌<◌, List, [], ◌∷◌, ◌++◌, length, get_or, slice_get, map, take, Option, Some, None, option_map, IsTrue, IfSome, refl, sym, ap, ◌∙◌, subst, inl, inr, ◌⊎◌, ⊎_elim, zero, suc, length-append, arith}
-use Rattle.std.proofs.lemmas.Option.{MatchOption-at_some, slice_get_within, slice_get-map, slice_get-get_or, get_or_from_slice_get, same_Some}
+use Rattle.std.proofs.lemmas.Option.{MatchOption-at_some, slice_get_within, slice_get-map, slice_get-get_or, slice_get_read, get_or_from_slice_get, same_Some}
 use Rattle.std.proofs.lemmas.List.{take_more, map-append, length-map}
 use Rattle.mv_move_types.specs.declared.refusal.Refusal.{Refusal}
 use Rattle.mv_move_types.specs.declared.refusal.Refusal.TheVariants.{Phase, Memory}
@@ -86,6 +86,17 @@ types_refused m f e there r =
     let d = slice_get-there m.functions f there in
     refused-wider 8 (IsTrue (function_is_typed m d.0)) (TypesHold m) e (typed-from_TypesHold m f d.0 d.1)
     (MatchOption-at_some _ (λ (x : FunctionDefinition). IsRefusedIn 8 (IsTrue (function_is_typed m x)) e) d.0 d.1 r)
+
+-- what holds of what is found, wherever it is found
+if_found : {A : Type 0} (found : Option A) (P : A → Type 0) → ((x : A) → found ≡ Some x → P x) → IfSome found P
+if_found None P h = tt
+if_found (Some x) P h = h x refl
+
+-- the graph at a place is that of the function there
+pub graph-here : (functions : List FunctionDefinition) (graphs : List Cfg) (f : ℕ) (g : Cfg) → AreGraphs functions (length functions) graphs → f < length graphs → g ≡ get_or graphs f g
+    → IfSome (slice_get functions f) (λ d. IsFlowGraph d.code g)
+graph-here functions graphs f g are within is =
+    if_found (slice_get functions f) (λ d. IsFlowGraph d.code g) (λ d at. are.each f d g at (slice_get_read graphs (length graphs) f g refl within is))
 
 -- the first functions are well typed
 abbrev pub AreTyped : Module → ℕ → Type 0

@@ -3,8 +3,8 @@ ghost use Rattle.std.specs.Prelude.{◌≡◌, ◌++◌, Err, OnOk, IsTrue};
 ghost use Rattle.mv_edges.specs.Edges.{inherited};
 ghost use Rattle.mv_edges.specs.Sorted.{sorted};
 ghost use Rattle.mv_edges.specs.Ascending.{are_ascending};
-ghost use Rattle.mv_borrow_graph.specs.BorrowRules.{edges_after, is_reference_token, next_temp, copy_edges, move_edges, store_edges};
-ghost use Rattle.mv_borrow_graph.specs.Domain.{Follows, ordered};
+ghost use Rattle.mv_borrow_graph.specs.BorrowRules.{edges_after, next_temp};
+ghost use Rattle.mv_borrow_graph.specs.Domain.{Follows, ordered, places_reference};
 
 use crate::changes::{keep, lend, rename};
 use crate::nodes::is_free;
@@ -25,17 +25,13 @@ impl<'d, 'm> Site<'d, 'm> {
 
     /// Copies a local: the new reference has the edges of its original, and a mutable one is also its child. A value takes no
     /// memory.
-    pub fn copy_local(
-        &self,
-        alloc: Global,
-        local: u16,
-        token: Token,
-        s: &mut Edges,
-    ) -> Result<(), StepError>
+    #[tactic(auto, unfolding(crate::specs::BorrowRules::edges_after))]
+    pub fn copy_local(&self, alloc: Global, local: u16, s: &mut Edges) -> Result<(), StepError>
         requires { IsTrue (are_ascending s.old) }
-        ensures after { Follows result s.new (ordered (copy_edges self.now local token s.old)) }
-        ensures memory { result ≡ Err StepError.Memory → IsTrue (is_reference_token token) }
+        ensures after { Follows result s.new (ordered (edges_after self.now (Instruction.CopyLoc local) s.old)) }
+        ensures memory { result ≡ Err StepError.Memory → IsTrue (places_reference self.now.home self.now.function (Instruction.CopyLoc local)) }
     {
+        let token = self.type_of(local)?;
         let slot = Node::Slot(local);
         match token {
             Token::Plain(_) => keep(self.is_readable(Node::Own(local), s), s),
@@ -51,17 +47,13 @@ impl<'d, 'm> Site<'d, 'm> {
     }
 
     /// Moves a local: a reference takes its edges along, and a value, which takes no memory, may have none.
-    pub fn move_local(
-        &self,
-        alloc: Global,
-        local: u16,
-        token: Token,
-        s: &mut Edges,
-    ) -> Result<(), StepError>
+    #[tactic(auto, unfolding(crate::specs::BorrowRules::edges_after))]
+    pub fn move_local(&self, alloc: Global, local: u16, s: &mut Edges) -> Result<(), StepError>
         requires { IsTrue (are_ascending s.old) }
-        ensures after { Follows result s.new (ordered (move_edges self.now local token s.old)) }
-        ensures memory { result ≡ Err StepError.Memory → IsTrue (is_reference_token token) }
+        ensures after { Follows result s.new (ordered (edges_after self.now (Instruction.MoveLoc local) s.old)) }
+        ensures memory { result ≡ Err StepError.Memory → IsTrue (places_reference self.now.home self.now.function (Instruction.MoveLoc local)) }
     {
+        let token = self.type_of(local)?;
         match token {
             Token::Plain(_) => keep(is_free(Node::Own(local), s), s),
             Token::Reference(_) | Token::MutableReference(_) => {
@@ -71,17 +63,13 @@ impl<'d, 'm> Site<'d, 'm> {
     }
 
     /// Stores into a local: a reference takes its edges along, and an overwritten value, which takes no memory, may have none.
-    pub fn store_local(
-        &self,
-        alloc: Global,
-        local: u16,
-        token: Token,
-        s: &mut Edges,
-    ) -> Result<(), StepError>
+    #[tactic(auto, unfolding(crate::specs::BorrowRules::edges_after))]
+    pub fn store_local(&self, alloc: Global, local: u16, s: &mut Edges) -> Result<(), StepError>
         requires { IsTrue (are_ascending s.old) }
-        ensures after { Follows result s.new (ordered (store_edges self.now local token s.old)) }
-        ensures memory { result ≡ Err StepError.Memory → IsTrue (is_reference_token token) }
+        ensures after { Follows result s.new (ordered (edges_after self.now (Instruction.StLoc local) s.old)) }
+        ensures memory { result ≡ Err StepError.Memory → IsTrue (places_reference self.now.home self.now.function (Instruction.StLoc local)) }
     {
+        let token = self.type_of(local)?;
         match token {
             Token::Plain(_) => keep(is_free(Node::Own(local), s), s),
             Token::Reference(_) | Token::MutableReference(_) => {

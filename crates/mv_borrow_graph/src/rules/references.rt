@@ -3,13 +3,13 @@ ghost use Rattle.std.specs.Prelude.{◌≡◌, ◌&&◌, not, slice_get, Some, E
 ghost use Rattle.std.specs.List.{list_any};
 ghost use Rattle.mv_edges.specs.Edges.{agrees, out_of, but_out_of};
 ghost use Rattle.std.specs.Bool.{then_some};
-ghost use Rattle.mv_borrow_graph.specs.BorrowRules.{is_mutable, no_mutable_from, position_of, top_temp, field_edges, mutable_field_edges, immutable_field_edges};
+ghost use Rattle.mv_borrow_graph.specs.BorrowRules.{edges_after, is_mutable, no_mutable_from, position_of, top_temp, field_edges};
 ghost use Rattle.mv_borrow_graph.specs.Domain.{Finds, Follows, ordered};
 
 use crate::site::Site;
 use mv_edges::{Change, Edge, Edges};
 use mv_lattice::StepError;
-use mv_move_types::{FieldHandle, Node};
+use mv_move_types::{FieldHandle, Instruction, Node};
 use std::alloc::Global;
 
 impl<'d, 'm> Site<'d, 'm> {
@@ -22,7 +22,7 @@ impl<'d, 'm> Site<'d, 'm> {
     }
 
     /// The position that a field handle names.
-    pub fn position(&self, field: u16) -> Result<u8, StepError>
+    fn position(&self, field: u16) -> Result<u8, StepError>
         ensures { Finds result (position_of self.now field) }
     {
         let module = self.module.module();
@@ -45,14 +45,16 @@ impl<'d, 'm> Site<'d, 'm> {
     }
 
     /// Borrows a field mutably: no edge out of the operand may agree with the field.
+    #[tactic(auto, unfolding(crate::specs::BorrowRules::edges_after))]
     pub fn borrow_field_mutably(
         &self,
         alloc: Global,
-        position: u8,
+        field: u16,
         s: &mut Edges,
     ) -> Result<(), StepError>
-        ensures { Follows result s.new (ordered (mutable_field_edges self.now position s.old)) }
+        ensures { Follows result s.new (ordered (edges_after self.now (Instruction.MutBorrowField field) s.old)) }
     {
+        let position = self.position(field)?;
         if s.has_agreeing_out_of(self.top(), position) {
             return Err(StepError::Need);
         }
@@ -89,9 +91,11 @@ impl<'d, 'm> Site<'d, 'm> {
     }
 
     /// Borrows a field: no edge out of the operand that agrees with the field may lead to a mutable reference.
-    pub fn borrow_field(&self, alloc: Global, position: u8, s: &mut Edges) -> Result<(), StepError>
-        ensures { Follows result s.new (ordered (immutable_field_edges self.now position s.old)) }
+    #[tactic(auto, unfolding(crate::specs::BorrowRules::edges_after))]
+    pub fn borrow_field(&self, alloc: Global, field: u16, s: &mut Edges) -> Result<(), StepError>
+        ensures { Follows result s.new (ordered (edges_after self.now (Instruction.ImmBorrowField field) s.old)) }
     {
+        let position = self.position(field)?;
         if !self.is_readable_at(self.top(), position, s) {
             return Err(StepError::Need);
         }

@@ -5,7 +5,7 @@ use Rattle.std.proofs.lemmas.Option.{slice_get_within}
 use Rattle.std.proofs.lemmas.Result.{err_from_is_err_and}
 use Rattle.mv_type_states.specs.TypesHold.{function_is_typed}
 use Rattle.mv_type_states.specs.Sound.{types_before}
-use Rattle.mv_type_states.proofs.Functions.{types_refused, types_listed, AreTyped-push}
+use Rattle.mv_type_states.proofs.Functions.{types_refused, types_listed, graph-here, AreTyped-push}
 use Rattle.mv_type_states.proofs.Stacks.{list_all-each}
 use Rattle.mv_type_states.proofs.check_functions.Goals as goal
 
@@ -34,3 +34,10 @@ pub returns-clause-listed : goal.returns-clause-listed
 returns-clause-listed c =
     let m = c.args.m.now in
     let graphs = c.requires.entries in c.loop-f.invariant.listed ∙ ap (map (types_before m)) (take_all c.loop-f.f m.functions (omega arith))
+
+pub check_function-requires-clause-function : goal.check_function-requires-clause-function
+check_function-requires-clause-function c = omega (arith, c.requires.entries, c.loop-f-test.true)
+
+pub check_function-requires-clause-graph : goal.check_function-requires-clause-graph
+check_function-requires-clause-graph c =
+    graph-here c.args.m.now.functions c.args.graphs.now c.loop-f.f c.index-graphs-f.result c.requires c.loop-f-test.true c.index-graphs-f.is

@@ -2,7 +2,7 @@ use Rattle.std.proofs.Common.{◌≡◌, ◌+◌, ◌++◌, ◌∷◌, ◌∙◌
 use Rattle.std.proofs.lemmas.Grind.{common_steps}
 use Rattle.mv_certificate.specs.Reads.{IsUnreadAt}
 use Rattle.mv_certificate.proofs.Marks.{all-bytes}
-use Rattle.mv_certificate.proofs.Functions.{CertOn, CertOn-start, CertOn-next, CertOn-unread, CertOn-left}
+use Rattle.mv_certificate.proofs.Functions.{CertOn, CertOn-start, CertOn-next, CertOn-end, CertOn-unread, CertOn-left}
 use Rattle.mv_certificate.proofs.reading.read_certificate.Goals as goal
 
 pub functions-init : goal.functions-init
@@ -26,3 +26,8 @@ pub returns-else-is_empty-clause-none : goal.returns-else-is_empty-clause-none
 returns-else-is_empty-clause-none c is =
     CertOn-left c.args.m.now c.functions.f c.args.bytes.now c.functions.reader c.functions.functions.items (omega arith)
     (λ e. true≢false (sym (c.is_empty.ensures.1 e) ∙ c.if-is_empty.false)) c.functions.invariant
+
+pub returns-then-is_empty-clause-ok : goal.returns-then-is_empty-clause-ok
+returns-then-is_empty-clause-ok c =
+    CertOn-end c.args.m.now c.functions.f c.args.bytes.now c.functions.reader c.functions.functions.items (omega arith)
+    (c.is_empty.ensures.0 c.if-is_empty.true) c.functions.invariant

@@ -1,7 +1,8 @@
-use Rattle.std.proofs.Common.{◌≡◌, ◌+◌, ◌++◌, ◌∷◌, [], Err, None, ap, arith, subst, sym, map, inl, inr}
+use Rattle.std.proofs.Common.{◌≡◌, ◌≤◌, length, ◌+◌, ◌++◌, ◌∷◌, [], Err, None, ap, arith, subst, sym, map, inl, inr}
 use Rattle.std.proofs.lemmas.Grind.{common_steps}
+use Rattle.std.proofs.lemmas.List.{length-map}
 use Rattle.mv_certificate.specs.Parsing.{block_from}
-use Rattle.mv_certificate.proofs.Loops.{StatedOn, StatedOn-next, StatedOn-breaks}
+use Rattle.mv_certificate.proofs.Loops.{StatedOn, StatedOn-start, StatedOn-next, StatedOn-end, StatedOn-breaks}
 use Rattle.mv_certificate.proofs.reading.read_stated.Goals as goal
 
 pub returns-in_err-one-clause-refused : goal.returns-in_err-one-clause-refused
@@ -16,3 +17,13 @@ each-preserved c =
     subst (λ z. StatedOn c.args.m.now c.args.d.now (map (λ b. b.reached) c.args.blocks.now) (c.each.block-index + 1) c.args.reader.now z c.read_block.new.reader) (sym pushed)
     (StatedOn-next (λ b. b.reached) c.args.blocks.now c.block-item.result c.args.m.now c.args.d.now c.each.block-index c.args.reader.now c.each.stated.items c.each.reader c.read_block.new.reader c.in_ok-one.one
     (omega arith) c.block-item.is c.in_ok-one.ensures.ok c.each.invariant)
+
+pub each-init : goal.each-init
+each-init c =
+    subst (λ z. StatedOn c.args.m.now c.args.d.now (map (λ b. b.reached) c.args.blocks.now) 0 c.args.reader.now z c.args.reader.now) (sym c.new-stated.ensures.items)
+    (StatedOn-start c.args.m.now c.args.d.now (map (λ b. b.reached) c.args.blocks.now) c.args.reader.now)
+
+pub returns-clause-ok : goal.returns-clause-ok
+returns-clause-ok c =
+    let end : length (map (λ b. b.reached) c.args.blocks.now) ≤ c.each.block-index = omega (arith, length-map c.args.blocks.now (λ b. b.reached), c.each-test.false) in
+    StatedOn-end c.args.m.now c.args.d.now (map (λ b. b.reached) c.args.blocks.now) c.each.block-index c.args.reader.now c.each.stated.items c.each.reader end c.each.invariant
