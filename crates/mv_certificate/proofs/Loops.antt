@@ -25,6 +25,13 @@ ReadsOn-breaks each n i start items cur lt none g =
     g.goes ∙ ap (λ z. option_map (after items) (entries_from each z cur)) k
     ∙ ap (option_map (after items)) (entries_from-none each (n - (i + 1)) cur none)
 
+-- all are read
+pub ReadsOn-whole : {A : Type 0} (each : List ℕ → Read A) (n i : ℕ) (start : List ℕ) (items : List A) (cur : List ℕ)
+    → n ≤ i → ReadsOn each n i start items cur → entries_from each n start ≡ Some (items, cur)
+ReadsOn-whole each n i start items cur le g =
+    let k : n - i ≡ 0 = omega arith in
+    g.goes ∙ ap (λ z. option_map (after items) (entries_from each z cur)) k ∙ ap (λ z. Some (z, cur)) (append-nil items)
+
 -- the first of ascending edges ascend
 pub ascending-front : (xs ys : List Edge) → are_ascending (xs ++ ys) ≡ true → are_ascending xs ≡ true
 ascending-front [] ys h = refl

@@ -1,8 +1,8 @@
 use Rattle.std.proofs.Common.{◌≡◌, ◌+◌, ◌++◌, ◌∷◌, [], Err, ap, arith, subst, sym}
 use Rattle.std.proofs.lemmas.Grind.{common_steps}
 use Rattle.mv_certificate.specs.Parsing.{availability_from}
-use Rattle.mv_module_text.proofs.Entries.{ReadsOn, ReadsOn-next}
-use Rattle.mv_certificate.proofs.Loops.{ReadsOn-breaks}
+use Rattle.mv_module_text.proofs.Entries.{ReadsOn, ReadsOn-start, ReadsOn-next}
+use Rattle.mv_certificate.proofs.Loops.{ReadsOn-breaks, ReadsOn-whole}
 use Rattle.mv_certificate.proofs.reading.read_availabilities.Goals as goal
 
 pub returns-in_err-local-clause-refused : goal.returns-in_err-local-clause-refused
@@ -16,3 +16,11 @@ locals-preserved c =
     subst (λ z. ReadsOn availability_from c.args.count (c.locals.counter + 1) c.args.reader.now z c.read_availability.new.reader) (sym pushed)
     (ReadsOn-next availability_from c.args.count c.locals.counter c.args.reader.now c.locals.locals.items c.locals.reader c.read_availability.new.reader c.in_ok-local.local
     (omega arith) c.in_ok-local.ensures c.locals.invariant)
+
+pub locals-init : goal.locals-init
+locals-init c =
+    subst (λ z. ReadsOn availability_from c.args.count 0 c.args.reader.now z c.args.reader.now) (sym c.new-locals.ensures.items)
+    (ReadsOn-start availability_from c.args.count c.args.reader.now)
+
+pub returns-clause-ok : goal.returns-clause-ok
+returns-clause-ok c = ReadsOn-whole availability_from c.args.count c.locals.counter c.args.reader.now c.locals.locals.items c.locals.reader (omega arith) c.locals.invariant
