@@ -1,5 +1,6 @@
 -- The parts of which the loading of a ledger is made, and how they stand to its text.
 --   head_from       how a text begins. read_head reads it
+--   BeginsWith      the bytes begin with this head
 --   AreJoined       what a ledger has of its modules before its tallies are read. join_all gives it
 --   IsJoined        the same of modules that join one group after the other
 --   AreNotJoined    why it has none
@@ -81,6 +82,11 @@ head_from bytes = do
 -- the beginning that was read
 abbrev pub head_of : Head → SavedHead
 head_of h = record { form = form_of h.form; runs = h.runs; offers = offers_of h.offers.items }
+
+-- the bytes begin with this head, and this is what is left of them
+pub record BeginsWith (bytes : List ℕ) (head : SavedHead) (rest : List ℕ) : Type 0 where
+  pub are : AreBytes bytes
+  pub begins : head_from bytes ≡ Some (head, rest)
 
 -- ---- the modules
 

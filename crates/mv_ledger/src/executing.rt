@@ -40,7 +40,7 @@ pub struct Call {
 }
 
 /// Why a run is not begun.
-#[derive(Clone, Copy, PartialEq, Eq, Debug)]
+#[derive(Clone, Copy)]
 pub enum Barred {
     /// For this reason, from 2 to 7.
     Rejected(u8),

@@ -1,10 +1,11 @@
 // Loading a saved ledger.
-ghost use Rattle.std.specs.Prelude.{◌≡◌, IfOk, IfErr};
+ghost use Rattle.std.specs.Prelude.{◌≡◌, ℕ, List, IfOk, IfErr};
 ghost use Rattle.mv_machine.specs.Ledger.{LedgerState};
+ghost use Rattle.mv_ledger.specs.Asking.{offers_of};
 ghost use Rattle.mv_ledger.specs.Loading.{IsLoaded, load_number, IsLoadRefusal};
-ghost use Rattle.mv_ledger.specs.LoadedParts.{reason_of};
+ghost use Rattle.mv_ledger.specs.LoadedParts.{head_of, reason_of, AreJoined, BeginsWith};
 ghost use Rattle.mv_ledger.specs.SavedText.{IsSavedText, Second};
-ghost use Rattle.mv_ledger.specs.View.{state_of};
+ghost use Rattle.mv_ledger.specs.View.{all_of, state_of, view_of, IsLedger};
 
 mod body;
 mod counts;
@@ -17,10 +18,11 @@ mod values;
 use crate::Ledger;
 use body::read_body;
 use counts::are_tallied;
-use head::read_head;
+use head::{Head, read_head};
 use modules::{Joined, join_all};
 use mv_module_text::Reader;
 use mv_move_types::Refusal;
+use mv_storage::Storage;
 use std::alloc::{AllocError, Global};
 use thiserror::Error;
 
@@ -84,6 +86,47 @@ fn because(refusal: Refusal, reason: LoadError) -> LoadError
     }
 }
 
+/// Reads what follows the modules of a saved ledger that begins so, tries the tallies against it, and gives what is stored.
+fn read_stored(
+    alloc: Global,
+    reader: &mut Reader<'_>,
+    head: &Head<'_>,
+    joined: &mut Joined,
+) -> Result<Storage, LoadError>
+    requires begun { (bytes : List ℕ) × BeginsWith bytes (head_of head.now) reader.old }
+    requires joined { AreJoined (offers_of head.now.offers.items) joined.old.store joined.old.tallies joined.old.counters }
+    ensures whole { IfOk result (λ s. IsLedger joined.new.store s joined.new.tallies joined.new.counters head.now.runs) }
+    ensures loaded { (bytes : List ℕ) → BeginsWith bytes (head_of head.now) reader.old → IfOk result (λ s. IsLoaded bytes (state_of (view_of joined.new.store s (all_of joined.new.tallies) head.now.runs))) }
+    ensures refused { (bytes : List ℕ) → BeginsWith bytes (head_of head.now) reader.old → IfErr result (IsLoadRefusal bytes) }
+{
+    let storage = match read_body(alloc, reader, head.form, &joined.store, &mut joined.tallies) {
+        Ok(storage) => storage,
+        Err(refusal) => return Err(because(refusal, LoadError::Body)),
+    };
+    if !are_tallied(alloc, &joined.store, &storage, &joined.tallies, head.runs)? {
+        return Err(LoadError::Tally);
+    }
+    Ok(storage)
+}
+
+/// The ledger that bytes are the text of which begin so.
+fn load_after(alloc: Global, reader: &mut Reader<'_>, head: &Head<'_>) -> Result<Ledger, LoadError>
+    requires { (bytes : List ℕ) × BeginsWith bytes (head_of head.now) reader.old }
+    ensures loaded { (bytes : List ℕ) → BeginsWith bytes (head_of head.now) reader.old → IfOk result (λ l. IsLoaded bytes (state_of l)) }
+    ensures refused { (bytes : List ℕ) → BeginsWith bytes (head_of head.now) reader.old → IfErr result (IsLoadRefusal bytes) }
+{
+    let mut joined = join_all(alloc, &head.offers)?;
+    let storage = read_stored(alloc, reader, head, &mut joined)?;
+    Ok(Ledger {
+        alloc,
+        store: joined.store,
+        storage,
+        tallies: joined.tallies,
+        counters: joined.counters,
+        runs: head.runs,
+    })
+}
+
 impl Ledger {
     /// The ledger that these bytes are the text of, in either form.
     ///
@@ -95,31 +138,19 @@ impl Ledger {
         ensures refused { IfErr result (IsLoadRefusal bytes.now) }
     {
         let mut reader = Reader::new(bytes);
-        let head = match read_head(alloc, &mut reader) {
-            Ok(head) => head,
-            Err(refusal) => return Err(because(refusal, LoadError::Head)),
-        };
-        let Joined {
-            store,
-            mut tallies,
-            counters,
-        } = join_all(alloc, &head.offers)?;
-        let storage = match read_body(alloc, &mut reader, head.form, &store, &mut tallies) {
-            Ok(storage) => storage,
-            Err(refusal) => return Err(because(refusal, LoadError::Body)),
-        };
-        if !are_tallied(alloc, &store, &storage, &tallies, head.runs)? {
-            return Err(LoadError::Tally);
+        match read_head(alloc, &mut reader) {
+            Ok(head) => load_after(alloc, &mut reader, &head),
+            Err(refusal) => Err(because(refusal, LoadError::Head)),
         }
-        Ok(Ledger {
-            alloc,
-            store,
-            storage,
-            tallies,
-            counters,
-            runs: head.runs,
-        })
     }
+}
+
+/// The text of a ledger, in the second form.
+fn second_form(ledger: &Ledger) -> Result<Vec<u8>, LoadError>
+    ensures new { (old : List ℕ) → IsLoaded old (state_of ledger.now) → IfOk result (λ v. (s : LedgerState) × (IsLoaded old s × IsSavedText Second v.items s)) }
+    ensures refused { (old : List ℕ) → IfErr result (IsLoadRefusal old) }
+{
+    Ok(ledger.save()?)
 }
 
 /// The text, in the second form, of the ledger that these bytes are the text of, in either form.
@@ -132,5 +163,5 @@ pub fn migrate(alloc: Global, old: &[u8]) -> Result<Vec<u8>, LoadError>
     ensures refused { IfErr result (IsLoadRefusal old.now) }
 {
     let ledger = Ledger::load(alloc, old)?;
-    Ok(ledger.save()?)
+    second_form(&ledger)
 }

@@ -12,7 +12,7 @@ ghost use Rattle.mv_ledger.specs.Payloads.{sized_from, offer_from, bundle_from, 
 use mv_interpreter::Arg;
 use mv_module_text::Reader;
 use mv_move_types::{LeafKind, Refusal, Version};
-use std::alloc::Global;
+use std::alloc::{AllocError, Global};
 
 // What the reader refuses malformed bytes with. So do the functions here.
 const MALFORMED: Refusal = Refusal::Phase(2);
@@ -89,7 +89,7 @@ pub fn offers<'a>(
     let mut all = Vec::new(alloc);
     'each: for _ in 0..count {
         let next = offer(reader)?;
-        all.push(next).map_err(|_| Refusal::Memory)?;
+        all.push(next).map_err(AllocError::from)?;
     }
     Ok(all)
 }
@@ -177,7 +177,7 @@ fn arguments(alloc: Global, reader: &mut Reader<'_>) -> Result<Vec<Arg>, Refusal
     let mut all = Vec::new(alloc);
     'each: for _ in 0..count {
         let next = argument(reader)?;
-        all.push(next).map_err(|_| Refusal::Memory)?;
+        all.push(next).map_err(AllocError::from)?;
     }
     Ok(all)
 }

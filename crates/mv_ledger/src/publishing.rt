@@ -1,29 +1,68 @@
 // Publishing a bundle: its phases in order, and what it changes.
-ghost use Rattle.std.specs.Prelude.{◌≡◌, ℕ, ◌+◌, ◌^◌, ◌<◌, ◌≤◌, nat_lt, nat_le, count_by, option_and_then, All, length, map, IfOk, IfErr, OnOk, OnErr};
+ghost use Rattle.std.specs.Prelude.{◌≡◌, ℕ, ◌+◌, ◌^◌, ◌<◌, ◌≤◌, List, nat_lt, nat_le, count_by, option_and_then, All, length, map, Some, IfOk, IfErr, OnOk, OnErr};
 ghost use Rattle.mv_move_types.specs.Module.{own_name};
 ghost use Rattle.mv_move_types.specs.Named.{module_place};
 ghost use Rattle.mv_ledger.specs.declared.tallies.Placed.{Placed as Standing};
 ghost use Rattle.mv_move_types.specs.Published.{with_modules};
+ghost use Rattle.mv_binary_format.specs.Parsing.{module_of};
 ghost use Rattle.mv_certificate.specs.Certificate.{Certificate};
+ghost use Rattle.mv_certificate.specs.Verified.{IsCertifiedBy};
+ghost use Rattle.mv_machine.specs.Ledger.{Publish};
 ghost use Rattle.mv_linker.specs.Link.{IsStore, tables_in};
 ghost use Rattle.mv_linker.specs.News.{AreTexts, HasItsTexts, published_of};
 ghost use Rattle.mv_frames.specs.Counters.{AreSameCounts, KeepsCounts};
 ghost use Rattle.mv_ledger.specs.Asking.{offer_of, offers_of};
-ghost use Rattle.mv_ledger.specs.Publishing.{Passes, AllPass, IsRefusedOffer, IsRefusedAmong};
+ghost use Rattle.mv_ledger.specs.RecordText.{IsShaped};
+ghost use Rattle.mv_ledger.specs.Publishing.{Spells, Passes, AllPass, IsRefusedOffer, IsRefusedAmong};
 ghost use Rattle.mv_ledger.specs.Judging.{IsAcceptedBy, IsRefusedBy};
 ghost use Rattle.mv_ledger.specs.Tallying.{AddsTallies, ArePlacedFor};
 ghost use Rattle.mv_ledger.specs.View.{all_of, ArePlaced, IsNamed, IsSmall, AreScarce, AreCountable};
 
-use crate::payload::{Offered, read_bundle};
+use crate::payload::{Bundle, Offered, read_bundle};
 use crate::tallies::{Placed, Tallies, scarce_structs};
 use mv_binary_format::Module;
+use mv_certificate::Verified;
 use mv_frames::Counters;
 use mv_linker::{New, Store, link, name_of};
 use mv_move_types::Refusal;
+use mv_type_states::Typed;
 use std::alloc::{AllocError, Global};
 
 // How many modules a ledger has at most.
 const MOST_MODULES: usize = 4096;
+
+/// The module that bytes are the text of, which passed phases 2 to 8.
+fn typed<'a>(alloc: Global, text: &'a [u8]) -> Result<Typed<'a>, Refusal>
+    ensures read { IfOk result (λ m. module_of text.entry.now ≡ Some m) }
+    ensures text { IfOk result (λ m. Spells text.entry.now m) }
+    ensures refused { (certificate : List ℕ) → IfErr result (IsRefusedOffer (record { text = text.entry.now; certificate = certificate })) }
+{
+    let module = mv_binary_format::decode(alloc, text)?;
+    let bounded = mv_bounds::check(alloc, module)?;
+    // For the prover: the module is in bounds, and its definitions are its own.
+    let _defined = bounded.module();
+    mv_type_states::check(alloc, bounded)
+}
+
+/// A module with the certificate that bytes are the text of, which passed phases 9 to 12.
+fn certified<'a>(
+    alloc: Global,
+    typed: Typed<'a>,
+    certificate: &[u8],
+) -> Result<Verified<'a>, Refusal>
+    ensures same { IfOk result (λ m. m ≡ typed.entry) }
+    ensures certified { IfOk result (λ m. IsCertifiedBy m certificate.now) }
+    ensures passes { (text : List ℕ) → Spells text typed.entry → IfOk result (λ m. (c : Certificate) × Passes (record { text = text; certificate = certificate.now }) m c) }
+    ensures refused { (text : List ℕ) → Spells text typed.entry → IfErr result (IsRefusedOffer (record { text = text; certificate = certificate.now })) }
+{
+    // For the prover: the module is well typed.
+    let _sound = typed.module();
+    let stated = mv_certificate::decode(alloc, &typed, certificate)?;
+    let module = mv_certificate::check(alloc, typed, &stated)?;
+    // For the prover: its acquires lists are right.
+    let _acquires = module.module();
+    Ok(module)
+}
 
 /// An offered module with what it passed: phases 2 to 12 in order.
 fn verified<'a>(alloc: Global, offer: &Offered<'a>) -> Result<New<'a>, Refusal>
@@ -33,17 +72,8 @@ fn verified<'a>(alloc: Global, offer: &Offered<'a>) -> Result<New<'a>, Refusal>
     ensures texts { IfOk result HasItsTexts }
     ensures refused { IfErr result (IsRefusedOffer (offer_of offer.now)) }
 {
-    let module = mv_binary_format::decode(alloc, offer.text)?;
-    let bounded = mv_bounds::check(alloc, module)?;
-    // For the prover: the module is in bounds, and its definitions are its own.
-    let _defined = bounded.module();
-    let typed = mv_type_states::check(alloc, bounded)?;
-    // For the prover: it is well typed.
-    let _sound = typed.module();
-    let stated = mv_certificate::decode(alloc, &typed, offer.certificate)?;
-    let module = mv_certificate::check(alloc, typed, &stated)?;
-    // For the prover: its acquires lists are right.
-    let _acquires = module.module();
+    let typed = typed(alloc, offer.text)?;
+    let module = certified(alloc, typed, offer.certificate)?;
     Ok(New {
         module,
         text: offer.text,
@@ -121,12 +151,61 @@ fn place_of(store: &Store, m: &Module<'_>) -> Option<usize>
     store.find(address, name)
 }
 
+/// How many of these modules are to stand behind so many that are there.
+pub fn count_behind(placed: &[Placed], count: usize) -> usize
+    ensures count { result ≡ count_by (λ (p : Standing). nat_le count p.place) placed.now }
+    ensures few { result ≤ length placed.now }
+{
+    placed.iter().filter(|p| p.place >= count).count()
+}
+
 /// Whether a bundle makes more modules than a ledger may have of so many that are there.
 fn is_too_much(placed: &[Placed], count: usize) -> bool
     requires { count + length placed.now < 2 ^ 63 }
     ensures { result ≡ nat_lt 4096 (count + count_by (λ (p : Standing). nat_le count p.place) placed.now) }
 {
-    count + placed.iter().filter(|p| p.place >= count).count() > MOST_MODULES
+    count + count_behind(placed, count) > MOST_MODULES
+}
+
+/// Publishes a bundle, and says how many modules it has. Nothing but the counters' room changes where it is refused.
+fn join_bundle(
+    alloc: Global,
+    store: &mut Store,
+    tallies: &mut Tallies,
+    counters: &mut Counters,
+    bundle: &Bundle<'_>,
+) -> Result<u64, Refusal>
+    requires few { length store.old ≤ 4096 }
+    requires asked { (payload : List ℕ) × IsShaped 1 payload (Publish bundle.now.sender (offers_of bundle.now.offers.items)) }
+    requires placed { length tallies.old ≡ length store.old }
+    requires named { All (IsNamed (tables_in store.old)) (all_of tallies.old) }
+    requires scarce { AreScarce (tables_in store.old) tallies.old }
+    requires countable { AreCountable counters.old tallies.old }
+    ensures store { OnOk result (IsStore store.old) }
+    ensures whole { OnOk result (IsStore store.new) }
+    ensures room { OnOk result (length store.new ≤ 4096) }
+    ensures err { OnErr result (store.new ≡ store.old) }
+    ensures kept { OnErr result (tallies.new ≡ tallies.old) }
+    ensures counts { AreSameCounts counters.old counters.new }
+    ensures countable { AreCountable counters.new tallies.new }
+    ensures accepted { (payload : List ℕ) → IsShaped 1 payload (Publish bundle.now.sender (offers_of bundle.now.offers.items)) → IfOk result (λ n. IsAcceptedBy n store.old payload store.new) }
+    ensures refused { (payload : List ℕ) → IsShaped 1 payload (Publish bundle.now.sender (offers_of bundle.now.offers.items)) → IfErr result (IsRefusedBy store.old payload) }
+    ensures placed { length tallies.new ≡ length store.new }
+    ensures named { OnOk result (All (IsNamed (tables_in store.new)) (all_of tallies.new)) }
+    ensures scarce { AreScarce (tables_in store.new) tallies.new }
+    ensures small { (runs : ℕ) → All (IsSmall runs) (all_of tallies.old) → All (IsSmall runs) (all_of tallies.new) }
+    ensures tallied { OnOk result (AddsTallies store.old store.new (all_of tallies.old) (all_of tallies.new)) }
+{
+    let news = all_verified(alloc, &bundle.offers)?;
+    let published = store.len();
+    let placed = placed(alloc, store, tallies, counters, &news)?;
+    let count = news.len();
+    let linked = link(store, Some(bundle.sender), news)?;
+    if is_too_much(&placed, published) {
+        return Err(Refusal::Phase(14));
+    }
+    tallies.join(store, linked, placed)?;
+    Ok(count as u64)
 }
 
 /// Publishes the bundle that a payload has, and says how many modules it has: they join the store, and each of their structs
@@ -163,19 +242,9 @@ pub fn publish(
     ensures small { (runs : ℕ) → All (IsSmall runs) (all_of tallies.old) → All (IsSmall runs) (all_of tallies.new) }
     ensures tallied { OnOk result (AddsTallies store.old store.new (all_of tallies.old) (all_of tallies.new)) }
 {
-    let bundle = match read_bundle(alloc, payload) {
-        Ok(bundle) => bundle,
-        Err(Refusal::Memory) => return Err(Refusal::Memory),
-        Err(Refusal::Phase(_)) => return Err(Refusal::Phase(1)),
-    };
-    let news = all_verified(alloc, &bundle.offers)?;
-    let published = store.len();
-    let placed = placed(alloc, store, tallies, counters, &news)?;
-    let count = news.len();
-    let linked = link(store, Some(bundle.sender), news)?;
-    if is_too_much(&placed, published) {
-        return Err(Refusal::Phase(14));
+    match read_bundle(alloc, payload) {
+        Ok(bundle) => join_bundle(alloc, store, tallies, counters, &bundle),
+        Err(Refusal::Memory) => Err(Refusal::Memory),
+        Err(Refusal::Phase(_)) => Err(Refusal::Phase(1)),
     }
-    tallies.join(store, linked, placed)?;
-    Ok(count as u64)
 }

@@ -22,7 +22,7 @@ use std::marker::Model;
 
 /// How often values of a struct with neither copy nor drop were made, and taken apart, in the runs that returned; of other
 /// structs nothing is kept. The struct is named by its module's place in the order of publication and its definition's index.
-#[derive(Clone, Copy, PartialEq, Eq, Debug)]
+#[derive(Clone, Copy)]
 pub struct Tally {
     pub place: u16,
     pub index: u16,

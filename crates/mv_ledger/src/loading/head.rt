@@ -19,7 +19,7 @@ const MOST_RUNS: u64 = 4_294_967_296;
 const MOST_MODULES: u64 = 4096;
 
 /// The form of a saved ledger's text.
-#[derive(Clone, Copy, PartialEq, Eq, Debug)]
+#[derive(Clone, Copy)]
 pub enum SavedForm {
     /// All counts of 16 bytes, and each value with its struct.
     First,

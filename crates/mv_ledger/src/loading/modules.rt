@@ -14,7 +14,7 @@ ghost use Rattle.mv_ledger.specs.Publishing.{AllPass};
 use crate::loading::groups::first_group;
 use crate::loading::{LoadError, because};
 use crate::payload::Offered;
-use crate::publishing::{all_verified, placed};
+use crate::publishing::{all_verified, count_behind, placed};
 use crate::tallies::{Placed, Tallies};
 use mv_frames::Counters;
 use mv_linker::{New, Store, link};
@@ -39,7 +39,7 @@ pub struct Joined {
 fn are_behind(placed: &[Placed], count: usize) -> bool
     ensures { result ≡ (count_by (λ (p : Standing). nat_le count p.place) placed.now == length placed.now) }
 {
-    placed.iter().filter(|p| p.place >= count).count() == placed.len()
+    count_behind(placed, count) == placed.len()
 }
 
 impl Joined {
@@ -127,10 +127,33 @@ impl Joined {
             Err(Refusal::Memory) => Err(LoadError::Memory),
         }
     }
+    /// Joins these offered modules, where none is there. They join in groups that can be linked by themselves. Where there is no
+    /// such group, as where a module names one that comes much later, all that are left join together.
+    ///
+    /// # Errors
+    ///
+    /// `Module`, where one of them fails one of phases 2 to 12; else `Link`, where they are not linked; `Memory`, where a growth
+    /// was refused.
+    fn join_offers(&mut self, alloc: Global, offers: &[Offered<'_>]) -> Result<(), LoadError>
+        requires few { length offers.now ≤ 4096 }
+        requires empty { AreJoined [] self.old.store self.old.tallies self.old.counters }
+        ensures joined { OnOk result (AreJoined (offers_of offers.now) self.new.store self.new.tallies self.new.counters) }
+        ensures refused { IfErr result (AreNotJoined (offers_of offers.now)) }
+    {
+        let mut done = 0;
+        while done < offers.len() {
+            let (_, left) = offers.split_at(done);
+            let count = self.join_group(alloc, left)?;
+            if count == 0 {
+                return self.join(alloc, left);
+            }
+            done += count;
+        }
+        Ok(())
+    }
 }
 
-/// What a ledger has of modules that are offered to an empty one. They join in groups that can be linked by themselves. Where
-/// there is no such group, as where a module names one that comes much later, all that are left join together.
+/// What a ledger has of modules that are offered to an empty one.
 ///
 /// # Errors
 ///
@@ -142,15 +165,6 @@ pub fn join_all(alloc: Global, offers: &[Offered<'_>]) -> Result<Joined, LoadErr
     ensures refused { IfErr result (AreNotJoined (offers_of offers.now)) }
 {
     let mut joined = Joined::new(alloc);
-    let mut done = 0;
-    while done < offers.len() {
-        let (_, left) = offers.split_at(done);
-        let count = joined.join_group(alloc, left)?;
-        if count == 0 {
-            joined.join(alloc, left)?;
-            return Ok(joined);
-        }
-        done += count;
-    }
+    joined.join_offers(alloc, offers)?;
     Ok(joined)
 }

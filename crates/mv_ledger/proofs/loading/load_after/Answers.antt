@@ -1,0 +1,36 @@
+use Rattle.std.proofs.Common.{◌≤◌, List, length, arith, ap, subst}
+use Rattle.std.proofs.lemmas.List.{length-map}
+use Rattle.std.proofs.lemmas.Result.{err_from_is_err_and}
+use Rattle.mv_ledger.specs.declared.payload.Offered.{Offered}
+use Rattle.mv_ledger.specs.Asking.{offer_of, offers_of}
+use Rattle.mv_ledger.specs.LoadedParts.{head_of, AreJoined, AreNotJoined}
+use Rattle.mv_ledger.proofs.Loaded.{fails-joined, head-few}
+use Rattle.mv_ledger.proofs.loading.load_after.Goals as goal
+
+pub join_all-requires : goal.join_all-requires
+join_all-requires c =
+    let few : length (offers_of c.args.head.now.offers.items) ≤ 4096 = head-few c.requires.0 (head_of c.args.head.now) c.args.reader.now c.requires.1.are c.requires.1.begins in
+    omega (arith, few, ap length c.deref.ensures.value, length-map c.args.head.now.offers.items offer_of)
+
+pub returns-in_err-joined-clause-refused : goal.returns-in_err-joined-clause-refused
+returns-in_err-joined-clause-refused c = λ bytes begun.
+    let p = err_from_is_err_and c.from_residual.result c.from_residual.ensures.1 in
+    rw (p.1, p.2)
+    (fails-joined bytes (head_of c.args.head.now) c.args.reader.now begun.are begun.begins
+    c.in_err-joined.field-0.0 (subst (λ (os : List Offered). AreNotJoined (offers_of os) c.in_err-joined.field-0.0) c.deref.ensures.value c.in_err-joined.ensures.refused))
+
+pub read_stored-requires-clause-joined : goal.read_stored-requires-clause-joined
+read_stored-requires-clause-joined c =
+    let j = c.in_ok-joined.joined in
+    subst (λ (os : List Offered). AreJoined (offers_of os) j.store j.tallies j.counters) c.deref.ensures.value c.in_ok-joined.ensures.joined
+
+pub returns-in_err-storage-clause-refused : goal.returns-in_err-storage-clause-refused
+returns-in_err-storage-clause-refused c = λ bytes begun.
+    let p = err_from_is_err_and c.from_residual-in_err-storage.result c.from_residual-in_err-storage.ensures.1 in
+    rw (p.1, p.2) (c.in_err-storage.ensures.refused bytes begun)
+
+pub invariant_of-result : goal.invariant_of-result
+invariant_of-result c = c.in_ok-storage.ensures.whole
+
+pub returns-clause-loaded : goal.returns-clause-loaded
+returns-clause-loaded c = c.in_ok-storage.ensures.loaded

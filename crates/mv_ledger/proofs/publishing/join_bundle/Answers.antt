@@ -1,0 +1,131 @@
+use Rattle.std.proofs.Common.{◌≤◌, List, length, Some, arith, sym, ap, ◌∙◌, subst}
+use Rattle.std.proofs.lemmas.List.{length-map}
+use Rattle.std.proofs.lemmas.Result.{err_from_is_err_and}
+use Rattle.mv_move_types.specs.Published.{PublishedModule, with_modules}
+use Rattle.mv_linker.specs.declared.New.{New}
+use Rattle.mv_linker.specs.Link.{IsStore, tables_in}
+use Rattle.mv_linker.specs.News.{published_of, published_one}
+use Rattle.mv_ledger.specs.declared.payload.Offered.{Offered}
+use Rattle.mv_ledger.specs.Asking.{offers_of}
+use Rattle.mv_ledger.specs.Publishing.{AllPass, IsRefusedAmong}
+use Rattle.mv_ledger.specs.Tallying.{ArePlacedFor}
+use Rattle.mv_ledger.specs.View.{AreCountable}
+use Rattle.mv_ledger.proofs.Countable.{all-countable-kept, with-placed-countable}
+use Rattle.mv_ledger.proofs.Verifying.{as-many}
+use Rattle.mv_ledger.proofs.Phases.{refused_among, refused_link, refused_room, accepted}
+use Rattle.mv_ledger.proofs.Joining.{few-offers, placed-length, joined-within, room-for, no-room-for, after-length, after-scarce, after-named, after-small, after-tallied}
+use Rattle.mv_ledger.proofs.publishing.join_bundle.Goals as goal
+
+pub placed-requires-clause-few : goal.placed-requires-clause-few
+placed-requires-clause-few c =
+    let many = as-many (offers_of c.args.bundle.now.offers.items) (published_of c.in_ok-news.news.items)
+    (subst (λ (xs : List Offered). AllPass (offers_of xs) (published_of c.in_ok-news.news.items)) c.deref.ensures.value c.in_ok-news.ensures.passed) in
+    let few = few-offers c.requires.asked.0 c.args.bundle.now.sender (offers_of c.args.bundle.now.offers.items) c.requires.asked.1 in
+    omega (arith, many, few, length-map c.in_ok-news.news.items published_one, c.requires.few)
+
+pub link-requires-clause-few : goal.link-requires-clause-few
+link-requires-clause-few c =
+    let many = as-many (offers_of c.args.bundle.now.offers.items) (published_of c.in_ok-news.news.items)
+    (subst (λ (xs : List Offered). AllPass (offers_of xs) (published_of c.in_ok-news.news.items)) c.deref.ensures.value c.in_ok-news.ensures.passed) in
+    let few = few-offers c.requires.asked.0 c.args.bundle.now.sender (offers_of c.args.bundle.now.offers.items) c.requires.asked.1 in
+    omega (arith, many, few, length-map c.in_ok-news.news.items published_one, c.requires.few)
+
+pub is_too_much-requires : goal.is_too_much-requires
+is_too_much-requires c =
+    let many = as-many (offers_of c.args.bundle.now.offers.items) (published_of c.in_ok-news.news.items)
+    (subst (λ (xs : List Offered). AllPass (offers_of xs) (published_of c.in_ok-news.news.items)) c.deref.ensures.value c.in_ok-news.ensures.passed) in
+    let few = few-offers c.requires.asked.0 c.args.bundle.now.sender (offers_of c.args.bundle.now.offers.items) c.requires.asked.1 in
+    let long = placed-length (tables_in c.args.store.now) c.args.tallies.now (length c.args.store.now) (tables_in (published_of c.deref-2.result.now)) c.in_ok-placed.placed.items c.in_ok-placed.ensures.placed in
+    let same = ap length c.deref-3.ensures.value in
+    let long' = long ∙ length-map (published_of c.deref-2.result.now) (λ (p : PublishedModule). p.tables) ∙ ap (λ (ns : List New). length (published_of ns)) c.deref-2.ensures.value in
+    omega (arith, many, few, long', same, c.requires.few, c.len-published.ensures.count)
+
+pub join-requires-clause-placed : goal.join-requires-clause-placed
+join-requires-clause-placed c =
+    joined-within c.args.store.now (published_of c.in_ok-news.news.items) c.args.tallies.now c.in_ok-placed.placed.items (Some c.args.bundle.now.sender) c.len-published.ensures.store
+    (subst (λ (l : List PublishedModule). IsStore (with_modules c.args.store.now l)) c.in_ok-linked.ensures.ok c.in_ok-linked.ensures.linked.whole) c.in_ok-linked.ensures.joins
+    (subst (λ (ns : List New). ArePlacedFor (tables_in c.args.store.now) c.args.tallies.now (length c.args.store.now) (tables_in (published_of ns)) c.in_ok-placed.placed.items) c.deref-2.ensures.value c.in_ok-placed.ensures.placed)
+    c.in_ok-placed.ensures.theirs c.requires.scarce c.requires.placed
+
+pub returns-clause-whole : goal.returns-clause-whole
+returns-clause-whole c = subst IsStore (sym c.in_ok-join.ensures.ok) c.in_ok-linked.ensures.linked.whole
+
+pub returns-clause-placed : goal.returns-clause-placed
+returns-clause-placed c = after-length c.args.store.now (published_of c.in_ok-news.news.items) c.args.tallies.now c.in_ok-placed.placed.items (Some c.args.bundle.now.sender) c.len-published.ensures.store
+    (subst (λ (l : List PublishedModule). IsStore (with_modules c.args.store.now l)) c.in_ok-linked.ensures.ok c.in_ok-linked.ensures.linked.whole) c.in_ok-linked.ensures.joins
+    (subst (λ (ns : List New). ArePlacedFor (tables_in c.args.store.now) c.args.tallies.now (length c.args.store.now) (tables_in (published_of ns)) c.in_ok-placed.placed.items) c.deref-2.ensures.value c.in_ok-placed.ensures.placed)
+    c.in_ok-placed.ensures.theirs c.requires.scarce c.join.new.store c.join.new.self (c.in_ok-join.ensures.ok ∙ ap (with_modules c.args.store.now) c.in_ok-linked.ensures.ok) c.in_ok-join.ensures.tallied
+
+pub returns-clause-scarce : goal.returns-clause-scarce
+returns-clause-scarce c = after-scarce c.args.store.now (published_of c.in_ok-news.news.items) c.args.tallies.now c.in_ok-placed.placed.items (Some c.args.bundle.now.sender) c.len-published.ensures.store
+    (subst (λ (l : List PublishedModule). IsStore (with_modules c.args.store.now l)) c.in_ok-linked.ensures.ok c.in_ok-linked.ensures.linked.whole) c.in_ok-linked.ensures.joins
+    (subst (λ (ns : List New). ArePlacedFor (tables_in c.args.store.now) c.args.tallies.now (length c.args.store.now) (tables_in (published_of ns)) c.in_ok-placed.placed.items) c.deref-2.ensures.value c.in_ok-placed.ensures.placed)
+    c.in_ok-placed.ensures.theirs c.requires.scarce c.join.new.store c.join.new.self (c.in_ok-join.ensures.ok ∙ ap (with_modules c.args.store.now) c.in_ok-linked.ensures.ok) c.in_ok-join.ensures.tallied c.requires.named
+
+pub returns-clause-named : goal.returns-clause-named
+returns-clause-named c = after-named c.args.store.now (published_of c.in_ok-news.news.items) c.args.tallies.now c.in_ok-placed.placed.items (Some c.args.bundle.now.sender) c.len-published.ensures.store
+    (subst (λ (l : List PublishedModule). IsStore (with_modules c.args.store.now l)) c.in_ok-linked.ensures.ok c.in_ok-linked.ensures.linked.whole) c.in_ok-linked.ensures.joins
+    (subst (λ (ns : List New). ArePlacedFor (tables_in c.args.store.now) c.args.tallies.now (length c.args.store.now) (tables_in (published_of ns)) c.in_ok-placed.placed.items) c.deref-2.ensures.value c.in_ok-placed.ensures.placed)
+    c.in_ok-placed.ensures.theirs c.requires.scarce c.join.new.store c.join.new.self (c.in_ok-join.ensures.ok ∙ ap (with_modules c.args.store.now) c.in_ok-linked.ensures.ok) c.in_ok-join.ensures.tallied c.requires.named
+
+pub returns-clause-small : goal.returns-clause-small
+returns-clause-small c = after-small c.args.store.now (published_of c.in_ok-news.news.items) c.args.tallies.now c.in_ok-placed.placed.items (Some c.args.bundle.now.sender) c.len-published.ensures.store
+    (subst (λ (l : List PublishedModule). IsStore (with_modules c.args.store.now l)) c.in_ok-linked.ensures.ok c.in_ok-linked.ensures.linked.whole) c.in_ok-linked.ensures.joins
+    (subst (λ (ns : List New). ArePlacedFor (tables_in c.args.store.now) c.args.tallies.now (length c.args.store.now) (tables_in (published_of ns)) c.in_ok-placed.placed.items) c.deref-2.ensures.value c.in_ok-placed.ensures.placed)
+    c.in_ok-placed.ensures.theirs c.requires.scarce c.join.new.store c.join.new.self (c.in_ok-join.ensures.ok ∙ ap (with_modules c.args.store.now) c.in_ok-linked.ensures.ok) c.in_ok-join.ensures.tallied c.requires.named
+
+pub returns-clause-tallied : goal.returns-clause-tallied
+returns-clause-tallied c = after-tallied c.args.store.now (published_of c.in_ok-news.news.items) c.args.tallies.now c.in_ok-placed.placed.items (Some c.args.bundle.now.sender) c.len-published.ensures.store
+    (subst (λ (l : List PublishedModule). IsStore (with_modules c.args.store.now l)) c.in_ok-linked.ensures.ok c.in_ok-linked.ensures.linked.whole) c.in_ok-linked.ensures.joins
+    (subst (λ (ns : List New). ArePlacedFor (tables_in c.args.store.now) c.args.tallies.now (length c.args.store.now) (tables_in (published_of ns)) c.in_ok-placed.placed.items) c.deref-2.ensures.value c.in_ok-placed.ensures.placed)
+    c.in_ok-placed.ensures.theirs c.requires.scarce c.join.new.store c.join.new.self (c.in_ok-join.ensures.ok ∙ ap (with_modules c.args.store.now) c.in_ok-linked.ensures.ok) c.in_ok-join.ensures.tallied c.requires.named
+
+pub returns-clause-room : goal.returns-clause-room
+returns-clause-room c =
+    let room = room-for c.args.store.now (published_of c.in_ok-news.news.items) c.args.tallies.now c.in_ok-placed.placed.items (Some c.args.bundle.now.sender) c.len-published.ensures.store
+    (subst (λ (l : List PublishedModule). IsStore (with_modules c.args.store.now l)) c.in_ok-linked.ensures.ok c.in_ok-linked.ensures.linked.whole) c.in_ok-linked.ensures.joins
+    (subst (λ (ns : List New). ArePlacedFor (tables_in c.args.store.now) c.args.tallies.now (length c.args.store.now) (tables_in (published_of ns)) c.in_ok-placed.placed.items) c.deref-2.ensures.value c.in_ok-placed.ensures.placed)
+    c.in_ok-placed.ensures.theirs c.requires.scarce
+    c.len-published.result c.deref-3.result.now c.len-published.ensures.count c.deref-3.ensures.value (sym c.is_too_much.ensures ∙ c.if-is_too_much.false) in
+    subst (λ (l : List PublishedModule). length l ≤ 4096) (sym (c.in_ok-join.ensures.ok ∙ ap (with_modules c.args.store.now) c.in_ok-linked.ensures.ok)) room
+
+pub returns-clause-accepted : goal.returns-clause-accepted
+returns-clause-accepted c = λ payload asked.
+    let room = room-for c.args.store.now (published_of c.in_ok-news.news.items) c.args.tallies.now c.in_ok-placed.placed.items (Some c.args.bundle.now.sender) c.len-published.ensures.store
+    (subst (λ (l : List PublishedModule). IsStore (with_modules c.args.store.now l)) c.in_ok-linked.ensures.ok c.in_ok-linked.ensures.linked.whole) c.in_ok-linked.ensures.joins
+    (subst (λ (ns : List New). ArePlacedFor (tables_in c.args.store.now) c.args.tallies.now (length c.args.store.now) (tables_in (published_of ns)) c.in_ok-placed.placed.items) c.deref-2.ensures.value c.in_ok-placed.ensures.placed)
+    c.in_ok-placed.ensures.theirs c.requires.scarce
+    c.len-published.result c.deref-3.result.now c.len-published.ensures.count c.deref-3.ensures.value (sym c.is_too_much.ensures ∙ c.if-is_too_much.false) in
+    accepted c.args.store.now payload c.args.bundle.now.sender (offers_of c.args.bundle.now.offers.items) asked (published_of c.in_ok-news.news.items)
+    (subst (λ (xs : List Offered). AllPass (offers_of xs) (published_of c.in_ok-news.news.items)) c.deref.ensures.value c.in_ok-news.ensures.passed)
+    c.in_ok-linked.ensures.joins c.len-count.result c.join.new.store (c.len-count.ensures ∙ c.in_ok-news.news.ok.0 ∙ sym (length-map c.in_ok-news.news.items published_one)) room (c.in_ok-join.ensures.ok ∙ ap (with_modules c.args.store.now) c.in_ok-linked.ensures.ok)
+
+pub returns-in_err-news-clause-refused : goal.returns-in_err-news-clause-refused
+returns-in_err-news-clause-refused c = λ payload asked.
+    let p = err_from_is_err_and c.from_residual.result c.from_residual.ensures.1 in
+    rw (p.1, p.2) (refused_among c.args.store.now payload c.args.bundle.now.sender (offers_of c.args.bundle.now.offers.items) asked c.in_err-news.field-0.0
+    (subst (λ (xs : List Offered). IsRefusedAmong (offers_of xs) c.in_err-news.field-0.0) c.deref.ensures.value c.in_err-news.ensures.refused))
+
+pub returns-in_err-linked-clause-refused : goal.returns-in_err-linked-clause-refused
+returns-in_err-linked-clause-refused c = λ payload asked.
+    let p = err_from_is_err_and c.from_residual-in_err-linked.result c.from_residual-in_err-linked.ensures.1 in
+    rw (p.1, p.2) (refused_link c.args.store.now payload c.args.bundle.now.sender (offers_of c.args.bundle.now.offers.items) asked (published_of c.in_ok-news.news.items)
+    (subst (λ (xs : List Offered). AllPass (offers_of xs) (published_of c.in_ok-news.news.items)) c.deref.ensures.value c.in_ok-news.ensures.passed)
+    c.in_err-linked.field-0.0 c.in_err-linked.ensures.refused)
+
+pub returns-then-is_too_much-clause-refused : goal.returns-then-is_too_much-clause-refused
+returns-then-is_too_much-clause-refused c = λ payload asked.
+    refused_room c.args.store.now payload c.args.bundle.now.sender (offers_of c.args.bundle.now.offers.items) asked (published_of c.in_ok-news.news.items)
+    (subst (λ (xs : List Offered). AllPass (offers_of xs) (published_of c.in_ok-news.news.items)) c.deref.ensures.value c.in_ok-news.ensures.passed)
+    c.in_ok-linked.ensures.joins
+    (no-room-for c.args.store.now (published_of c.in_ok-news.news.items) c.args.tallies.now c.in_ok-placed.placed.items (Some c.args.bundle.now.sender) c.len-published.ensures.store
+    (subst (λ (l : List PublishedModule). IsStore (with_modules c.args.store.now l)) c.in_ok-linked.ensures.ok c.in_ok-linked.ensures.linked.whole) c.in_ok-linked.ensures.joins
+    (subst (λ (ns : List New). ArePlacedFor (tables_in c.args.store.now) c.args.tallies.now (length c.args.store.now) (tables_in (published_of ns)) c.in_ok-placed.placed.items) c.deref-2.ensures.value c.in_ok-placed.ensures.placed)
+    c.in_ok-placed.ensures.theirs c.requires.scarce
+    c.len-published.result c.deref-3.result.now c.len-published.ensures.count c.deref-3.ensures.value (sym c.is_too_much.ensures ∙ c.if-is_too_much.true))
+
+pub returns-clause-countable : goal.returns-clause-countable
+returns-clause-countable c =
+    let counters = c.placed.new.counters in
+    let had = all-countable-kept c.args.counters.now counters c.args.tallies.now c.in_ok-placed.ensures.kept c.requires.countable in
+    subst (AreCountable counters) (sym c.in_ok-join.ensures.tallied) (with-placed-countable counters c.args.tallies.now c.in_ok-placed.placed.items had c.in_ok-placed.ensures.countable)
