@@ -12,12 +12,17 @@ mod saved;
 use crate::engine::{EngineError, engine};
 use fakes::{Pieces, Room};
 use mv_ledger::Ledger;
-use rows::{Row, rows};
+use rows::{ROWS, Row, rows_of};
 use std::alloc::Global;
 use std::io::ErrorKind;
+use std::mem;
+use std::process::Abort;
 use std::test::Fail;
 
 const MANY: usize = usize::MAX;
+
+// How many records were answered.
+type Answer = Result<u64, EngineError>;
 
 fn whole(bytes: &[u8]) -> Pieces<'_> {
     Pieces {
@@ -51,31 +56,30 @@ fn roomy(alloc: Global) -> Option<Room> {
     }
 }
 
-// How many records were answered.
-fn answered(
-    reader: &mut Pieces<'_>,
-    writer: &mut Room,
-    ledger: &mut Ledger,
-) -> Result<u64, EngineError> {
+fn answered(reader: &mut Pieces<'_>, writer: &mut Room, ledger: &mut Ledger) -> Answer {
     engine(reader, writer, ledger)
 }
 
-// How many records an input has, and the report on them.
-fn report(
+// What comes of an input on a new ledger, and then of another one on what that left.
+fn in_turn(
     alloc: Global,
-    input: Option<&[u8]>,
-    ledger: &mut Ledger,
-) -> Result<(u64, Vec<u8>), Fail> {
-    let Some(bytes) = input else {
-        return Err(Fail::from("the input is shorter"));
-    };
-    let mut writer = room(alloc);
-    let count = answered(&mut whole(bytes), &mut writer, ledger)?;
-    Ok((count, writer.taken))
+    (reader, writer): (&mut Pieces<'_>, &mut Room),
+    (next_reader, next_writer): (&mut Pieces<'_>, &mut Room),
+) -> (Answer, Answer) {
+    let mut ledger = Ledger::new(alloc);
+    let answer = answered(reader, writer, &mut ledger);
+    let next_answer = answered(next_reader, next_writer, &mut ledger);
+    (answer, next_answer)
 }
 
-// How many records an input has, given and taken in pieces, and the report on them.
-fn in_pieces(alloc: Global, bytes: &[u8], each: usize) -> Result<(u64, Vec<u8>), EngineError> {
+// What comes of an input on a new ledger.
+fn alone(alloc: Global, reader: &mut Pieces<'_>, writer: &mut Room) -> Answer {
+    let mut ledger = Ledger::new(alloc);
+    answered(reader, writer, &mut ledger)
+}
+
+// An input that is given and taken in pieces has its report.
+fn reports(rt: &impl Abort, alloc: Global, row: &Row, bytes: &[u8], wanted: &[u8], each: usize) {
     let mut reader = Pieces {
         each,
         ..whole(bytes)
@@ -84,117 +88,119 @@ fn in_pieces(alloc: Global, bytes: &[u8], each: usize) -> Result<(u64, Vec<u8>),
         each,
         ..room(alloc)
     };
-    let mut ledger = Ledger::new(alloc);
-    let count = answered(&mut reader, &mut writer, &mut ledger)?;
-    Ok((count, writer.taken))
+    let answer = alone(alloc, &mut reader, &mut writer);
+    let wanted = (Ok(row.count() as u64), wanted);
+    assert_eq!(rt; (answer, writer.taken.as_slice()), wanted, "{}", row.shows);
 }
 
 // However many bytes a reader gives and a writer takes in a call.
 #[test]
 fn rows_are_answered_as_wanted(rt: HostRuntime) -> Result<(), Fail> {
-    for row in &rows(rt.alloc())? {
+    for row in &rows_of(rt.alloc(), ROWS)? {
         let bytes = row.input(rt.alloc())?;
         let wanted = row.report(rt.alloc())?;
         for each in [MANY, 7, 1] {
-            let (count, written) = in_pieces(rt.alloc(), &bytes, each)?;
-            assert_eq!(rt; written.as_slice(), wanted.as_bytes(), "{}", row.shows);
-            assert_eq!(rt; count, row.count() as u64, "{}", row.shows);
+            reports(&rt, rt.alloc(), row, &bytes, wanted.as_bytes(), each);
         }
     }
     Ok(())
-}
-
-// The row that shows this: its bytes, and the report on them.
-fn row_that_shows(alloc: Global, shows: &str) -> Result<(Vec<u8>, String), Fail> {
-    let row = Row::that_shows(shows).ok_or("no row shows this")?;
-    Ok((row.input(alloc)?, row.report(alloc)?))
 }
 
 const MINTED_TWICE: &str = "a coin exists when it is minted again";
 
 // A record that is said to have 33,554,432 bytes and has five: no read asks for more than a piece of it.
 #[test]
-fn long_payloads_are_read_in_pieces(rt: HostRuntime) -> Result<(), Fail> {
-    let bytes = hex::decode(rt.alloc(), "01808080100102030405")?;
-    let mut reader = whole(bytes.as_slice());
+fn long_payloads_are_read_in_pieces(rt: HostRuntime) {
+    let mut reader = whole(&[1, 128, 128, 128, 16, 1, 2, 3, 4, 5]);
     let mut writer = room(rt.alloc());
-    let mut ledger = Ledger::new(rt.alloc());
-    let count = engine(&mut reader, &mut writer, &mut ledger)?;
-    assert_eq!(rt; count, 1);
-    assert_eq!(rt; writer.taken.as_slice(), "1 refused 1\n".as_bytes());
-    assert_eq!(rt; reader.most_asked, 65_536);
-    Ok(())
+    let answer = alone(rt.alloc(), &mut reader, &mut writer);
+    let wanted = (Ok(1), "1 refused 1\n".as_bytes(), 65_536);
+    assert_eq!(rt;
+        (answer, writer.taken.as_slice(), reader.most_asked),
+        wanted
+    );
 }
 
 // After a fault a ledger answers the records after those that it was changed by. They count from 1 again.
 
 #[test]
 fn ledgers_go_on_after_failed_reads(rt: HostRuntime) -> Result<(), Fail> {
-    let (bytes, _) = row_that_shows(rt.alloc(), MINTED_TWICE)?;
     // It fails within the second record: the module is published, and no coin minted.
-    let mut ledger = Ledger::new(rt.alloc());
-    let mut reader = Pieces {
-        until: 150,
-        ..whole(bytes.as_slice())
-    };
-    let result = answered(&mut reader, &mut room(rt.alloc()), &mut ledger);
-    assert_eq!(rt; result, Err(EngineError::Read));
-    let (count, next) = report(rt.alloc(), bytes.get(124..), &mut ledger)?;
-    assert_eq!(rt; count, 2);
-    assert_eq!(rt;
-        next.as_slice(),
-        "1 returned 5\n2 aborted exists 0 4\n".as_bytes()
-    );
-    Ok(())
+    let wanted = (Err(EngineError::Read), Ok(2));
+    goes_on(
+        &rt,
+        rt.alloc(),
+        (150, MANY),
+        124,
+        wanted,
+        "1 returned 5\n2 aborted exists 0 4\n",
+    )
 }
 
 #[test]
 fn ledgers_go_on_after_failed_writes(rt: HostRuntime) -> Result<(), Fail> {
-    let (bytes, _) = row_that_shows(rt.alloc(), MINTED_TWICE)?;
     // It fails within the second line: the coin is minted.
-    let mut ledger = Ledger::new(rt.alloc());
-    let mut writer = Room {
-        room: 16,
-        ..room(rt.alloc())
-    };
-    let result = answered(&mut whole(&bytes), &mut writer, &mut ledger);
-    assert_eq!(rt; result, Err(EngineError::Write));
-    let (count, next) = report(rt.alloc(), bytes.get(176..), &mut ledger)?;
-    assert_eq!(rt; count, 1);
-    assert_eq!(rt; next.as_slice(), "1 aborted exists 0 4\n".as_bytes());
+    let wanted = (Err(EngineError::Write), Ok(1));
+    goes_on(
+        &rt,
+        rt.alloc(),
+        (MANY, 16),
+        176,
+        wanted,
+        "1 aborted exists 0 4\n",
+    )
+}
+
+// A ledger that a fault stopped, after so many bytes of the input or of the report, goes on with the input's bytes from a place.
+fn goes_on(
+    rt: &impl Abort,
+    alloc: Global,
+    (until, left): (usize, usize),
+    from: usize,
+    answers: (Answer, Answer),
+    report: &str,
+) -> Result<(), Fail> {
+    let bytes = Row::that_shows(MINTED_TWICE)?.input(alloc)?;
+    let (mut writer, mut next_writer) = (room(alloc), room(alloc));
+    writer.room = left;
+    let mut reader = whole(&bytes);
+    reader.until = until;
+    let mut next_reader = whole(bytes.get(from..).unwrap_or(&[]));
+    let first = (&mut reader, &mut writer);
+    let found = in_turn(alloc, first, (&mut next_reader, &mut next_writer));
+    let wanted = (answers, report.as_bytes());
+    assert_eq!(rt; (found, next_writer.taken.as_slice()), wanted);
     Ok(())
 }
 
-// What ledgers do with an input once they have answered the first records of it: the report on these, and that on the input.
-fn after(alloc: Global, first: &[u8], bytes: &[u8]) -> Option<(Vec<u8>, Vec<u8>)> {
-    let mut ledger = Ledger::new(alloc);
-    let mut writer = room(alloc);
-    let mut writer_again = room(alloc);
-    if answered(&mut whole(first), &mut writer, &mut ledger).is_err() {
-        return None;
-    }
-    match answered(&mut whole(bytes), &mut writer_again, &mut ledger) {
-        Ok(_) => Some((writer.taken, writer_again.taken)),
-        Err(_) => None,
-    }
+// Whether the first records of a row have left a ledger that reports so on the row, and have the written bytes as a prefix of
+// their report, with all lines of those before the last, which stand in `before`: afterwards all lines do. It is true where an
+// allocation fails again.
+fn is_left_by(
+    alloc: Global,
+    (first, bytes): (&[u8], &[u8]),
+    (written, again): (&[u8], &[u8]),
+    before: &mut Vec<u8>,
+) -> bool {
+    let (mut writer, mut next_writer) = (room(alloc), room(alloc));
+    let reader = (&mut whole(first), &mut writer);
+    let answers = in_turn(alloc, reader, (&mut whole(bytes), &mut next_writer));
+    let is_written = written.starts_with(before) && writer.taken.starts_with(written);
+    mem::swap(before, &mut writer.taken);
+    let is_left = is_written && next_writer.taken.as_slice() == again;
+    is_left || answers.0.is_err() || answers.1.is_err()
 }
 
-// Whether some first records of a row have left a ledger that reports so on the row, and have the written bytes as a prefix
-// of their report, with all lines of those before the last. It is true where an allocation fails again.
-fn is_left_by_some(alloc: Global, row: &Row, bytes: &[u8], written: &[u8], again: &[u8]) -> bool {
+// Whether some first records of a row have left a ledger so.
+fn is_left_by_some(alloc: Global, row: &Row, bytes: &[u8], told: (&[u8], &[u8])) -> bool {
     let mut before = Vec::new(alloc);
     for count in 0..=row.count() {
         let Ok(first) = row.first(alloc, count) else {
             return true;
         };
-        let Some((report, report_again)) = after(alloc, &first, bytes) else {
-            return true;
-        };
-        let is_written = written.starts_with(&before) && report.starts_with(written);
-        if is_written && report_again.as_slice() == again {
+        if is_left_by(alloc, (&first, bytes), told, &mut before) {
             return true;
         }
-        before = report;
     }
     false
 }
@@ -209,36 +215,50 @@ const STARVED: [&str; 6] = [
     "coins within a vault are counted: put(s: signer) stores a vault with coins of 1 and 2",
 ];
 
+// What comes of an input on a new ledger, and where memory ran out, of the input again once it is back.
+fn once_or_again(
+    rt: &HostRuntime,
+    bytes: &[u8],
+    writer: &mut Room,
+    next_writer: &mut Room,
+) -> (Answer, Answer) {
+    let mut ledger = Ledger::new(rt.alloc());
+    let answer = answered(&mut whole(bytes), writer, &mut ledger);
+    let mut next_answer = answer;
+    if answer.is_err() {
+        // What refuses requests ends with this.
+        let _ = rt.eprintln("memory is back");
+        next_answer = answered(&mut whole(bytes), next_writer, &mut ledger);
+    }
+    (answer, next_answer)
+}
+
+// Whether an input has its report, or a ledger stands where memory ran out. It is true where that was before the engine.
+fn is_told_or_stands(rt: &HostRuntime, row: &Row, bytes: &[u8], report: &[u8]) -> bool {
+    let Some(mut writer) = roomy(rt.alloc()) else {
+        return true;
+    };
+    let Some(mut next_writer) = roomy(rt.alloc()) else {
+        return true;
+    };
+    let answers = once_or_again(rt, bytes, &mut writer, &mut next_writer);
+    let told = (writer.taken.as_slice(), next_writer.taken.as_slice());
+    match answers {
+        (Ok(_), _) => told.0 == report,
+        (Err(EngineError::Memory), Ok(_)) => is_left_by_some(rt.alloc(), row, bytes, told),
+        (Err(error), _) => error == EngineError::Memory,
+    }
+}
+
 // With any one request for memory refused, which scripts/refuse-each-growth tries for each: what was written is a prefix
 // of the report, and the ledger is as the records whose lines were written left it, or one more.
 #[test]
 fn ledgers_stand_where_memory_runs_out(rt: HostRuntime) -> Result<(), Fail> {
     for shows in STARVED {
-        let row = Row::that_shows(shows).ok_or("no row shows this")?;
-        let (Ok(bytes), Ok(report), Some(mut writer), Some(mut writer_again)) = (
-            row.input(rt.alloc()),
-            row.report(rt.alloc()),
-            roomy(rt.alloc()),
-            roomy(rt.alloc()),
-        ) else {
-            return Ok(());
-        };
-        let mut ledger = Ledger::new(rt.alloc());
-        let result = answered(&mut whole(&bytes), &mut writer, &mut ledger);
-        let written = writer.taken.as_slice();
-        let Err(error) = result else {
-            assert_eq!(rt; written, report.as_bytes(), "{shows}");
-            continue;
-        };
-        assert_eq!(rt; error, EngineError::Memory);
-        // What refuses requests ends with this.
-        let _ = rt.eprintln("memory is back");
-        if answered(&mut whole(&bytes), &mut writer_again, &mut ledger).is_ok() {
-            let again = writer_again.taken.as_slice();
-            assert!(rt;
-                is_left_by_some(rt.alloc(), &row, &bytes, written, again),
-                "{shows}"
-            );
+        let row = Row::that_shows(shows)?;
+        if let (Ok(bytes), Ok(report)) = (row.input(rt.alloc()), row.report(rt.alloc())) {
+            let is_well = is_told_or_stands(&rt, &row, &bytes, report.as_bytes());
+            assert!(rt; is_well, "{shows}");
         }
     }
     Ok(())

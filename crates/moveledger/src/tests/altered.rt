@@ -1,8 +1,7 @@
 // A module in which any one byte is another.
 
-use super::report;
 use super::rows::Row;
-use mv_ledger::Ledger;
+use super::{alone, room, whole};
 use std::alloc::Global;
 use std::ops::Range;
 use std::process::Abort;
@@ -20,7 +19,7 @@ fn number_at(line: &str, place: usize) -> Option<u64> {
 fn is_published_or_refused(line: &str) -> bool {
     match line.split(' ').nth(1) {
         Some("published") => true,
-        Some("refused") => number_at(line, 2).is_some_and(|phase| (2..=13).contains(&phase)),
+        Some("refused") => matches!(number_at(line, 2), Some(2..=13)),
         _ => false,
     }
 }
@@ -38,28 +37,39 @@ fn is_conserved(line: &str) -> bool {
     }
 }
 
-// Whether an altered module is refused, or its values are conserved.
-fn is_well(alloc: Global, bytes: &[u8]) -> Result<bool, Fail> {
-    let mut ledger = Ledger::new(alloc);
-    let (_, written) = report(alloc, Some(bytes), &mut ledger)?;
-    let text = std::str::from_utf8(written.as_slice())?;
-    let Some(first) = text.lines().next() else {
-        return Ok(false);
+// Whether lines tell that a module is refused, or its values are conserved.
+fn is_told_well(written: &[u8]) -> bool {
+    let Ok(text) = std::str::from_utf8(written) else {
+        return false;
     };
-    Ok(is_published_or_refused(first) && text.lines().all(is_conserved))
+    let Some(first) = text.lines().next() else {
+        return false;
+    };
+    is_published_or_refused(first) && text.lines().all(is_conserved)
+}
+
+// Whether an altered module is refused, or its values are conserved.
+fn is_well(alloc: Global, bytes: &[u8]) -> bool {
+    let mut writer = room(alloc);
+    let answer = alone(alloc, &mut whole(bytes), &mut writer);
+    answer.is_ok() && is_told_well(writer.taken.as_slice())
+}
+
+// Puts each other byte at a place.
+fn alter(rt: &impl Abort, alloc: Global, bytes: &mut [u8], place: usize) {
+    for turned in 1..=255 {
+        turn(bytes, place, turned);
+        assert!(rt; is_well(alloc, bytes), "{turned} at {place}");
+        turn(bytes, place, turned);
+    }
 }
 
 // Puts each other byte at each of these places of the module.
 fn altered(rt: &impl Abort, alloc: Global, places: Range<usize>) -> Result<(), Fail> {
-    let row = Row::that_shows("a coin is minted and burnt, and counted").ok_or("no row")?;
+    let row = Row::that_shows("a coin is minted and burnt, and counted")?;
     let mut bytes = row.input(alloc)?;
     for place in places {
-        let place = BEFORE.saturating_add(place);
-        for turned in 1..=255 {
-            turn(&mut bytes, place, turned);
-            assert!(rt; is_well(alloc, bytes.as_slice())?, "{turned} at {place}");
-            turn(&mut bytes, place, turned);
-        }
+        alter(rt, alloc, &mut bytes, BEFORE.saturating_add(place));
     }
     Ok(())
 }

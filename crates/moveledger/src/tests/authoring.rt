@@ -1,10 +1,11 @@
 // What the commands of an author print: of a module, and of a module with the text of a certificate.
 
-use super::rows::three_lines;
+use super::rows::{Row, rows_of};
 use crate::checking::check_text;
 use crate::printing::{checked_line, proved_line};
 use crate::proving::prove_text;
 use std::alloc::{AllocError, Global};
+use std::process::Abort;
 use std::test::Fail;
 
 /// What is printed of a module.
@@ -22,42 +23,58 @@ fn checked(alloc: Global, module: &[u8], text: &str) -> Result<String, AllocErro
 fn printed_again(line: &str) -> Option<&str> {
     match line.split_once("refused ") {
         None if line == "too complex\n" => None,
-        None => Some("accepted\n"),
-        Some((_, phase)) if phase.len() == 2 => Some(line),
+        None => Some("accepted"),
+        Some((_, phase)) if phase.len() == 2 => Some(line.trim_end()),
         Some(_) => None,
     }
 }
 
-#[test]
-fn certificates_are_printed(rt: HostRuntime) -> Result<(), Fail> {
-    let alloc = rt.alloc();
-    for row in PROVED.split('#').skip(1) {
-        let (shows, digits, printed) = three_lines(row).ok_or("a row has fewer lines")?;
-        let module = hex::decode(alloc, digits)?;
-        let line = proved(alloc, &module)?;
-        let wanted = format!(in alloc; "{printed}\n")?;
-        assert_eq!(rt; line.as_str(), wanted.as_str(), "{shows}");
-        if let Some(again) = printed_again(line.as_str()) {
-            let found = checked(alloc, &module, line.as_str())?;
-            assert_eq!(rt; found.as_str(), again, "{shows}");
-        }
+/// A line is what a row wants.
+fn is_wanted(rt: &impl Abort, line: &str, wanted: &str, shows: &str) {
+    assert_eq!(rt; line.strip_suffix('\n'), Some(wanted), "{shows}");
+}
+
+/// A module with the line that was printed of it is answered as `printed_again` says.
+fn is_checked(
+    rt: &impl Abort,
+    alloc: Global,
+    module: &[u8],
+    line: &str,
+    shows: &str,
+) -> Result<(), Fail> {
+    if let Some(again) = printed_again(line) {
+        let found = checked(alloc, module, line)?;
+        is_wanted(rt, found.as_str(), again, shows);
     }
     Ok(())
 }
 
 #[test]
+fn certificates_are_printed(rt: HostRuntime) -> Result<(), Fail> {
+    for row in &rows_of(rt.alloc(), PROVED)? {
+        let module = hex::decode(rt.alloc(), row.given)?;
+        let line = proved(rt.alloc(), &module)?;
+        is_wanted(&rt, line.as_str(), row.wanted, row.shows);
+        is_checked(&rt, rt.alloc(), &module, line.as_str(), row.shows)?;
+    }
+    Ok(())
+}
+
+/// What a row has of a module with a text, and of the answer to them.
+fn is_answered(rt: &impl Abort, alloc: Global, row: &Row) -> Result<(), Fail> {
+    let (text, answer) = row.wanted.split_once(": ").ok_or("a row has no answer")?;
+    let module = hex::decode(alloc, row.given)?;
+    let text = text.replace(alloc, "\\r", "\r")?;
+    let text = text.replace(alloc, "\\n", "\n")?;
+    let line = checked(alloc, &module, text.as_str())?;
+    is_wanted(rt, line.as_str(), answer, row.shows);
+    Ok(())
+}
+
+#[test]
 fn texts_are_checked(rt: HostRuntime) -> Result<(), Fail> {
-    let alloc = rt.alloc();
-    for row in CHECKED.split('#').skip(1) {
-        let (shows, digits, answered) = three_lines(row).ok_or("a row has fewer lines")?;
-        let (text, answer) = answered.split_once(": ").ok_or("a row has no answer")?;
-        let module = hex::decode(alloc, digits)?;
-        let text = text
-            .replace(alloc, "\\r", "\r")?
-            .replace(alloc, "\\n", "\n")?;
-        let line = checked(alloc, &module, text.as_str())?;
-        let wanted = format!(in alloc; "{answer}\n")?;
-        assert_eq!(rt; line.as_str(), wanted.as_str(), "{shows}");
+    for row in &rows_of(rt.alloc(), CHECKED)? {
+        is_answered(&rt, rt.alloc(), row)?;
     }
     Ok(())
 }

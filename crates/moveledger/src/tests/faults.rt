@@ -2,11 +2,12 @@
 
 use super::fakes::{Pieces, Room};
 use super::rows::Row;
-use super::{MANY, MINTED_TWICE, answered, report, room, row_that_shows, whole};
+use super::{Answer, MANY, MINTED_TWICE, alone, in_turn, room, whole};
 use crate::engine::EngineError;
-use mv_ledger::Ledger;
 use std::alloc::Global;
 use std::io::ErrorKind;
+use std::mem;
+use std::process::Abort;
 use std::test::Fail;
 
 // Errors of readers and writers, one that other programs would try again among them.
@@ -51,61 +52,94 @@ const WRITERS: [(&str, usize, usize, usize); 9] = [
     ("before the last line end", 47, 228, 3),
 ];
 
-// What a ledger holds, as an audit and a show tell it.
-fn held(alloc: Global, ledger: &mut Ledger) -> Result<Vec<u8>, Fail> {
-    let asked = hex::decode(alloc, "04000300")?;
-    let (_, told) = report(alloc, Some(asked.as_slice()), ledger)?;
-    Ok(told)
+// An audit and a show, which tell what a ledger holds.
+const AUDIT_AND_SHOW: [u8; 4] = [4, 0, 3, 0];
+
+// What a ledger holds once it has answered an input is put into a list.
+fn hold(
+    alloc: Global,
+    (reader, writer): (&mut Pieces<'_>, &mut Room),
+    held: &mut Vec<u8>,
+) -> Answer {
+    let mut teller = room(alloc);
+    let asked = (&mut whole(&AUDIT_AND_SHOW), &mut teller);
+    let (answer, _) = in_turn(alloc, (reader, writer), asked);
+    mem::swap(held, &mut teller.taken);
+    answer
 }
 
-// What a ledger holds once it has answered so many records of a row.
-fn held_after(alloc: Global, row: &Row, records: usize) -> Result<Vec<u8>, Fail> {
-    let mut ledger = Ledger::new(alloc);
-    let first = row.first(alloc, records)?;
-    report(alloc, Some(first.as_slice()), &mut ledger)?;
-    held(alloc, &mut ledger)
-}
-
-// What came of a fault: the engine's answer, how many bytes were read, what was written, how often what failed was asked from
-// then on, and what the ledger holds.
-#[derive(Drop)]
-struct Outcome {
-    answer: Result<u64, EngineError>,
+// A fault: after how many bytes of the input the reader fails, and after how many of the report the writer does; and what is to
+// come of it: the engine's answer, how many bytes are read and written, and how many records have left the ledger as it is.
+#[derive(Clone, Copy)]
+struct Fault {
+    until: usize,
+    left: usize,
+    error: EngineError,
     read: usize,
-    written: Vec<u8>,
-    calls: usize,
-    held: Vec<u8>,
+    written: usize,
+    records: usize,
 }
 
 // What comes of an input with a reader that gives 7 bytes a call and fails after so many, and a writer that takes 5 and fails
-// after so many. With no error the writer takes nothing there.
-fn came_of(
+// after so many: the engine's answer, how many bytes were read, and how often what failed was asked from then on. With no error
+// the writer takes nothing there. What was written and what the ledger holds are put into lists.
+fn come(
     alloc: Global,
     bytes: &[u8],
     (until, left): (usize, usize),
     error: Option<ErrorKind>,
-) -> Result<Outcome, Fail> {
+    (written, held): (&mut Vec<u8>, &mut Vec<u8>),
+) -> (Answer, usize, usize) {
     let mut reader = Pieces {
         until,
         each: 7,
         error: error.unwrap_or(ErrorKind::Other),
         ..whole(bytes)
     };
-    let mut writer = Room {
-        room: left,
-        each: 5,
-        error,
-        ..room(alloc)
-    };
-    let mut ledger = Ledger::new(alloc);
-    let answer = answered(&mut reader, &mut writer, &mut ledger);
-    Ok(Outcome {
-        answer,
-        read: bytes.len().saturating_sub(reader.bytes.len()),
-        written: writer.taken,
-        calls: reader.calls.saturating_add(writer.calls),
-        held: held(alloc, &mut ledger)?,
-    })
+    let mut writer = room(alloc);
+    writer.room = left;
+    writer.each = 5;
+    writer.error = error;
+    let answer = hold(alloc, (&mut reader, &mut writer), held);
+    mem::swap(written, &mut writer.taken);
+    let read = bytes.len().saturating_sub(reader.bytes.len());
+    (answer, read, reader.calls.saturating_add(writer.calls))
+}
+
+// A fault of this kind ends the engine so: this is written, and the ledger holds this.
+fn ends_so(
+    rt: &impl Abort,
+    alloc: Global,
+    (fault, kind): (&Fault, ErrorKind),
+    bytes: &[u8],
+    wanted: (Option<&[u8]>, &[u8]),
+    shows: &str,
+) {
+    let (mut written, mut held) = (Vec::new(alloc), Vec::new(alloc));
+    let faults = (fault.until, fault.left);
+    let lists = (&mut written, &mut held);
+    let came = come(alloc, bytes, faults, Some(kind), lists);
+    assert_eq!(rt; came, (Err(fault.error), fault.read, 1), "{shows}");
+    assert_eq!(rt;
+        (Some(written.as_slice()), held.as_slice()),
+        wanted,
+        "{shows}"
+    );
+}
+
+// A fault ends the engine so, whatever its kind.
+fn ends(rt: &impl Abort, alloc: Global, fault: &Fault, shows: &str) -> Result<(), Fail> {
+    let row = Row::that_shows(MINTED_TWICE)?;
+    let bytes = row.input(alloc)?;
+    let report = row.report(alloc)?;
+    let first = row.first(alloc, fault.records)?;
+    let (mut writer, mut held) = (room(alloc), Vec::new(alloc));
+    let _ = hold(alloc, (&mut whole(&first), &mut writer), &mut held);
+    let wanted = (report.as_bytes().get(..fault.written), held.as_slice());
+    for kind in KINDS {
+        ends_so(rt, alloc, (fault, kind), &bytes, wanted, shows);
+    }
+    Ok(())
 }
 
 // Whatever the error: it is told, nothing is tried again, no byte is read behind the record that is being answered, and the
@@ -113,50 +147,53 @@ fn came_of(
 
 #[test]
 fn failed_reads_end_it(rt: HostRuntime) -> Result<(), Fail> {
-    let row = Row::that_shows(MINTED_TWICE).ok_or("no row shows this")?;
-    let (bytes, report) = row_that_shows(rt.alloc(), MINTED_TWICE)?;
-    for (shows, at, length, records) in READERS {
-        let kept = held_after(rt.alloc(), &row, records)?;
-        for kind in KINDS {
-            let came = came_of(rt.alloc(), &bytes, (at, MANY), Some(kind))?;
-            let written = Some(came.written.as_slice());
-            assert_eq!(rt; came.answer, Err(EngineError::Read), "{shows}");
-            assert_eq!(rt; (came.read, came.calls), (at, 1), "{shows}");
-            assert_eq!(rt; written, report.as_bytes().get(..length), "{shows}");
-            assert_eq!(rt; came.held.as_slice(), kept.as_slice(), "{shows}");
-        }
+    for (shows, read, written, records) in READERS {
+        let fault = Fault {
+            until: read,
+            left: MANY,
+            error: EngineError::Read,
+            read,
+            written,
+            records,
+        };
+        ends(&rt, rt.alloc(), &fault, shows)?;
     }
     Ok(())
 }
 
 #[test]
 fn failed_writes_end_it(rt: HostRuntime) -> Result<(), Fail> {
-    let row = Row::that_shows(MINTED_TWICE).ok_or("no row shows this")?;
-    let (bytes, report) = row_that_shows(rt.alloc(), MINTED_TWICE)?;
-    for (shows, at, read, records) in WRITERS {
-        let kept = held_after(rt.alloc(), &row, records)?;
-        for kind in KINDS {
-            let came = came_of(rt.alloc(), &bytes, (MANY, at), Some(kind))?;
-            let written = Some(came.written.as_slice());
-            assert_eq!(rt; came.answer, Err(EngineError::Write), "{shows}");
-            assert_eq!(rt; (came.read, came.calls), (read, 1), "{shows}");
-            assert_eq!(rt; written, report.as_bytes().get(..at), "{shows}");
-            assert_eq!(rt; came.held.as_slice(), kept.as_slice(), "{shows}");
-        }
+    for (shows, written, read, records) in WRITERS {
+        let fault = Fault {
+            until: MANY,
+            left: written,
+            error: EngineError::Write,
+            read,
+            written,
+            records,
+        };
+        ends(&rt, rt.alloc(), &fault, shows)?;
     }
     Ok(())
+}
+
+// A writer takes nothing once, behind these bytes of the report.
+fn takes_nothing(rt: &impl Abort, alloc: Global, bytes: &[u8], taken: &[u8]) {
+    let (mut written, mut held) = (Vec::new(alloc), Vec::new(alloc));
+    let lists = (&mut written, &mut held);
+    let (answer, _, calls) = come(alloc, bytes, (MANY, taken.len()), None, lists);
+    let wanted = (Err(EngineError::Write), 1, taken);
+    assert_eq!(rt; (answer, calls, written.as_slice()), wanted);
 }
 
 // A writer that takes nothing once, at each byte of the report.
 #[test]
 fn writers_that_take_nothing_end_it(rt: HostRuntime) -> Result<(), Fail> {
-    let (bytes, report) = row_that_shows(rt.alloc(), MINTED_TWICE)?;
+    let row = Row::that_shows(MINTED_TWICE)?;
+    let bytes = row.input(rt.alloc())?;
+    let report = row.report(rt.alloc())?;
     for at in 0..report.len() {
-        let came = came_of(rt.alloc(), &bytes, (MANY, at), None)?;
-        let written = Some(came.written.as_slice());
-        assert_eq!(rt; came.answer, Err(EngineError::Write), "{at}");
-        assert_eq!(rt; came.calls, 1, "{at}");
-        assert_eq!(rt; written, report.as_bytes().get(..at), "{at}");
+        takes_nothing(&rt, rt.alloc(), &bytes, &report.as_bytes()[..at]);
     }
     Ok(())
 }
@@ -175,20 +212,27 @@ const LENGTHS: [(&str, Result<u64, EngineError>, &str); 5] = [
     ("050001", Err(EngineError::Read), "1 refused 1\n"),
 ];
 
+// An input that ends where the reader fails is answered so.
+fn is_read(
+    rt: &impl Abort,
+    alloc: Global,
+    digits: &str,
+    wanted: (Answer, &[u8]),
+) -> Result<(), Fail> {
+    let bytes = hex::decode(alloc, digits)?;
+    let mut reader = whole(&bytes);
+    reader.until = bytes.len();
+    let mut writer = room(alloc);
+    let answer = alone(alloc, &mut reader, &mut writer);
+    assert_eq!(rt; (answer, writer.taken.as_slice()), wanted, "{digits}");
+    assert_eq!(rt; reader.calls, usize::from(answer.is_err()), "{digits}");
+    Ok(())
+}
+
 #[test]
 fn lengths_are_read_to_their_end_and_no_further(rt: HostRuntime) -> Result<(), Fail> {
     for (digits, wanted, written) in LENGTHS {
-        let bytes = hex::decode(rt.alloc(), digits)?;
-        let mut reader = Pieces {
-            until: bytes.len(),
-            ..whole(bytes.as_slice())
-        };
-        let mut writer = room(rt.alloc());
-        let mut ledger = Ledger::new(rt.alloc());
-        let answer = answered(&mut reader, &mut writer, &mut ledger);
-        assert_eq!(rt; answer, wanted, "{digits}");
-        assert_eq!(rt; writer.taken.as_slice(), written.as_bytes(), "{digits}");
-        assert_eq!(rt; reader.calls, usize::from(wanted.is_err()), "{digits}");
+        is_read(&rt, rt.alloc(), digits, (wanted, written.as_bytes()))?;
     }
     Ok(())
 }

@@ -6,6 +6,7 @@ use std::cell::Cell;
 use std::fs::{Metadata, OpenFile, OpenOptions, Permissions};
 use std::io::{self, ErrorKind, Read, Seek, SeekFrom, Write};
 use std::path::PathBuf;
+use std::process::Abort;
 use std::rt::Files;
 use std::test::Fail;
 
@@ -187,9 +188,34 @@ const OLD: u8 = b'o';
 
 const NEW: u8 = b'n';
 
-/// How a text of one byte is kept on a disk.
-fn kept(alloc: Global, disk: &Disk) -> Result<(), KeepError> {
-    keep(&(Runtime(disk), alloc), LEDGER, &[NEW])
+/// How a text of one byte is kept on a disk with this file, of whose calls one fails: what came of it, what the file then has,
+/// what the new one has, and how many calls there were.
+fn kept(
+    alloc: Global,
+    old: Option<u8>,
+    failing: u32,
+) -> (Result<(), KeepError>, Option<u8>, Option<u8>, u32) {
+    let disk = Disk::with(old, failing);
+    let result = keep(&(Runtime(&disk), alloc), LEDGER, &[NEW]);
+    (result, disk.old.get(), disk.new.get(), disk.calls.get())
+}
+
+// Of so many calls that replace a file this one fails, or none where it is behind them.
+fn stays_whole(rt: &impl Abort, alloc: Global, old: Option<u8>, calls: u32, failing: u32) {
+    let (result, stands, left, called) = kept(alloc, old, failing);
+    let is_new = failing == 1 || failing >= calls;
+    let wanted = if failing == 1 || failing > calls {
+        Ok(())
+    } else {
+        Err(KeepError::Write)
+    };
+    let text = if is_new { Some(NEW) } else { old };
+    assert_eq!(rt;
+        (result, stands, left),
+        (wanted, text, None),
+        "call {failing}"
+    );
+    assert!(rt; called == calls || failing <= calls, "{called} calls");
 }
 
 // The calls of a file that is replaced: what standard output is, the old file and what that is, its link, its name; its
@@ -197,28 +223,9 @@ fn kept(alloc: Global, disk: &Disk) -> Result<(), KeepError> {
 // is no fault, and after the last but one there is the new text.
 #[test]
 fn files_stay_whole_whichever_call_fails(rt: HostRuntime) {
-    for (old, calls) in [(Some(OLD), 13), (None, 10)] {
-        for failing in 1..=calls {
-            let disk = Disk::with(old, failing);
-            let wanted = if failing == 1 {
-                Ok(())
-            } else {
-                Err(KeepError::Write)
-            };
-            assert_eq!(rt; kept(rt.alloc(), &disk), wanted, "call {failing}");
-            let stands = if failing == 1 || failing == calls {
-                Some(NEW)
-            } else {
-                old
-            };
-            assert_eq!(rt; disk.old.get(), stands, "call {failing}");
-            assert_eq!(rt; disk.new.get(), None, "call {failing}");
+    for (old, calls) in [(Some(OLD), 13u32), (None, 10)] {
+        for failing in 1..=calls + 1 {
+            stays_whole(&rt, rt.alloc(), old, calls, failing);
         }
-        let disk = Disk::with(old, calls + 1);
-        assert_eq!(rt; kept(rt.alloc(), &disk), Ok(()));
-        assert_eq!(rt;
-            (disk.calls.get(), disk.old.get(), disk.new.get()),
-            (calls, Some(NEW), None)
-        );
     }
 }

@@ -6,22 +6,27 @@ use crate::keeping::KeepError;
 use crate::status::{End, end_of, end_of_check, end_of_keeping, end_of_proof, fault_text, status};
 use mv_analyser::ProveError;
 use mv_move_types::Refusal;
+use std::alloc::Global;
+use std::process::Abort;
 use std::test::Fail;
 
-#[test]
-fn files_are_applied(rt: HostRuntime) -> Result<(), Fail> {
-    let words = ["moveledger", "apply", "first-coin.stream"];
-    let task = command(rt.alloc(), &words)?;
-    let (file, load, save) = ("first-coin.stream", None, None);
-    assert_eq!(rt; task, Task::Apply { file, load, save });
+// The words of a command line ask for this.
+fn asks(rt: &impl Abort, alloc: Global, words: &[&str], wanted: Task<'_>) -> Result<(), Fail> {
+    let task = command(alloc, words)?;
+    assert_eq!(rt; task, wanted);
     Ok(())
 }
 
 #[test]
+fn files_are_applied(rt: HostRuntime) -> Result<(), Fail> {
+    let (file, load, save) = ("first-coin.stream", None, None);
+    let words = ["moveledger", "apply", "first-coin.stream"];
+    asks(&rt, rt.alloc(), &words, Task::Apply { file, load, save })
+}
+
+#[test]
 fn ledgers_are_loaded_and_saved(rt: HostRuntime) -> Result<(), Fail> {
-    let alloc = rt.alloc();
     let (file, load, save) = ("-", Some("old.ledger"), Some("new.ledger"));
-    let wanted = Task::Apply { file, load, save };
     let words = [
         "moveledger",
         "apply",
@@ -30,7 +35,7 @@ fn ledgers_are_loaded_and_saved(rt: HostRuntime) -> Result<(), Fail> {
         "--save=new.ledger",
         "-",
     ];
-    assert_eq!(rt; command(alloc, &words)?, wanted);
+    asks(&rt, rt.alloc(), &words, Task::Apply { file, load, save })?;
     let words = [
         "moveledger",
         "apply",
@@ -39,27 +44,30 @@ fn ledgers_are_loaded_and_saved(rt: HostRuntime) -> Result<(), Fail> {
         "new.ledger",
         "--load=old.ledger",
     ];
-    assert_eq!(rt; command(alloc, &words)?, wanted);
-    let words = ["moveledger", "apply", "--save", "new.ledger", "-"];
+    asks(&rt, rt.alloc(), &words, Task::Apply { file, load, save })?;
     let load = None;
-    assert_eq!(rt; command(alloc, &words)?, Task::Apply { file, load, save });
+    let words = ["moveledger", "apply", "--save", "new.ledger", "-"];
+    asks(&rt, rt.alloc(), &words, Task::Apply { file, load, save })?;
     let words = ["moveledger", "migrate", "old.ledger", "new.ledger"];
-    assert_eq!(rt;
-        command(alloc, &words)?,
-        Task::Migrate("old.ledger", "new.ledger")
-    );
-    Ok(())
+    asks(
+        &rt,
+        rt.alloc(),
+        &words,
+        Task::Migrate("old.ledger", "new.ledger"),
+    )
 }
 
 #[test]
 fn modules_are_proved_and_checked(rt: HostRuntime) -> Result<(), Fail> {
     let words = ["moveledger", "prove", "coin.module"];
-    let task = command(rt.alloc(), &words)?;
-    assert_eq!(rt; task, Task::Prove("coin.module"));
+    asks(&rt, rt.alloc(), &words, Task::Prove("coin.module"))?;
     let words = ["moveledger", "check", "coin.module", "coin.certificate"];
-    let task = command(rt.alloc(), &words)?;
-    assert_eq!(rt; task, Task::Check("coin.module", "coin.certificate"));
-    Ok(())
+    asks(
+        &rt,
+        rt.alloc(),
+        &words,
+        Task::Check("coin.module", "coin.certificate"),
+    )
 }
 
 #[test]
@@ -74,8 +82,7 @@ fn ends_have_their_line_and_status(rt: HostRuntime) {
         (End::LoadRefused(5), None, 3),
         (End::TooComplex, None, 3),
     ] {
-        assert_eq!(rt; fault_text(&end), line);
-        assert_eq!(rt; status(&end), wanted);
+        assert_eq!(rt; (fault_text(&end), status(&end)), (line, wanted));
     }
 }
 
@@ -112,7 +119,7 @@ fn lost_reports_are_failed_writes(rt: HostRuntime) {
         (Err(EngineError::Write), End::Write),
         (Err(EngineError::Memory), End::Memory),
     ] {
-        assert_eq!(rt; end_of(answered, true), wanted);
-        assert_eq!(rt; end_of(answered, false), End::Write);
+        let ends = (end_of(answered, true), end_of(answered, false));
+        assert_eq!(rt; ends, (wanted, End::Write));
     }
 }

@@ -4,44 +4,46 @@ use hex::FromHexError;
 use std::alloc::{AllocError, Global};
 use std::test::Fail;
 
-/// An input, what it shows, and the report on it.
+/// What a row shows, what it gives, and what is wanted of that: of an input its records, and the report on them.
 #[derive(Clone, Copy)]
 pub struct Row {
     pub shows: &'static str,
-    records: &'static str,
-    report: &'static str,
+    pub given: &'static str,
+    pub wanted: &'static str,
 }
 
 impl Row {
-    /// The row that shows this.
-    pub fn that_shows(shows: &str) -> Option<Row> {
-        for text in ROWS.split('#').skip(1) {
-            let row = Row::of(text)?;
-            if row.shows == shows {
-                return Some(row);
+    /// The input that shows this.
+    pub fn that_shows(shows: &str) -> Result<Row, Fail> {
+        for text in ROWS.split('#') {
+            if let Some(row) = Row::of(text) {
+                if row.shows == shows {
+                    return Ok(row);
+                }
             }
         }
-        None
+        Err(Fail::from("no row shows this"))
     }
 
+    /// The first three lines of a text.
     fn of(text: &'static str) -> Option<Row> {
-        let (shows, records, report) = three_lines(text)?;
+        let mut lines = text.lines();
         Some(Row {
-            shows,
-            records,
-            report,
+            shows: lines.next()?.trim_start(),
+            given: lines.next()?,
+            wanted: lines.next()?,
         })
     }
 
     /// How many records it has.
     pub fn count(&self) -> usize {
-        self.records.split_whitespace().count()
+        self.given.split_whitespace().count()
     }
 
     /// The bytes of so many records, or of all where there are fewer.
     pub fn first(&self, alloc: Global, count: usize) -> Result<Vec<u8>, FromHexError> {
         let mut bytes = Vec::new(alloc);
-        for record in self.records.split_whitespace().take(count) {
+        for record in self.given.split_whitespace().take(count) {
             bytes.extend_from_slice(&hex::decode(alloc, record)?)?;
         }
         Ok(bytes)
@@ -54,32 +56,26 @@ impl Row {
 
     /// The report, a line for each of its parts.
     pub fn report(&self, alloc: Global) -> Result<String, AllocError> {
-        let mut lines = self.report.replace(alloc, "; ", "\n")?;
-        if !self.report.is_empty() {
+        let mut lines = self.wanted.replace(alloc, "; ", "\n")?;
+        if !self.wanted.is_empty() {
             lines.push('\n')?;
         }
         Ok(lines)
     }
 }
 
-/// All rows.
-pub fn rows(alloc: Global) -> Result<Vec<Row>, Fail> {
+/// The rows of a text, in which each begins with #.
+pub fn rows_of(alloc: Global, text: &'static str) -> Result<Vec<Row>, Fail> {
     let mut rows = Vec::new(alloc);
-    for text in ROWS.split('#').skip(1) {
-        rows.push(Row::of(text).ok_or("a row has fewer lines")?)?;
+    for row in text.split('#').skip(1) {
+        rows.push(Row::of(row).ok_or("a row has fewer lines")?)?;
     }
     Ok(rows)
 }
 
-/// The first three lines of a row's text.
-pub fn three_lines(text: &'static str) -> Option<(&'static str, &'static str, &'static str)> {
-    let mut lines = text.lines();
-    Some((lines.next()?.trim_start(), lines.next()?, lines.next()?))
-}
-
 // A row begins with # and says what it shows. Then come its records in hexadecimal, with a blank between them, and the lines of
 // the report on them. What stands behind is no part of it. tools/movedis tells in words what the records are.
-const ROWS: &str = r#"
+pub const ROWS: &str = r#"
 A coin that is minted, counted, shown and burnt.
 
 # a coin is minted: mint(s: signer, v: u64) stores it

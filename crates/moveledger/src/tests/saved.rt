@@ -1,11 +1,13 @@
 // Saved ledgers: which are loaded, what is said of the others, and what they answer.
 
 use super::fakes::Room;
-use super::rows::three_lines;
-use super::{report, room, whole};
+use super::rows::{Row, rows_of};
+use super::{Answer, answered, room, whole};
+use crate::engine::EngineError;
 use crate::saved::{loaded, migrated};
 use crate::status::End;
 use std::alloc::Global;
+use std::process::Abort;
 use std::test::Fail;
 
 /// What was printed.
@@ -23,13 +25,24 @@ fn said(alloc: Global, text: &[u8]) -> Result<String, Fail> {
     }
 }
 
+// What is said of a text is this.
+fn says(
+    rt: &impl Abort,
+    alloc: Global,
+    text: &[u8],
+    wanted: &str,
+    shows: &str,
+) -> Result<(), Fail> {
+    let found = said(alloc, text)?;
+    assert_eq!(rt; found.as_str().trim_end(), wanted, "{shows}");
+    Ok(())
+}
+
 #[test]
 fn saved_ledgers_are_migrated_or_refused(rt: HostRuntime) -> Result<(), Fail> {
-    let alloc = rt.alloc();
-    for row in MIGRATED.split('#').skip(1) {
-        let (shows, digits, wanted) = three_lines(row).ok_or("a row has fewer lines")?;
-        let found = said(alloc, &hex::decode(alloc, digits)?)?;
-        assert_eq!(rt; found.as_str().trim_end(), wanted, "{shows}");
+    for row in &rows_of(rt.alloc(), MIGRATED)? {
+        let text = hex::decode(rt.alloc(), row.given)?;
+        says(&rt, rt.alloc(), &text, row.wanted, row.shows)?;
     }
     Ok(())
 }
@@ -37,16 +50,14 @@ fn saved_ledgers_are_migrated_or_refused(rt: HostRuntime) -> Result<(), Fail> {
 // What comes of each prefix of a ledger in the old form: the head and the module have 111 bytes.
 #[test]
 fn prefixes_of_ledgers_are_refused(rt: HostRuntime) -> Result<(), Fail> {
-    let alloc = rt.alloc();
-    let whole = hex::decode(alloc, OLD_FORM)?;
+    let whole = hex::decode(rt.alloc(), OLD_FORM)?;
     for length in 0..whole.len() {
         let wanted = if length <= 110 {
-            "load refused 1\n"
+            "load refused 1"
         } else {
-            "load refused 4\n"
+            "load refused 4"
         };
-        let found = said(alloc, &whole[..length])?;
-        assert_eq!(rt; found.as_str(), wanted, "{length} bytes");
+        says(&rt, rt.alloc(), &whole[..length], wanted, "a prefix")?;
     }
     Ok(())
 }
@@ -86,37 +97,45 @@ fn text_of_chain(alloc: Global, others: &[(u8, u8, Option<u8>)]) -> Result<Vec<u
 // Modules are linked in groups: none of that is seen.
 #[test]
 fn ledgers_of_many_modules_are_loaded_or_refused(rt: HostRuntime) -> Result<(), Fail> {
-    let alloc = rt.alloc();
     for row in &CHAINS {
-        let text = text_of_chain(alloc, row.others)?;
-        let loaded = hex::encode(alloc, &text)?;
-        let wanted = row.refused.unwrap_or(loaded.as_str());
-        let found = said(alloc, &text)?;
-        assert_eq!(rt; found.as_str().trim_end(), wanted, "{}", row.shows);
+        let text = text_of_chain(rt.alloc(), row.others)?;
+        let loaded = hex::encode(rt.alloc(), &text)?;
+        says(
+            &rt,
+            rt.alloc(),
+            &text,
+            row.refused.unwrap_or(loaded.as_str()),
+            row.shows,
+        )?;
     }
+    Ok(())
+}
+
+// What a ledger of this text answers to records.
+fn answers(alloc: Global, text: &[u8], records: &[u8], writer: &mut Room) -> Answer {
+    match loaded(alloc, whole(text), 0, writer) {
+        Ok(mut ledger) => answered(&mut whole(records), writer, &mut ledger),
+        Err(_) => Err(EngineError::Read),
+    }
+}
+
+// A ledger that is loaded answers as a row wants, and nothing else is written.
+fn goes_on(rt: &impl Abort, alloc: Global, row: &Row) -> Result<(), Fail> {
+    let (text, records) = row.given.split_once(' ').ok_or("a row has no records")?;
+    let text = hex::decode(alloc, text)?;
+    let records = hex::decode(alloc, records)?;
+    let wanted = row.report(alloc)?;
+    let mut writer = room(alloc);
+    let answer = answers(alloc, &text, &records, &mut writer);
+    let found = (answer.is_ok(), writer.taken.as_slice());
+    assert_eq!(rt; found, (true, wanted.as_bytes()), "{}", row.shows);
     Ok(())
 }
 
 #[test]
 fn loaded_ledgers_go_on(rt: HostRuntime) -> Result<(), Fail> {
-    let alloc = rt.alloc();
-    for row in LOADED.split('#').skip(1) {
-        let (shows, texts, wanted) = three_lines(row).ok_or("a row has fewer lines")?;
-        let (text, records) = texts.split_once(' ').ok_or("a row has no records")?;
-        let text = hex::decode(alloc, text)?;
-        let mut writer = room(alloc);
-        let Ok(mut ledger) = loaded(alloc, whole(&text), 0, &mut writer) else {
-            return Err(Fail::from("a ledger isn't loaded"));
-        };
-        assert_eq!(rt; writer.taken.len(), 0);
-        let records = hex::decode(alloc, records)?;
-        let (_, lines) = report(alloc, Some(&records), &mut ledger)?;
-        let mut wanted_lines = String::new(alloc);
-        for line in wanted.split("; ") {
-            wanted_lines.push_str(line)?;
-            wanted_lines.push_str("\n")?;
-        }
-        assert_eq!(rt; lines.as_slice(), wanted_lines.as_bytes(), "{shows}");
+    for row in &rows_of(rt.alloc(), LOADED)? {
+        goes_on(&rt, rt.alloc(), row)?;
     }
     Ok(())
 }
