@@ -90,12 +90,16 @@ def tell_upgrades(program):
     """Upgrades of one module among few and many, and among small and large ones."""
     upgrade = program.published(upgraded())
     others = [record(1, publish((small(f"S{n}"), program.certificate(small("S0"))))) for n in range(MANY)]
-    times = {}
+    times, counts = {}, {}
     for count in FEW, MANY:
         before = others[:count] + [upgrade]
         times[count] = program.spent(before + [upgrade] * UPGRADES) - program.spent(before)
-        print(f"costs: an upgrade of a module that nothing names among {count} others: {times[count] / UPGRADES * 1e6:.0f} us", flush=True)
-    print(f"costs: among {MANY} it takes {times[MANY] / times[FEW]:.2f} times as long as among {FEW} (aim: 1.1 or less)", flush=True)
+        first, last = program.instructions(before), program.instructions(before + [upgrade] * 10)
+        counts[count] = (last - first) / 10 if first is not None else None
+        counted = f", {counts[count]:.0f} machine instructions" if first is not None else ""
+        print(f"costs: an upgrade of a module that nothing names among {count} others: {times[count] / UPGRADES * 1e6:.0f} us{counted}", flush=True)
+    told = f", and {counts[MANY] / counts[FEW]:.2f} times the machine instructions" if counts[FEW] else ""
+    print(f"costs: among {MANY} it takes {times[MANY] / times[FEW]:.2f} times as long as among {FEW}{told} (aim: 1.1 or less)", flush=True)
     large = inputs.all_families(inputs.LARGE, 5)
     helping = program.published(inputs.helping().bytes())
     certificate = program.certificate(large.bytes())
