@@ -8,7 +8,7 @@ ghost use Rattle.mv_ledger.specs.SavedText.{IsSavedText, Second};
 ghost use Rattle.mv_ledger.specs.View.{all_of, state_of, view_of, IsLedger};
 
 mod body;
-mod counts;
+pub(crate) mod counts;
 mod groups;
 pub(crate) mod head;
 mod modules;

@@ -16,6 +16,7 @@ ghost use Rattle.mv_ledger.specs.Saving.{counts_text, section_at, sections_of, s
 ghost use Rattle.mv_ledger.specs.View.{all_of, IsSmall};
 
 use crate::layouts::Layouts;
+use crate::loading::counts::{Counts, stored_counts};
 use crate::tallies::{Tallies, Tally};
 use mv_linker::Store;
 use mv_module_text::write_address;
@@ -36,7 +37,7 @@ const COUNT_BYTES: usize = 10;
 /// are found with the first one, and the text of each after the other.
 #[derive(Drop)]
 struct Section {
-    expected: usize,
+    expected: u128,
     count: u64,
     kinds: Vec<LeafKind>,
     text: Vec<u8>,
@@ -140,8 +141,12 @@ fn prepare(
         return Ok(());
     }
     section.kinds = kinds_at(alloc, layouts, d)?;
-    let room = section.expected.saturating_mul(value_size(&section.kinds));
-    section.text.reserve_exact(room)
+    let room = section
+        .expected
+        .saturating_mul(value_size(&section.kinds) as u128);
+    section
+        .text
+        .reserve_exact(usize::try_from(room).unwrap_or(usize::MAX))
 }
 
 /// Adds a value to a section that is ready for it.
@@ -182,38 +187,12 @@ fn add_to(
     add(section, key.address, words)
 }
 
-/// How many values are stored of each struct, by its module's place and its definition's index. It is for room alone.
-fn counts_of(
-    alloc: Global,
-    layouts: &Layouts<'_>,
-    storage: &Storage,
-) -> Result<Vec<Vec<usize>>, AllocError> {
-    let mut rows = Vec::with_capacity(alloc, layouts.len())?;
-    for place in 0..layouts.len() {
-        rows.push(vec![in alloc; 0; layouts.structs(place)]?)?;
-    }
-    let mut entries = storage.iter();
-    'each: while let Some((key, _)) = entries.next() {
-        if let Some(row) = rows.get_mut(usize::from(key.place)) {
-            count_one(row, usize::from(key.index));
-        }
-    }
-    Ok(rows)
-}
-
-/// Counts one more at an index.
-fn count_one(row: &mut [usize], index: usize) {
-    if let Some(count) = row.get_mut(index) {
-        *count = count.saturating_add(1);
-    }
-}
-
 /// Empty sections for the structs of the module at a place.
 fn empty_row(
     alloc: Global,
     layouts: &Layouts<'_>,
     place: usize,
-    counts: &[usize],
+    counts: &[u128],
 ) -> Result<Vec<Section>, AllocError>
     ensures structs { IfOk result (λ v. length v.items ≡ structs_at layouts.now place) }
     ensures empty { IfOk result (λ v. All IsEmpty v.items) }
@@ -231,21 +210,17 @@ fn empty_row(
     Ok(row)
 }
 
-/// Empty sections for the structs of each module.
+/// Empty sections for the structs of each module, of which so many values are stored.
 fn empty_rows(
     alloc: Global,
     layouts: &Layouts<'_>,
-    counts: &[Vec<usize>],
+    counts: &Counts,
 ) -> Result<Vec<Vec<Section>>, AllocError>
     ensures { IfOk result (λ v. AreSections layouts.now [] (sections_of v.items)) }
 {
     let mut rows = Vec::with_capacity(alloc, layouts.len())?;
     'each: for place in 0..layouts.len() {
-        let known: &[usize] = match counts.get(place) {
-            Some(row) => row,
-            None => &[],
-        };
-        rows.push(empty_row(alloc, layouts, place, known)?)?;
+        rows.push(empty_row(alloc, layouts, place, counts.of_module(place))?)?;
     }
     Ok(rows)
 }
@@ -261,7 +236,7 @@ fn sections_in(
 {
     // For the prover: the modules are a store's, so each stored value has the leaves that its struct says.
     let _modules = layouts.len();
-    let counts = counts_of(alloc, layouts, storage)?;
+    let counts = stored_counts(alloc, layouts, storage)?;
     let mut rows = empty_rows(alloc, layouts, &counts)?;
     let mut entries = storage.iter();
     'each: while let Some((key, words)) = entries.next() {

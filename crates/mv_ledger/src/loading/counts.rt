@@ -32,7 +32,7 @@ fn put_count(row: &mut Vec<u128>, index: usize, count: u128)
 /// How many values of each struct there are, by the place of its module and its index. Its model is the counts, module by
 /// module.
 #[derive(Drop)]
-struct Counts {
+pub struct Counts {
     rows: Vec<Vec<u128>>,
 }
 
@@ -64,6 +64,14 @@ impl Counts {
             return 0;
         };
         row.get(usize::from(d.index)).copied().unwrap_or(0)
+    }
+
+    /// Those of the structs of the module at a place, by their index; none, if no module is there.
+    pub fn of_module(&self, place: usize) -> &[u128] {
+        match self.rows.get(place) {
+            Some(row) => row,
+            None => &[],
+        }
     }
 
     /// Counts so many more of it.
@@ -123,7 +131,7 @@ fn add_part(layouts: &Layouts<'_>, depth: usize, part: Part, n: u128, counts: &m
 }
 
 /// How many values are stored under the keys of each struct.
-fn stored_counts(
+pub fn stored_counts(
     alloc: Global,
     layouts: &Layouts<'_>,
     storage: &Storage,

@@ -1,4 +1,4 @@
-use Rattle.std.proofs.Common.{List, ℕ, Err, arith, sym, ap, ◌∙◌}
+use Rattle.std.proofs.Common.{Err, arith, sym, ap, ◌∙◌}
 use Rattle.mv_certificate.proofs.Marks.{all-bytes}
 use Rattle.mv_ledger.specs.declared.loading.LoadError.TheVariants.{Head}
 use Rattle.mv_ledger.specs.LoadedParts.{head_from, head_of, BeginsWith}
