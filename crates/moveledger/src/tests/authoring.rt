@@ -29,6 +29,16 @@ fn printed_again(line: &str) -> Option<&str> {
     }
 }
 
+/// The rows of modules.
+fn modules() -> &'static str {
+    PROVED
+}
+
+/// The rows of modules with texts.
+fn texts() -> &'static str {
+    CHECKED
+}
+
 /// A line is what a row wants.
 fn is_wanted(rt: &impl Abort, line: &str, wanted: &str, shows: &str) {
     assert_eq!(rt; line.strip_suffix('\n'), Some(wanted), "{shows}");
@@ -51,7 +61,7 @@ fn is_checked(
 
 #[test]
 fn certificates_are_printed(rt: HostRuntime) -> Result<(), Fail> {
-    for row in &rows_of(rt.alloc(), PROVED)? {
+    for row in &rows_of(rt.alloc(), modules())? {
         let module = hex::decode(rt.alloc(), row.given)?;
         let line = proved(rt.alloc(), &module)?;
         is_wanted(&rt, line.as_str(), row.wanted, row.shows);
@@ -73,7 +83,7 @@ fn is_answered(rt: &impl Abort, alloc: Global, row: &Row) -> Result<(), Fail> {
 
 #[test]
 fn texts_are_checked(rt: HostRuntime) -> Result<(), Fail> {
-    for row in &rows_of(rt.alloc(), CHECKED)? {
+    for row in &rows_of(rt.alloc(), texts())? {
         is_answered(&rt, rt.alloc(), row)?;
     }
     Ok(())

@@ -2,7 +2,7 @@
 
 use super::fakes::{Pieces, Room};
 use super::rows::Row;
-use super::{Answer, MANY, MINTED_TWICE, alone, in_turn, room, whole};
+use super::{Answer, MANY, MINTED_TWICE, alone, in_turn, room, same, whole};
 use crate::engine::EngineError;
 use std::alloc::Global;
 use std::io::ErrorKind;
@@ -57,13 +57,15 @@ const AUDIT_AND_SHOW: [u8; 4] = [4, 0, 3, 0];
 
 // What a ledger holds once it has answered an input is put into a list.
 fn hold(
+    rt: &impl Abort,
     alloc: Global,
     (reader, writer): (&mut Pieces<'_>, &mut Room),
     held: &mut Vec<u8>,
 ) -> Answer {
     let mut teller = room(alloc);
     let asked = (&mut whole(&AUDIT_AND_SHOW), &mut teller);
-    let (answer, _) = in_turn(alloc, (reader, writer), asked);
+    let (answer, told) = in_turn(alloc, (reader, writer), asked);
+    assert_eq!(rt; told, Ok(2));
     mem::swap(held, &mut teller.taken);
     answer
 }
@@ -84,6 +86,7 @@ struct Fault {
 // after so many: the engine's answer, how many bytes were read, and how often what failed was asked from then on. With no error
 // the writer takes nothing there. What was written and what the ledger holds are put into lists.
 fn come(
+    rt: &impl Abort,
     alloc: Global,
     bytes: &[u8],
     (until, left): (usize, usize),
@@ -100,7 +103,7 @@ fn come(
     writer.room = left;
     writer.each = 5;
     writer.error = error;
-    let answer = hold(alloc, (&mut reader, &mut writer), held);
+    let answer = hold(rt, alloc, (&mut reader, &mut writer), held);
     mem::swap(written, &mut writer.taken);
     let read = bytes.len().saturating_sub(reader.bytes.len());
     (answer, read, reader.calls.saturating_add(writer.calls))
@@ -112,19 +115,16 @@ fn ends_so(
     alloc: Global,
     (fault, kind): (&Fault, ErrorKind),
     bytes: &[u8],
-    wanted: (Option<&[u8]>, &[u8]),
+    wanted: (&[u8], &[u8]),
     shows: &str,
 ) {
     let (mut written, mut held) = (Vec::new(alloc), Vec::new(alloc));
     let faults = (fault.until, fault.left);
     let lists = (&mut written, &mut held);
-    let came = come(alloc, bytes, faults, Some(kind), lists);
+    let came = come(rt, alloc, bytes, faults, Some(kind), lists);
     assert_eq!(rt; came, (Err(fault.error), fault.read, 1), "{shows}");
-    assert_eq!(rt;
-        (Some(written.as_slice()), held.as_slice()),
-        wanted,
-        "{shows}"
-    );
+    same(rt, &written, wanted.0, shows);
+    same(rt, &held, wanted.1, shows);
 }
 
 // A fault ends the engine so, whatever its kind.
@@ -134,8 +134,12 @@ fn ends(rt: &impl Abort, alloc: Global, fault: &Fault, shows: &str) -> Result<()
     let report = row.report(alloc)?;
     let first = row.first(alloc, fault.records)?;
     let (mut writer, mut held) = (room(alloc), Vec::new(alloc));
-    let _ = hold(alloc, (&mut whole(&first), &mut writer), &mut held);
-    let wanted = (report.as_bytes().get(..fault.written), held.as_slice());
+    let answer = hold(rt, alloc, (&mut whole(&first), &mut writer), &mut held);
+    assert_eq!(rt; answer, Ok(fault.records as u64));
+    let Some(lines) = report.as_bytes().get(..fault.written) else {
+        return Err(Fail::from("the report is shorter"));
+    };
+    let wanted = (lines, held.as_slice());
     for kind in KINDS {
         ends_so(rt, alloc, (fault, kind), &bytes, wanted, shows);
     }
@@ -181,9 +185,9 @@ fn failed_writes_end_it(rt: HostRuntime) -> Result<(), Fail> {
 fn takes_nothing(rt: &impl Abort, alloc: Global, bytes: &[u8], taken: &[u8]) {
     let (mut written, mut held) = (Vec::new(alloc), Vec::new(alloc));
     let lists = (&mut written, &mut held);
-    let (answer, _, calls) = come(alloc, bytes, (MANY, taken.len()), None, lists);
-    let wanted = (Err(EngineError::Write), 1, taken);
-    assert_eq!(rt; (answer, calls, written.as_slice()), wanted);
+    let (answer, _, calls) = come(rt, alloc, bytes, (MANY, taken.len()), None, lists);
+    assert_eq!(rt; (answer, calls), (Err(EngineError::Write), 1));
+    same(rt, &written, taken, "a writer that takes nothing");
 }
 
 // A writer that takes nothing once, at each byte of the report.
@@ -224,8 +228,9 @@ fn is_read(
     reader.until = bytes.len();
     let mut writer = room(alloc);
     let answer = alone(alloc, &mut reader, &mut writer);
-    assert_eq!(rt; (answer, writer.taken.as_slice()), wanted, "{digits}");
-    assert_eq!(rt; reader.calls, usize::from(answer.is_err()), "{digits}");
+    let calls = usize::from(answer.is_err());
+    assert_eq!(rt; (answer, reader.calls), (wanted.0, calls), "{digits}");
+    same(rt, &writer.taken, wanted.1, digits);
     Ok(())
 }
 

@@ -15,7 +15,7 @@ pub struct Row {
 impl Row {
     /// The input that shows this.
     pub fn that_shows(shows: &str) -> Result<Row, Fail> {
-        for text in ROWS.split('#') {
+        for text in inputs().split('#') {
             if let Some(row) = Row::of(text) {
                 if row.shows == shows {
                     return Ok(row);
@@ -64,6 +64,11 @@ impl Row {
     }
 }
 
+/// The text of the inputs. Where a function names a long text its proof holds each byte of it, so that no other one does.
+pub fn inputs() -> &'static str {
+    ROWS
+}
+
 /// The rows of a text, in which each begins with #.
 pub fn rows_of(alloc: Global, text: &'static str) -> Result<Vec<Row>, Fail> {
     let mut rows = Vec::new(alloc);
@@ -75,7 +80,7 @@ pub fn rows_of(alloc: Global, text: &'static str) -> Result<Vec<Row>, Fail> {
 
 // A row begins with # and says what it shows. Then come its records in hexadecimal, with a blank between them, and the lines of
 // the report on them. What stands behind is no part of it. tools/movedis tells in words what the records are.
-pub const ROWS: &str = r#"
+const ROWS: &str = r#"
 A coin that is minted, counted, shown and burnt.
 
 # a coin is minted: mint(s: signer, v: u64) stores it
