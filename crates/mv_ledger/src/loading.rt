@@ -109,7 +109,7 @@ fn read_stored(
     Ok(storage)
 }
 
-/// The ledger that bytes are the text of which begin so.
+/// The ledger of a text that begins with this head; the reader has what follows.
 fn load_after(alloc: Global, reader: &mut Reader<'_>, head: &Head<'_>) -> Result<Ledger, LoadError>
     requires { (bytes : List ℕ) × BeginsWith bytes (head_of head.now) reader.old }
     ensures loaded { (bytes : List ℕ) → BeginsWith bytes (head_of head.now) reader.old → IfOk result (λ l. IsLoaded bytes (state_of l)) }

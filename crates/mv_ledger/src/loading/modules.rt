@@ -127,6 +127,7 @@ impl Joined {
             Err(Refusal::Memory) => Err(LoadError::Memory),
         }
     }
+
     /// Joins these offered modules, where none is there. They join in groups that can be linked by themselves. Where there is no
     /// such group, as where a module names one that comes much later, all that are left join together.
     ///
