@@ -56,7 +56,7 @@ index (Own l) = l
 index (Glob t) = t
 index (Temp k) = k
 
-node_numbers : (n : Node) → node_code n ≡ kind n ∷ index n ∷ []
+pub node_numbers : (n : Node) → node_code n ≡ kind n ∷ index n ∷ []
 node_numbers (Slot l) = refl
 node_numbers (Own l) = refl
 node_numbers (Glob t) = refl

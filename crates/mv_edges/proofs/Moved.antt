@@ -1,5 +1,5 @@
 -- Edges into one node ascend by their sources and labels, so that they still ascend where they lead to another one.
-use Rattle.std.proofs.Common.{◌≡◌, ℕ, ◌+◌, ◌<◌, ◌≤◌, ◌⊎◌, inl, inr, max, Bool, true, false, ◌&&◌, ◌||◌, List, [], ◌∷◌, ◌++◌, map, filter, cond, drop, bytes_eq, refl, sym, ap, ◌∙◌, subst, arith, true≢false}
+use Rattle.std.proofs.Common.{◌≡◌, ℕ, ◌+◌, ◌<◌, ◌≤◌, ◌⊎◌, inl, inr, max, Bool, true, false, ◌&&◌, List, [], ◌∷◌, ◌++◌, map, filter, cond, drop, bytes_eq, refl, sym, ap, ◌∙◌, subst, arith, true≢false}
 use Rattle.std.proofs.Math.Nat.{eq-or-lt_of_le}
 use Rattle.std.proofs.lemmas.Bool.{and_parts, and_from, or_cases, or_left, or_right}
 use Rattle.std.specs.Cmp.Lexicographic.{bytes_decides}
@@ -9,29 +9,11 @@ use Rattle.std.specs.List.{list_all}
 use Rattle.mv_edges.specs.Edges.{Label, Edge, same_node, into, inherited, an_edge, changed}
 use Rattle.mv_edges.specs.declared.label.Change.TheVariants.{Kept}
 use Rattle.mv_edges.specs.Equality.{same_node_decides}
-use Rattle.mv_edges.specs.Ascending.{list_before, node_code, height, nodes_code, label_before, edge_before, are_ascending}
+use Rattle.mv_edges.specs.Ascending.{list_before, node_code, height, label_before, edge_before, are_ascending}
 use Rattle.mv_edges.proofs.EdgeOrder.{same_start}
 use Rattle.mv_edges.proofs.Sorting.{ascending-filter}
+use Rattle.mv_edges.proofs.Leaps.{kind, index, node_numbers}
 use Rattle.mv_edges.proofs.Lexicographic.{irreflexive, before_cases, before_first, before_later}
-
--- a node's kind and index
-abbrev kind : Node → ℕ
-kind (Slot l) = 0
-kind (Own l) = 1
-kind (Glob t) = 2
-kind (Temp k) = 3
-
-abbrev index : Node → ℕ
-index (Slot l) = l
-index (Own l) = l
-index (Glob t) = t
-index (Temp k) = k
-
-code_is : (n : Node) → node_code n ≡ kind n ∷ index n ∷ []
-code_is (Slot l) = refl
-code_is (Own l) = refl
-code_is (Glob t) = refl
-code_is (Temp k) = refl
 
 -- an operand stands behind its index, and any other node, of a lower kind, at 0
 abbrev Stands : ℕ → ℕ → ℕ → Type 0
@@ -88,7 +70,7 @@ abbrev numbers : Node → Node → List ℕ
 numbers f t = max (height f) (height t) ∷ node_code f ++ node_code t
 
 numbers_are : (f t : Node) → numbers f t ≡ max (height f) (height t) ∷ kind f ∷ index f ∷ node_code t
-numbers_are f t = ap (λ c. max (height f) (height t) ∷ c ++ node_code t) (code_is f)
+numbers_are f t = ap (λ c. max (height f) (height t) ∷ c ++ node_code t) (node_numbers f)
 
 numbers_stay : (f g t u : Node) → list_before (numbers f t) (numbers g t) ≡ true → list_before (numbers f u) (numbers g u) ≡ true
 numbers_stay f g t u h =
