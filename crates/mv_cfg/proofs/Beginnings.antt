@@ -8,7 +8,7 @@ use Rattle.std.proofs.lemmas.Bool.{cases_eq, cases_lt}
 use Rattle.std.proofs.lemmas.List.Elements.{Contains-append_right}
 use Rattle.mv_move_types.specs.declared.instruction.Instruction.{Instruction}
 use Rattle.mv_move_types.specs.Flow.{ends_block}
-use Rattle.mv_cfg.specs.Blocks.{BasicBlock, blocks_at, block_between, starts_from, is_target}
+use Rattle.mv_cfg.specs.Blocks.{blocks_at, block_between, starts_from, is_target}
 
 -- numbers that go up, from one bound to below another
 abbrev pub IsAscending : ℕ → ℕ → List ℕ → Type 0

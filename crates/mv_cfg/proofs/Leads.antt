@@ -1,5 +1,5 @@
 -- Where blocks lead: to blocks.
-use Rattle.std.proofs.Common.{◌≡◌, ℕ, ◌+◌, ◌-◌, ◌<◌, ◌≤◌, Bool, true, false, not, nat_eq, List, [], ◌∷◌, length, get_or, slice_get, Some, All, Contains, IsTrue, refl, sym, ap, ◌∙◌, subst, arith, suc, ⊎_elim, eq-eqb}
+use Rattle.std.proofs.Common.{◌≡◌, ℕ, ◌+◌, ◌-◌, ◌<◌, ◌≤◌, Bool, true, not, nat_eq, List, [], ◌∷◌, length, get_or, slice_get, Some, All, Contains, IsTrue, refl, sym, ap, ◌∙◌, subst, arith, suc, ⊎_elim, eq-eqb}
 use Rattle.std.specs.List.{list_any}
 use Rattle.std.specs.Option.{option_map_or}
 use Rattle.std.proofs.lemmas.Bool.{cases_lt, false≢true}

@@ -1,20 +1,16 @@
 -- The tables by which blocks are found: branch targets, and the places of blocks.
-use Rattle.std.proofs.Common.{◌≡◌, ℕ, ◌+◌, ◌-◌, ◌<◌, ◌≤◌, Bool, true, false, cond, ◌||◌, nat_eq, List, [], ◌∷◌, ◌++◌, length, map, get_or, set, take, drop, slice_get, Some, All, Contains, refl, sym, ap, ◌∙◌, subst, arith, zero, suc, inl, inr, ⊎_elim, ◌⊎◌, ◌≢◌, eq-eqb, add-one}
-use Rattle.std.specs.List.{list_any}
-use Rattle.std.proofs.lemmas.Bool.{cases_eq, ne_eqb}
-use Rattle.std.proofs.lemmas.List.{get_or-set_same, get_or-set_other, get_or_default, length-set}
-use Rattle.std.proofs.lemmas.List.Folds.{list_any_more}
+use Rattle.std.proofs.Common.{◌≡◌, ℕ, ◌<◌, ◌≤◌, Bool, false, List, [], ◌∷◌, ◌++◌, length, get_or, take, slice_get, Some, All, Contains, refl, sym, ap, ◌∙◌, subst, arith, zero, suc, inl, inr, ⊎_elim, ◌⊎◌}
+use Rattle.std.proofs.lemmas.List.{get_or_default}
 use Rattle.mv_move_types.specs.declared.instruction.Instruction.{Instruction}
 use Rattle.mv_move_types.specs.declared.instruction.Instruction.TheVariants.{Pop}
 use Rattle.mv_move_types.specs.declared.instruction.Exit.{Exit}
-use Rattle.mv_move_types.specs.declared.instruction.Exit.TheVariants.{Next, Fork, Jump, Leave}
+use Rattle.mv_move_types.specs.declared.instruction.Exit.TheVariants.{Fork, Jump}
 use Rattle.mv_move_types.specs.Instructions.{exit_of}
-use Rattle.mv_move_types.specs.Flow.{targets, exit_targets}
+use Rattle.mv_move_types.specs.Flow.{exit_targets}
 use Rattle.mv_cfg.specs.declared.Block.{Block}
-use Rattle.mv_cfg.specs.Blocks.{is_target, leads_to}
-use Rattle.std.proofs.lemmas.Option.{same_Some}
+use Rattle.mv_cfg.specs.Blocks.{is_target}
 use Rattle.std.proofs.lemmas.List.Elements.{All-head}
-use Rattle.mv_cfg.specs.Steps.{IsTargetMarks, IsPlaced, IsPart, IsBlockMarkedAs, BranchesInside}
+use Rattle.mv_cfg.specs.Steps.{IsPlaced, IsPart, IsBlockMarkedAs, BranchesInside}
 
 -- the marks of the branches of the instructions up to a place
 pub record IsMarkedUpTo (code : List Instruction) (k : ℕ) (marks : List Bool) : Type 0 where

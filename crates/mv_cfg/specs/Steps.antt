@@ -5,7 +5,7 @@
 --   IsPlaced            where among the blocks the one stands that begins at an instruction
 --   IsSplit             the blocks, as yet without marks
 --   IsMarkedAs          blocks that differ from others by their marks alone
-use Rattle.std.specs.Prelude.{◌≡◌, ◌↔◌, ℕ, ◌+◌, ◌-◌, ◌<◌, Bool, true, false, List, length, map, slice_get, slice_index, slice_index_or, Some, All, Option}
+use Rattle.std.specs.Prelude.{◌≡◌, ◌↔◌, ℕ, ◌+◌, ◌-◌, ◌<◌, Bool, true, false, List, length, map, slice_get, slice_index, slice_index_or, Some, All}
 use Rattle.mv_move_types.specs.declared.instruction.Instruction.{Instruction}
 use Rattle.mv_move_types.specs.Flow.{targets}
 use Rattle.mv_cfg.specs.declared.Block.{Block}

@@ -1,5 +1,5 @@
 -- How the code's search follows the one of blocks, states and marks.
-use Rattle.std.proofs.Common.{◌≡◌, ℕ, suc, ◌+◌, ◌-◌, ◌<◌, Bool, true, false, List, [], ◌∷◌, ◌++◌, length, set, replicate, Option, Some, None, Contains, ◌⊎◌, ⊎_elim, inl, inr, refl, sym, ap, ◌∙◌, subst, arith, slice_get}
+use Rattle.std.proofs.Common.{◌≡◌, ℕ, ◌+◌, ◌-◌, ◌<◌, Bool, true, false, List, [], ◌∷◌, ◌++◌, length, set, replicate, Option, Some, None, Contains, ◌⊎◌, ⊎_elim, inl, inr, refl, sym, ap, ◌∙◌, subst, arith, slice_get}
 use Rattle.std.proofs.lemmas.Bool.{cases_eq}
 use Rattle.std.proofs.lemmas.List.Elements.{Contains-push, Contains-push_cases, Contains-append_left}
 use Rattle.std.proofs.lemmas.Option.{slice_get_within}
@@ -9,7 +9,7 @@ use Rattle.mv_cfg.specs.declared.Block.{Block}
 use Rattle.mv_cfg.specs.declared.Cfg.{Cfg}
 use Rattle.mv_cfg.specs.Graph.{IsBlock, HasEdge}
 use Rattle.mv_lattice.specs.Flow.{IsAt, IsStated, through}
-use Rattle.mv_lattice.specs.Search.{Search, IsNext, resting, IsSameAt, Raises, nothing, lower, FlowsInto, stays, rises, FlowsIntoEach, ExceedsAt, Makes, IsVisit, Exceeds, Reaches, begins, goes_on, IsTurn, EndsWith, MeetsLimit, large_start, too_often, too_large, MeetsNeed, need}
+use Rattle.mv_lattice.specs.Search.{Search, IsSameAt, Raises, nothing, lower, FlowsInto, stays, rises, FlowsIntoEach, ExceedsAt, Makes, IsVisit, Exceeds, Reaches, begins, goes_on, IsTurn, EndsWith, MeetsLimit, too_often, too_large, MeetsNeed, need}
 use Rattle.mv_lattice.specs.Work.{standing, IsSearch}
 use Rattle.mv_lattice.proofs.Rises.{set_same, set_other}
 use Rattle.mv_lattice.proofs.Visits.{replicate_at}
