@@ -16,10 +16,11 @@ use Rattle.mv_lattice.specs.Flow.{IsRisen}
 use Rattle.mv_lattice.specs.Work.{HasLarge, HasChain}
 use Rattle.mv_locals_safety.specs.LocalsRules.{locals_leq}
 use Rattle.mv_locals_safety.specs.Domain.{IsOfLocals}
+use Rattle.mv_locals_safety.specs.Laws.{leq_reflexive}
 use Rattle.mv_borrow_graph.specs.BorrowRules.{is_reference_token}
 use Rattle.mv_borrow_graph.specs.Domain.{point_at}
 use Rattle.mv_borrow_graph.specs.Nodes.{leads_in, edge_is_there, may_begin_with, are_few}
-use Rattle.mv_borrow_graph.specs.There.{there_parts}
+use Rattle.mv_borrow_graph.specs.Laws.There.{there_parts}
 use Rattle.mv_analyser.specs.Principal.{HasPlainLocals}
 
 -- how many are unknown
@@ -34,12 +35,6 @@ maybes_few [] = omega arith
 maybes_few (Unavailable ∷ a) = omega (arith, maybes_few a)
 maybes_few (Available ∷ a) = omega (arith, maybes_few a)
 maybes_few (Maybe ∷ a) = omega (arith, maybes_few a)
-
-leq_itself : (a : List Availability) → locals_leq a a ≡ true
-leq_itself [] = refl
-leq_itself (Unavailable ∷ a) = leq_itself a
-leq_itself (Available ∷ a) = leq_itself a
-leq_itself (Maybe ∷ a) = leq_itself a
 
 -- what is above another has more unknown, or is the other
 grows : (a b : List Availability) → locals_leq a b ≡ true → (maybes a < maybes b) ⊎ (a ≡ b)
@@ -70,7 +65,7 @@ module _ (P : List Availability → Type 0) where
   risen_few zero s r = omega arith
   risen_few (suc n) s r =
       let low = risen_few n r.1.0 r.1.1.0 in
-      ⊎_elim (λ h. omega (arith, h, low)) (λ e. absurd (r.1.1.2 (subst (λ x. Leq x r.1.0) e (leq_itself r.1.0)))) (grows r.1.0 s r.1.1.1)
+      ⊎_elim (λ h. omega (arith, h, low)) (λ e. absurd (r.1.1.2 (subst (λ x. Leq x r.1.0) e (leq_reflexive r.1.0)))) (grows r.1.0 s r.1.1.1)
 
 -- availabilities of so few locals do not rise so often
 pub few_rises : (m : Module) (d : FunctionDefinition) → local_count m d ≤ 64 → HasChain (IsOfLocals m d) (λ s. ⊤) (λ a b. IsTrue (locals_leq a b)) → ⊥

@@ -22,7 +22,7 @@ use Rattle.mv_edges.specs.Ascending.{are_ascending}
 use Rattle.mv_borrow_graph.specs.BorrowRules.{is_reference_token}
 use Rattle.mv_borrow_graph.specs.Domain.{edges_step, point_at}
 use Rattle.mv_borrow_graph.specs.Nodes.{leads_out, leads_in, edge_is_there, may_begin_with, are_few, IsGraphOf}
-use Rattle.mv_borrow_graph.specs.There.{there_parts}
+use Rattle.mv_borrow_graph.specs.Laws.There.{there_parts}
 use Rattle.mv_certificate.specs.Certificate.{Known, Stated, flow_holds, known_at_start}
 use Rattle.mv_certificate.specs.Functions.{LocalsHoldAt, EdgesHoldAt}
 use Rattle.mv_certificate.specs.Reads.{FitsAt}
@@ -87,7 +87,8 @@ with_more (s ∷ ss) (x ∷ es) (suc i) k e h g =
     ap (λ n. with_edges (take n (s ∷ ss)) (take n (x ∷ es))) next ∙ ap (λ r. known_with s x ∷ r) (with_more ss es i k e (omega arith) (omega arith))
 
 -- the same of what was read of both lists
-pub with_next : (blocks new view ss : Stated) (es : List (Option (List Edge))) (i : ℕ) (k x : Option Known) (e : Option (List Edge)) → new ≡ blocks ++ x ∷ [] → x ≡ known_with k e → view ≡ ss → i < length view → k ≡ get_or view i k → i < length es → e ≡ get_or es i e
+pub with_next : (blocks new view ss : Stated) (es : List (Option (List Edge))) (i : ℕ) (k x : Option Known) (e : Option (List Edge)) → new ≡ blocks ++ x ∷ [] → x ≡ known_with k e → view ≡ ss
+    → i < length view → k ≡ get_or view i k → i < length es → e ≡ get_or es i e
     → blocks ≡ with_edges (take i ss) (take i es) → new ≡ with_edges (take (i + 1) ss) (take (i + 1) es)
 with_next blocks new view ss es i k x e pushed made same low read_k high read_e before =
     let ss_low : i < length ss = subst (λ (z : Stated). i < length z) same low in
@@ -168,7 +169,8 @@ module _ (m m' : Module) (f : ℕ) (d d' : FunctionDefinition) (g : Cfg) (home :
     same = same_Some d' d (sym at' ∙ at)
 
     -- the graph is that of the domain's function
-    pub graph_is : IsTrue (list_all (λ (s : StructDefinition). list_all (λ t. not (is_reference_token t.token)) s.fields) m.structs) → IsTrue (list_all (λ (s : StructDefinition). nat_le (length s.fields) 32) m.structs) → IsGraphOf m' d' g
+    pub graph_is : IsTrue (list_all (λ (s : StructDefinition). list_all (λ t. not (is_reference_token t.token)) s.fields) m.structs)
+        → IsTrue (list_all (λ (s : StructDefinition). nat_le (length s.fields) 32) m.structs) → IsGraphOf m' d' g
     graph_is plain few =
         subst (λ z. IsGraphOf z d' g) (sym home) (subst (λ z. IsGraphOf m z g) (sym same) (record { flow = fg; typed = typed; fields = plain; few = few }))
 
@@ -207,7 +209,8 @@ module _ (m m' : Module) (f : ℕ) (d d' : FunctionDefinition) (g : Cfg) (home :
           subst (λ z. IsFlowBelow (λ a b. IsTrue (locals_leq a b)) z (stated_locals other)) (sym (ap stated_locals is ∙ with_locals old v pairs)) (least other fit holds)
 
       pub edges_are_least : (start : List Edge) → start ≡ [] → IsSome (known_at_start m d)
-          → ((w : List (Option (List Edge))) → IsFlow Ascend g w → IsClosed (λ a b. IsTrue (edges_leq a b)) (edges_step m' d') g start w → IsFlowBelow (λ a b. IsTrue (edges_leq a b)) v w) → HasLeastEdges m f stated
+          → ((w : List (Option (List Edge))) → IsFlow Ascend g w → IsClosed (λ a b. IsTrue (edges_leq a b)) (edges_step m' d') g start w → IsFlowBelow (λ a b. IsTrue (edges_leq a b)) v w)
+          → HasLeastEdges m f stated
       edges_are_least start none known least = λ other fit holds.
           let all : List (Option (List Edge)) = stated_edges other in
           let other_flow = edges-flow-at m f d g other all at fg fit refl in

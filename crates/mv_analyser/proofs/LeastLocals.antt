@@ -4,6 +4,7 @@ use Rattle.std.specs.List.{list_all}
 use Rattle.std.specs.Option.{option_map_or}
 use Rattle.std.proofs.lemmas.Bool.{and_from}
 use Rattle.std.proofs.lemmas.Option.{same_Some}
+use Rattle.mv_type_states.proofs.HeightLemmas.{bind_some}
 use Rattle.mv_move_types.specs.declared.borrow.Availability.{Availability}
 use Rattle.mv_move_types.specs.declared.token.Token.{Token}
 use Rattle.mv_move_types.specs.Module.{Module, FunctionDefinition, local_tokens, parameter_tokens}
@@ -16,7 +17,6 @@ use Rattle.mv_lattice.specs.declared.search.SolveError.{SolveError}
 use Rattle.mv_lattice.specs.declared.search.SolveError.TheVariants.{Need as NeedFails, TooComplex as SearchTooComplex, Memory as MemoryOut}
 use Rattle.mv_locals_safety.specs.LocalsRules.{locals_leq}
 use Rattle.mv_locals_safety.specs.Domain.{IsOfLocals, locals_step, start_locals}
-use Rattle.mv_borrow_graph.specs.Shifts.{found}
 use Rattle.mv_certificate.specs.Certificate.{Stated}
 use Rattle.mv_certificate.specs.Functions.{LocalsHoldAt}
 use Rattle.mv_certificate.specs.Reads.{FitsAt}
@@ -42,7 +42,8 @@ alone_locals (None ∷ v) = ap (λ r. None ∷ r) (alone_locals v)
 alone_locals (Some s ∷ v) = ap (λ r. Some s ∷ r) (alone_locals v)
 
 -- one more of them
-pub alone_more : (v : List (Option (List Availability))) (i : ℕ) (d : Option (List Availability)) → i < length v → locals_alone (take (i + 1) v) ≡ locals_alone (take i v) ++ option_map without_edges (get_or v i d) ∷ []
+pub alone_more : (v : List (Option (List Availability))) (i : ℕ) (d : Option (List Availability)) → i < length v
+    → locals_alone (take (i + 1) v) ≡ locals_alone (take i v) ++ option_map without_edges (get_or v i d) ∷ []
 alone_more [] i d h = absurd (omega arith)
 alone_more (x ∷ v) zero d h = refl
 alone_more (x ∷ v) (suc i) d h =
@@ -65,7 +66,8 @@ module _ (m : Module) (d : FunctionDefinition) (tokens : List Token) (known : lo
   alone_fits (Some s ∷ v) each = and_from (known_fits m d (without_edges s)) (list_all (block_fits m d) (locals_alone v)) (one_fits s (each 0 s refl)) (alone_fits v (λ k t e. each (suc k) t e))
 
 -- what stands for the function at a place
-pub at_function : (m : Module) (f : ℕ) (d : FunctionDefinition) (P : FunctionDefinition → Type 0) → slice_get m.functions f ≡ Some d → P d → (x : FunctionDefinition) → slice_get m.functions f ≡ Some x → P x
+pub at_function : (m : Module) (f : ℕ) (d : FunctionDefinition) (P : FunctionDefinition → Type 0) → slice_get m.functions f ≡ Some d → P d → (x : FunctionDefinition) → slice_get m.functions f ≡ Some x
+    → P x
 at_function m f d P at p x e = subst P (same_Some d x (sym at ∙ e)) p
 
 module _ (m m' : Module) (f : ℕ) (d d' : FunctionDefinition) (g : Cfg) (home : m' ≡ m) (at : slice_get m.functions f ≡ Some d) (at' : slice_get m.functions f ≡ Some d')
@@ -84,14 +86,15 @@ module _ (m m' : Module) (f : ℕ) (d d' : FunctionDefinition) (g : Cfg) (home :
   least_fits v stated is flow =
       let here : IsFlow (IsOfLocals m d) g v = subst (λ z. IsFlow (IsOfLocals m z) g v) same (subst (λ z. IsFlow (IsOfLocals z d') g v) home flow) in
       let begin1 : start_locals m d ≡ Some start = subst (λ z. start_locals m z ≡ Some start) same (subst (λ z. start_locals z d' ≡ Some start) home begin) in
-      let parameters = found (parameter_tokens m d) _ start begin1 in
-      let tokens = found (local_tokens m d) _ start parameters.1.1 in
+      let parameters = bind_some (parameter_tokens m d) _ start begin1 in
+      let tokens = bind_some (local_tokens m d) _ start parameters.1.1 in
       subst (FitsAt m f) (sym is)
       (at_function m f d (λ x. StatedFits m x (locals_alone v)) at
       (stated-fits m d g (locals_alone v) fg (alone_marks v ∙ flow-marks (IsOfLocals m d) g (length d.code) v fg.graph here) (alone_fits m d tokens.0 tokens.1.0 v here.states)))
 
   -- and they hold
-  pub least_holds : (v : List (Option (List Availability))) (stated : Stated) → stated ≡ locals_alone v → IsFlow (IsOfLocals m' d') g v → IsClosed Below (locals_step m' d') g start v → LocalsHoldAt m f stated
+  pub least_holds : (v : List (Option (List Availability))) (stated : Stated) → stated ≡ locals_alone v → IsFlow (IsOfLocals m' d') g v → IsClosed Below (locals_step m' d') g start v
+      → LocalsHoldAt m f stated
   least_holds v stated is flow closed =
       subst (LocalsHoldAt m f) (sym is) ((locals_exact_at m m' f d d' g (locals_alone v) home at at' fg typed start v begin (sym (alone_locals v)) flow).0 closed)
 
@@ -106,14 +109,16 @@ module _ (m m' : Module) (f : ℕ) (d d' : FunctionDefinition) (g : Cfg) (home :
       subst (λ z. IsFlowBelow Below z all) (sym same_states) below
 
   -- where there is no closed flow, none holds
-  pub none_holds : ((flow : List (Option (List Availability))) → IsFlow (IsOfLocals m' d') g flow → IsClosed Below (locals_step m' d') g start flow → ⊥) → (stated : Stated) → FitsAt m f stated → LocalsHoldAt m f stated → ⊥
+  pub none_holds : ((flow : List (Option (List Availability))) → IsFlow (IsOfLocals m' d') g flow → IsClosed Below (locals_step m' d') g start flow → ⊥) → (stated : Stated) → FitsAt m f stated
+      → LocalsHoldAt m f stated → ⊥
   none_holds never stated fits holds =
       let all : List (Option (List Availability)) = map (option_map (λ k. k.locals)) stated in
       let flow = locals-flow-at m m' f d d' g stated all home at at' fg fits refl in
       never all flow ((locals_exact_at m m' f d d' g stated home at at' fg typed start all begin refl flow).1 holds)
 
 -- what the error of a search says
-pub search_error : {T : Type 0} (m : Module) (f phase : ℕ) (Passes : Stated → Type 0) (Complex : Type 0) (e : SolveError) → (IsErrOf {T = T} (Err e) NeedFails → (stated : Stated) → FitsAt m f stated → Passes stated → ⊥)
+pub search_error : {T : Type 0} (m : Module) (f phase : ℕ) (Passes : Stated → Type 0) (Complex : Type 0) (e : SolveError)
+    → (IsErrOf {T = T} (Err e) NeedFails → (stated : Stated) → FitsAt m f stated → Passes stated → ⊥)
     → (IsErrOf {T = T} (Err e) SearchTooComplex → Complex) → IsErrorAt m f phase Passes Complex (error_of phase e)
 search_error m f phase Passes Complex NeedFails need complex = (refl, need refl)
 search_error m f phase Passes Complex SearchTooComplex need complex = complex refl

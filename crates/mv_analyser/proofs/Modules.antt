@@ -1,6 +1,5 @@
 -- From the functions of a module to the module.
 use Rattle.std.proofs.Common.{◌≡◌, ℕ, suc, List, [], ◌∷◌, ◌++◌, length, ◌<◌, ◌+◌, Some, slice_get, IsTrue, refl, sym, ◌∙◌, subst, arith, ⊎_elim, Result, Ok, Err, IfOk, OnOk}
-use Rattle.std.specs.Prelude.{⊤}
 use Rattle.std.proofs.lemmas.Bool.{and_parts, and_from}
 use Rattle.std.proofs.lemmas.List.{length-append}
 use Rattle.std.proofs.lemmas.Option.{slice_get_within}
@@ -37,7 +36,8 @@ up_to_more P n cs new s is p before =
       each = λ k z e. ⊎_elim (λ old. before.each k z old) (λ last. subst (λ i. P i z) (sym (last.0 ∙ before.long)) (subst (P n) (sym last.1) p)) (slice_get-push cs s k z e);
     })
 
-fit_each : (m : Module) (ds : List FunctionDefinition) (cs : List Stated) → length ds ≡ length cs → ((f : ℕ) (d : FunctionDefinition) (c : Stated) → slice_get ds f ≡ Some d → slice_get cs f ≡ Some c → StatedFits m d c) → AllStatedFit m ds cs
+fit_each : (m : Module) (ds : List FunctionDefinition) (cs : List Stated) → length ds ≡ length cs
+    → ((f : ℕ) (d : FunctionDefinition) (c : Stated) → slice_get ds f ≡ Some d → slice_get cs f ≡ Some c → StatedFits m d c) → AllStatedFit m ds cs
 fit_each m [] [] long each = tt
 fit_each m [] (c ∷ cs) long each = absurd (omega arith)
 fit_each m (d ∷ ds) [] long each = absurd (omega arith)

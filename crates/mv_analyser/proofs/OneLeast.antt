@@ -4,18 +4,16 @@ use Rattle.std.proofs.lemmas.Bool.{and_parts, false≢true}
 use Rattle.std.proofs.lemmas.Option.{slice_get_within}
 use Rattle.mv_move_types.specs.declared.borrow.Availability.{Availability}
 use Rattle.mv_move_types.specs.declared.borrow.Availability.TheVariants.{Unavailable, Available, Maybe}
-use Rattle.mv_move_types.specs.Module.{Module, FunctionDefinition}
-use Rattle.mv_cfg.specs.Blocks.{blocks}
+use Rattle.mv_move_types.specs.Module.{Module}
 use Rattle.mv_lattice.specs.Flow.{IsFlowBelow}
 use Rattle.mv_locals_safety.specs.LocalsRules.{availability_leq, locals_leq}
+use Rattle.mv_certificate.proofs.OneCertificate.{one-marks}
 use Rattle.mv_certificate.specs.Certificate.{Stated, Certificate, locals_hold, edges_hold, all_locals_hold, all_edges_hold}
 use Rattle.mv_certificate.specs.Functions.{LocalsHoldAt, EdgesHoldAt}
 use Rattle.mv_certificate.specs.Reads.{FitsAt}
-use Rattle.mv_certificate.specs.Shape.{StatedFits}
 use Rattle.mv_certificate.proofs.Marks.{at_below}
 use Rattle.mv_certificate.proofs.States.{fit-at, fit-length}
 use Rattle.mv_certificate.proofs.Holds.{passes-each}
-use Rattle.mv_certificate.proofs.Whole.{same_marks, same_bools}
 use Rattle.mv_analyser.specs.Least.{stated_locals, IsPrincipal, LeastIsOne}
 
 -- ---- availabilities that are below each other are the same
@@ -61,14 +59,6 @@ locals_marks [] = refl
 locals_marks (None ∷ ks) = ap (λ r. false ∷ r) (locals_marks ks)
 locals_marks (Some k ∷ ks) = ap (λ r. true ∷ r) (locals_marks ks)
 
-one_marks : (m : Module) (d : FunctionDefinition) (ks ls : Stated) → StatedFits m d ks → StatedFits m d ls → map is_some ks ≡ map is_some ls
-one_marks m d ks ls p q =
-    same_marks is_some is_some ks ls (p.long ∙ sym q.long) (λ i k l ki li.
-    let b = at_below (blocks d.code) i (omega (arith, slice_get_within ks i k ki, p.long)) in
-    let r = p.marks i b.0 k b.1 ki in
-    let s = q.marks i b.0 l b.1 li in
-    same_bools (is_some k) (is_some l) (λ e. s.1 (r.0 e)) (λ e. r.1 (s.0 e)))
-
 -- ---- of a function at a place
 
 module _ (m : Module) (c : Certificate) (p : IsPrincipal m c) (f : ℕ) (a : Stated) (at : slice_get c f ≡ Some a) where
@@ -85,7 +75,7 @@ pub least_is_one : LeastIsOne
 least_is_one m c other p q f a b at bt =
     let d = at_below m.functions f (omega (arith, slice_get_within c f a at, fit-length m m.functions c p.shape)) in
     let marks : map is_some (stated_locals a) ≡ map is_some (stated_locals b) =
-    locals_marks a ∙ one_marks m d.0 a b (fits_there m c p f a at d.0 d.1) (fits_there m other q f b bt d.0 d.1) ∙ sym (locals_marks b) in
+    locals_marks a ∙ one-marks m d.0 a b (fits_there m c p f a at d.0 d.1) (fits_there m other q f b bt d.0 d.1) ∙ sym (locals_marks b) in
     let low = p.least f a at in
     let high = q.least f b bt in
     record {

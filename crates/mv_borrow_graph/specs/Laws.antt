@@ -1,5 +1,25 @@
--- The order is one, and a step leaves ascending edges.
--- It stands in specs/, since a trait's laws may cite nothing of their own crate but its specs/.
+-- What the search for certificates rests on (edges_lawful): the order of edges is one, a step is defined on each state below one on which
+-- it is, with a result below, it leaves ascending edges, and a block that goes on leads to a state with which a block may begin.
+--
+-- The laws' proofs stand in Laws/. They stay below specs/, since a trait's laws may cite nothing of their own crate but its specs/.
+-- In this order each is read after what it cites:
+--   Rising        where a step is defined on a state, it is defined on each state below, with a result below
+--   Places        what stands where on the stack before and after some of its types are exchanged for others
+--   Shifts        which types an instruction exchanges, by its rule for types
+--   There         edges between nodes that are there, before and after such an exchange
+--   RowsThere     each rule for edges leaves edges between nodes that are there; of a call CallThere
+--   KeptThere     the table of all instructions over these
+--   Standing      the types before the instructions of a block stand among those of the function
+--   BlocksThere   a block that goes on leads to edges between nodes that are there, and so past the operands
+pub mod Rising
+pub mod Places
+pub mod Shifts
+pub mod There
+pub mod RowsThere
+pub mod CallThere
+pub mod KeptThere
+pub mod Standing
+pub mod BlocksThere
 use Rattle.std.specs.Prelude.{◌≡◌, List, true, Option, Some, None, length, slice_get, IsTrue}
 use Rattle.std.proofs.Common.{refl, subst}
 use Rattle.mv_move_types.specs.Options.{◌>>=◌}
@@ -12,9 +32,9 @@ use Rattle.mv_edges.proofs.Sorting.{ascending-sorted}
 use Rattle.mv_edges.proofs.Order.{edges_leq_itself, edges_leq-transitive}
 use Rattle.mv_lattice.specs.Laws.{IsLawful}
 use Rattle.mv_borrow_graph.specs.BorrowRules.{edges_after}
-use Rattle.mv_borrow_graph.specs.Rising.{step_below}
+use Rattle.mv_borrow_graph.specs.Laws.Rising.{step_below}
 use Rattle.mv_borrow_graph.specs.Nodes.{may_begin_with, IsGraphOf}
-use Rattle.mv_borrow_graph.specs.BlocksThere.{begins_again}
+use Rattle.mv_borrow_graph.specs.Laws.BlocksThere.{begins_again}
 use Rattle.mv_borrow_graph.specs.Domain.{edges_step, ordered, point_at}
 
 -- what comes of two steps comes of the second
@@ -26,7 +46,8 @@ ordered_ascend : (found : Option (List Edge)) (b : List Edge) → ordered found 
 ordered_ascend None b e = cc
 ordered_ascend (Some edges) b e = let same : sorted edges ≡ b = cc in subst (λ es. are_ascending es ≡ true) same (ascending-sorted edges)
 
-pub edges_lawful : (m : Module) (d : FunctionDefinition) → IsLawful (length d.code) (λ s. IsTrue (are_ascending s)) (λ s. IsTrue (may_begin_with m d s)) (λ a b. IsTrue (edges_leq a b)) (edges_step m d) (IsGraphOf m d)
+pub edges_lawful : (m : Module) (d : FunctionDefinition)
+    → IsLawful (length d.code) (λ s. IsTrue (are_ascending s)) (λ s. IsTrue (may_begin_with m d s)) (λ a b. IsTrue (edges_leq a b)) (edges_step m d) (IsGraphOf m d)
 edges_lawful m d = record {
   reflexive = λ a _. edges_leq_itself a;
   transitive = λ a b c _ _ _ p q. edges_leq-transitive a b c p q;

@@ -1,14 +1,6 @@
-pub mod BlocksThere
 pub mod BorrowRules
-pub mod CallThere
 pub mod Domain
-pub mod KeptThere
 pub mod Laws
 pub mod Nodes
-pub mod Places
-pub mod Rising
-pub mod RowsThere
-pub mod Shifts
-pub mod Standing
 pub mod There
 pub mod Abstract

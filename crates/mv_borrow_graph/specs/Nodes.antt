@@ -1,5 +1,5 @@
 -- Between which nodes edges lead, and which edges a search may state.
-use Rattle.std.specs.Prelude.{◌≡◌, ℕ, Bool, false, not, ◌&&◌, nat_lt, nat_le, List, [], length, reverse, slice_get, IsTrue}
+use Rattle.std.specs.Prelude.{ℕ, Bool, false, not, ◌&&◌, nat_lt, nat_le, List, [], length, reverse, slice_get, IsTrue}
 use Rattle.std.specs.List.{list_all}
 use Rattle.std.specs.Option.{option_map_or}
 use Rattle.mv_move_types.specs.declared.borrow.Node.{Node}

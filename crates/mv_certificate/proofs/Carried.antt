@@ -1,9 +1,7 @@
 -- A state that is carried from place to place becomes what the rule makes of it, one instruction after another.
-use Rattle.std.proofs.Common.{◌≡◌, ◌==◌, ℕ, ◌+◌, ◌-◌, ◌<◌, ◌≤◌, zero, suc, Bool, true, false, cond, List, [], ◌∷◌, ◌++◌, length, flat_map, take, drop, zip, Option, Some, None, is_some, option_map, option_and_then, slice_get, nat_le, IsTrue, refl, ap, sym, ◌∙◌, subst, arith, length-drop, length-take}
-use Rattle.std.specs.List.{list_all, slice_range}
+use Rattle.std.proofs.Common.{◌≡◌, ℕ, ◌+◌, ◌-◌, ◌<◌, suc, true, cond, List, [], ◌∷◌, length, Option, Some, None, is_some, option_and_then, slice_get, nat_le, IsTrue, refl, subst, arith}
 use Rattle.std.specs.Option.{option_map_or}
-use Rattle.std.proofs.lemmas.Bool.{and_parts, and_from, false≢true}
-use Rattle.std.proofs.lemmas.Option.{none-some, same_Some, slice_get-map, slice_get_within}
+use Rattle.std.proofs.lemmas.Bool.{false≢true}
 use Rattle.mv_move_types.specs.declared.instruction.Instruction.{Instruction}
 use Rattle.mv_move_types.specs.Options.{◌>>=◌}
 use Rattle.mv_move_types.specs.Module.{Module, FunctionDefinition}
@@ -15,9 +13,9 @@ use Rattle.mv_cfg.specs.FlowGraph.{IsFlowGraph, basic_block_of}
 use Rattle.mv_type_states.specs.TypeRules.{Types, types_after}
 use Rattle.mv_type_states.specs.TypesHold.{types_through, block_is_typed, function_is_typed}
 use Rattle.mv_type_states.specs.Sound.{types_each, types_before}
-use Rattle.mv_type_states.proofs.Tiling.{Tiles, blocks-tile}
+use Rattle.mv_type_states.proofs.Stacks.{list_all-at}
 use Rattle.mv_lattice.specs.Flow.{carried}
-use Rattle.mv_borrow_graph.specs.Standing.{Stands, Stands-head, Stands-tail, Stands-range, Stands-types, length-range, some-height, typed_some, block_at}
+use Rattle.mv_borrow_graph.specs.Laws.Standing.{Stands, Stands-head, Stands-tail, Stands-range, Stands-types, length-range, some-height, typed_some, block_at}
 use Rattle.mv_certificate.specs.Certificate.{Rule, through, instructions_of}
 
 -- both are there and related, or neither is
@@ -26,12 +24,6 @@ Alike R None None = Unit {0}
 Alike R None (Some t) = ⊥
 Alike R (Some s) None = ⊥
 Alike R (Some s) (Some t) = R s t
-
--- what holds of all holds of each
-pub passes : {A : Type 0} (p : A → Bool) (xs : List A) (i : ℕ) (x : A) → IsTrue (list_all p xs) → slice_get xs i ≡ Some x → IsTrue (p x)
-passes p [] i x h e = absurd (none-some x e)
-passes p (y ∷ ys) zero x h e = subst (λ z. IsTrue (p z)) (same_Some y x e) ((and_parts (p y) (list_all p ys) h).0)
-passes p (y ∷ ys) (suc i) x h e = passes p ys i x ((and_parts (p y) (list_all p ys) h).1) e
 
 -- a rule and a step at places do alike
 abbrev pub DoAlike : {S : Type 0} → Rule S → (ℕ → S → Option S) → (S → S → Type 0) → Module → FunctionDefinition → Type 0
@@ -53,7 +45,8 @@ module _ (S : Type 0) (rule : Rule S) (step : ℕ → S → Option S) (R : S →
       (alike at i types s t (Stands-head i is d.code at code) (Stands-head types (option_map_or (types_each m d is) (types_after m d i types) []) (types_before m d) at known) r)
       typed (λ after u v. through_alike is (suc at) after u v (Stands-tail i is d.code at code))
     where
-      by_step : (o1 o2 : Option S) (o3 : Option Types) → types_after m d i types ≡ o3 → Alike R o1 o2 → is_some (o3 >>= λ after. cond (nat_le (length after) 128) (types_through m d is after) None) ≡ true
+      by_step : (o1 o2 : Option S) (o3 : Option Types) → types_after m d i types ≡ o3 → Alike R o1 o2
+          → is_some (o3 >>= λ after. cond (nat_le (length after) 128) (types_through m d is after) None) ≡ true
           → ((after : Types) (u v : S) → Stands (types_each m d is after) (types_before m d) (suc at) → is_some (types_through m d is after) ≡ true → R u v → Alike (Ends R) (carried step (suc at) (length is) u) (through rule m d is (v, after)))
           → Alike (Ends R) (option_and_then (carried step (suc at) (length is)) o1) (o2 >>= λ known. o3 >>= λ ts. through rule m d is (known, ts))
       by_step None None o3 e a h on = tt
@@ -75,4 +68,4 @@ module _ (S : Type 0) (rule : Rule S) (step : ℕ → S → Option S) (R : S →
       let size : length (instructions_of d st) ≡ b.last + 1 - b.first = length-range d.code b.first (b.last + 1) (omega arith) in
       subst (λ n. Alike (Ends R) (carried step b.first n s) (through rule m d (instructions_of d st) (s, []))) size
       (through_alike (instructions_of d st) b.first [] s s (Stands-range d.code b.first (b.last + 1)) (Stands-types m d k st typed at)
-      (typed_some m d st (passes (block_is_typed m d) (blocks d.code) k st typed at)) (self s))
+      (typed_some m d st (list_all-at (block_is_typed m d) (blocks d.code) k st typed at)) (self s))

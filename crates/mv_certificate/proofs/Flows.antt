@@ -1,28 +1,28 @@
 -- A flow over the graph of a function's code is closed exactly where the rule's flow holds.
-use Rattle.std.proofs.Common.{◌≡◌, ◌==◌, ℕ, ◌+◌, ◌-◌, ◌<◌, ◌≤◌, zero, suc, Bool, true, false, cond, List, [], ◌∷◌, length, map, zip, find, Option, Some, None, option_and_then, slice_get, Contains, All, IsTrue, refl, ap, sym, ◌∙◌, subst, arith, eq-eqb}
+use Rattle.std.proofs.Common.{◌≡◌, ℕ, ◌+◌, ◌<◌, ◌≤◌, zero, suc, Bool, true, false, List, [], ◌∷◌, length, map, zip, Option, Some, None, slice_get, Contains, All, IsTrue, refl, ap, sym, ◌∙◌, subst, arith, eq-eqb}
 use Rattle.std.specs.List.{list_all}
 use Rattle.std.specs.Option.{option_map_or}
 use Rattle.std.proofs.lemmas.Bool.{and_parts, and_from, false≢true, ne_eqb}
 use Rattle.std.proofs.lemmas.List.Elements.{All-contains, All-contains_itself, All-cons}
 use Rattle.std.proofs.lemmas.Option.{none-some, same_Some, slice_get_within}
-use Rattle.mv_move_types.specs.declared.instruction.Instruction.{Instruction}
 use Rattle.mv_move_types.specs.Module.{Module, FunctionDefinition}
 use Rattle.mv_cfg.specs.declared.Block.{Block}
 use Rattle.mv_cfg.specs.declared.Cfg.{Cfg}
 use Rattle.mv_cfg.specs.Blocks.{BasicBlock, blocks}
-use Rattle.mv_cfg.specs.Graph.{IsBlock, IsReached, HasEdge, at_entry, along}
+use Rattle.mv_cfg.specs.Graph.{at_entry, along}
 use Rattle.mv_cfg.specs.FlowGraph.{IsFlowGraph, basic_block_of, first_of}
 use Rattle.mv_type_states.specs.TypeRules.{Types}
 use Rattle.mv_type_states.specs.TypesHold.{function_is_typed}
-use Rattle.mv_type_states.proofs.Tiling.{Tiles, blocks-tile}
-use Rattle.mv_lattice.specs.Flow.{IsFlow, IsClosed, IsClosedAt, IsBelowEach, IsStated, carried, through as carried_through}
+use Rattle.mv_cfg.proofs.Tiling.{Tiles, blocks-tile}
+use Rattle.mv_lattice.specs.Flow.{IsFlow, IsClosed, IsClosedAt, IsStated, through as carried_through}
 use Rattle.mv_certificate.specs.Certificate.{Rule, through, instructions_of, stated_at, flows_into, block_holds, flow_holds}
-use Rattle.mv_borrow_graph.specs.Standing.{tiles_after, block_at}
+use Rattle.mv_borrow_graph.specs.Laws.Standing.{tiles_after, block_at}
 use Rattle.mv_certificate.proofs.Carried.{Alike, DoAlike, Ends, block_alike}
 use Rattle.mv_certificate.proofs.Marks.{block_of, at_below}
 
 -- one test of each pair
-pub zip_all : {A B : Type 0} (p : A × B → Bool) (xs : List A) (ys : List B) → ((k : ℕ) (x : A) (y : B) → slice_get xs k ≡ Some x → slice_get ys k ≡ Some y → p (x, y) ≡ true) → list_all p (zip xs ys) ≡ true
+pub zip_all : {A B : Type 0} (p : A × B → Bool) (xs : List A) (ys : List B) → ((k : ℕ) (x : A) (y : B) → slice_get xs k ≡ Some x → slice_get ys k ≡ Some y → p (x, y) ≡ true)
+    → list_all p (zip xs ys) ≡ true
 zip_all p [] ys h = refl
 zip_all p (x ∷ xs) [] h = refl
 zip_all p (x ∷ xs) (y ∷ ys) h = and_from (p (x, y)) (list_all p (zip xs ys)) (h 0 x y refl refl) (zip_all p xs ys (λ k a b ea eb. h (suc k) a b ea eb))

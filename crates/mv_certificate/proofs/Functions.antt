@@ -93,7 +93,8 @@ record Next (m : Module) (f : ℕ) (cur : List ℕ) (c : Certificate) (d : Funct
   text : cur ≡ flat_map stated_text stated ++ certificate_text (drop (f + 1) c)
   fits : StatedFits m d stated
 
-next-of : (m : Module) (f : ℕ) (bytes cur : List ℕ) (c : Certificate) (d : FunctionDefinition) → slice_get m.functions f ≡ Some d → f < length m.functions → IsCertificateText m bytes c → cur ≡ certificate_text (drop f c) → Next m f cur c d
+next-of : (m : Module) (f : ℕ) (bytes cur : List ℕ) (c : Certificate) (d : FunctionDefinition) → slice_get m.functions f ≡ Some d → f < length m.functions → IsCertificateText m bytes c
+    → cur ≡ certificate_text (drop f c) → Next m f cur c d
 next-of m f bytes cur c d e lt h is =
     let long = fit-length m m.functions c h.1 in
     let s = at_below c f (omega arith) in
@@ -121,7 +122,8 @@ CertOn-end m f bytes cur cs le none g =
     (g.text ∙ ap (λ z. certificate_text cs ++ z) none ∙ append-nil (certificate_text cs), subst (λ z. AllStatedFit m z cs) (take_all f m.functions le) g.fits)
 
 -- where a function can't be read, no certificate has these bytes
-pub CertOn-unread : (m : Module) (f : ℕ) (bytes cur : List ℕ) (cs : Certificate) → f < length m.functions → IsUnreadAt m f cur → CertOn m f bytes cs cur → (c : Certificate) → IsCertificateText m bytes c → ⊥
+pub CertOn-unread : (m : Module) (f : ℕ) (bytes cur : List ℕ) (cs : Certificate) → f < length m.functions → IsUnreadAt m f cur → CertOn m f bytes cs cur → (c : Certificate)
+    → IsCertificateText m bytes c → ⊥
 CertOn-unread m f bytes cur cs lt none g c h =
     let d = at_below m.functions f lt in
     let n = next-of m f bytes cur c d.0 d.1 lt h (g.others c h) in

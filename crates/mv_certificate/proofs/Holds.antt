@@ -29,7 +29,7 @@ use Rattle.mv_locals_safety.specs.LocalsRules.{locals_after, locals_leq, may_ove
 use Rattle.mv_locals_safety.specs.Domain.{IsOfLocals, locals_step, point_in, start_locals}
 use Rattle.mv_borrow_graph.specs.BorrowRules.{edges_after}
 use Rattle.mv_borrow_graph.specs.Domain.{edges_step, point_at, ordered}
-use Rattle.mv_certificate.specs.Certificate.{Known, known_at_start, Rule, Stated, Certificate, each_function, flow_holds, locals_hold, edges_hold}
+use Rattle.mv_certificate.specs.Certificate.{Known, known_at_start, Stated, Certificate, each_function, flow_holds, locals_hold, edges_hold}
 use Rattle.mv_certificate.specs.Functions.{LocalsHoldAt, EdgesHoldAt}
 use Rattle.mv_certificate.proofs.Carried.{Alike, DoAlike}
 use Rattle.mv_certificate.proofs.Flows.{holds_from_closed, closed_from_holds}
@@ -121,7 +121,8 @@ known_there : (o1 o2 : Option (List Token)) (first : List Token → List Token �
     → IsSome (o1 >>= λ p. o2 >>= λ l. Some (beginning (first p l)))
 known_there o1 o2 first p l e1 e2 = rw (e1, e2) refl
 
-locals_there : (m : Module) (d : FunctionDefinition) (p others : List Token) (o : Option FunctionHandle) → (o >>= λ h. slice_get m.signatures h.parameters) ≡ Some p → slice_get m.signatures d.locals ≡ Some others
+locals_there : (m : Module) (d : FunctionDefinition) (p others : List Token) (o : Option FunctionHandle) → (o >>= λ h. slice_get m.signatures h.parameters) ≡ Some p
+    → slice_get m.signatures d.locals ≡ Some others
     → (o >>= λ h. slice_get m.signatures h.parameters >>= λ ps. slice_get m.signatures d.locals >>= λ os. Some (ps ++ os)) ≡ Some (p ++ others)
 locals_there m d p others None e1 e2 = absurd (none-some p e1)
 locals_there m d p others (Some h) e1 e2 = rw (e1, e2) refl
@@ -168,7 +169,8 @@ module _ (m : Module) (d : FunctionDefinition) (g : Cfg) (stated : Stated) (fg :
       )
 
 -- what holds of the function at a place
-at_place : (m : Module) (f : ℕ) (d : FunctionDefinition) (P : FunctionDefinition → Type 0) → slice_get m.functions f ≡ Some d → P d ↔ ((x : FunctionDefinition) → slice_get m.functions f ≡ Some x → P x)
+at_place : (m : Module) (f : ℕ) (d : FunctionDefinition) (P : FunctionDefinition → Type 0) → slice_get m.functions f ≡ Some d
+    → P d ↔ ((x : FunctionDefinition) → slice_get m.functions f ≡ Some x → P x)
 at_place m f d P at = (λ p x e. subst P (same_Some d x (sym at ∙ e)) p, λ h. h d at)
 
 module _ (m m' : Module) (f : ℕ) (d d' : FunctionDefinition) (g : Cfg) (stated : Stated) (home : m' ≡ m) (at : slice_get m.functions f ≡ Some d) (at' : slice_get m.functions f ≡ Some d') (fg : IsFlowGraph d.code g) (typed : IsTrue (function_is_typed m d)) where
@@ -176,7 +178,8 @@ module _ (m m' : Module) (f : ℕ) (d d' : FunctionDefinition) (g : Cfg) (stated
   same_function = same_Some d' d (sym at' ∙ at)
 
   -- the stated availabilities of the function at a place
-  pub locals_exact_at : (s : List Availability) (all : List (Option (List Availability))) → start_locals m' d' ≡ Some s → all ≡ map (option_map (λ k. k.locals)) stated → IsFlow (IsOfLocals m' d') g all
+  pub locals_exact_at : (s : List Availability) (all : List (Option (List Availability))) → start_locals m' d' ≡ Some s → all ≡ map (option_map (λ k. k.locals)) stated
+      → IsFlow (IsOfLocals m' d') g all
       → IsClosed (λ a b. IsTrue (locals_leq a b)) (locals_step m' d') g s all ↔ LocalsHoldAt m f stated
   locals_exact_at s all begin is fl =
       let begin1 = subst (λ z. start_locals m z ≡ Some s) same_function (subst (λ z. start_locals z d' ≡ Some s) home begin) in
@@ -188,7 +191,8 @@ module _ (m m' : Module) (f : ℕ) (d d' : FunctionDefinition) (g : Cfg) (stated
       )
 
   -- and its stated edges
-  pub edges_exact_at : (s : List Edge) (all : List (Option (List Edge))) → s ≡ [] → IsSome (known_at_start m d) → all ≡ map (option_map (λ k. k.edges)) stated → IsFlow (λ e. IsTrue (are_ascending e)) g all
+  pub edges_exact_at : (s : List Edge) (all : List (Option (List Edge))) → s ≡ [] → IsSome (known_at_start m d) → all ≡ map (option_map (λ k. k.edges)) stated
+      → IsFlow (λ e. IsTrue (are_ascending e)) g all
       → IsClosed (λ a b. IsTrue (edges_leq a b)) (edges_step m' d') g s all ↔ EdgesHoldAt m f stated
   edges_exact_at s all none known is fl =
       let exact = edges_exact m d g stated fg typed s all none known is fl in

@@ -49,12 +49,13 @@ few_locals m d has = by_handle (slice_get m.function_handles d.handle)
     by_parameters None q each others = omega arith
     by_parameters (Some parameters) q each others = by_others parameters (each parameters refl) q others
 
-    by_handle : (o : Option FunctionHandle) → option_map_or length (o >>= λ handle. slice_get m.signatures handle.parameters >>= λ parameters. slice_get m.signatures d.locals >>= λ others. Some (parameters ++ others)) 0 ≤ 65536
+    by_handle : (o : Option FunctionHandle)
+        → option_map_or length (o >>= λ handle. slice_get m.signatures handle.parameters >>= λ parameters. slice_get m.signatures d.locals >>= λ others. Some (parameters ++ others)) 0 ≤ 65536
     by_handle None = omega arith
     by_handle (Some handle) = by_parameters (slice_get m.signatures handle.parameters) (slice_get m.signatures d.locals) (short handle.parameters) (short d.locals)
 
 -- what fits one function has the same marks
-one-marks : (m : Module) (d : FunctionDefinition) (ks ls : Stated) → StatedFits m d ks → StatedFits m d ls → map is_some ks ≡ map is_some ls
+pub one-marks : (m : Module) (d : FunctionDefinition) (ks ls : Stated) → StatedFits m d ks → StatedFits m d ls → map is_some ks ≡ map is_some ls
 one-marks m d ks ls p q =
     same_marks is_some is_some ks ls (p.long ∙ sym q.long) (λ i k l ki li.
     let b = at_below (blocks d.code) i (omega (arith, slice_get_within ks i k ki, p.long)) in

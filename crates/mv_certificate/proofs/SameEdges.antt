@@ -130,7 +130,8 @@ SameEdges-opened : (nodes : List Node) (new : Node) (es fs : List Edge) → Same
 SameEdges-opened nodes new es fs r = SameEdges-flat_map (λ n. inherited opened n new es) (λ n. inherited opened n new fs) (λ n. SameEdges-inherited opened n new es fs r) nodes
 
 -- the edges of results
-SameEdges-results : (mutable all : List Node) (k : ℕ) (results : List Token) (es fs : List Edge) → SameEdges es fs → SameEdges (result_edges mutable all k results es) (result_edges mutable all k results fs)
+SameEdges-results : (mutable all : List Node) (k : ℕ) (results : List Token) (es fs : List Edge) → SameEdges es fs
+    → SameEdges (result_edges mutable all k results es) (result_edges mutable all k results fs)
 SameEdges-results mutable all k [] es fs r = SameEdges-self []
 SameEdges-results mutable all k (Plain t ∷ ts) es fs r = SameEdges-results mutable all (k + 1) ts es fs r
 SameEdges-results mutable all k (Reference t ∷ ts) es fs r =

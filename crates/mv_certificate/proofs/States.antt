@@ -1,5 +1,5 @@
 -- What is stated of a function is a flow over its graph.
-use Rattle.std.proofs.Common.{◌≡◌, ℕ, ◌<◌, zero, suc, List, [], ◌∷◌, length, map, refl, ap, sym, ◌∙◌, subst, arith, Option, Some, None, is_some, option_map, IsTrue, Bool, true, false, ◌&&◌, ◌==◌, slice_get, nat_le, true≢false}
+use Rattle.std.proofs.Common.{◌≡◌, ℕ, ◌<◌, zero, suc, List, [], ◌∷◌, length, map, refl, ap, sym, ◌∙◌, subst, arith, Option, Some, None, is_some, option_map, IsTrue, true, false, ◌&&◌, ◌==◌, slice_get, nat_le, true≢false}
 use Rattle.std.specs.List.{list_all}
 use Rattle.std.specs.Option.{option_map_or}
 use Rattle.std.proofs.lemmas.Bool.{and_parts, eqb-true}
@@ -15,6 +15,7 @@ use Rattle.mv_cfg.specs.declared.Cfg.{Cfg}
 use Rattle.mv_cfg.specs.Blocks.{blocks}
 use Rattle.mv_cfg.specs.Graph.{IsGraph, IsReached as IsReachedBlock, at_entry, along}
 use Rattle.mv_cfg.specs.FlowGraph.{IsFlowGraph, basic_block_of}
+use Rattle.mv_type_states.proofs.Stacks.{list_all-at}
 use Rattle.mv_lattice.specs.Flow.{IsFlow, IsStated}
 use Rattle.mv_locals_safety.specs.Domain.{IsOfLocals}
 use Rattle.mv_certificate.specs.Certificate.{Known, Stated, Certificate}
@@ -22,7 +23,6 @@ use Rattle.mv_certificate.specs.Shape.{StatedFits, AllStatedFit, edge_fits, know
 use Rattle.mv_certificate.specs.Reads.{FitsAt}
 use Rattle.mv_certificate.proofs.Texts.{block_fits}
 use Rattle.mv_certificate.proofs.Marks.{comes, at_below}
-use Rattle.mv_certificate.proofs.Carried.{passes}
 
 -- a reached block is there
 reached_below : (g : Cfg) (size : ℕ) → IsGraph g size → (k : ℕ) → IsReachedBlock g k → k < length g.blocks.items
@@ -61,7 +61,7 @@ flow-of {S} part IsState m d g ks each fg sf =
       entries = length-map ks (option_map part) ∙ same;
       states = λ k s e.
           let q = source part ks k s e in
-          subst IsState q.same (each q.known (passes (block_fits m d) ks k (Some q.known) sf.fits q.stated));
+          subst IsState q.same (each q.known (list_all-at (block_fits m d) ks k (Some q.known) sf.fits q.stated));
       stated = λ k r.
           let lt : k < length g.blocks.items = reached_below g (length d.code) fg.graph k r in
           let lt2 : k < length ks = omega arith in
@@ -101,7 +101,8 @@ known-edges m d known h =
 pub locals-flow : (m : Module) (d : FunctionDefinition) (g : Cfg) (ks : Stated) → IsFlowGraph d.code g → StatedFits m d ks → IsFlow (IsOfLocals m d) g (map (option_map (λ k. k.locals)) ks)
 locals-flow m d g ks = flow-of (λ k. k.locals) (IsOfLocals m d) m d g ks (known-locals m d)
 
-pub edges-flow : (m : Module) (d : FunctionDefinition) (g : Cfg) (ks : Stated) → IsFlowGraph d.code g → StatedFits m d ks → IsFlow (λ s. IsTrue (are_ascending s)) g (map (option_map (λ k. k.edges)) ks)
+pub edges-flow : (m : Module) (d : FunctionDefinition) (g : Cfg) (ks : Stated) → IsFlowGraph d.code g → StatedFits m d ks
+    → IsFlow (λ s. IsTrue (are_ascending s)) g (map (option_map (λ k. k.edges)) ks)
 edges-flow m d g ks = flow-of (λ k. k.edges) (λ s. IsTrue (are_ascending s)) m d g ks (known-edges m d)
 
 -- as many functions as lists
@@ -125,7 +126,8 @@ pub graph-at : (m : Module) (f : ℕ) (d d' : FunctionDefinition) (g : Cfg) → 
 graph-at m f d d' g e e' fg = subst (λ (z : FunctionDefinition). IsGraph g (length z.code)) (same_Some d d' (sym e ∙ e')) fg.graph
 
 -- the flows of the function at a place
-pub locals-flow-at : (m m' : Module) (f : ℕ) (d d' : FunctionDefinition) (g : Cfg) (ks : Stated) (all : List (Option (List Availability))) → m' ≡ m → slice_get m.functions f ≡ Some d → slice_get m.functions f ≡ Some d'
+pub locals-flow-at : (m m' : Module) (f : ℕ) (d d' : FunctionDefinition) (g : Cfg) (ks : Stated) (all : List (Option (List Availability))) → m' ≡ m → slice_get m.functions f ≡ Some d
+    → slice_get m.functions f ≡ Some d'
     → IsFlowGraph d.code g → FitsAt m f ks → all ≡ map (option_map (λ k. k.locals)) ks → IsFlow (IsOfLocals m' d') g all
 locals-flow-at m m' f d d' g ks all em e e' fg fits is =
     subst (λ z. IsFlow (IsOfLocals z d') g all) (sym em) (subst (λ z. IsFlow (IsOfLocals m z) g all) (same_Some d d' (sym e ∙ e'))

@@ -129,7 +129,8 @@ module _ (m : Module) (d : FunctionDefinition) (few : length m.structs ≤ 65536
   any_all (x ∷ xs) = any_all xs
 
   -- a state, by its parts
-  known-read : (bytes more rest : List ℕ) (k : Known) (tokens : List Token) → local_tokens m d ≡ Some tokens → entries_from availability_from (length tokens) bytes ≡ Some (k.locals, more) → edges_from m d more ≡ Some (k.edges, rest)
+  known-read : (bytes more rest : List ℕ) (k : Known) (tokens : List Token) → local_tokens m d ≡ Some tokens → entries_from availability_from (length tokens) bytes ≡ Some (k.locals, more)
+      → edges_from m d more ≡ Some (k.edges, rest)
       → known_from m d bytes ≡ Some (k, rest)
   known-read bytes more rest k tokens there locals edges =
       bind_is (local_tokens m d) _ tokens there
@@ -168,7 +169,8 @@ module _ (m : Module) (d : FunctionDefinition) (few : length m.structs ≤ 65536
       ∙ bind_is (stated_from m d (map is_some ks) more) (λ others. Some (k ∷ others.0, others.1)) (ks, rest) (stated-whole rest ks p.1)
 
 -- two tests that pass alike
-pub same_marks : {A B : Type 0} (f : A → Bool) (h : B → Bool) (xs : List A) (ys : List B) → length xs ≡ length ys → ((i : ℕ) (x : A) (y : B) → slice_get xs i ≡ Some x → slice_get ys i ≡ Some y → f x ≡ h y) → map f xs ≡ map h ys
+pub same_marks : {A B : Type 0} (f : A → Bool) (h : B → Bool) (xs : List A) (ys : List B) → length xs ≡ length ys
+    → ((i : ℕ) (x : A) (y : B) → slice_get xs i ≡ Some x → slice_get ys i ≡ Some y → f x ≡ h y) → map f xs ≡ map h ys
 same_marks f h [] [] long each = refl
 same_marks f h [] (y ∷ ys) long each = absurd (omega arith)
 same_marks f h (x ∷ xs) [] long each = absurd (omega arith)

@@ -1,5 +1,5 @@
 -- Certificates, and when one holds of a module.
-use Rattle.std.specs.Prelude.{is_some, List, Bool, ◌&&◌, Option, Some, ◌+◌, ◌-◌, [], ◌++◌, length, replicate, ◌∷◌, slice_range, ℕ, ◌==◌, find, option_and_then, false, true, zip, map, option_map}
+use Rattle.std.specs.Prelude.{List, Bool, ◌&&◌, Option, Some, ◌+◌, ◌-◌, [], ◌++◌, length, replicate, ◌∷◌, slice_range, ℕ, ◌==◌, find, option_and_then, false, true, zip, map, option_map}
 use Rattle.std.specs.Option.{option_map_or}
 use Rattle.std.specs.List.{list_all}
 use Rattle.mv_move_types.specs.declared.borrow.Availability.{Availability}

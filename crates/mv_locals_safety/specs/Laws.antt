@@ -15,7 +15,7 @@ use Rattle.mv_type_states.specs.TypesHold.{Point}
 use Rattle.mv_lattice.specs.Laws.{IsLawful}
 use Rattle.mv_locals_safety.specs.LocalsRules.{availability_leq, locals_leq, locals_after, is_available, needs_available, may_overwrite, may_leave}
 use Rattle.mv_locals_safety.specs.Domain.{IsOfLocals, locals_step, point_in}
-use Rattle.mv_locals_safety.specs.Rising.{step_below}
+use Rattle.mv_locals_safety.specs.Rising.{step_below, reflexive_one}
 
 -- what comes of two steps comes of the second
 bind_parts : {A B : Type 0} (o : Option A) (f : A → Option B) (y : B) {P : Type 0} → (o >>= f) ≡ Some y → ((x : A) → o ≡ Some x → f x ≡ Some y → P) → P
@@ -48,11 +48,6 @@ locals_after_keeps p (ImmBorrowLoc l) a b e = needed_keeps l a b e
 locals_after_keeps p Ret a b e = bind_parts (local_tokens p.home p.function) (λ ts. then_some (may_leave p ts a) a) b e (λ ts _ h. then_some_at (may_leave p ts a) a b (length a) length refl h)
 locals_after_keeps p _ a b e = let same : a ≡ b = cc in ap length (sym same)
 
-reflexive_one : (x : Availability) → availability_leq x x ≡ true
-reflexive_one Unavailable = refl
-reflexive_one Available = refl
-reflexive_one Maybe = refl
-
 transitive_one : (x y z : Availability) → availability_leq x y ≡ true → availability_leq y z ≡ true → availability_leq x z ≡ true
 transitive_one x y Maybe p q = refl
 transitive_one x Unavailable Unavailable p q = p
@@ -62,7 +57,7 @@ transitive_one x Available Unavailable p q = cc
 transitive_one x Maybe Unavailable p q = cc
 transitive_one x Maybe Available p q = cc
 
-leq_reflexive : (a : List Availability) → locals_leq a a ≡ true
+pub leq_reflexive : (a : List Availability) → locals_leq a a ≡ true
 leq_reflexive [] = refl
 leq_reflexive (x ∷ a) = rw (reflexive_one x) (leq_reflexive a)
 

@@ -75,7 +75,7 @@ below_at (x ∷ a) [] l y h e = absurd (none-some y e)
 below_at (x ∷ a) (z ∷ b) zero y h e = (x, (refl, subst (λ s. availability_leq x s ≡ true) (same_Some z y e) (and_parts (availability_leq x z) (locals_leq a b) h).0))
 below_at (x ∷ a) (z ∷ b) (suc l) y h e = below_at a b l y (and_parts (availability_leq x z) (locals_leq a b) h).1 e
 
-reflexive_one : (x : Availability) → availability_leq x x ≡ true
+pub reflexive_one : (x : Availability) → availability_leq x x ≡ true
 reflexive_one Unavailable = refl
 reflexive_one Available = refl
 reflexive_one Maybe = refl

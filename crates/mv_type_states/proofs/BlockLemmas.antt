@@ -166,7 +166,8 @@ module _ (m : Module) (d : FunctionDefinition) where
       (subst (λ (ts : List Token). IsSome (height_through m d (slice_range d.code b.first (b.last + 1)) (length (reverse ts)))) (sym empty) here)
 
   -- where the next block is refused, so is the function
-  pub block_refused : (g : Cfg) (bs : List Block) (k : ℕ) (b : Block) (code : List Instruction) (stack : List Token) (new : Types) (whole : Bool) (e : Refusal) → k < length bs → b ≡ get_or bs k b → code ≡ d.code → stack ≡ []
+  pub block_refused : (g : Cfg) (bs : List Block) (k : ℕ) (b : Block) (code : List Instruction) (stack : List Token) (new : Types) (whole : Bool) (e : Refusal) → k < length bs → b ≡ get_or bs k b
+      → code ≡ d.code → stack ≡ []
       → whole ≡ list_all (block_is_typed m d) (map (basic_block_of g) (drop k bs)) → Follows (Err e) (types_through m d (slice_range code b.first (b.last + 1)) (reverse stack)) new
       → IsRefusedIn 8 (IsTrue whole) e
   block_refused g bs k b code stack new whole (Phase p) below is_b same empty is r =

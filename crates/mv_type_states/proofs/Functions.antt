@@ -11,6 +11,7 @@ use Rattle.mv_abilities.specs.Abilities.{AbilitiesHold}
 use Rattle.mv_cfg.specs.declared.Cfg.{Cfg}
 use Rattle.mv_cfg.specs.Blocks.{ends_well, FlowHolds}
 use Rattle.mv_cfg.specs.FlowGraph.{IsFlowGraph}
+use Rattle.mv_cfg.proofs.Tables.{slice_get-push}
 use Rattle.mv_type_states.specs.TypesHold.{function_is_typed, TypesHold}
 use Rattle.mv_type_states.specs.Graphs.{AreGraphs}
 use Rattle.mv_type_states.specs.TypeRules.{Types}
@@ -28,18 +29,11 @@ slice_get-there [] i h = absurd (omega arith)
 slice_get-there (x ∷ xs) zero h = (x, refl)
 slice_get-there (x ∷ xs) (suc i) h = slice_get-there xs i (omega arith)
 
--- the last of a list with one more
-slice_get-push : {A : Type 0} (xs : List A) (y : A) (k : ℕ) (z : A) → slice_get (xs ++ y ∷ []) k ≡ Some z → (slice_get xs k ≡ Some z) ⊎ ((k ≡ length xs) × (z ≡ y))
-slice_get-push [] y zero z e = inr (refl, cc)
-slice_get-push [] y (suc k) z e = cc
-slice_get-push (x ∷ xs) y zero z e = inl e
-slice_get-push (x ∷ xs) y (suc k) z e =
-    ⊎_elim (λ h. inl h) (λ h. inr (omega (arith, h.0), h.1)) (slice_get-push xs y k z e)
-
 pub AreGraphs-start : (fs : List FunctionDefinition) → AreGraphs fs 0 []
 AreGraphs-start fs = record { entries = refl; each = λ f d g at h. cc }
 
-pub AreGraphs-push : (fs : List FunctionDefinition) (n : ℕ) (gs : List Cfg) (g : Cfg) → AreGraphs fs n gs → n < length fs → IfSome (slice_get fs n) (λ d. IsFlowGraph d.code g) → AreGraphs fs (n + 1) (gs ++ g ∷ [])
+pub AreGraphs-push : (fs : List FunctionDefinition) (n : ℕ) (gs : List Cfg) (g : Cfg) → AreGraphs fs n gs → n < length fs → IfSome (slice_get fs n) (λ d. IsFlowGraph d.code g)
+    → AreGraphs fs (n + 1) (gs ++ g ∷ [])
 AreGraphs-push fs n gs g p there new = record {
   entries = let size = p.entries in omega (arith, length-append {A = Cfg});
   each = λ f d h at there. ⊎_elim
@@ -81,7 +75,8 @@ flow_refused m f e there r =
     (MatchOption-at_some _ (λ (x : FunctionDefinition). IsRefusedIn 7 (IsTrue (ends_well x.code)) e) d.0 d.1 r)
 
 -- the same in phase 8
-pub types_refused : (m : Module) (f : ℕ) (e : Refusal) → f < length m.functions → IfSome (slice_get m.functions f) (λ d. IsRefusedIn 8 (IsTrue (function_is_typed m d)) e) → IsRefusedIn 8 (TypesHold m) e
+pub types_refused : (m : Module) (f : ℕ) (e : Refusal) → f < length m.functions → IfSome (slice_get m.functions f) (λ d. IsRefusedIn 8 (IsTrue (function_is_typed m d)) e)
+    → IsRefusedIn 8 (TypesHold m) e
 types_refused m f e there r =
     let d = slice_get-there m.functions f there in
     refused-wider 8 (IsTrue (function_is_typed m d.0)) (TypesHold m) e (typed-from_TypesHold m f d.0 d.1)
@@ -123,7 +118,8 @@ types_listed m n all old below here is =
     ∙ sym (map-append (types_before m) (take n m.functions) (d.0 ∷ [])) ∙ ap (map (types_before m)) (sym more)
 
 -- what is listed of a function, where it is listed of all
-pub listed_at : {A B : Type 0} (v : A → B) (h : FunctionDefinition → B) (fs : List FunctionDefinition) (f : ℕ) (x : A) (xs : List A) → map v xs ≡ map h fs → f < length fs → x ≡ get_or xs f x → IfSome (slice_get fs f) (λ d. v x ≡ h d)
+pub listed_at : {A B : Type 0} (v : A → B) (h : FunctionDefinition → B) (fs : List FunctionDefinition) (f : ℕ) (x : A) (xs : List A) → map v xs ≡ map h fs → f < length fs → x ≡ get_or xs f x
+    → IfSome (slice_get fs f) (λ d. v x ≡ h d)
 listed_at v h fs f x xs is below at =
     let d = slice_get-there fs f below in
     let within : f < length xs = omega (arith, ap length is, length-map xs v, length-map fs h) in

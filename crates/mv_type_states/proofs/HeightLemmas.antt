@@ -12,7 +12,7 @@ use Rattle.mv_move_types.specs.declared.token.Token.TheVariants.{Plain, Referenc
 use Rattle.mv_move_types.specs.declared.tables.Field.{Field}
 use Rattle.mv_move_types.specs.declared.tables.FunctionHandle.{FunctionHandle}
 use Rattle.mv_move_types.specs.declared.instruction.Instruction.{Instruction}
-use Rattle.mv_move_types.specs.declared.instruction.Instruction.TheVariants.{Pop, Ret, BrTrue, BrFalse, Branch, LdU64, LdConst, LdTrue, LdFalse, CopyLoc, MoveLoc, StLoc, MutBorrowLoc, ImmBorrowLoc, MutBorrowField, ImmBorrowField, Call, Pack, Unpack, ReadRef, WriteRef, Add, Sub, Mul, Mod, Div, BitOr, BitAnd, Xor, Or, And, Not, Eq, Neq, Lt, Gt, Le, Ge, Abort, Nop, Exists, MutBorrowGlobal, ImmBorrowGlobal, MoveFrom, MoveTo, FreezeRef, Shl, Shr, LdU8, LdU128, CastU8, CastU64, CastU128, LdU16, LdU32, CastU16, CastU32}
+use Rattle.mv_move_types.specs.declared.instruction.Instruction.TheVariants.{Pop, Ret, BrTrue, BrFalse, Branch, LdU64, LdConst, LdTrue, LdFalse, CopyLoc, MoveLoc, StLoc, MutBorrowLoc, ImmBorrowLoc, MutBorrowField, ImmBorrowField, Call, Pack, Unpack, ReadRef, WriteRef, Or, And, Not, Eq, Neq, Abort, Nop, Exists, MutBorrowGlobal, ImmBorrowGlobal, MoveFrom, MoveTo, FreezeRef, Shl, Shr, LdU8, LdU128, CastU8, CastU64, CastU128, LdU16, LdU32, CastU16, CastU32}
 use Rattle.mv_move_types.specs.Tokens.{same_value_type, same_tokens}
 use Rattle.mv_move_types.specs.Options.{◌>>=◌}
 use Rattle.mv_move_types.specs.Module.{Module, StructDefinition, FunctionDefinition, local_type}
@@ -36,7 +36,7 @@ pub bind_some : {A B : Type 0} (o : Option A) (f : A → Option B) (y : B) → (
 bind_some None f y e = absurd (none-some y e)
 bind_some (Some x) f y e = (x, (refl, e))
 
-provided_true : (b : Bool) (s t : Types) → provided b s ≡ Some t → (b ≡ true) × (s ≡ t)
+pub provided_true : (b : Bool) (s t : Types) → provided b s ≡ Some t → (b ≡ true) × (s ≡ t)
 provided_true true s t e = (refl, same_Some s t e)
 provided_true false s t e = absurd (none-some t e)
 
@@ -46,7 +46,7 @@ pushed x s t e = let same = ap length (same_Some (x ∷ s) t e) in (omega arith,
 unchanged : (s t : Types) → Some s ≡ Some t → Changes 0 0 s t
 unchanged s t e = let same = ap length (same_Some s t e) in (omega arith, omega (arith, same))
 
-top_some : (s : Types) (top : Token × Types) → top_type s ≡ Some top → s ≡ top.0 ∷ top.1
+pub top_some : (s : Types) (top : Token × Types) → top_type s ≡ Some top → s ≡ top.0 ∷ top.1
 top_some [] top e = absurd (none-some top e)
 top_some (x ∷ s) top e = let same = same_Some (x, s) top e in ap (λ (p : Token × Types). p.0 ∷ p.1) same
 
@@ -103,11 +103,13 @@ cast_changes w s t e =
     let top = bind_some (top_type s) _ t e in
     let old = bind_some (width_of top.0.0) _ t top.1.1 in replaced s top.0 (number w) t top.1.0 old.1.1
 
-return_effect_is : (m : Module) (d : FunctionDefinition) (handle : FunctionHandle) (results : List Token) → slice_get m.function_handles d.handle ≡ Some handle → slice_get m.signatures handle.results ≡ Some results
+return_effect_is : (m : Module) (d : FunctionDefinition) (handle : FunctionHandle) (results : List Token) → slice_get m.function_handles d.handle ≡ Some handle
+    → slice_get m.signatures handle.results ≡ Some results
     → return_effect m d ≡ effect (length results) 0
 return_effect_is m d handle results named there = rw (named, there) refl
 
-call_effect_is : (m : Module) (i : ℕ) (handle : FunctionHandle) (parameters results : List Token) → slice_get m.function_handles i ≡ Some handle → slice_get m.signatures handle.parameters ≡ Some parameters
+call_effect_is : (m : Module) (i : ℕ) (handle : FunctionHandle) (parameters results : List Token) → slice_get m.function_handles i ≡ Some handle
+    → slice_get m.signatures handle.parameters ≡ Some parameters
     → slice_get m.signatures handle.results ≡ Some results → call_effect m i ≡ effect (length parameters) (length results)
 call_effect_is m i handle parameters results named taking giving = rw (named, taking, giving) refl
 
@@ -264,23 +266,11 @@ has_effect m d (Pack x) s t e = pack_changes m d x s t e
 has_effect m d (Unpack x) s t e = unpack_changes m d x s t e
 has_effect m d ReadRef s t e = has m d ReadRef s t 1 1 refl (read_changes m s t e)
 has_effect m d WriteRef s t e = has m d WriteRef s t 2 0 refl (write_changes m s t e)
-has_effect m d Add s t e = has m d Add s t 2 1 refl (two_numbers_change number s t e)
-has_effect m d Sub s t e = has m d Sub s t 2 1 refl (two_numbers_change number s t e)
-has_effect m d Mul s t e = has m d Mul s t 2 1 refl (two_numbers_change number s t e)
-has_effect m d Mod s t e = has m d Mod s t 2 1 refl (two_numbers_change number s t e)
-has_effect m d Div s t e = has m d Div s t 2 1 refl (two_numbers_change number s t e)
-has_effect m d BitOr s t e = has m d BitOr s t 2 1 refl (two_numbers_change number s t e)
-has_effect m d BitAnd s t e = has m d BitAnd s t 2 1 refl (two_numbers_change number s t e)
-has_effect m d Xor s t e = has m d Xor s t 2 1 refl (two_numbers_change number s t e)
 has_effect m d Or s t e = has m d Or s t 2 1 refl (exchanged (boolean ∷ boolean ∷ []) (boolean ∷ []) s t e)
 has_effect m d And s t e = has m d And s t 2 1 refl (exchanged (boolean ∷ boolean ∷ []) (boolean ∷ []) s t e)
 has_effect m d Not s t e = has m d Not s t 1 1 refl (exchanged (boolean ∷ []) (boolean ∷ []) s t e)
 has_effect m d Eq s t e = has m d Eq s t 2 1 refl (equality_changes m s t e)
 has_effect m d Neq s t e = has m d Neq s t 2 1 refl (equality_changes m s t e)
-has_effect m d Lt s t e = has m d Lt s t 2 1 refl (two_numbers_change _ s t e)
-has_effect m d Gt s t e = has m d Gt s t 2 1 refl (two_numbers_change _ s t e)
-has_effect m d Le s t e = has m d Le s t 2 1 refl (two_numbers_change _ s t e)
-has_effect m d Ge s t e = has m d Ge s t 2 1 refl (two_numbers_change _ s t e)
 has_effect m d Abort s t e = has m d Abort s t 1 0 refl (taken_changes (number U64 ∷ []) s t e)
 has_effect m d Nop s t e = has m d Nop s t 0 0 refl (unchanged s t e)
 has_effect m d (Exists x) s t e = has m d (Exists x) s t 1 1 refl (global_changes _ m x s t e)
@@ -300,3 +290,5 @@ has_effect m d (LdU16 n) s t e = has m d (LdU16 n) s t 0 1 refl (pushed _ s t e)
 has_effect m d (LdU32 n) s t e = has m d (LdU32 n) s t 0 1 refl (pushed _ s t e)
 has_effect m d CastU16 s t e = has m d CastU16 s t 1 1 refl (cast_changes _ s t e)
 has_effect m d CastU32 s t e = has m d CastU32 s t 1 1 refl (cast_changes _ s t e)
+-- an operator on two numbers of one width, or a comparison of them
+has_effect m d i s t e = has m d i s t 2 1 refl (two_numbers_change _ s t e)

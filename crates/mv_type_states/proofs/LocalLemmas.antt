@@ -1,12 +1,13 @@
 -- A function's locals are its parameters and the others.
-use Rattle.std.proofs.Common.{◌≡◌, ℕ, List, ◌++◌, Option, Some, None, slice_get, IfSome, sym, ap, ◌∙◌}
+use Rattle.std.proofs.Common.{◌≡◌, ℕ, List, ◌++◌, Option, Some, slice_get, IfSome, sym, ap, ◌∙◌}
 use Rattle.std.proofs.lemmas.Option.{MatchOption-at_some}
 use Rattle.mv_move_types.specs.declared.token.Token.{Token}
 use Rattle.mv_move_types.specs.Options.{◌>>=◌}
 use Rattle.mv_move_types.specs.Module.{Module, FunctionDefinition, parameter_tokens, local_tokens, local_type}
 use Rattle.mv_bounds.proofs.FunctionLemmas.{tokens_are}
 
-pub local_tokens-are : (m : Module) (f : ℕ) (d : FunctionDefinition) (parameters others : List Token) → slice_get m.functions f ≡ Some d → IfSome (slice_get m.functions f) (λ d. parameter_tokens m d ≡ Some parameters)
+pub local_tokens-are : (m : Module) (f : ℕ) (d : FunctionDefinition) (parameters others : List Token) → slice_get m.functions f ≡ Some d
+    → IfSome (slice_get m.functions f) (λ d. parameter_tokens m d ≡ Some parameters)
     → IfSome (slice_get m.functions f) (λ d. slice_get m.signatures d.locals ≡ Some others) → local_tokens m d ≡ Some (parameters ++ others)
 local_tokens-are m f d parameters others at known rest =
     tokens_are m d parameters others (MatchOption-at_some _ (λ (x : FunctionDefinition). parameter_tokens m x ≡ Some parameters) d at known)

@@ -2,7 +2,7 @@
 --   Follows answer after new   the types after are the new ones, or it is refused in phase 8 where there are none
 --   Finds answer found         what is found, or it is refused in phase 8 where there is none
 --   TakesTop answer old new    the topmost of the old types, and the new ones are those below it
-use Rattle.std.specs.Prelude.{◌≡◌, List, [], ◌∷◌, Option, Some, None, Result, Ok, Err, ⊤}
+use Rattle.std.specs.Prelude.{◌≡◌, [], ◌∷◌, Option, Some, None, Result, Ok, Err, ⊤}
 use Rattle.mv_move_types.specs.declared.refusal.Refusal.{Refusal}
 use Rattle.mv_move_types.specs.declared.refusal.Refusal.TheVariants.{Phase, Memory}
 use Rattle.mv_move_types.specs.declared.token.Token.{Token}

@@ -1,5 +1,5 @@
 -- The types on a stack before each of many instructions, in one list.
-use Rattle.std.specs.Prelude.{◌≡◌, ℕ, ◌≤◌, List, length, map, reverse, slice_range, All}
+use Rattle.std.specs.Prelude.{ℕ, ◌≤◌, List, map, reverse, slice_range}
 use Rattle.mv_move_types.specs.declared.token.Token.{Token}
 use Rattle.mv_type_states.specs.declared.stack_types.Part.{Part}
 use Rattle.mv_type_states.specs.TypeRules.{Types}

@@ -1,4 +1,4 @@
-use Rattle.std.proofs.Common.{◌≡◌, ◌↔◌, ◌∙◌, ap, length, IsTrue}
+use Rattle.std.proofs.Common.{◌∙◌, ap}
 use Rattle.mv_lattice.specs.Flow.{states_of}
 use Rattle.mv_certificate.proofs.States.{graph-at, locals-flow-at}
 use Rattle.mv_certificate.proofs.Holds.{locals_exact_at, refused_flow}

@@ -1,31 +1,28 @@
 -- A call: the arguments' edges go, and the results lead from where the arguments did.
--- It stands in specs/, since a trait's laws may cite nothing of their own crate but its specs/.
-use Rattle.std.proofs.Common.{◌≡◌, ◌==◌, ℕ, zero, suc, ◌+◌, ◌-◌, ◌<◌, ◌≤◌, Bool, true, false, cond, not, ◌&&◌, List, [], ◌∷◌, ◌++◌, length, map, filter, flat_map, fold, reverse, slice_get, Option, Some, None, refl, sym, ap, ◌∙◌, subst, arith, true≢false, ⊎_elim, inl, inr, ◌⊎◌, Contains, eqb}
-use Rattle.std.specs.Prelude.{nat_lt, if◌then◌else◌}
+use Rattle.std.proofs.Common.{◌≡◌, ℕ, zero, suc, ◌+◌, ◌-◌, Bool, true, false, not, ◌&&◌, List, [], ◌∷◌, ◌++◌, length, filter, reverse, slice_get, refl, sym, ap, ◌∙◌, subst, arith, true≢false, ⊎_elim, inl, inr, Contains}
+use Rattle.std.specs.Prelude.{if◌then◌else◌}
 use Rattle.std.specs.List.{list_all, list_any}
 use Rattle.std.specs.Option.{option_map_or}
-use Rattle.std.proofs.lemmas.Bool.{and_parts, and_from, false≢true, ltb-true}
+use Rattle.std.proofs.lemmas.Bool.{and_parts, and_from, false≢true}
 use Rattle.std.proofs.lemmas.List.{reverse-reverse, length-reverse, length-append}
 use Rattle.std.proofs.lemmas.List.Elements.{Contains-append_left, Contains-append_right}
-use Rattle.std.proofs.lemmas.Option.{none-some, same_Some}
 use Rattle.mv_move_types.specs.declared.borrow.Node.{Node}
 use Rattle.mv_move_types.specs.declared.borrow.Node.TheVariants.{Slot, Own, Glob, Temp}
-use Rattle.mv_move_types.specs.declared.token.ValueType.{ValueType}
 use Rattle.mv_move_types.specs.declared.token.Token.{Token}
 use Rattle.mv_move_types.specs.declared.token.Token.TheVariants.{Plain, Reference, MutableReference}
 use Rattle.mv_move_types.specs.Module.{Module, FunctionDefinition}
 use Rattle.mv_type_states.specs.TypeRules.{Types}
 use Rattle.mv_type_states.specs.TypesHold.{Point}
-use Rattle.mv_edges.specs.Edges.{Label, Edge, same_node, opened, inherited, without, out_of}
+use Rattle.mv_edges.specs.Edges.{Edge, same_node, opened, inherited, without}
 use Rattle.mv_edges.proofs.Insertion.{contains_here, contains_cases, all_contains, all_from_contains, all_filter}
 use Rattle.mv_edges.proofs.Order.{list_any_from}
 use Rattle.mv_edges.proofs.Sorting.{any_passes}
 use Rattle.mv_borrow_graph.specs.BorrowRules.{is_mutable_token, is_reference_token, no_edge_out, reference_nodes, without_all, opened_edges, result_edges}
 use Rattle.mv_borrow_graph.specs.Domain.{point_at}
 use Rattle.mv_borrow_graph.specs.Nodes.{has_place, leads_out, leads_in, edge_is_there, are_there}
-use Rattle.mv_borrow_graph.specs.Places.{is_under, has_over, under_apart, out_stays, either_place}
-use Rattle.mv_borrow_graph.specs.Shifts.{Shift}
-use Rattle.mv_borrow_graph.specs.There.{IsThere, not_true, same_is, node_itself, there_parts, there_from, is_small, each_filter, each_append, each_inherited, each_flat, neither, edge_stays}
+use Rattle.mv_borrow_graph.specs.Laws.Places.{is_under, has_over, under_apart, out_stays, either_place}
+use Rattle.mv_borrow_graph.specs.Laws.Shifts.{Shift}
+use Rattle.mv_borrow_graph.specs.Laws.There.{node_itself, there_parts, there_from, each_filter, each_append, each_inherited, each_flat, neither, edge_stays}
 
 -- a parameter that passes the test has its node among those that do
 named : (test : Token → Bool) (k : ℕ) (ts : List Token) (j : ℕ) → option_map_or test (slice_get ts j) false ≡ true → Contains (reference_nodes test k ts) (Temp (k + j))
@@ -181,7 +178,8 @@ module _ (m : Module) (d : FunctionDefinition) (params results rest : Types) whe
         (subst (λ k. are_there after (result_edges mutable all k results es) ≡ true) first (results_there 0 results result_place mutable all))
 
 -- after a call each edge leads between nodes that are there
-pub call_row : (m : Module) (d : FunctionDefinition) (params results : List Token) (s t : Types) → Shift s t (reverse params) (reverse results) → (base : ℕ) → base ≡ length s - length params → (es : List Edge)
+pub call_row : (m : Module) (d : FunctionDefinition) (params results : List Token) (s t : Types) → Shift s t (reverse params) (reverse results) → (base : ℕ) → base ≡ length s - length params
+    → (es : List Edge)
     → list_all (λ n. no_edge_out n es) (reference_nodes is_mutable_token base params) ≡ true → are_there (point_at m d s) es ≡ true
     → are_there (point_at m d t) (without_all (reference_nodes is_reference_token base params) es ++ result_edges (reference_nodes is_mutable_token base params) (reference_nodes is_reference_token base params) base results es) ≡ true
 call_row m d params results s t h base is es needed there =

@@ -1,15 +1,12 @@
 -- What an instruction exchanges on the stack, by its rule for types.
--- It stands in specs/, since a trait's laws may cite nothing of their own crate but its specs/.
-use Rattle.std.proofs.Common.{◌≡◌, ℕ, ◌+◌, ◌≤◌, Bool, true, false, not, ◌&&◌, List, [], ◌∷◌, ◌++◌, length, map, reverse, take, drop, slice_get, Option, Some, None, refl, sym, ap, ◌∙◌, subst, arith}
+use Rattle.std.proofs.Common.{◌≡◌, ℕ, Bool, true, false, not, List, [], ◌∷◌, ◌++◌, length, map, reverse, take, drop, slice_get, Option, Some, None, refl, sym, ap, ◌∙◌}
 use Rattle.std.specs.List.{list_all}
-use Rattle.std.proofs.lemmas.Bool.{false≢true}
 use Rattle.std.proofs.lemmas.List.{take-append-drop}
 use Rattle.std.proofs.lemmas.List.Folds.{list_all-map}
 use Rattle.std.proofs.lemmas.Option.{none-some, same_Some}
 use Rattle.mv_move_types.specs.declared.token.Width.{Width}
-use Rattle.mv_move_types.specs.declared.token.Width.TheVariants.{U8, U16, U32, U64, U128}
-use Rattle.mv_move_types.specs.declared.token.LeafKind.{LeafKind}
-use Rattle.mv_move_types.specs.declared.token.LeafKind.TheVariants.{Boolean, Number, Address, Signer}
+use Rattle.mv_move_types.specs.declared.token.Width.TheVariants.{U8}
+use Rattle.mv_move_types.specs.declared.token.LeafKind.TheVariants.{Signer}
 use Rattle.mv_move_types.specs.declared.token.ValueType.{ValueType}
 use Rattle.mv_move_types.specs.declared.token.ValueType.TheVariants.{OfLeaf, OfStruct}
 use Rattle.mv_move_types.specs.declared.token.Token.{Token}
@@ -19,27 +16,16 @@ use Rattle.mv_move_types.specs.Tokens.{same_value_type, same_tokens}
 use Rattle.mv_move_types.specs.Options.{◌>>=◌}
 use Rattle.mv_move_types.specs.Module.{Module, StructDefinition, FunctionDefinition, local_type}
 use Rattle.mv_abilities.specs.Abilities.{value_type_abilities, token_abilities}
-use Rattle.mv_type_states.specs.TypeRules.{Types, provided, top_type, taken, takes_gives, boolean, number, address, width_of, plain_of, target_of, mutable_target_of, top_width, of_two_numbers, of_shift, of_cast, of_equality, of_pop, of_copy, of_borrow_local, keyed_type, field_types, of_mutable_field, of_immutable_field, of_call, of_pack, of_unpack, of_read, of_write, of_freeze, of_constant, of_global, of_move_to}
+use Rattle.mv_type_states.specs.TypeRules.{Types, provided, top_type, taken, takes_gives, boolean, number, address, width_of, plain_of, target_of, mutable_target_of, top_width, of_two_numbers, of_shift, of_cast, of_equality, of_pop, of_copy, of_borrow_local, keyed_type, field_types, of_mutable_field, of_immutable_field, of_pack, of_unpack, of_read, of_write, of_freeze, of_constant, of_global, of_move_to}
 use Rattle.mv_type_states.proofs.Tokens.{lists_equal}
-use Rattle.mv_borrow_graph.specs.BorrowRules.{is_reference_token, is_mutable_token}
-use Rattle.mv_borrow_graph.specs.Places.{all_reverse, read_all}
+use Rattle.mv_type_states.proofs.HeightLemmas.{bind_some, provided_true, top_some}
+use Rattle.mv_bounds.proofs.FunctionLemmas.{all_at}
+use Rattle.mv_borrow_graph.specs.BorrowRules.{is_reference_token}
+use Rattle.mv_borrow_graph.specs.Laws.Places.{all_reverse}
 
 -- whether a type is no reference
 abbrev pub is_plain : Token → Bool
 is_plain t = not (is_reference_token t)
-
--- what goes on with a value has one
-pub found : {A B : Type 0} (o : Option A) (f : A → Option B) (y : B) → (o >>= f) ≡ Some y → (x : A) × ((o ≡ Some x) × (f x ≡ Some y))
-found None f y e = absurd (none-some y e)
-found (Some x) f y e = (x, (refl, e))
-
-provided_true : (b : Bool) (s t : Types) → provided b s ≡ Some t → (b ≡ true) × (s ≡ t)
-provided_true true s t e = (refl, same_Some s t e)
-provided_true false s t e = absurd (none-some t e)
-
-pub top_some : (s : Types) (top : Token × Types) → top_type s ≡ Some top → s ≡ top.0 ∷ top.1
-top_some [] top e = absurd (none-some top e)
-top_some (x ∷ s) top e = let same = same_Some (x, s) top e in ap (λ (p : Token × Types). p.0 ∷ p.1) same
 
 -- what is taken stands on top
 pub taken_is : (ws : List Token) (s t : Types) → taken ws s ≡ Some t → s ≡ reverse ws ++ t
@@ -56,7 +42,7 @@ pub record Shift (s t taken given : Types) : Type 0 where
 
 pub exchanged : (ws gs : List Token) (s t : Types) → takes_gives ws gs s ≡ Some t → Shift s t (reverse ws) (reverse gs)
 exchanged ws gs s t e =
-    let below = found (taken ws s) _ t e in
+    let below = bind_some (taken ws s) _ t e in
     record { rest = below.0; before = taken_is ws s below.0 below.1.0; after = sym (same_Some (reverse gs ++ below.0) t below.1.1) }
 
 pub pushed : (x : Token) (s t : Types) → Some (x ∷ s) ≡ Some t → Shift s t [] (x ∷ [])
@@ -93,11 +79,11 @@ unchanged s t e = plainly s t [] [] (record { rest = s; before = refl; after = s
 
 -- numbers
 pub constant_shift : (m : Module) (i : ℕ) (s t : Types) → of_constant m i s ≡ Some t → PlainShift s t
-constant_shift m i s t e = let h = found (slice_get m.constants i) _ t e in plain_pushed h.0.token s t h.1.1
+constant_shift m i s t e = let h = bind_some (slice_get m.constants i) _ t e in plain_pushed h.0.token s t h.1.1
 
 pub two_numbers_shift : (given : Width → Token) (s t : Types) → of_two_numbers given s ≡ Some t → PlainShift s t
 two_numbers_shift given s t e =
-    let h = found (top_width s) _ t e in plain_exchanged (number h.0 ∷ number h.0 ∷ []) (given h.0 ∷ []) s t refl h.1.1
+    let h = bind_some (top_width s) _ t e in plain_exchanged (number h.0 ∷ number h.0 ∷ []) (given h.0 ∷ []) s t refl h.1.1
 
 plain_is : (t : Token) (v : ValueType) → plain_of t ≡ Some v → t ≡ Plain v
 plain_is (Plain x) v e = ap Plain (same_Some x v e)
@@ -109,10 +95,10 @@ plain_type t v e = ap is_plain (plain_is t v e)
 
 pub equality_shift : (m : Module) (s t : Types) → of_equality m s ≡ Some t → PlainShift s t
 equality_shift m s t e =
-    let top = found (top_type s) _ t e in
-    let plain = found (plain_of top.0.0) _ t top.1.1 in
-    let a = found (token_abilities m top.0.0) _ t plain.1.1 in
-    let below = found (taken (top.0.0 ∷ []) top.0.1) _ t a.1.1 in
+    let top = bind_some (top_type s) _ t e in
+    let plain = bind_some (plain_of top.0.0) _ t top.1.1 in
+    let a = bind_some (token_abilities m top.0.0) _ t plain.1.1 in
+    let below = bind_some (taken (top.0.0 ∷ []) top.0.1) _ t a.1.1 in
     let last = provided_true a.0.drop (boolean ∷ below.0) t below.1.1 in
     let is_plain_top : is_plain top.0.0 ≡ true = plain_type top.0.0 plain.0 plain.1.0 in
     plainly s t (top.0.0 ∷ top.0.0 ∷ []) (boolean ∷ [])
@@ -121,8 +107,8 @@ equality_shift m s t e =
 
 pub shift_shift : (s t : Types) → of_shift s ≡ Some t → PlainShift s t
 shift_shift s t e =
-    let below = found (taken (number U8 ∷ []) s) _ t e in
-    let width = found (top_width below.0) _ t below.1.1 in
+    let below = bind_some (taken (number U8 ∷ []) s) _ t e in
+    let width = bind_some (top_width below.0) _ t below.1.1 in
     let same : below.0 ≡ t = same_Some below.0 t width.1.1 in
     plain_taken (number U8 ∷ []) s t refl (below.1.0 ∙ ap Some same)
 
@@ -133,87 +119,89 @@ number_plain (MutableReference x) w e = absurd (none-some w e)
 
 pub cast_shift : (w : Width) (s t : Types) → of_cast w s ≡ Some t → PlainShift s t
 cast_shift w s t e =
-    let top = found (top_type s) _ t e in
-    let width = found (width_of top.0.0) _ t top.1.1 in
+    let top = bind_some (top_type s) _ t e in
+    let width = bind_some (width_of top.0.0) _ t top.1.1 in
     let is : is_plain top.0.0 ≡ true = number_plain top.0.0 width.0 width.1.0 in
     plainly s t (top.0.0 ∷ []) (number w ∷ []) (replaced s top.0 (number w) t top.1.0 width.1.1) (rw is refl)
 
 -- structs
 pub pack_shift : (m : Module) (i : ℕ) (s t : Types) → list_all (λ (x : StructDefinition). list_all (λ f. is_plain f.token) x.fields) m.structs ≡ true → of_pack m i s ≡ Some t → PlainShift s t
 pack_shift m i s t plain e =
-    let d = found (slice_get m.structs i) _ t e in
-    let fields : list_all (λ (f : Field). is_plain f.token) d.0.fields ≡ true = read_all (λ (x : StructDefinition). list_all (λ f. is_plain f.token) x.fields) m.structs i d.0 plain d.1.0 in
+    let d = bind_some (slice_get m.structs i) _ t e in
+    let fields : list_all (λ (f : Field). is_plain f.token) d.0.fields ≡ true = all_at (λ (x : StructDefinition). list_all (λ f. is_plain f.token) x.fields) m.structs i d.0 plain d.1.0 in
     plain_exchanged (map (λ f. f.token) d.0.fields) (Plain (OfStruct d.0.handle) ∷ []) s t (list_all-map is_plain (λ (f : Field). f.token) d.0.fields ∙ fields) d.1.1
 
 pub unpack_shift : (m : Module) (i : ℕ) (s t : Types) → of_unpack m i s ≡ Some t → PlainShift s t
 unpack_shift m i s t e =
-    let d = found (slice_get m.structs i) _ t e in plain_exchanged (Plain (OfStruct d.0.handle) ∷ []) (map (λ f. f.token) d.0.fields) s t refl d.1.1
+    let d = bind_some (slice_get m.structs i) _ t e in plain_exchanged (Plain (OfStruct d.0.handle) ∷ []) (map (λ f. f.token) d.0.fields) s t refl d.1.1
 
 -- globals
-pub global_shift : (given : ValueType → Token) (m : Module) (i : ℕ) (s t : Types) → of_global given m i s ≡ Some t → (v : ValueType) × ((keyed_type m i ≡ Some v) × Shift s t (address ∷ []) (given v ∷ []))
-global_shift given m i s t e = let k = found (keyed_type m i) _ t e in (k.0, (k.1.0, exchanged (address ∷ []) (given k.0 ∷ []) s t k.1.1))
+pub global_shift : (given : ValueType → Token) (m : Module) (i : ℕ) (s t : Types) → of_global given m i s ≡ Some t
+    → (v : ValueType) × ((keyed_type m i ≡ Some v) × Shift s t (address ∷ []) (given v ∷ []))
+global_shift given m i s t e = let k = bind_some (keyed_type m i) _ t e in (k.0, (k.1.0, exchanged (address ∷ []) (given k.0 ∷ []) s t k.1.1))
 
 pub plain_global : (given : ValueType → Token) (m : Module) (i : ℕ) (s t : Types) → of_global given m i s ≡ Some t → PlainShift s t
 plain_global given m i s t e = let h = global_shift given m i s t e in plainly s t (address ∷ []) (given h.0 ∷ []) h.1.1 refl
 
 pub move_to_shift : (m : Module) (i : ℕ) (s t : Types) → of_move_to m i s ≡ Some t → (v : ValueType) × Shift s t (Plain v ∷ Reference (OfLeaf Signer) ∷ []) []
-move_to_shift m i s t e = let k = found (keyed_type m i) _ t e in (k.0, exchanged (Reference (OfLeaf Signer) ∷ Plain k.0 ∷ []) [] s t k.1.1)
+move_to_shift m i s t e = let k = bind_some (keyed_type m i) _ t e in (k.0, exchanged (Reference (OfLeaf Signer) ∷ Plain k.0 ∷ []) [] s t k.1.1)
 
 -- references
 pub pop_shift : (m : Module) (s t : Types) → of_pop m s ≡ Some t → (x : Token) × Shift s t (x ∷ []) []
 pop_shift m s t e =
-    let top = found (top_type s) _ t e in
-    let a = found (token_abilities m top.0.0) _ t top.1.1 in
+    let top = bind_some (top_type s) _ t e in
+    let a = bind_some (token_abilities m top.0.0) _ t top.1.1 in
     (top.0.0, popped s top.0 t top.1.0 (provided_true a.0.drop top.0.1 t a.1.1).1)
 
 pub copy_shift : (m : Module) (d : FunctionDefinition) (l : ℕ) (s t : Types) → of_copy m d l s ≡ Some t → (x : Token) × ((local_type m d l ≡ Some x) × Shift s t [] (x ∷ []))
 copy_shift m d l s t e =
-    let x = found (local_type m d l) _ t e in
-    let a = found (token_abilities m x.0) _ t x.1.1 in
+    let x = bind_some (local_type m d l) _ t e in
+    let a = bind_some (token_abilities m x.0) _ t x.1.1 in
     (x.0, (x.1.0, pushed x.0 s t (ap Some (provided_true a.0.copy (x.0 ∷ s) t a.1.1).1)))
 
 pub move_shift : (m : Module) (d : FunctionDefinition) (l : ℕ) (s t : Types) → (local_type m d l >>= λ x. Some (x ∷ s)) ≡ Some t → (x : Token) × ((local_type m d l ≡ Some x) × Shift s t [] (x ∷ []))
-move_shift m d l s t e = let x = found (local_type m d l) _ t e in (x.0, (x.1.0, pushed x.0 s t x.1.1))
+move_shift m d l s t e = let x = bind_some (local_type m d l) _ t e in (x.0, (x.1.0, pushed x.0 s t x.1.1))
 
-pub store_shift : (m : Module) (d : FunctionDefinition) (l : ℕ) (s t : Types) → (local_type m d l >>= λ x. taken (x ∷ []) s) ≡ Some t → (x : Token) × ((local_type m d l ≡ Some x) × Shift s t (x ∷ []) [])
-store_shift m d l s t e = let x = found (local_type m d l) _ t e in (x.0, (x.1.0, record { rest = t; before = taken_is (x.0 ∷ []) s t x.1.1; after = refl }))
+pub store_shift : (m : Module) (d : FunctionDefinition) (l : ℕ) (s t : Types) → (local_type m d l >>= λ x. taken (x ∷ []) s) ≡ Some t
+    → (x : Token) × ((local_type m d l ≡ Some x) × Shift s t (x ∷ []) [])
+store_shift m d l s t e = let x = bind_some (local_type m d l) _ t e in (x.0, (x.1.0, record { rest = t; before = taken_is (x.0 ∷ []) s t x.1.1; after = refl }))
 
 pub borrow_shift : (given : ValueType → Token) (m : Module) (d : FunctionDefinition) (l : ℕ) (s t : Types) → of_borrow_local given m d l s ≡ Some t
     → (x : Token) × ((local_type m d l ≡ Some x) × ((is_plain x ≡ true) × ((v : ValueType) × Shift s t [] (given v ∷ []))))
 borrow_shift given m d l s t e =
-    let x = found (local_type m d l) _ t e in
-    let v = found (plain_of x.0) _ t x.1.1 in
+    let x = bind_some (local_type m d l) _ t e in
+    let v = bind_some (plain_of x.0) _ t x.1.1 in
     (x.0, (x.1.0, (plain_type x.0 v.0 v.1.0, (v.0, pushed (given v.0) s t v.1.1))))
 
 pub mutable_field_shift : (m : Module) (i : ℕ) (s t : Types) → of_mutable_field m i s ≡ Some t
     → (v : ValueType × ValueType) × ((field_types m i ≡ Some v) × Shift s t (MutableReference v.0 ∷ []) (MutableReference v.1 ∷ []))
-mutable_field_shift m i s t e = let v = found (field_types m i) _ t e in (v.0, (v.1.0, exchanged (MutableReference v.0.0 ∷ []) (MutableReference v.0.1 ∷ []) s t v.1.1))
+mutable_field_shift m i s t e = let v = bind_some (field_types m i) _ t e in (v.0, (v.1.0, exchanged (MutableReference v.0.0 ∷ []) (MutableReference v.0.1 ∷ []) s t v.1.1))
 
 pub immutable_field_shift : (m : Module) (i : ℕ) (s t : Types) → of_immutable_field m i s ≡ Some t
     → (v : ValueType × ValueType) × ((field_types m i ≡ Some v) × ((x : Token) × Shift s t (x ∷ []) (Reference v.1 ∷ [])))
 immutable_field_shift m i s t e =
-    let v = found (field_types m i) _ t e in
-    let top = found (top_type s) _ t v.1.1 in
-    let target = found (target_of top.0.0) _ t top.1.1 in
+    let v = bind_some (field_types m i) _ t e in
+    let top = bind_some (top_type s) _ t v.1.1 in
+    let target = bind_some (target_of top.0.0) _ t top.1.1 in
     (v.0, (v.1.0, (top.0.0, replaced s top.0 (Reference v.0.1) t top.1.0 (ap Some (provided_true (same_value_type target.0 v.0.0) (Reference v.0.1 ∷ top.0.1) t target.1.1).1))))
 
 pub read_shift : (m : Module) (s t : Types) → of_read m s ≡ Some t → (x : Token) × ((v : ValueType) × Shift s t (x ∷ []) (Plain v ∷ []))
 read_shift m s t e =
-    let top = found (top_type s) _ t e in
-    let target = found (target_of top.0.0) _ t top.1.1 in
-    let a = found (value_type_abilities m target.0) _ t target.1.1 in
+    let top = bind_some (top_type s) _ t e in
+    let target = bind_some (target_of top.0.0) _ t top.1.1 in
+    let a = bind_some (value_type_abilities m target.0) _ t target.1.1 in
     (top.0.0, (target.0, replaced s top.0 (Plain target.0) t top.1.0 (ap Some (provided_true a.0.copy (Plain target.0 ∷ top.0.1) t a.1.1).1)))
 
 pub write_shift : (m : Module) (s t : Types) → of_write m s ≡ Some t → (x : Token) × ((v : ValueType) × Shift s t (x ∷ Plain v ∷ []) [])
 write_shift m s t e =
-    let top = found (top_type s) _ t e in
-    let target = found (mutable_target_of top.0.0) _ t top.1.1 in
-    let a = found (value_type_abilities m target.0) _ t target.1.1 in
-    let below = found (taken (Plain target.0 ∷ []) top.0.1) _ t a.1.1 in
+    let top = bind_some (top_type s) _ t e in
+    let target = bind_some (mutable_target_of top.0.0) _ t top.1.1 in
+    let a = bind_some (value_type_abilities m target.0) _ t target.1.1 in
+    let below = bind_some (taken (Plain target.0 ∷ []) top.0.1) _ t a.1.1 in
     (top.0.0, (target.0, record { rest = below.0; before = top_some s top.0 top.1.0 ∙ ap (λ xs. top.0.0 ∷ xs) (taken_is (Plain target.0 ∷ []) top.0.1 below.0 below.1.0); after = sym (provided_true a.0.drop below.0 t below.1.1).1 }))
 
 pub freeze_shift : (s t : Types) → of_freeze s ≡ Some t → (x : Token) × ((v : ValueType) × Shift s t (x ∷ []) (Reference v ∷ []))
 freeze_shift s t e =
-    let top = found (top_type s) _ t e in
-    let target = found (mutable_target_of top.0.0) _ t top.1.1 in
+    let top = bind_some (top_type s) _ t e in
+    let target = bind_some (mutable_target_of top.0.0) _ t top.1.1 in
     (top.0.0, (target.0, replaced s top.0 (Reference target.0) t top.1.0 target.1.1))

@@ -1,15 +1,14 @@
 -- What stands where on the stack before and after some of its types are exchanged for others.
 --   taken ++ rest       the types before, the topmost first
 --   given ++ rest       the types after
--- It stands in specs/, since a trait's laws may cite nothing of their own crate but its specs/.
-use Rattle.std.proofs.Common.{◌≡◌, ◌==◌, ℕ, zero, suc, ◌+◌, ◌-◌, ◌<◌, ◌≤◌, Bool, true, false, not, ◌&&◌, List, [], ◌∷◌, ◌++◌, length, reverse, Option, Some, None, slice_get, refl, sym, ap, ◌∙◌, subst, arith, true≢false, ⊎_elim, inl, inr, ◌⊎◌, eq-eqb}
+use Rattle.std.proofs.Common.{◌≡◌, ℕ, zero, suc, ◌+◌, ◌-◌, ◌<◌, ◌≤◌, Bool, true, false, not, List, [], ◌∷◌, ◌++◌, length, reverse, Option, Some, None, slice_get, refl, sym, ap, ◌∙◌, subst, arith, true≢false, ⊎_elim, inl, inr, ◌⊎◌, eq-eqb}
 use Rattle.std.specs.Prelude.{nat_lt}
 use Rattle.std.specs.List.{list_all}
 use Rattle.std.specs.Option.{option_map_or}
 use Rattle.std.proofs.lemmas.Bool.{and_parts, and_from, ltb-true, lt-ltb, false≢true, cases_lt, ne_eqb}
 use Rattle.std.proofs.lemmas.List.{reverse-append, length-reverse}
 use Rattle.std.proofs.lemmas.List.Folds.{list_all-append}
-use Rattle.std.proofs.lemmas.Option.{none-some, slice_get_past}
+use Rattle.std.proofs.lemmas.Option.{none-some}
 use Rattle.mv_bounds.proofs.PlaceLemmas.{slice_get-first, slice_get-second}
 use Rattle.mv_move_types.specs.declared.borrow.Node.{Node}
 use Rattle.mv_move_types.specs.declared.borrow.Node.TheVariants.{Slot, Own, Glob, Temp}
@@ -19,6 +18,7 @@ use Rattle.mv_move_types.specs.Module.{Module, FunctionDefinition}
 use Rattle.mv_type_states.specs.TypeRules.{Types}
 use Rattle.mv_type_states.specs.TypesHold.{Point}
 use Rattle.mv_edges.specs.Edges.{same_node}
+use Rattle.mv_bounds.proofs.FunctionLemmas.{all_at}
 use Rattle.mv_borrow_graph.specs.BorrowRules.{is_mutable_token, is_reference_token}
 use Rattle.mv_borrow_graph.specs.Domain.{point_at}
 use Rattle.mv_borrow_graph.specs.Nodes.{has_place, leads_out, leads_in}
@@ -43,13 +43,7 @@ there_weaker p q f (Some x) h = f x h
 pub place_weaker : (types : Types) (k : ℕ) → has_place is_mutable_token types k ≡ true → has_place is_reference_token types k ≡ true
 place_weaker types k = there_weaker is_mutable_token is_reference_token mutable_is_reference (slice_get (reverse types) k)
 
--- a test of what is read of a list
-pub read_all : {A : Type 0} (p : A → Bool) (xs : List A) (i : ℕ) (x : A) → list_all p xs ≡ true → slice_get xs i ≡ Some x → p x ≡ true
-read_all p [] i x h e = absurd (none-some x e)
-read_all p (y ∷ xs) zero x h e = let same : y ≡ x = cc in subst (λ z. p z ≡ true) same (and_parts (p y) (list_all p xs) h).0
-read_all p (y ∷ xs) (suc i) x h e = read_all p xs i x (and_parts (p y) (list_all p xs) h).1 e
-
--- the same of a list the other way round
+-- what is true of each is true of each of the list the other way round
 pub all_reverse : {A : Type 0} (p : A → Bool) (xs : List A) → list_all p xs ≡ true → list_all p (reverse xs) ≡ true
 all_reverse p [] h = refl
 all_reverse p (x ∷ xs) h =
@@ -63,7 +57,7 @@ plain_none types h k = by_read (slice_get (reverse types) k) refl
     by_read : (o : Option Token) → slice_get (reverse types) k ≡ o → option_map_or is_reference_token o false ≡ true → ⊥
     by_read None e t = false≢true t
     by_read (Some x) e t =
-        let plain = read_all (λ t. not (is_reference_token t)) (reverse types) k x (all_reverse (λ t. not (is_reference_token t)) types h) e in
+        let plain = all_at (λ t. not (is_reference_token t)) (reverse types) k x (all_reverse (λ t. not (is_reference_token t)) types h) e in
         false≢true (sym (ap not t) ∙ plain)
 
 module _ (taken rest : Types) where

@@ -1,6 +1,5 @@
 -- The types before the instructions of a block stand among those of the function.
--- It stands in specs/, since a trait's laws may cite nothing of their own crate but its specs/.
-use Rattle.std.proofs.Common.{◌≡◌, ◌==◌, ℕ, ◌+◌, ◌-◌, ◌<◌, ◌≤◌, zero, suc, Bool, true, false, cond, List, [], ◌∷◌, ◌++◌, length, flat_map, take, drop, Option, Some, None, is_some, option_map, slice_get, nat_le, IsTrue, refl, ap, sym, ◌∙◌, subst, arith, length-drop, length-take}
+use Rattle.std.proofs.Common.{◌≡◌, ◌==◌, ℕ, ◌+◌, ◌-◌, ◌≤◌, zero, suc, Bool, true, false, cond, List, [], ◌∷◌, length, flat_map, take, drop, Option, Some, None, is_some, option_map, slice_get, nat_le, IsTrue, refl, ap, sym, ◌∙◌, subst, arith, length-drop, length-take}
 use Rattle.std.specs.List.{list_all, slice_range}
 use Rattle.std.specs.Option.{option_map_or}
 use Rattle.std.proofs.lemmas.Bool.{and_parts, false≢true}
@@ -18,7 +17,7 @@ use Rattle.mv_type_states.specs.TypeRules.{Types, types_after}
 use Rattle.mv_type_states.specs.TypesHold.{types_through, block_is_typed, function_is_typed}
 use Rattle.mv_type_states.specs.Sound.{types_each, types_before}
 use Rattle.mv_type_states.proofs.BlockLemmas.{types_in}
-use Rattle.mv_type_states.proofs.Tiling.{Tiles, blocks-tile}
+use Rattle.mv_cfg.proofs.Tiling.{Tiles, blocks-tile}
 
 -- a list stands in another from a place on
 pub record Stands {A : Type 0} (xs whole : List A) (at : ℕ) : Type 0 where

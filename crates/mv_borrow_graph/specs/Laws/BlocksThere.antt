@@ -1,38 +1,36 @@
 -- A block that goes on leads from edges between nodes that are there to such edges, and so past the operands.
--- It stands in specs/, since a trait's laws may cite nothing of their own crate but its specs/.
-use Rattle.std.proofs.Common.{◌≡◌, ◌==◌, ℕ, ◌+◌, ◌-◌, ◌<◌, ◌≤◌, zero, suc, Bool, true, false, cond, List, [], ◌∷◌, length, map, Option, Some, None, option_and_then, slice_get, nat_le, IsTrue, Contains, refl, ap, sym, ◌∙◌, subst, arith, get_or, ⊎_elim}
-use Rattle.std.specs.List.{list_all, slice_range}
+use Rattle.std.proofs.Common.{◌≡◌, ◌==◌, ℕ, ◌+◌, ◌-◌, ◌<◌, ◌≤◌, suc, Bool, true, false, cond, List, [], ◌∷◌, length, map, Option, Some, None, option_and_then, slice_get, nat_le, Contains, refl, ap, sym, ◌∙◌, subst, arith, get_or, ⊎_elim}
+use Rattle.std.specs.List.{slice_range}
 use Rattle.std.specs.Option.{option_map_or}
 use Rattle.std.proofs.lemmas.Bool.{false≢true, true≢false, cases_lt, eqb-true}
 use Rattle.std.proofs.lemmas.List.{length-map}
 use Rattle.std.proofs.lemmas.Option.{none-some, same_Some, slice_get_within}
 use Rattle.mv_move_types.specs.declared.instruction.Instruction.{Instruction}
 use Rattle.mv_move_types.specs.declared.instruction.Instruction.TheVariants.{Ret}
-use Rattle.mv_move_types.specs.Options.{◌>>=◌}
 use Rattle.mv_move_types.specs.Flow.{ends_block, successors}
 use Rattle.mv_move_types.specs.Module.{Module, FunctionDefinition}
 use Rattle.mv_cfg.specs.declared.Block.{Block}
 use Rattle.mv_cfg.specs.declared.Cfg.{Cfg}
-use Rattle.mv_cfg.specs.Blocks.{BasicBlock, blocks, blocks_at, block_between, leads_to}
+use Rattle.mv_cfg.specs.Blocks.{BasicBlock, blocks, block_between, leads_to}
 use Rattle.mv_cfg.specs.Steps.{starts}
 use Rattle.mv_cfg.specs.Graph.{IsBlock}
 use Rattle.mv_cfg.specs.FlowGraph.{IsFlowGraph, basic_block_of, first_of}
 use Rattle.mv_cfg.proofs.Beginnings.{blocks_at-get, length-blocks_at}
 use Rattle.mv_cfg.proofs.Tiling.{inside-block}
 use Rattle.mv_type_states.specs.TypeRules.{Types, types_after}
-use Rattle.mv_type_states.specs.TypesHold.{Point, types_through, block_is_typed, function_is_typed}
+use Rattle.mv_type_states.specs.TypesHold.{types_through, block_is_typed}
 use Rattle.mv_type_states.specs.Sound.{types_each, types_before}
 use Rattle.mv_lattice.specs.Flow.{carried, through}
 use Rattle.mv_edges.specs.Edges.{Edge}
 use Rattle.mv_edges.specs.Sorted.{sorted}
-use Rattle.mv_borrow_graph.specs.BorrowRules.{edges_after, is_reference_token}
+use Rattle.mv_type_states.proofs.HeightLemmas.{bind_some}
+use Rattle.mv_bounds.proofs.FunctionLemmas.{all_at}
+use Rattle.mv_borrow_graph.specs.BorrowRules.{edges_after}
 use Rattle.mv_borrow_graph.specs.Domain.{point_at, ordered, edges_step}
 use Rattle.mv_borrow_graph.specs.Nodes.{edge_is_there, are_there, may_begin_with, IsGraphOf}
-use Rattle.mv_borrow_graph.specs.Places.{read_all}
-use Rattle.mv_borrow_graph.specs.Shifts.{found}
-use Rattle.mv_borrow_graph.specs.There.{each_sorted}
-use Rattle.mv_borrow_graph.specs.KeptThere.{HasPlainFields, after_there}
-use Rattle.mv_borrow_graph.specs.Standing.{Stands, Stands-head, Stands-tail, Stands-range, length-range, Stands-types, block_at}
+use Rattle.mv_borrow_graph.specs.Laws.There.{each_sorted}
+use Rattle.mv_borrow_graph.specs.Laws.KeptThere.{HasPlainFields, after_there}
+use Rattle.mv_borrow_graph.specs.Laws.Standing.{Stands, Stands-head, Stands-tail, Stands-range, length-range, Stands-types, block_at}
 
 -- none of the instructions is a return
 abbrev NoReturn : List Instruction → Type 0
@@ -53,17 +51,18 @@ module _ (m : Module) (d : FunctionDefinition) (ok : HasPlainFields m) where
       → edges_step m d at es ≡ Some fs → are_there (point_at m d s) es ≡ true → are_there (point_at m d t) fs ≡ true
   step_there at i s t es fs code known go typed e there =
       let here : ordered (edges_after (point_at m d s) i es) ≡ Some fs = rw (code, known) at e in
-      let h = found (edges_after (point_at m d s) i es) _ fs here in
+      let h = bind_some (edges_after (point_at m d s) i es) _ fs here in
       subst (λ xs. are_there (point_at m d t) xs ≡ true) (same_Some (sorted h.0) fs h.1.1)
       (each_sorted (edge_is_there (point_at m d t)) h.0 (after_there m d ok s t es h.0 there i go typed h.1.0))
 
   -- some instructions
-  walk : (is : List Instruction) (at : ℕ) (s end : Types) (es fs : List Edge) → Stands is d.code at → Stands (types_each m d is s) (types_before m d) at → NoReturn is → types_through m d is s ≡ Some end
+  walk : (is : List Instruction) (at : ℕ) (s end : Types) (es fs : List Edge) → Stands is d.code at → Stands (types_each m d is s) (types_before m d) at → NoReturn is
+      → types_through m d is s ≡ Some end
       → carried (edges_step m d) at (length is) es ≡ Some fs → are_there (point_at m d s) es ≡ true → are_there (point_at m d end) fs ≡ true
   walk [] at s end es fs code known go typed e there =
       subst (λ x. are_there (point_at m d x) fs ≡ true) (same_Some s end typed) (subst (λ xs. are_there (point_at m d s) xs ≡ true) (same_Some es fs e) there)
   walk (i ∷ is) at s end es fs code known go typed e there =
-      let next = found (types_after m d i s) _ end typed in
+      let next = bind_some (types_after m d i s) _ end typed in
       let rest = high_enough (nat_le (length next.0) 128) (types_through m d is next.0) end next.1.1 in
       let step = next_found (carried (edges_step m d) (suc at) (length is)) (edges_step m d at es) fs e in
       let others = Stands-tail s (option_map_or (types_each m d is) (types_after m d i s) []) (types_before m d) at known in
@@ -112,7 +111,8 @@ empty_end (Some []) h = refl
 empty_end (Some (t ∷ ts)) h = absurd (let no = eqb-true (length (t ∷ ts)) 0 h in omega (arith, no))
 
 -- what a block that goes on makes of edges with which a block may begin
-pub begins_again : (m : Module) (d : FunctionDefinition) (g : Cfg) (k n : ℕ) (b : Block) (es fs : List Edge) → IsGraphOf m d g → IsBlock g k b → Contains b.successors.items n → may_begin_with m d es ≡ true
+pub begins_again : (m : Module) (d : FunctionDefinition) (g : Cfg) (k n : ℕ) (b : Block) (es fs : List Edge) → IsGraphOf m d g → IsBlock g k b → Contains b.successors.items n
+    → may_begin_with m d es ≡ true
     → through (edges_step m d) b es ≡ Some fs → may_begin_with m d fs ≡ true
 begins_again m d g k n b es fs graph here next there e =
     let st : BasicBlock = basic_block_of g b in
@@ -121,6 +121,6 @@ begins_again m d g k n b es fs graph here next there e =
     let ends : b.last < length d.code = fg.graph.ends k b here in
     let is = slice_range d.code b.first (b.last + 1) in
     let size : length is ≡ b.last + 1 - b.first = length-range d.code b.first (b.last + 1) (omega arith) in
-    let typed : types_through m d is [] ≡ Some [] = empty_end (types_through m d is []) (read_all (block_is_typed m d) (blocks d.code) k st graph.typed place) in
+    let typed : types_through m d is [] ≡ Some [] = empty_end (types_through m d is []) (all_at (block_is_typed m d) (blocks d.code) k st graph.typed place) in
     walk m d (record { plain = graph.fields; few = graph.few }) is b.first [] [] es fs (Stands-range d.code b.first (b.last + 1)) (Stands-types m d k st graph.typed place) (no_return d.code g k n b fg here next) typed
     (subst (λ x. carried (edges_step m d) b.first x es ≡ Some fs) (sym size) e) there

@@ -1,28 +1,26 @@
 -- Row by row: edges between nodes that are there lead, after an instruction, between nodes that are there with the types after it.
--- It stands in specs/, since a trait's laws may cite nothing of their own crate but its specs/.
-use Rattle.std.proofs.Common.{◌≡◌, ◌==◌, ℕ, zero, suc, ◌+◌, ◌-◌, ◌<◌, ◌≤◌, Bool, true, false, cond, not, ◌&&◌, List, [], ◌∷◌, ◌++◌, length, map, filter, flat_map, fold, reverse, slice_get, Option, Some, None, refl, sym, ap, ◌∙◌, subst, arith, true≢false, ⊎_elim, inl, inr, ◌⊎◌, Contains}
+use Rattle.std.proofs.Common.{◌≡◌, ℕ, zero, suc, ◌+◌, ◌-◌, Bool, true, false, cond, not, ◌&&◌, List, [], ◌∷◌, ◌++◌, length, filter, Some, refl, sym, ap, ◌∙◌, subst, arith}
 use Rattle.std.specs.Prelude.{nat_lt, if◌then◌else◌}
 use Rattle.std.specs.List.{list_all}
 use Rattle.std.specs.Option.{option_map_or}
-use Rattle.std.proofs.lemmas.Bool.{and_parts, and_from, false≢true}
+use Rattle.std.proofs.lemmas.Bool.{and_from, false≢true}
 use Rattle.std.proofs.lemmas.List.Folds.{list_all-append}
-use Rattle.std.proofs.lemmas.Option.{none-some, same_Some}
 use Rattle.mv_move_types.specs.declared.borrow.Node.{Node}
-use Rattle.mv_move_types.specs.declared.borrow.Node.TheVariants.{Slot, Own, Glob, Temp}
+use Rattle.mv_move_types.specs.declared.borrow.Node.TheVariants.{Slot, Glob, Temp}
 use Rattle.mv_move_types.specs.declared.token.ValueType.{ValueType}
 use Rattle.mv_move_types.specs.declared.token.Token.{Token}
-use Rattle.mv_move_types.specs.declared.token.Token.TheVariants.{Plain, Reference, MutableReference}
+use Rattle.mv_move_types.specs.declared.token.Token.TheVariants.{Plain}
 use Rattle.mv_move_types.specs.Module.{Module, FunctionDefinition, local_type}
-use Rattle.mv_type_states.specs.TypeRules.{Types, address}
+use Rattle.mv_type_states.specs.TypeRules.{Types}
 use Rattle.mv_type_states.specs.TypesHold.{Point}
-use Rattle.mv_edges.specs.Edges.{Label, Edge, same_node, here, extended, inherited, into, without, renamed, renamed_node, an_edge}
+use Rattle.mv_edges.specs.Edges.{Label, Edge, same_node, here, extended, inherited, without, renamed, an_edge}
 use Rattle.mv_edges.proofs.Insertion.{all_weaker}
 use Rattle.mv_borrow_graph.specs.BorrowRules.{is_mutable_token, is_reference_token, next_temp, top_temp, field_edges, global_edges}
 use Rattle.mv_borrow_graph.specs.Domain.{point_at}
 use Rattle.mv_borrow_graph.specs.Nodes.{has_place, has_local, leads_out, leads_in, edge_is_there, are_there}
-use Rattle.mv_borrow_graph.specs.Places.{is_under, plain_none, has_over, under_apart, out_stays, in_stays, out_under, in_under, out_free, in_free, mutable_is_reference}
-use Rattle.mv_borrow_graph.specs.Shifts.{Shift, PlainShift, is_plain}
-use Rattle.mv_borrow_graph.specs.There.{IsThere, not_true, same_is, there_parts, there_from, is_small, each_filter, each_append, each_one, each_inherited, node_itself, apart_turned, neither, is_free_of, renamed_there, edge_stays, all_stay, others_stay}
+use Rattle.mv_borrow_graph.specs.Laws.Places.{is_under, plain_none, has_over, under_apart, out_stays, in_stays, out_under, in_under, out_free, in_free}
+use Rattle.mv_borrow_graph.specs.Laws.Shifts.{Shift, PlainShift, is_plain}
+use Rattle.mv_borrow_graph.specs.Laws.There.{IsThere, not_true, same_is, there_parts, there_from, is_small, each_filter, each_append, each_one, each_inherited, is_free_of, renamed_there, edge_stays, all_stay, others_stay}
 
 -- a local whose type is known
 pub local_is : (test : Token → Bool) (p : Point) (l : ℕ) (t : Token) → local_type p.home p.function l ≡ Some t → test t ≡ true → has_local test p l ≡ true
@@ -79,7 +77,8 @@ module _ (m : Module) (d : FunctionDefinition) where
       (λ rest. others_stay m d (x ∷ Plain v ∷ []) [] rest 1 (only_second x v) (top_temp (at (x ∷ Plain v ∷ rest))) (ap Temp (omega arith)) es)
 
   -- a move to the storage
-  pub second_row : (s t : Types) (x : Token) (v : ValueType) → Shift s t (Plain v ∷ x ∷ []) [] → (es : List Edge) → are_there (at s) es ≡ true → are_there (at t) (without (Temp (length s - 2)) es) ≡ true
+  pub second_row : (s t : Types) (x : Token) (v : ValueType) → Shift s t (Plain v ∷ x ∷ []) [] → (es : List Edge) → are_there (at s) es ≡ true
+      → are_there (at t) (without (Temp (length s - 2)) es) ≡ true
   second_row s t x v h es =
       shifted s t (Plain v ∷ x ∷ []) [] h (λ y z. are_there (at y) es ≡ true → are_there (at z) (without (Temp (length y - 2)) es) ≡ true)
       (λ rest. others_stay m d (Plain v ∷ x ∷ []) [] rest 0 (only_first x v) (Temp (length (Plain v ∷ x ∷ rest) - 2)) (ap Temp (omega arith)) es)
@@ -163,7 +162,8 @@ module _ (m : Module) (d : FunctionDefinition) where
   field_row s t x y r h f low es =
       shifted s t (x ∷ []) (y ∷ []) h (λ a b. are_there (at a) es ≡ true → are_there (at b) (field_edges (at a) f es) ≡ true) (λ rest. field_at x y r rest f low es)
 
-  pub global_row : (s t : Types) (x y : Token) → is_plain x ≡ true → is_reference_token y ≡ true → Shift s t (x ∷ []) (y ∷ []) → (i : ℕ) → nat_lt i (length m.structs) ≡ true → (es : List Edge) → are_there (at s) es ≡ true
+  pub global_row : (s t : Types) (x y : Token) → is_plain x ≡ true → is_reference_token y ≡ true → Shift s t (x ∷ []) (y ∷ []) → (i : ℕ) → nat_lt i (length m.structs) ≡ true → (es : List Edge)
+      → are_there (at s) es ≡ true
       → are_there (at t) (global_edges (at s) i es) ≡ true
   global_row s t x y p r h i low es =
       shifted s t (x ∷ []) (y ∷ []) h (λ a b. are_there (at a) es ≡ true → are_there (at b) (global_edges (at a) i es) ≡ true) (λ rest. global_at x y r rest p i low es)

@@ -1,6 +1,5 @@
 -- Where a step is defined on a state, it is defined on each state below, with a result below.
 --   Below low high      where the second is there, the first is there, and below it
--- It stands in specs/, since a trait's laws may cite nothing of their own crate but its specs/.
 use Rattle.std.proofs.Common.{◌≡◌, ℕ, ◌+◌, ◌-◌, Bool, true, false, not, ◌&&◌, ◌||◌, List, [], ◌∷◌, ◌++◌, length, Option, Some, None, slice_get, refl, sym, ap, subst, true≢false}
 use Rattle.std.specs.Bool.{then_some}
 use Rattle.std.specs.List.{list_all, list_any}
@@ -10,17 +9,17 @@ use Rattle.mv_move_types.specs.declared.borrow.Node.TheVariants.{Slot, Own, Glob
 use Rattle.mv_move_types.specs.declared.token.Token.{Token}
 use Rattle.mv_move_types.specs.declared.token.Token.TheVariants.{Plain, Reference, MutableReference}
 use Rattle.mv_move_types.specs.declared.instruction.Instruction.{Instruction}
-use Rattle.mv_move_types.specs.declared.instruction.Instruction.TheVariants.{Pop, Ret, BrTrue, BrFalse, Branch, LdU64, LdConst, LdTrue, LdFalse, CopyLoc, MoveLoc, StLoc, MutBorrowLoc, ImmBorrowLoc, MutBorrowField, ImmBorrowField, Call, Pack, Unpack, ReadRef, WriteRef, Add, Sub, Mul, Mod, Div, BitOr, BitAnd, Xor, Or, And, Not, Eq, Neq, Lt, Gt, Le, Ge, Abort, Nop, Exists, MutBorrowGlobal, ImmBorrowGlobal, MoveFrom, MoveTo, FreezeRef, Shl, Shr, LdU8, LdU128, CastU8, CastU64, CastU128, LdU16, LdU32, CastU16, CastU32}
+use Rattle.mv_move_types.specs.declared.instruction.Instruction.TheVariants.{Pop, Ret, CopyLoc, MoveLoc, StLoc, MutBorrowLoc, ImmBorrowLoc, MutBorrowField, ImmBorrowField, Call, ReadRef, WriteRef, MutBorrowGlobal, ImmBorrowGlobal, MoveFrom, MoveTo, FreezeRef}
 use Rattle.mv_move_types.specs.Options.{◌>>=◌}
 use Rattle.mv_move_types.specs.Module.{Module, FunctionDefinition, local_type, own_acquires}
 use Rattle.mv_type_states.specs.TypesHold.{Point}
 use Rattle.mv_type_states.specs.Sound.{types_before}
-use Rattle.mv_edges.specs.Edges.{Edge, same_node, here, extended, opened, agrees, out_of, but_out_of, inherited, without, renamed, an_edge, edges_leq}
+use Rattle.mv_edges.specs.Edges.{Edge, here, extended, opened, agrees, out_of, but_out_of, inherited, without, renamed, an_edge, edges_leq}
 use Rattle.mv_edges.specs.Sorted.{sorted}
 use Rattle.mv_edges.proofs.Insertion.{all_weaker}
 use Rattle.mv_edges.proofs.Order.{edges_leq_itself}
 use Rattle.mv_edges.proofs.Changes.{IsRising, nodes_rise, label_rises, both_rise, agrees_rises, none_passes_below, none_out_below, none_out_passes_below, edges_leq-append, edges_leq-flat_map, edges_leq-sorted, edges_leq-without, edges_leq-but_out_of, edges_leq-renamed, edges_leq-inherited, extended_keeps, opened_keeps}
-use Rattle.mv_borrow_graph.specs.BorrowRules.{next_temp, top_temp, is_mutable, is_reference_token, is_mutable_token, is_root_node, is_temp, no_edge_out, no_mutable_from, copy_edges, move_edges, store_edges, field_edges, mutable_field_edges, immutable_field_edges, position_of, global_edges, reference_nodes, without_all, opened_edges, result_edges, call_edges, return_edges, edges_after}
+use Rattle.mv_borrow_graph.specs.BorrowRules.{next_temp, top_temp, is_mutable, is_reference_token, is_mutable_token, is_root_node, is_temp, no_edge_out, no_mutable_from, copy_edges, move_edges, store_edges, field_edges, mutable_field_edges, immutable_field_edges, position_of, reference_nodes, without_all, opened_edges, result_edges, call_edges, return_edges, edges_after}
 use Rattle.mv_borrow_graph.specs.Domain.{ordered, point_at, edges_step}
 
 abbrev Below : Option (List Edge) → Option (List Edge) → Type 0
@@ -173,13 +172,6 @@ pub after_below : (p : Point) (i : Instruction) (a b : List Edge) → edges_leq 
 unfolding edges_after
 after_below p Pop a b h = some_below (without (top_temp p) a) (without (top_temp p) b) (edges_leq-without (top_temp p) a b h)
 after_below p Ret a b h = return_below a b h p
-after_below p (BrTrue x) a b h = some_below a b h
-after_below p (BrFalse x) a b h = some_below a b h
-after_below p (Branch x) a b h = some_below a b h
-after_below p (LdU64 x) a b h = some_below a b h
-after_below p (LdConst x) a b h = some_below a b h
-after_below p LdTrue a b h = some_below a b h
-after_below p LdFalse a b h = some_below a b h
 after_below p (CopyLoc x) a b h = found_below (local_type p.home p.function x) (λ t. copy_edges p x t a) (λ t. copy_edges p x t b) (copy_below a b h p x)
 after_below p (MoveLoc x) a b h = found_below (local_type p.home p.function x) (λ t. move_edges p x t a) (λ t. move_edges p x t b) (move_below a b h p x)
 after_below p (StLoc x) a b h = found_below (local_type p.home p.function x) (λ t. store_edges p x t a) (λ t. store_edges p x t b) (store_below a b h p x)
@@ -188,46 +180,14 @@ after_below p (ImmBorrowLoc x) a b h = lent_below a b h (no_mutable_from p (Own 
 after_below p (MutBorrowField x) a b h = found_below (position_of p x) (λ f. mutable_field_edges p f a) (λ f. mutable_field_edges p f b) (mutable_field_below a b h p)
 after_below p (ImmBorrowField x) a b h = found_below (position_of p x) (λ f. immutable_field_edges p f a) (λ f. immutable_field_edges p f b) (immutable_field_below a b h p)
 after_below p (Call x) a b h = call_below a b h p x
-after_below p (Pack x) a b h = some_below a b h
-after_below p (Unpack x) a b h = some_below a b h
 after_below p ReadRef a b h = without_below a b h (no_mutable_from p (top_temp p) a) (no_mutable_from p (top_temp p) b) (top_temp p) (readable_below a b h p (top_temp p))
 after_below p WriteRef a b h = without_below a b h (no_edge_out (top_temp p) a) (no_edge_out (top_temp p) b) (top_temp p) (free_below a b h (top_temp p))
-after_below p Add a b h = some_below a b h
-after_below p Sub a b h = some_below a b h
-after_below p Mul a b h = some_below a b h
-after_below p Mod a b h = some_below a b h
-after_below p Div a b h = some_below a b h
-after_below p BitOr a b h = some_below a b h
-after_below p BitAnd a b h = some_below a b h
-after_below p Xor a b h = some_below a b h
-after_below p Or a b h = some_below a b h
-after_below p And a b h = some_below a b h
-after_below p Not a b h = some_below a b h
-after_below p Eq a b h = some_below a b h
-after_below p Neq a b h = some_below a b h
-after_below p Lt a b h = some_below a b h
-after_below p Gt a b h = some_below a b h
-after_below p Le a b h = some_below a b h
-after_below p Ge a b h = some_below a b h
-after_below p Abort a b h = some_below a b h
-after_below p Nop a b h = some_below a b h
-after_below p (Exists x) a b h = some_below a b h
 after_below p (MutBorrowGlobal x) a b h = lent_below a b h (no_edge_out (Glob x) a) (no_edge_out (Glob x) b) (an_edge (Glob x) here (top_temp p)) (free_below a b h (Glob x))
 after_below p (ImmBorrowGlobal x) a b h = lent_below a b h (no_mutable_from p (Glob x) a) (no_mutable_from p (Glob x) b) (an_edge (Glob x) here (top_temp p)) (readable_below a b h p (Glob x))
 after_below p (MoveFrom x) a b h = kept_below a b h (no_edge_out (Glob x) a) (no_edge_out (Glob x) b) (free_below a b h (Glob x))
 after_below p (MoveTo x) a b h = some_below (without (Temp (length p.types - 2)) a) (without (Temp (length p.types - 2)) b) (edges_leq-without (Temp (length p.types - 2)) a b h)
 after_below p FreezeRef a b h = tested_below (no_mutable_from p (top_temp p) a) (no_mutable_from p (top_temp p) b) (but_out_of (top_temp p) a) (but_out_of (top_temp p) b) (readable_below a b h p (top_temp p)) (edges_leq-but_out_of (top_temp p) a b h)
-after_below p Shl a b h = some_below a b h
-after_below p Shr a b h = some_below a b h
-after_below p (LdU8 x) a b h = some_below a b h
-after_below p (LdU128 x) a b h = some_below a b h
-after_below p CastU8 a b h = some_below a b h
-after_below p CastU64 a b h = some_below a b h
-after_below p CastU128 a b h = some_below a b h
-after_below p (LdU16 x) a b h = some_below a b h
-after_below p (LdU32 x) a b h = some_below a b h
-after_below p CastU16 a b h = some_below a b h
-after_below p CastU32 a b h = some_below a b h
+after_below p _ a b h = some_below a b h
 
 -- the step at a place is defined where it is on a larger state, and its result is below
 pub step_below : (m : Module) (d : FunctionDefinition) (at : ℕ) (a b : List Edge) → edges_leq a b ≡ true → Below (edges_step m d at a) (edges_step m d at b)
