@@ -4,6 +4,8 @@ pub mod Ends
 pub mod Chains
 pub mod Working
 pub mod Avoids
+pub mod GoesWell
+pub mod Unfrozen
 pub mod Rows
 pub mod Accepted
 pub mod Results

@@ -25,7 +25,8 @@ use Rattle.mv_borrow_graph.specs.Abstract.Stack.{Layer, Chain}
 use Rattle.mv_interpreter.specs.Borrows.Stood.{Stood, seen_of, point_of, layer_at, layers, StoodOn, AllUnder, Descending, home_of, Linked, LinkedTo, Sound}
 use Rattle.mv_interpreter.proofs.Borrows.Same.{SameSeen, SameFrames, layer-same}
 use Rattle.mv_interpreter.proofs.Borrows.Kept.{falls-same, kept-falls}
-use Rattle.mv_interpreter.proofs.Borrows.Steps.{IsTransfer, step-kept, Stays}
+use Rattle.mv_interpreter.proofs.Borrows.Standing.{Standing, IsTransfer, Stays}
+use Rattle.mv_interpreter.proofs.Borrows.Steps.{step-kept}
 use Rattle.mv_interpreter.proofs.Lists.{map-turned}
 
 -- the same with these frames
@@ -137,7 +138,19 @@ module _ (depends : ℕ → ℕ → Type 0) (through : (a b c : ℕ) → depends
         → Fits (point_of x) (alone s.top) → NoneInside s → edges_after (point_of x) i x.edges ≡ Some edges → EdgesBelow (edges_of t.top.function.place edges) (edges_of t.top.function.place es')
         → Sound depends t (record { home = x.home; function = x.function; frame = t.top; lent = []; types = types'; edges = es' }) (refit xs t.below)
     sound-row i t edges es' types' transfer reaches e fits inside g below =
-        let k = step-kept depends through no_cycle (layers xs) here_at x.types x.edges (subst (λ u. Chain depends home_of (u ∷ layers xs)) top-layer sound.chain) fits inside i (Goes t) edges transfer reaches sound.ordered e g in
+        let standing : Standing = record {
+          depends = depends;
+          through = through;
+          no_cycle = no_cycle;
+          rest = layers xs;
+          h = here_at;
+          types = x.types;
+          es = x.edges;
+          stands = subst (λ u. Chain depends home_of (u ∷ layers xs)) top-layer sound.chain;
+          fits = fits;
+          inside = inside;
+        } in
+        let k = step-kept standing i (Goes t) edges transfer reaches sound.ordered e g in
         let stays : Stays i s t = k.1 in
         record {
           stood = (refl, refl, stood-refit s.top.entered_with t.top.entered_with s.below t.below xs stays.2 sound.stood.2 stays.3);

@@ -21,7 +21,7 @@ use Rattle.mv_borrow_graph.specs.BorrowRules.{edges_after}
 use Rattle.mv_type_states.specs.TypeRules.{Types, types_after}
 use Rattle.mv_linker.proofs.Found.{each, on_some}
 use Rattle.mv_interpreter.proofs.Typing.FlowFacts.{range_split, BlockFacts, block_facts, starts_rise, ended_begin}
-use Rattle.mv_interpreter.proofs.Borrows.Steps.{Among}
+use Rattle.mv_interpreter.proofs.Borrows.Standing.{Among}
 use Rattle.mv_interpreter.proofs.Borrows.Certified.{Inside, inside, held, flows, both-through}
 use Rattle.mv_interpreter.proofs.Guided.Tiles.{Tiles, tiles-blocks, starts-rise, holds_place, tile-found, tile-ordered, find-has, zip-parts, zip-maps, stated-maps, stated-has, next-is}
 use Rattle.mv_interpreter.proofs.Typing.Advances.{one_successor}

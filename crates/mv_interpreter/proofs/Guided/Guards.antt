@@ -23,7 +23,7 @@ use Rattle.mv_interpreter.specs.Guided.Guided.{Guided}
 use Rattle.mv_interpreter.specs.Guided.Facts.{StoreFacts, TypeFacts}
 use Rattle.mv_interpreter.proofs.Guided.Before.{Onward, goes-on}
 use Rattle.mv_interpreter.proofs.Guided.Working.{Working, worked, working}
-use Rattle.mv_interpreter.proofs.Guided.Rows.{moved-free, stored-free}
+use Rattle.mv_interpreter.proofs.Guided.Unfrozen.{moved-free, stored-free}
 use Rattle.mv_interpreter.proofs.Guided.Avoids.{local-unreached, struct-unreached, leaving}
 use Rattle.mv_interpreter.proofs.Guided.Accepted.{flows-at}
 
@@ -45,11 +45,11 @@ module _ (depends : ℕ → ℕ → Type 0) (modules : List Module) (certificate
   guarded (MoveLoc l) q o = λ v at none.
       on_some (local_type w.home w.function l) _ o.next.edges o.edges (λ t t_is g.
       local-unreached depends store.through store.no_cycle s x w.waiting w.sound.stood w.sound.chain l
-      (moved-free depends store.through store.no_cycle modules s w.home w.function w.known w.types w.waiting w.sound w.fits w.are_locals facts.inside facts.rooted l t o.next.edges g (plain-at l t v t_is at none)))
+      (moved-free p l t w.known.edges o.next.edges g (plain-at l t v t_is at none)))
   guarded (StLoc l) q o = λ v at none.
       on_some (local_type w.home w.function l) _ o.next.edges o.edges (λ t t_is g.
       local-unreached depends store.through store.no_cycle s x w.waiting w.sound.stood w.sound.chain l
-      (stored-free depends store.through store.no_cycle modules s w.home w.function w.known w.types w.waiting w.sound w.fits w.are_locals facts.inside facts.rooted l t o.next.edges g (plain-at l t v t_is at none)))
+      (stored-free p l t w.known.edges o.next.edges g (plain-at l t v t_is at none)))
   guarded (MoveFrom k) q o = λ a rest e.
       struct-unreached depends store.through store.no_cycle s x w.waiting w.sound.stood w.sound.chain k a q (then-some (no_edge_out (Glob k) w.known.edges) w.known.edges o.next.edges o.edges).0
   guarded Ret q o = leaving depends store.through store.no_cycle s x w.waiting w.sound.stood w.sound.chain p (o.edges ∙ ap Some (then-some _ w.known.edges o.next.edges o.edges).1)

@@ -1,7 +1,7 @@
 -- Each step of a state that is as the certificates say leads to such a state, and meets nothing lost or frozen.
 use Rattle.std.proofs.Common.{◌≡◌, ℕ, ◌+◌, List, [], ◌∷◌, ◌++◌, map, length, reverse, true, refl, sym, ◌∙◌, ap, ap₂, subst, Option, Some, Result, Ok, Err, inl}
-use Rattle.std.specs.Prelude.{slice_get, ok_or, nat_lt, not, ◌==◌, flat_map, ⊤}
-use Rattle.std.specs.List.{list_all, list_any}
+use Rattle.std.specs.Prelude.{slice_get, ok_or, nat_lt, ⊤}
+use Rattle.std.specs.List.{list_all}
 use Rattle.std.proofs.lemmas.Bool.{and_parts}
 use Rattle.std.proofs.lemmas.Option.{same_Some}
 use Rattle.mv_move_types.specs.declared.instruction.Instruction.{Instruction}
@@ -11,8 +11,8 @@ use Rattle.mv_interpreter.specs.Borrows.View.{local_of, alone}
 use Rattle.mv_move_types.specs.Module.{Module, FunctionDefinition}
 use Rattle.mv_machine.specs.Value.{Value, Reference}
 use Rattle.mv_machine.specs.State.{Frame, State}
-use Rattle.mv_machine.specs.Live.{reference_of, references, frame_references}
-use Rattle.mv_machine.specs.Typing.{Failure, Faults, TypeFault, LinkageFault, LostFault, FrozenFault, entry, have_tags}
+use Rattle.mv_machine.specs.Live.{reference_of}
+use Rattle.mv_machine.specs.Typing.{Failure, Faults, TypeFault, LinkageFault, entry}
 use Rattle.mv_move_types.specs.Flow.{successors}
 use Rattle.mv_certificate.specs.Certificate.{Known, Certificate}
 use Rattle.mv_locals_safety.specs.LocalsRules.{locals_leq, locals_after}
@@ -21,19 +21,19 @@ use Rattle.mv_type_states.specs.TypesHold.{Point}
 use Rattle.mv_borrow_graph.specs.BorrowRules.{edges_after, call_edges, return_edges}
 use Rattle.mv_type_states.specs.TypeRules.{Types, types_after}
 use Rattle.mv_certificate.specs.Known.{known_before}
-use Rattle.mv_machine.specs.StepParts.{Here, Turn, Goes, Returns, operands, may_drop}
-use Rattle.mv_machine.specs.StepControl.{Callee, call, return_results, signature_tags, leaves, holds_frame}
+use Rattle.mv_machine.specs.StepParts.{Here, Turn, Goes, Returns}
+use Rattle.mv_machine.specs.StepControl.{Callee, call, return_results, leaves}
 use Rattle.mv_machine.specs.Step.{rule, step}
-use Rattle.mv_machine.proofs.Laws.{on_bind, on_need}
 use Rattle.mv_machine.proofs.Binds.{ok-is, found-is}
 use Rattle.mv_interpreter.specs.Borrows.Hypotheses.{Fits, token_kind, operand_kind}
 use Rattle.mv_interpreter.specs.Borrows.Stood.{Stood, seen_of, point_of, layers, StoodOn, Sound}
 use Rattle.mv_interpreter.proofs.Borrows.Edges.{then-some}
 use Rattle.mv_interpreter.proofs.Borrows.Same.{SameFrames}
 use Rattle.mv_interpreter.proofs.Borrows.Certified.{edges-below}
-use Rattle.mv_interpreter.proofs.Borrows.Steps.{IsTransfer, Stays, step-kept}
+use Rattle.mv_interpreter.proofs.Borrows.Standing.{Standing, IsTransfer, Stays}
+use Rattle.mv_interpreter.proofs.Borrows.Steps.{step-kept}
 use Rattle.mv_interpreter.specs.Borrows.Links.{Reaches}
-use Rattle.mv_machine.proofs.Transfers.{callee-is, ReturnedTo, returned, Called, called}
+use Rattle.mv_machine.proofs.Transfers.{callee-is, return-is, ReturnedTo, returned, Called, called}
 use Rattle.mv_interpreter.proofs.Borrows.Invariant.{refit, sound-row, sound-call, sound-return}
 use Rattle.mv_interpreter.proofs.Borrows.Available.{known-above, known-same}
 use Rattle.mv_interpreter.specs.Borrows.Locals.{AsKnown}
@@ -96,16 +96,7 @@ placed-on modules certificates x p f l us function is_known are_locals = record 
 
 -- the first frame's return doesn't go on
 last-returns : (h : Here) (t : State) → h.state.below ≡ [] → return_results h ≡ Ok (Goes t) → ⊥
-unfolding return_results
-last-returns h t none e =
-    on_bind (entry h.home.function_handles h.function.handle) _ (Goes t) e (λ handle handle_is e1.
-    on_bind (signature_tags h.modules h.home handle.results) _ (Goes t) e1 (λ tags tags_are e2.
-    on_bind (operands (length tags) h.state.top.stack) _ (Goes t) e2 (λ taken taken_is e3.
-    on_need (length taken.1 == 0) (Faults TypeFault) _ (Goes t) e3 (λ alone_there e4.
-    on_need (have_tags h.state taken.0 tags) (Faults TypeFault) _ (Goes t) e4 (λ fit e5.
-    on_need (list_all (may_drop h) h.state.top.locals) (Faults LostFault) _ (Goes t) e5 (λ drops e6.
-    on_need (not (list_any (holds_frame h.state.top.number) (references taken.0 ++ flat_map frame_references h.state.below))) (Faults FrozenFault) _ (Goes t) e6 (λ ok e7.
-    never (ok-is (Returns h.state) (Goes t) (sym (ap (leaves h taken.0) none) ∙ e7)))))))))
+last-returns h t none e = let r = return-is h (Goes t) e in never (ok-is (Returns h.state) (Goes t) (sym (ap (leaves h r.results) none) ∙ r.left))
   where
     never : Returns h.state ≡ Goes t → ⊥
     never z = cc
@@ -144,7 +135,19 @@ module _ (depends : ℕ → ℕ → Type 0) (modules : List Module) (certificate
       by_result (Err e) is k = k
       by_result (Ok (Returns t)) is k = tt
       by_result (Ok (Goes t)) is k =
-          let st : Stays i s t = (step-kept depends store.through store.no_cycle (layers w.waiting) h w.types w.known.edges w.sound.chain w.fits facts.inside i (Goes t) o.next.edges transfer reaches w.sound.ordered is o.edges).1 in
+          let standing : Standing = record {
+            depends = depends;
+            through = store.through;
+            no_cycle = store.no_cycle;
+            rest = layers w.waiting;
+            h = h;
+            types = w.types;
+            es = w.known.edges;
+            stands = w.sound.chain;
+            fits = w.fits;
+            inside = facts.inside;
+          } in
+          let st : Stays i s t = (step-kept standing i (Goes t) o.next.edges transfer reaches w.sound.ordered is o.edges).1 in
           let l = o.leads t.top.at st.5 in
           let below = and_parts (locals_leq o.next.locals l.0.locals) (edges_leq o.next.edges l.0.edges) l.3 in
           guided-from depends store.through store.no_cycle modules certificates t (record { home = w.home; function = w.function; frame = t.top; lent = []; types = l.1; edges = l.0.edges }) (refit w.waiting t.below)
