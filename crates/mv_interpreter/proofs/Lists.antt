@@ -1,6 +1,7 @@
 -- Lists: an element at a place, and tests of all elements.
-use Rattle.std.proofs.Common.{◌≡◌, ℕ, zero, suc, List, [], ◌∷◌, ◌++◌, map, reverse, refl, sym, ap, subst, ◌∙◌, Some}
+use Rattle.std.proofs.Common.{◌≡◌, ℕ, zero, suc, ◌<◌, ◌≤◌, Bool, true, false, ◌⊎◌, inl, inr, List, [], ◌∷◌, ◌++◌, map, reverse, refl, sym, ap, subst, ◌∙◌, arith, ltb, Some}
 use Rattle.std.specs.Prelude.{slice_get, All}
+use Rattle.std.proofs.lemmas.Bool.{ltb-true, ltb-false}
 use Rattle.std.proofs.lemmas.List.{reverse-append, map-append}
 use Rattle.std.proofs.lemmas.List.Elements.{All-head, All-tail}
 use Rattle.std.proofs.lemmas.Option.{same_Some}
@@ -21,3 +22,11 @@ pub map-turned : {A B : Type 0} (f : A → B) (xs : List A) → map f (reverse x
 map-turned f [] = refl
 map-turned f (x ∷ xs) =
     ap (map f) (reverse-append (x ∷ []) xs) ∙ map-append f (reverse xs) (x ∷ []) ∙ ap (λ ys. ys ++ f x ∷ []) (map-turned f xs) ∙ sym (reverse-append (f x ∷ []) (map f xs))
+
+-- a place is below the last one, or is the last one
+pub below-or-at : (a b : ℕ) → a ≤ b → (a < b) ⊎ (a ≡ b)
+below-or-at a b h = by_case (ltb a b) refl
+  where
+    by_case : (f : Bool) → ltb a b ≡ f → (a < b) ⊎ (a ≡ b)
+    by_case true e = inl (ltb-true a b e)
+    by_case false e = let g : b ≤ a = ltb-false a b e in inr (omega (arith, h, g))

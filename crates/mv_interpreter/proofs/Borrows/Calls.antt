@@ -33,7 +33,7 @@ use Rattle.mv_interpreter.specs.Borrows.View.{defined, node_of, AmongNodes, Memb
 use Rattle.mv_interpreter.specs.Borrows.Hypotheses.{token_kind, operand_kind, Fits}
 use Rattle.mv_interpreter.specs.Borrows.Links.{IsCall}
 use Rattle.mv_interpreter.proofs.Borrows.Edges.{none_any, free_out, then-some, member_filter, member_flat, member_left, member_right, node-not, node_of-inj, Included}
-use Rattle.mv_interpreter.proofs.Borrows.EdgeRows.{inherited_in}
+use Rattle.mv_interpreter.proofs.Borrows.EdgeRows.{inherited_in, away}
 use Rattle.mv_borrow_graph.proofs.Abstract.Run.{ByRet, ByCall, chain_steps, layer}
 use Rattle.mv_interpreter.proofs.Borrows.Kept.{below-from}
 use Rattle.mv_interpreter.proofs.Borrows.Lists.{place_get, place-reverse, stack-back}
@@ -113,20 +113,20 @@ same-kinds (x ∷ xs) (y ∷ ys) h =
     one (MutableReferenceTo a) (Plain b) h = absurd cc
     one (MutableReferenceTo a) (ReferenceTo b) h = absurd cc
 
+plus-zero : (n : ℕ) → n + 0 ≡ n
+plus-zero n = omega arith
+
+plus-suc : (n j : ℕ) → n + 1 + j ≡ n + suc j
+plus-suc n j = omega arith
+
 -- the node of a parameter that passes the test
 pub among-nodes : (test : Token → Bool) (base j : ℕ) (ts : List Token) (t : Token) → slice_get ts j ≡ Some t → test t ≡ true → AmongNodes (Temp (base + j)) (reference_nodes test base ts)
 among-nodes test base j [] t h k = absurd cc
 among-nodes test base zero (x ∷ ts) t h k =
-    subst (λ b. AmongNodes (Temp (base + 0)) ((if b then (Temp base ∷ []) else []) ++ reference_nodes test (base + 1) ts)) (sym (ap test (same_Some x t h) ∙ k)) (inl (ap Temp (none base)))
-  where
-    none : (n : ℕ) → n + 0 ≡ n
-    none n = omega arith
+    subst (λ b. AmongNodes (Temp (base + 0)) ((if b then (Temp base ∷ []) else []) ++ reference_nodes test (base + 1) ts)) (sym (ap test (same_Some x t h) ∙ k)) (inl (ap Temp (plus-zero base)))
 among-nodes test base (suc j) (x ∷ ts) t h k =
-    further (test x) (subst (λ n. AmongNodes (Temp n) (reference_nodes test (base + 1) ts)) (more base j) (among-nodes test (base + 1) j ts t h k))
+    further (test x) (subst (λ n. AmongNodes (Temp n) (reference_nodes test (base + 1) ts)) (plus-suc base j) (among-nodes test (base + 1) j ts t h k))
   where
-    more : (n j : ℕ) → n + 1 + j ≡ n + suc j
-    more n j = omega arith
-
     further : (b : Bool) → AmongNodes (Temp (base + suc j)) (reference_nodes test (base + 1) ts) → AmongNodes (Temp (base + suc j)) ((if b then (Temp base ∷ []) else []) ++ reference_nodes test (base + 1) ts)
     further true a = inr a
     further false a = a
@@ -161,9 +161,6 @@ from-base test base (t ∷ ts) n a = by_case (test t) a (λ b. from-base test (b
     by_case true (inr b) further = weaker (further b)
     by_case false b further = weaker (further b)
 
-away : (a b : Bool) → a ≡ false → b ≡ false → (not a && not b) ≡ true
-away a b h k = rw (h, k)
-
 pub without-all : (ns : List Node) (es : List Edge) (e : Edge) → ((n : Node) → AmongNodes n ns → (e.from ≡ n → ⊥) × (e.to ≡ n → ⊥)) → Member e es → Member e (without_all ns es)
 without-all [] es e far m = m
 without-all (n ∷ ns) es e far m =
@@ -180,27 +177,21 @@ pub result-in : (mutable all : List Node) (k i : ℕ) (ts : List Token) (t : Tok
 result-in mutable all k i [] t es e n at ref a b m to = absurd cc
 result-in mutable all k zero (x ∷ ts) t es e n at ref a b m to = first x (same_Some x t at)
   where
-    none : (n : ℕ) → n + 0 ≡ n
-    none n = omega arith
-
     first : (x : Token) → x ≡ t → Member (record { from = e.from; label = opened e.label; to = Temp (k + 0) }) (result_edges mutable all k (x ∷ ts) es)
     first (Plain v) h = absurd (never (ap is_reference_token h ∙ ref))
       where
         never : false ≡ true → ⊥
         never z = cc
     first (ReferenceTo v) h =
-        subst (λ n. Member (record { from = e.from; label = opened e.label; to = Temp n }) (result_edges mutable all k (ReferenceTo v ∷ ts) es)) (sym (none k))
+        subst (λ n. Member (record { from = e.from; label = opened e.label; to = Temp n }) (result_edges mutable all k (ReferenceTo v ∷ ts) es)) (sym (plus-zero k))
         (member_left _ (opened_edges all (Temp k) es) (result_edges mutable all (k + 1) ts es) (opened-in all (Temp k) n es e a m to))
     first (MutableReferenceTo v) h =
-        subst (λ n. Member (record { from = e.from; label = opened e.label; to = Temp n }) (result_edges mutable all k (MutableReferenceTo v ∷ ts) es)) (sym (none k))
+        subst (λ n. Member (record { from = e.from; label = opened e.label; to = Temp n }) (result_edges mutable all k (MutableReferenceTo v ∷ ts) es)) (sym (plus-zero k))
         (member_left _ (opened_edges mutable (Temp k) es) (result_edges mutable all (k + 1) ts es) (opened-in mutable (Temp k) n es e (b (sym (ap is_mutable_token h))) m to))
 result-in mutable all k (suc i) (x ∷ ts) t es e n at ref a b m to =
-    further x (subst (λ n. Member (record { from = e.from; label = opened e.label; to = Temp n }) (result_edges mutable all (k + 1) ts es)) (more k i)
+    further x (subst (λ n. Member (record { from = e.from; label = opened e.label; to = Temp n }) (result_edges mutable all (k + 1) ts es)) (plus-suc k i)
     (result-in mutable all (k + 1) i ts t es e n at ref a b m to))
   where
-    more : (n j : ℕ) → n + 1 + j ≡ n + suc j
-    more n j = omega arith
-
     further : (x : Token) → Member (record { from = e.from; label = opened e.label; to = Temp (k + suc i) }) (result_edges mutable all (k + 1) ts es)
         → Member (record { from = e.from; label = opened e.label; to = Temp (k + suc i) }) (result_edges mutable all k (x ∷ ts) es)
     further (Plain v) q = q

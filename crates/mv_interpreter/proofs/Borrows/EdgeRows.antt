@@ -40,7 +40,8 @@ borrow_in w k root es p x c (inl h) = included_left w es (an_edge root here (Tem
 borrow_in w k root es p x c (inr (a, b, d)) =
     included_right w es (an_edge root here (Temp k) ∷ []) p x c (an_edge root here (Temp k), inl refl, a, b, d)
 
-away : (a b : Bool) → a ≡ false → b ≡ false → (not a && not b) ≡ true
+-- an edge with neither end there
+pub away : (a b : Bool) → a ≡ false → b ≡ false → (not a && not b) ≡ true
 away a b h k = rw (h, k)
 
 pub without_in : (w : ℕ) (n : Node) (es : List Edge) (p : TheNode) (x : TheLabel) (c : TheNode)

@@ -27,6 +27,7 @@ use Rattle.mv_machine.proofs.Laws.{on_bind, on_need}
 use Rattle.mv_machine.proofs.Binds.{ok-is, operand-is}
 use Rattle.mv_interpreter.proofs.Borrows.Kept.{Falls, falls-popped, falls-pushed, falls-then, falls-same}
 use Rattle.mv_machine.proofs.Operations.{GivesLeaf}
+use Rattle.mv_interpreter.proofs.Typing.Tests.{beq-is}
 
 -- the same for what lives higher
 pub bind : {A B E : Type 0} {P : Type 1} (r : Result A E) (f : A → Result B E) (y : B) → (r >>= f) ≡ Ok y → ((x : A) → r ≡ Ok x → f x ≡ Ok y → P) → P
@@ -120,12 +121,6 @@ not-plain b x (ReferenceTag c to) p h = p
 
 same-flag : (a b : Bool) (x to tag : Tag) → tag ≡ ReferenceTag b to → same_tag (ReferenceTag a x) tag ≡ true → a ≡ b
 same-flag a b x to tag h e = beq-is a b (and_parts (beq a b) (same_tag x to) (sym (ap (same_tag (ReferenceTag a x)) h) ∙ e)).0
-  where
-    beq-is : (a b : Bool) → beq a b ≡ true → a ≡ b
-    beq-is true true h = refl
-    beq-is false false h = refl
-    beq-is true false h = absurd cc
-    beq-is false true h = absurd cc
 
 pub followed : (o : Option Tag) (a : Bool) (tag : Tag) → option_map_or (λ own. same_tag own tag) (option_map (ReferenceTag a) o) false ≡ true → (x : Tag) × (same_tag (ReferenceTag a x) tag ≡ true)
 followed None a tag h = absurd cc

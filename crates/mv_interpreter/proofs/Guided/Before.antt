@@ -1,9 +1,9 @@
 -- What an accepted certificate says before an instruction, and that it goes on to what it says before each that may come next.
-use Rattle.std.proofs.Common.{◌≡◌, ℕ, ◌+◌, ◌-◌, ◌<◌, ◌≤◌, Bool, true, false, List, [], ◌∷◌, ◌++◌, map, length, take, drop, refl, sym, ap, ◌∙◌, subst, Option, Some, None, option_map, arith, ◌⊎◌, inl, inr}
+use Rattle.std.proofs.Common.{◌≡◌, ℕ, ◌+◌, ◌-◌, ◌<◌, ◌≤◌, Bool, true, false, List, [], ◌∷◌, ◌++◌, map, length, take, drop, refl, sym, ap, ◌∙◌, subst, Option, Some, None, option_map, arith, inl, inr}
 use Rattle.std.specs.Prelude.{slice_get, slice_range, nat_le, zip}
 use Rattle.std.specs.List.{list_all}
 use Rattle.std.specs.Option.{option_map_or}
-use Rattle.std.proofs.lemmas.Bool.{true≢false, and_parts, and_from, leb-true, le-leb, cases_Bool, false_from_ne_true}
+use Rattle.std.proofs.lemmas.Bool.{and_parts, and_from, leb-true, false_from_ne_true}
 use Rattle.std.proofs.lemmas.Option.{same_Some}
 use Rattle.mv_move_types.specs.declared.borrow.Availability.{Availability}
 use Rattle.mv_move_types.specs.declared.borrow.Availability.TheVariants.{Unavailable, Available, Maybe}
@@ -25,6 +25,7 @@ use Rattle.mv_interpreter.proofs.Borrows.Standing.{Among}
 use Rattle.mv_interpreter.proofs.Borrows.Certified.{Inside, inside, held, flows, both-through}
 use Rattle.mv_interpreter.proofs.Guided.Tiles.{Tiles, tiles-blocks, starts-rise, holds_place, tile-found, tile-ordered, find-has, zip-parts, zip-maps, stated-maps, stated-has, next-is}
 use Rattle.mv_interpreter.proofs.Typing.Advances.{one_successor}
+use Rattle.mv_interpreter.proofs.Lists.{below-or-at}
 
 -- ---- each is below itself
 
@@ -159,16 +160,6 @@ module _ (m : Module) (d : FunctionDefinition) (stated : Stated) where
       pub starts-known : (l : Known) × (known_before m d stated 0 ≡ Some (l, [])) × (locals_leq start.locals l.locals ≡ true) × (edges_leq start.edges l.edges ≡ true)
       starts-known = both-flow 0 start.locals start.edges locals_both.0 edges_both.0
 
-      at_last_or : (a b : ℕ) → a ≤ b → (a < b) ⊎ (a ≡ b)
-      at_last_or a b h =
-          elim (cases_Bool (nat_le b a)) [
-            | inl t ↦ let g : b ≤ a = leb-true b a t in inr (omega (arith, h, g))
-            | inr t ↦ inl (lower (λ l. true≢false (sym (le-leb b a l) ∙ t)))
-          ]
-        where
-          lower : (b ≤ a → ⊥) → a < b
-          lower f = omega (arith, f)
-
       -- an instruction that the certificate speaks of meets its needs, and the certificate speaks of each that may come next
       pub goes-on : (at : ℕ) (k : Known) (ts : Types) (i : Instruction) → known_before m d stated at ≡ Some (k, ts) → slice_get d.code at ≡ Some i → Onward at i k ts
       goes-on at k ts i e is =
@@ -200,7 +191,7 @@ module _ (m : Module) (d : FunctionDefinition) (stated : Stated) where
               let same : (x.known, x.types) ≡ (k, ts) = same_Some (x.known, x.types) (k, ts) (sym x.here ∙ b.carried) in
               let met : known_after (point ts) i k ≡ Some x.next = subst (λ (z : Known × Types). known_after (point z.1) i z.0 ≡ Some x.next) same x.met in
               let parts = known-parts (point ts) i k x.next met in
-              let places = at_last_or at b.block.last b.not_behind in
+              let places = below-or-at at b.block.last b.not_behind in
               record {
                 next = x.next;
                 after = x.next_types;

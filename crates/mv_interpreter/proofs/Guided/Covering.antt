@@ -37,13 +37,13 @@ use Rattle.mv_interpreter.proofs.Lists.{map-turned}
 
 -- ---- lists by index
 
+suc-less : (a b : ℕ) → a < b → suc a < suc b
+suc-less a b h = omega (arith, h)
+
 contains-member : (e : Edge) (es : List Edge) → Member e es → Contains es e
 contains-member e [] m = absurd m
 contains-member e (x ∷ es) (inl m) = (0, omega arith, sym m)
 contains-member e (x ∷ es) (inr m) = let t = contains-member e es m in (suc t.0, suc-less t.0 (length es) t.1, t.2)
-  where
-    suc-less : (a b : ℕ) → a < b → suc a < suc b
-    suc-less a b h = omega (arith, h)
 
 in-refs : (r : Reference) (rs : List Reference) (k : ℕ) → k < length rs → slice_index_or rs k r ≡ r → InRefs r rs
 in-refs r [] k h e = absurd (omega (arith, h))
@@ -62,9 +62,6 @@ any-contains i (x ∷ xs) h =
       | inl t ↦ (0, omega arith, eqb-true x i t)
       | inr t ↦ let u = any-contains i xs t in (suc u.0, suc-less u.0 (length xs) u.1, u.2)
     ]
-  where
-    suc-less : (a b : ℕ) → a < b → suc a < suc b
-    suc-less a b h = omega (arith, h)
 
 -- an argument is in a list
 abbrev HasOption : Option Reference → List (Option Reference) → Type 0
@@ -88,9 +85,6 @@ option-contains : (o : Option Reference) (xs : List (Option Reference)) → HasO
 option-contains o [] h = absurd h
 option-contains o (x ∷ xs) (inl h) = (0, omega arith, h)
 option-contains o (x ∷ xs) (inr h) = let t = option-contains o xs h in (suc t.0, suc-less t.0 (length xs) t.1, t.2)
-  where
-    suc-less : (a b : ℕ) → a < b → suc a < suc b
-    suc-less a b h = omega (arith, h)
 
 -- ---- places
 

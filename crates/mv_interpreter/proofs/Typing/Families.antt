@@ -115,8 +115,27 @@ right_keeps w x y h = by_case (nat_lt y (width_bits w)) refl
         rw e (lt-fits w (x / 2 ^ y) (omega (arith, l, m)))
     by_case false e = rw e tt
 
--- ---- the rules
+-- a type whose number has a width
+pub top_width-is : (types : Types) (w : Width) → top_width types ≡ Some w → (below : Types) × (types ≡ number w ∷ below)
+top_width-is (Plain (OfLeaf (Number v)) ∷ below) w e = (below, ap (λ (u : Width). number u ∷ below) (same_Some v w e))
+top_width-is [] w e = absurd cc
+top_width-is (Plain (OfLeaf Boolean) ∷ below) w e = absurd cc
+top_width-is (Plain (OfLeaf Address) ∷ below) w e = absurd cc
+top_width-is (Plain (OfLeaf Signer) ∷ below) w e = absurd cc
+top_width-is (Plain (OfStruct h) ∷ below) w e = absurd cc
+top_width-is (ReferenceTo t ∷ below) w e = absurd cc
+top_width-is (MutableReferenceTo t ∷ below) w e = absurd cc
 
+pub width_of-is : (t : Token) (w : Width) → width_of t ≡ Some w → t ≡ number w
+width_of-is (Plain (OfLeaf (Number v))) w e = ap number (same_Some v w e)
+width_of-is (Plain (OfLeaf Boolean)) w e = absurd cc
+width_of-is (Plain (OfLeaf Address)) w e = absurd cc
+width_of-is (Plain (OfLeaf Signer)) w e = absurd cc
+width_of-is (Plain (OfStruct h)) w e = absurd cc
+width_of-is (ReferenceTo t) w e = absurd cc
+width_of-is (MutableReferenceTo t) w e = absurd cc
+
+-- ---- the rules
 module _ (modules : List Module) (look : Roots) (home : Module) where
   -- two numbers of one width
   pub record TwoNumbers (stack : List Value) (w : Width) (below : Types) : Type 0 where
@@ -181,16 +200,6 @@ module _ (modules : List Module) (look : Roots) (home : Module) where
       (met (Typed after) (same_width w w) _ _ (same_width-same w)
       (subst (λ (ts : Types). HaveTokens modules look home (truth (test n.left n.right) ∷ n.rest) ts) (sym parts.3) (of_truth (test n.left n.right), n.typed)))
 
-  top_width-is : (types : Types) (w : Width) → top_width types ≡ Some w → (below : Types) × (types ≡ number w ∷ below)
-  top_width-is (Plain (OfLeaf (Number v)) ∷ below) w e = (below, ap (λ (u : Width). number u ∷ below) (same_Some v w e))
-  top_width-is [] w e = absurd cc
-  top_width-is (Plain (OfLeaf Boolean) ∷ below) w e = absurd cc
-  top_width-is (Plain (OfLeaf Address) ∷ below) w e = absurd cc
-  top_width-is (Plain (OfLeaf Signer) ∷ below) w e = absurd cc
-  top_width-is (Plain (OfStruct h) ∷ below) w e = absurd cc
-  top_width-is (ReferenceTo t ∷ below) w e = absurd cc
-  top_width-is (MutableReferenceTo t ∷ below) w e = absurd cc
-
   pub shift_typed : (operator : Operator) → KeepsLeft operator → (stack : List Value) (types after : Types) → HaveTokens modules look home stack types → of_shift types ≡ Some after →
       Part (λ (s : List Value). HaveTokens modules look home s after) (shift operator stack)
   unfolding shift
@@ -212,15 +221,6 @@ module _ (modules : List Module) (look : Roots) (home : Module) where
           (subst (λ (c : Value). Part (Typed after) (shift operator (Leaf (Number U8) y.number ∷ c ∷ rest))) (sym x.is_leaf)
           (some (Typed after) (Fits w) (operator w x.number y.number) _ (keeps w x.number y.number x.fits) (λ m fits.
           subst (λ (ts : Types). HaveTokens modules look home (Leaf (Number w) m ∷ rest) ts) (sym same) (of_leaf modules look home (Number w) m fits, k.1.1))))
-
-  width_of-is : (t : Token) (w : Width) → width_of t ≡ Some w → t ≡ number w
-  width_of-is (Plain (OfLeaf (Number v))) w e = ap number (same_Some v w e)
-  width_of-is (Plain (OfLeaf Boolean)) w e = absurd cc
-  width_of-is (Plain (OfLeaf Address)) w e = absurd cc
-  width_of-is (Plain (OfLeaf Signer)) w e = absurd cc
-  width_of-is (Plain (OfStruct h)) w e = absurd cc
-  width_of-is (ReferenceTo t) w e = absurd cc
-  width_of-is (MutableReferenceTo t) w e = absurd cc
 
   pub cast_typed : (w : Width) (stack : List Value) (types after : Types) → HaveTokens modules look home stack types → of_cast w types ≡ Some after →
       Part (λ (s : List Value). HaveTokens modules look home s after) (cast w stack)

@@ -30,6 +30,7 @@ use Rattle.mv_interpreter.proofs.Typing.Operands.{takes_gives-is, one, joined, t
 use Rattle.mv_interpreter.proofs.Typing.Roots.{is_plain, plain_is, tokens_have_tags, typed_have_tags}
 use Rattle.mv_interpreter.proofs.Typing.References.{struct_fields}
 use Rattle.mv_interpreter.proofs.Typing.Stays.{moved}
+use Rattle.std.proofs.lemmas.Bool.{not-true}
 
 -- the tags of a list of types are found
 pub tags_found : (h : Here) → Facts h → (ts : List Token) (tags : List Tag) → tokens_named h.home ts ≡ Some tags → for_each (tag_named h.modules h.home) ts ≡ Ok tags
@@ -82,11 +83,7 @@ module _ (modules : List Module) (look : Roots) where
   fields_typed [] (t ∷ ts) p h = absurd h
   fields_typed (v ∷ vs) [] p h = absurd h
   fields_typed (v ∷ vs) (t ∷ ts) p h =
-      (plain_is (fields_by_name modules) look v t (opposite (is_reference_tag t) (first_so (not (is_reference_tag t)) (are_plain ts) p)) h.0, fields_typed vs ts (second_so (not (is_reference_tag t)) (are_plain ts) p) h.1)
-    where
-      opposite : (b : Bool) → not b ≡ true → b ≡ false
-      opposite true e = absurd cc
-      opposite false e = refl
+      (plain_is (fields_by_name modules) look v t (not-true (is_reference_tag t) (first_so (not (is_reference_tag t)) (are_plain ts) p)) h.0, fields_typed vs ts (second_so (not (is_reference_tag t)) (are_plain ts) p) h.1)
 
   pub typed_fields : (fields : Values) (tags : List Tag) → AreOf (fields_by_name modules) fields tags → HaveTypes (fields_by_name modules) look (list_of fields) tags
   typed_fields NoMore [] h = tt
