@@ -14,6 +14,7 @@
 --   Tells, LinkFacts         `tells`, `store-facts`: what types and link rules tell this theory
 --   Covering                 `holds`: the invariant in the words of the definition
 --   Published                `runs_faultless`, `states_hold`: the laws, over published modules
+pub mod Common
 pub mod Tiles
 pub mod Before
 pub mod Ends

@@ -13,6 +13,7 @@
 --   Whole                    `step_typed_law`, which the law cites; `run_safe`
 --   First, Admitted, TypedCalls    `first_typed`, `admitted_typed`, `call-typed`: a run's first state is typed
 --   Fine                     `fine_storage`, `typed_is_fine`: the storage that the ledger calls fine, and the typed one
+pub mod Common
 pub mod Within
 pub mod Tests
 pub mod Parts

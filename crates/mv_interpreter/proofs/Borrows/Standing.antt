@@ -1,30 +1,14 @@
 -- The frame at work stands on the chain of frames: what its next step may be proved from, and how a step ends that keeps the chain.
-use Rattle.std.proofs.Common.{◌≡◌, ℕ, suc, ◌+◌, ◌-◌, List, [], ◌∷◌, map, length, ◌⊎◌, refl, sym, ◌∙◌, ap, arith, subst, Option, Some, None, Result, Ok, Err}
-use Rattle.std.specs.Prelude.{slice_get, option_and_then, ⊤}
-use Rattle.std.proofs.lemmas.Option.{same_Some}
-use Rattle.mv_move_types.specs.declared.borrow.Node.TheVariants.{Temp}
-use Rattle.mv_move_types.specs.declared.token.Token.{Token}
-use Rattle.mv_move_types.specs.declared.instruction.Instruction.{Instruction}
-use Rattle.mv_move_types.specs.declared.instruction.Instruction.TheVariants.{Ret, Call}
+use Rattle.mv_interpreter.proofs.Borrows.Common.{◌≡◌, ℕ, suc, ◌+◌, ◌-◌, List, [], ◌∷◌, map, length, ◌⊎◌, refl, sym, ◌∙◌, ap, arith, subst, Option, Some, None, Result, Ok, Err, slice_get, option_and_then, ⊤, same_Some, Temp, Token, Instruction, Call, Reference, Value, Leaf, Struct, Ref, Frame, State, reference_of, successors, Edge, without, Point, Types, alone, activation, kind_at, layer_of, Here, Turn, gives, with_top, operand, as_reference, Layer, Chain, Kinds, home_of, Fits, token_kind, operand_kind, ok-is, operand-is}
+use Rattle.mv_move_types.specs.declared.instruction.Instruction.TheVariants.{Ret}
 use Rattle.mv_move_types.specs.Module.{local_type}
-use Rattle.mv_machine.specs.Value.{Reference, Value, Leaf, Struct, Ref}
-use Rattle.mv_machine.specs.State.{Frame, State}
-use Rattle.mv_machine.specs.Live.{reference_of}
-use Rattle.mv_move_types.specs.Flow.{successors}
 use Rattle.mv_machine.specs.Typing.{Failure}
-use Rattle.mv_edges.specs.Edges.{Edge, without}
-use Rattle.mv_type_states.specs.TypesHold.{Point}
-use Rattle.mv_type_states.specs.TypeRules.{Types}
-use Rattle.mv_interpreter.specs.Borrows.View.{alone, activation, kind_at, layer_of}
-use Rattle.mv_machine.specs.StepParts.{Here, Turn, Goes, Returns, gives, pushes, with_top, operand, operands, as_reference, as_address}
-use Rattle.mv_borrow_graph.specs.Abstract.Stack.{Layer, Chain}
-use Rattle.mv_borrow_graph.proofs.Abstract.Run.{Kinds}
-use Rattle.mv_interpreter.specs.Borrows.Stood.{home_of}
-use Rattle.mv_interpreter.specs.Borrows.Hypotheses.{Fits, NoneInside, token_kind, operand_kind}
+use Rattle.mv_machine.specs.StepParts.{Goes, Returns, pushes, operands, as_address}
+use Rattle.mv_interpreter.specs.Borrows.Hypotheses.{NoneInside}
 use Rattle.mv_interpreter.proofs.Borrows.Same.{SameFrames, same-all}
 use Rattle.mv_interpreter.proofs.Borrows.Mutability.{kinds, kinds-length}
 use Rattle.mv_interpreter.proofs.Borrows.Kept.{Falls, falls-pushed, falls-same, below-from, kept-falls, kept-drop, Stand}
-use Rattle.mv_machine.proofs.Binds.{ok-is, operand-is, reference-is}
+use Rattle.mv_machine.proofs.Binds.{reference-is}
 use Rattle.mv_interpreter.proofs.Borrows.Operands.{bind, leaf-falls}
 use Rattle.mv_machine.proofs.Operations.{GivesLeaf}
 
@@ -123,10 +107,12 @@ module _ (this : Standing) where
       → gives h r ≡ Ok y → Some es ≡ Some es' → ((s : List Value) → r ≡ Ok s → Falls os (map reference_of s)) → Kept i es' (Ok y)
   calm-gives i r y es' next e g falls =
       bind r _ y e (λ s s_is e1.
-      ends i (with_top h.state (record (h.state.top) { stack = s; at = h.state.top.at + 1 })) y es es' e1 (same_Some es es' g) (calm s (h.state.top.at + 1) (falls s s_is), (refl, refl, refl, same-all h.state.below, refl, next)))
+      ends i (with_top h.state (record (h.state.top) { stack = s; at = h.state.top.at + 1 })) y es es' e1 (same_Some es es' g)
+      (calm s (h.state.top.at + 1) (falls s s_is), (refl, refl, refl, same-all h.state.below, refl, next)))
 
-  pub calm-leaf : (i : Instruction) (r : Result (List Value) Failure) (y : Turn) (es' : List Edge) → ((s : List Value) → r ≡ Ok s → GivesLeaf h h.state.top.stack s) → Among (h.state.top.at + 1) (successors h.state.top.at i)
-      → gives h r ≡ Ok y → Some es ≡ Some es' → Kept i es' (Ok y)
+  pub calm-leaf : (i : Instruction) (r : Result (List Value) Failure) (y : Turn) (es' : List Edge)
+      → ((s : List Value) → r ≡ Ok s → GivesLeaf h h.state.top.stack s) → Among (h.state.top.at + 1) (successors h.state.top.at i) → gives h r ≡ Ok y
+      → Some es ≡ Some es' → Kept i es' (Ok y)
   calm-leaf i r y es' leaf next e g = calm-gives i r y es' next e g (λ s s_is. leaf-falls h h.state.top.stack s (leaf s s_is))
 
   pub calm-pushes : (i : Instruction) (v : Value) (y : Turn) (es' : List Edge) → Among (h.state.top.at + 1) (successors h.state.top.at i)

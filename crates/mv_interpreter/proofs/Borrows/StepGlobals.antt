@@ -1,37 +1,18 @@
 -- A step on the storage keeps the chain of frames.
-use Rattle.std.proofs.Common.{◌≡◌, ℕ, suc, ◌+◌, ◌-◌, List, [], ◌∷◌, ◌++◌, map, length, Bool, true, false, not, inl, refl, sym, ◌∙◌, ap, arith, subst, Option, Some, None, Ok}
-use Rattle.std.specs.Prelude.{ok_or, ◌==◌, is_some}
-use Rattle.std.specs.List.{list_any}
-use Rattle.std.proofs.lemmas.Bool.{and_from, eq-eqb}
-use Rattle.std.proofs.lemmas.Option.{same_Some}
-use Rattle.mv_move_types.specs.declared.tables.Key.{Key}
-use Rattle.mv_move_types.specs.declared.borrow.Node.TheVariants.{Glob, Temp}
-use Rattle.mv_move_types.specs.declared.instruction.Instruction.{Instruction}
+use Rattle.mv_interpreter.proofs.Borrows.Common.{◌≡◌, ℕ, suc, ◌+◌, ◌-◌, List, [], ◌∷◌, ◌++◌, map, length, Bool, true, false, not, inl, refl, sym, ◌∙◌, ap, arith, subst, Option, Some, None, Ok, ok_or, ◌==◌, list_any, and_from, eq-eqb, same_Some, Key, Glob, Temp, Instruction, need, Stored, Reference, Value, Ref, Frame, reference_of, live, is_frozen_by, successors, Faults, TypeFault, FrozenFault, has_tag, Edge, here, without, an_edge, Point, is_mutable, no_edge_out, no_mutable_from, defined, acquires_of, edges_of, kind_at, held_as, Turn, with_top, operand, as_reference, TheLabel, TheNode, AtSlot, AtOwn, AtGlob, AtTemp, Bars, Kinds, stack_ref, found-is, operand-is}
+use Rattle.std.specs.Prelude.{is_some}
 use Rattle.mv_move_types.specs.declared.instruction.Instruction.TheVariants.{Exists, MutBorrowGlobal, ImmBorrowGlobal, MoveFrom, MoveTo}
-use Rattle.mv_move_types.specs.Results.{need}
-use Rattle.mv_machine.specs.Value.{Stored, Reference, Value, Ref}
-use Rattle.mv_machine.specs.State.{Frame, stored_at, without_stored, with_stored}
-use Rattle.mv_machine.specs.Live.{reference_of, live, is_frozen_by}
-use Rattle.mv_move_types.specs.Flow.{successors}
-use Rattle.mv_machine.specs.Typing.{Faults, Aborts, TypeFault, FrozenFault, has_tag}
+use Rattle.mv_machine.specs.State.{stored_at, without_stored, with_stored}
+use Rattle.mv_machine.specs.Typing.{Aborts}
 use Rattle.mv_move_types.specs.Tags.{StructTag}
 use Rattle.mv_machine.specs.declared.Kind.TheVariants.{Exists as AlreadyThere, Missing}
-use Rattle.mv_edges.specs.Edges.{Edge, here, without, an_edge}
-use Rattle.mv_type_states.specs.TypesHold.{Point}
-use Rattle.mv_borrow_graph.specs.BorrowRules.{edges_after, is_mutable, no_edge_out, no_mutable_from, global_edges}
-use Rattle.mv_interpreter.specs.Borrows.View.{defined, acquires_of, edges_of, kind_at, held_as}
-use Rattle.mv_machine.specs.StepParts.{Turn, with_top, operand, as_reference, as_address, as_signer, follow, truth}
+use Rattle.mv_borrow_graph.specs.BorrowRules.{edges_after, global_edges}
+use Rattle.mv_machine.specs.StepParts.{as_address, as_signer, follow, truth}
 use Rattle.mv_machine.specs.StepGlobals.{borrow_global, move_from, move_to, exists, keyed_struct, key_at}
-use Rattle.mv_borrow_graph.specs.Abstract.Places.{Label as TheLabel}
-use Rattle.mv_borrow_graph.specs.Abstract.Covers.{Node as TheNode, Slot as AtSlot, Own as AtOwn, Glob as AtGlob, Temp as AtTemp}
-use Rattle.mv_borrow_graph.specs.Abstract.Rows.{Bars}
-use Rattle.mv_borrow_graph.proofs.Abstract.Run.{Kinds}
-use Rattle.mv_borrow_graph.specs.Abstract.Lists.{stack_ref}
 use Rattle.mv_borrow_graph.proofs.Abstract.Lists.{stack_under}
 use Rattle.mv_interpreter.proofs.Borrows.Same.{same-all}
 use Rattle.mv_interpreter.proofs.Borrows.Edges.{free_out, free_mutable, then-some}
 use Rattle.mv_interpreter.proofs.Borrows.Kept.{falls-pushed, falls-popped, below-from, kept-falls, kept-borrow-global, kept-drop, act}
-use Rattle.mv_machine.proofs.Binds.{found-is, operand-is}
 use Rattle.mv_interpreter.proofs.Borrows.Operands.{bind, met, one-off}
 use Rattle.mv_interpreter.proofs.Borrows.Standing.{Standing, Among, at_top, ends, calm, StandTop, StandList, Kept, address-top, size, typed}
 
@@ -64,7 +45,8 @@ module _ (this : Standing) where
       bind (as_address top.0) _ y e2 (λ a a_is e3.
       bind (ok_or (stored_at h.state.storage (key_at h i a)) (Aborts Missing 0)) _ y e3 (λ v v_is e4.
       ends this ins (with_top h.state (global_frame m (key_at h i a) top.1)) y (global_edges p i es) es' e4 (sym g) (
-        at_top this (λ n. es ++ an_edge (Glob i) here (Temp n) ∷ []) h.state.top.locals (Some (record { is_mutable = m; place = record { root = Stored (key_at h i a); path = [] } }) ∷ map reference_of top.1)
+        at_top this (λ n. es ++ an_edge (Glob i) here (Temp n) ∷ []) h.state.top.locals
+            (Some (record { is_mutable = m; place = record { root = Stored (key_at h i a); path = [] } }) ∷ map reference_of top.1)
             (map reference_of top.1) None (address-top this top a top_is a_is)
             (kept-borrow-global depends through no_cycle h.function.acquires h.state.top rest h.state.top.locals os es stands m (key_at h i a) (map reference_of top.1) (kind_at p) (typed this)
             (address-top this top a top_is a_is) (own-key i a acq) refl need),
@@ -78,8 +60,8 @@ module _ (this : Standing) where
       let b = then-some (no_edge_out (Glob i) es) (global_edges p i es) es' g in
       borrow-global-by true (MutBorrowGlobal i) i y es' (inl refl) e acq b.1 (λ x c z k. free_out place (Glob i) es b.0 x c z)
 
-  pub step-global-immutable : (i : ℕ) (y : Turn) (es' : List Edge) → borrow_global false h i ≡ Ok y → list_any (λ z. z == i) h.function.acquires ≡ true → edges_after p (ImmBorrowGlobal i) es ≡ Some es'
-      → Kept this (ImmBorrowGlobal i) es' (Ok y)
+  pub step-global-immutable : (i : ℕ) (y : Turn) (es' : List Edge) → borrow_global false h i ≡ Ok y
+      → list_any (λ z. z == i) h.function.acquires ≡ true → edges_after p (ImmBorrowGlobal i) es ≡ Some es' → Kept this (ImmBorrowGlobal i) es' (Ok y)
   unfolding edges_after
   step-global-immutable i y es' e acq g =
       let b = then-some (no_mutable_from p (Glob i) es) (global_edges p i es) es' g in
@@ -124,7 +106,8 @@ module _ (this : Standing) where
       met (not (is_some (stored_at h.state.storage (key_at h i a)))) (Aborts AlreadyThere 0) _ y e8 (λ ok e9.
       met (not (is_frozen_by (live h.state) (record { root = Stored (key_at h i a); path = [] }))) (Faults FrozenFault) _ y e9 (λ unfrozen e10.
       ends this (MoveTo i)
-      (record (h.state) { storage = with_stored h.state.storage (key_at h i a) top.0; top = record (h.state.top) { stack = lower.1; at = h.state.top.at + 1 } }) y (without (Temp (length types - 2)) es) es' e10
+      (record (h.state) { storage = with_stored h.state.storage (key_at h i a) top.0; top = record (h.state.top) { stack = lower.1; at = h.state.top.at + 1 } }) y
+      (without (Temp (length types - 2)) es) es' e10
       (same_Some (without (Temp (length types - 2)) es) es' g)
       (taken top lower (operand-is h.state.top.stack top top_is) (operand-is top.1 lower lower_is), (refl, refl, refl, same-all h.state.below, refl, inl refl))))))))))))
     where
@@ -133,7 +116,8 @@ module _ (this : Standing) where
       taken top lower is under_is =
           let top_os : os ≡ reference_of top.0 ∷ map reference_of top.1 = ap (map reference_of) is in
           let low_os : map reference_of top.1 ≡ reference_of lower.0 ∷ map reference_of lower.1 = ap (map reference_of) under_is in
-          subst (λ n. StandList this h.state.top.locals (map reference_of lower.1) (without (Temp n) es)) (second (length os) (length (map reference_of top.1)) (length (map reference_of lower.1)) (ap length top_os) (ap length low_os) (size this))
+          subst (λ n. StandList this h.state.top.locals (map reference_of lower.1) (without (Temp n) es))
+          (second (length os) (length (map reference_of top.1)) (length (map reference_of lower.1)) (ap length top_os) (ap length low_os) (size this))
           (kept-drop depends through no_cycle h.function.acquires h.state.top rest h.state.top.locals (map reference_of top.1) es
           (kept-falls depends through no_cycle h.function.acquires h.state.top rest h.state.top.locals os es stands h.state.top.locals (map reference_of top.1) es (λ l v r at is. at)
           (falls-popped os (map reference_of top.1) (reference_of top.0) top_os) (below-from _ _ (λ q x c e. e)))

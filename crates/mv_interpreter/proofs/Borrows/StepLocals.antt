@@ -1,37 +1,16 @@
 -- A step on a local keeps the chain of frames: copies, moves, stores and borrows.
-use Rattle.std.proofs.Common.{◌≡◌, ℕ, zero, suc, ◌+◌, ◌-◌, List, [], ◌∷◌, ◌++◌, map, length, Bool, true, false, not, inl, refl, sym, ◌∙◌, ap, subst, Option, Some, None, Ok}
-use Rattle.std.specs.Prelude.{slice_get, slice_set}
-use Rattle.std.proofs.lemmas.Option.{same_Some}
-use Rattle.mv_move_types.specs.declared.borrow.Node.TheVariants.{Slot, Own, Temp}
-use Rattle.mv_move_types.specs.declared.token.Token.{Token}
-use Rattle.mv_move_types.specs.declared.token.Token.TheVariants.{Plain, Reference as ReferenceTo, MutableReference as MutableReferenceTo}
-use Rattle.mv_move_types.specs.declared.instruction.Instruction.{Instruction}
+use Rattle.mv_interpreter.proofs.Borrows.Common.{◌≡◌, ℕ, zero, suc, ◌+◌, ◌-◌, List, [], ◌∷◌, ◌++◌, map, length, Bool, true, false, not, inl, refl, sym, ◌∙◌, ap, subst, Option, Some, None, Ok, slice_get, slice_set, same_Some, Slot, Own, Temp, Token, Plain, ReferenceTo, MutableReferenceTo, Instruction, need, ◌>>>◌, Reference, Value, Ref, Frame, reference_of, live, is_frozen_by, successors, Faults, TypeFault, LostFault, FrozenFault, entry, tag_named, has_tag, Tag, Edge, here, without, inherited, renamed, an_edge, Point, is_mutable, no_edge_out, no_mutable_from, edges_of, kind_at, Turn, with_top, with_stack, operand, TheLabel, TheNode, AtOwn, Bars, token_kind, operand_kind, on_bind, found-is, operand-is}
 use Rattle.mv_move_types.specs.declared.instruction.Instruction.TheVariants.{CopyLoc, MoveLoc, StLoc, MutBorrowLoc, ImmBorrowLoc}
-use Rattle.mv_move_types.specs.Results.{need}
-use Rattle.mv_move_types.specs.Options.{◌>>=◌ as ◌>>>◌}
 use Rattle.mv_move_types.specs.Module.{local_tokens, local_type}
-use Rattle.mv_machine.specs.Value.{Reference, Value, Ref}
-use Rattle.mv_machine.specs.State.{Frame}
-use Rattle.mv_machine.specs.Live.{reference_of, live, is_frozen_by}
-use Rattle.mv_move_types.specs.Flow.{successors}
-use Rattle.mv_machine.specs.Typing.{Faults, TypeFault, LostFault, FrozenFault, entry, linked, tag_named, has_tag}
-use Rattle.mv_move_types.specs.Tags.{Tag}
-use Rattle.mv_edges.specs.Edges.{Edge, here, without, inherited, renamed, an_edge}
-use Rattle.mv_type_states.specs.TypesHold.{Point}
-use Rattle.mv_borrow_graph.specs.BorrowRules.{edges_after, copy_edges, move_edges, store_edges, is_mutable, no_edge_out, no_mutable_from}
-use Rattle.mv_interpreter.specs.Borrows.View.{edges_of, kind_at}
-use Rattle.mv_machine.specs.StepParts.{Turn, with_top, with_stack, operand, can_copy, may_drop, is_reference_tag}
+use Rattle.mv_machine.specs.Typing.{linked}
+use Rattle.mv_borrow_graph.specs.BorrowRules.{edges_after, copy_edges, move_edges, store_edges}
+use Rattle.mv_machine.specs.StepParts.{can_copy, may_drop, is_reference_tag}
 use Rattle.mv_machine.specs.StepLocals.{copy_local, move_local, store_local, borrow_local, held, local_place, local_tag}
-use Rattle.mv_borrow_graph.specs.Abstract.Places.{Label as TheLabel}
-use Rattle.mv_borrow_graph.specs.Abstract.Covers.{Node as TheNode, Own as AtOwn}
-use Rattle.mv_borrow_graph.specs.Abstract.Rows.{Bars}
-use Rattle.mv_interpreter.specs.Borrows.Hypotheses.{token_kind, operand_kind}
 use Rattle.mv_interpreter.proofs.Borrows.Same.{same-all}
 use Rattle.mv_interpreter.proofs.Borrows.Edges.{free_out, free_mutable, then-some}
 use Rattle.mv_interpreter.proofs.Borrows.Mutability.{operand-plain}
 use Rattle.mv_interpreter.proofs.Borrows.Kept.{falls-pushed, falls-popped, falls-same, below-from, kept-falls, kept-copy, kept-copy-mutable, kept-move, kept-store, kept-borrow-local}
-use Rattle.mv_machine.proofs.Laws.{on_bind}
-use Rattle.mv_machine.proofs.Binds.{found-is, held-is, operand-is}
+use Rattle.mv_machine.proofs.Binds.{held-is}
 use Rattle.mv_interpreter.proofs.Borrows.Operands.{bind, met, some-bind, tag-kind}
 use Rattle.mv_interpreter.proofs.Borrows.Standing.{Standing, Among, at_next, at_top, local-kind, ends, calm, StandTop, Kept, typed}
 
@@ -125,8 +104,8 @@ module _ (this : Standing) where
   abbrev stored_frame : ℕ → Value → List Value → Frame
   stored_frame l v s = record (h.state.top) { stack = s; at = h.state.top.at + 1; locals = slice_set h.state.top.locals l (Some v) }
 
-  store-by : (l : ℕ) (v : Value) (s : List Value) (es' : List Edge) (t : Token) → os ≡ reference_of v ∷ map reference_of s → token_kind t ≡ operand_kind (reference_of v) → store_edges p l t es ≡ Some es'
-      → StandTop this (stored_frame l v s) es'
+  store-by : (l : ℕ) (v : Value) (s : List Value) (es' : List Edge) (t : Token) → os ≡ reference_of v ∷ map reference_of s
+      → token_kind t ≡ operand_kind (reference_of v) → store_edges p l t es ≡ Some es' → StandTop this (stored_frame l v s) es'
   store-by l v s es' (Plain t) top k g =
       subst (λ u. StandTop this (stored_frame l v s) u) (sym (then-some (no_edge_out (Own l) es) es es' g).1)
       (kept-falls depends through no_cycle h.function.acquires h.state.top rest h.state.top.locals os es stands (slice_set h.state.top.locals l (Some v)) (map reference_of s) es

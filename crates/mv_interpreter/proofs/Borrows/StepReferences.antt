@@ -1,37 +1,19 @@
 -- A step on references keeps the chain of frames: fields, FreezeRef, reads and writes.
-use Rattle.std.proofs.Common.{◌≡◌, ℕ, ◌+◌, ◌-◌, List, [], ◌∷◌, ◌++◌, map, length, Bool, true, false, not, inl, refl, sym, ◌∙◌, ap, subst, Option, Some, None, Ok}
-use Rattle.std.specs.Prelude.{slice_get, ok_or, ◌&&◌, ◌||◌, ◌==◌, filter}
-use Rattle.std.specs.List.{list_any}
-use Rattle.std.proofs.lemmas.Bool.{not-true, and_from, eq-eqb}
-use Rattle.std.proofs.lemmas.Option.{same_Some}
-use Rattle.mv_move_types.specs.declared.borrow.Node.TheVariants.{Temp}
-use Rattle.mv_move_types.specs.declared.instruction.Instruction.{Instruction}
+use Rattle.mv_interpreter.proofs.Borrows.Common.{◌≡◌, ℕ, ◌+◌, ◌-◌, List, [], ◌∷◌, ◌++◌, map, length, Bool, true, false, not, inl, refl, sym, ◌∙◌, ap, subst, Option, Some, None, Ok, slice_get, ok_or, ◌&&◌, ◌||◌, ◌==◌, filter, list_any, not-true, and_from, eq-eqb, same_Some, Temp, Instruction, need, ◌>>>◌, Reference, Value, Ref, Frame, place_value, reference_of, live, is_frozen_by, successors, Faults, TypeFault, LostFault, FrozenFault, entry, has_tag, Edge, Label, same_node, without, inherited, extended, Point, is_mutable, no_edge_out, no_mutable_from, edges_of, kind_at, label_from, Member, Turn, gives, with_top, with_stack, operand, can_drop, as_reference, as_fields, TheLabel, TheNode, AtTemp, Chain, home_of, Descending, begins, on_bind, ok-is, found-is, operand-is}
 use Rattle.mv_move_types.specs.declared.instruction.Instruction.TheVariants.{MutBorrowField, ImmBorrowField, ReadRef, WriteRef, FreezeRef}
-use Rattle.mv_move_types.specs.Results.{need}
-use Rattle.mv_move_types.specs.Options.{◌>>=◌ as ◌>>>◌}
-use Rattle.mv_machine.specs.Value.{Reference, Value, Ref}
-use Rattle.mv_machine.specs.State.{Frame, with_place, place_value}
-use Rattle.mv_machine.specs.Live.{reference_of, live, is_frozen_by}
-use Rattle.mv_move_types.specs.Flow.{successors}
-use Rattle.mv_machine.specs.Typing.{Faults, TypeFault, LostFault, FrozenFault, DanglingFault, entry, has_tag, tag_of}
-use Rattle.mv_edges.specs.Edges.{Edge, Label, same_node, without, inherited, extended, out_of, agrees}
-use Rattle.mv_type_states.specs.TypesHold.{Point}
-use Rattle.mv_borrow_graph.specs.BorrowRules.{edges_after, is_mutable, no_edge_out, no_mutable_from, position_of, field_edges, top_temp}
-use Rattle.mv_interpreter.specs.Borrows.View.{edges_of, kind_at, label_from, Member}
-use Rattle.mv_machine.specs.StepParts.{Turn, gives, with_top, with_stack, operand, can_copy, can_drop, as_reference, as_fields, follow}
+use Rattle.mv_machine.specs.State.{with_place}
+use Rattle.mv_machine.specs.Typing.{DanglingFault, tag_of}
+use Rattle.mv_edges.specs.Edges.{out_of, agrees}
+use Rattle.mv_borrow_graph.specs.BorrowRules.{edges_after, position_of, field_edges, top_temp}
+use Rattle.mv_machine.specs.StepParts.{can_copy, follow}
 use Rattle.mv_machine.specs.StepStructs.{OwnStruct, own_struct}
 use Rattle.mv_machine.specs.StepReferences.{borrow_field, write_reference, read_reference, freeze, own_field, lends}
-use Rattle.mv_borrow_graph.specs.Abstract.Places.{Label as TheLabel, Agrees, AgreesWith, steps}
-use Rattle.mv_borrow_graph.specs.Abstract.Covers.{Node as TheNode, Temp as AtTemp}
+use Rattle.mv_borrow_graph.specs.Abstract.Places.{Agrees, AgreesWith, steps}
 use Rattle.mv_borrow_graph.specs.Abstract.Rows.{BorrowField, Need}
-use Rattle.mv_borrow_graph.specs.Abstract.Stack.{Chain}
-use Rattle.mv_interpreter.specs.Borrows.Stood.{home_of, Descending}
-use Rattle.mv_move_types.specs.Paths.{begins}
 use Rattle.mv_interpreter.proofs.Borrows.Same.{SameSeen, same-all, layer-same, write-same, plain-tagged}
 use Rattle.mv_interpreter.proofs.Borrows.Edges.{kind_of_node, free_mutable, then-some, none_any, node_of-inj, node-is, member_filter}
 use Rattle.mv_interpreter.proofs.Borrows.Kept.{Falls, falls-pushed, falls-popped, falls-same, kept-borrow-field, kept-freeze}
-use Rattle.mv_machine.proofs.Laws.{on_bind}
-use Rattle.mv_machine.proofs.Binds.{ok-is, found-is, operand-is, reference-is}
+use Rattle.mv_machine.proofs.Binds.{reference-is}
 use Rattle.mv_interpreter.proofs.Borrows.Operands.{bind, met, some-bind}
 use Rattle.mv_interpreter.proofs.Borrows.Standing.{Standing, Among, at_top, under, ends, StandTop, Kept, dropped-calm, ref-top, typed}
 
@@ -143,10 +125,13 @@ module _ (this : Standing) where
       bind (follow h.state r) _ s q3 (λ v v_is q4.
       let b = then-some (no_mutable_from p (top_temp p) es) (filter (λ e. not (same_node e.from (top_temp p))) es) es' g in
       ends this FreezeRef (with_top h.state (record (h.state.top) { stack = s; at = h.state.top.at + 1 })) y (filter (λ e. not (same_node e.from (top_temp p))) es) es' e0 (sym b.1) (
-        subst (λ u. StandTop this (record (h.state.top) { stack = u; at = h.state.top.at + 1 }) (filter (λ e. not (same_node e.from (top_temp p))) es)) (ok-is (Ref (record { is_mutable = false; place = r.place }) ∷ top.1) s q4)
-            (at_top this (λ n. filter (λ e. not (same_node e.from (Temp n))) es) h.state.top.locals (Some (record { is_mutable = false; place = r.place }) ∷ map reference_of top.1) (map reference_of top.1) (Some r)
+        subst (λ u. StandTop this (record (h.state.top) { stack = u; at = h.state.top.at + 1 }) (filter (λ e. not (same_node e.from (top_temp p))) es))
+            (ok-is (Ref (record { is_mutable = false; place = r.place }) ∷ top.1) s q4)
+            (at_top this (λ n. filter (λ e. not (same_node e.from (Temp n))) es) h.state.top.locals
+            (Some (record { is_mutable = false; place = r.place }) ∷ map reference_of top.1) (map reference_of top.1) (Some r)
             (ref-top this top r top_is r_is)
-            (kept-freeze depends through no_cycle h.function.acquires h.state.top rest h.state.top.locals os es stands r (map reference_of top.1) (kind_at p) (typed this) (ref-top this top r top_is r_is)
+            (kept-freeze depends through no_cycle h.function.acquires h.state.top rest h.state.top.locals os es stands r
+            (map reference_of top.1) (kind_at p) (typed this) (ref-top this top r top_is r_is)
             (λ x c z k. free_mutable p place (Temp (length (map reference_of top.1))) es
             (subst (λ n. no_mutable_from p (Temp n) es ≡ true) (under this (map reference_of top.1) (Some r) (ref-top this top r top_is r_is)) b.0) x c z k))),
         (refl, refl, refl, same-all h.state.below, refl, inl refl),
@@ -190,7 +175,8 @@ module _ (this : Standing) where
       let b = then-some (no_edge_out (top_temp p) es) (without (top_temp p) es) es' g in
       ends this WriteRef (with_top t (record (t.top) { at = t.top.at + 1 })) y (without (top_temp p) es) es' e10 (sym b.1) (
         subst (λ u. Chain depends home_of (u ∷ rest))
-            (layer-same h.function.acquires [] (record (h.state.top) { stack = lower.1; at = h.state.top.at + 1 }) (record (t.top) { at = t.top.at + 1 }) (without (top_temp p) es) (same-on h.state.top t.top lower.1 w.0))
+            (layer-same h.function.acquires [] (record (h.state.top) { stack = lower.1; at = h.state.top.at + 1 })
+            (record (t.top) { at = t.top.at + 1 }) (without (top_temp p) es) (same-on h.state.top t.top lower.1 w.0))
             (dropped-calm this top.0 top.1 lower.1 (h.state.top.at + 1) (operand-is h.state.top.stack top top_is)
             (falls-popped (map reference_of top.1) (map reference_of lower.1) (reference_of lower.0) (ap (map reference_of) (operand-is top.1 lower lower_is)))),
         (w.0.number, w.0.function, w.0.entered_with, w.1, w.2, inl (ap (λ n. n + 1) w.0.at)),

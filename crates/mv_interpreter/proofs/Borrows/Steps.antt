@@ -1,40 +1,29 @@
 -- One step of the machine keeps the chain of frames: every instruction but Call and Ret, in one table over the families.
-use Rattle.std.proofs.Common.{◌≡◌, ℕ, ◌+◌, ◌-◌, List, ◌∷◌, ◌++◌, map, length, reverse, Bool, true, false, not, cond, inl, inr, refl, sym, ap, subst, Option, Some, None, Result, Ok, Err}
-use Rattle.std.specs.Prelude.{nat_le, ok_or, ◌&&◌, ◌||◌, bit_or, bit_and, bit_xor, nat_lt}
-use Rattle.std.specs.Bool.{beq}
-use Rattle.std.proofs.lemmas.Option.{same_Some}
-use Rattle.mv_move_types.specs.declared.borrow.Node.TheVariants.{Temp}
-use Rattle.mv_move_types.specs.declared.token.Token.{Token}
-use Rattle.mv_move_types.specs.declared.token.Token.TheVariants.{Plain, Reference as ReferenceTo, MutableReference as MutableReferenceTo}
+use Rattle.mv_interpreter.proofs.Borrows.Common.{◌≡◌, ℕ, ◌+◌, ◌-◌, List, ◌∷◌, ◌++◌, map, length, reverse, Bool, true, false, not, cond, inl, inr, refl, sym, ap, subst, Option, Some, None, Result, Ok, Err, ok_or, ◌&&◌, ◌||◌, beq, same_Some, Temp, Token, Plain, ReferenceTo, MutableReferenceTo, Instruction, Call, Reference, Value, Leaf, Struct, reference_of, successors, Faults, TypeFault, LostFault, entry, tag_named, Edge, without, Point, Turn, gives, with_top, with_stack, operand, can_drop, as_fields, Descending, on_bind, ok-is, operand-is}
+use Rattle.std.specs.Prelude.{nat_le, bit_or, bit_and, bit_xor, nat_lt}
 use Rattle.mv_move_types.specs.declared.token.Width.TheVariants.{U8, U16, U32, U64, U128}
-use Rattle.mv_move_types.specs.declared.instruction.Instruction.{Instruction}
-use Rattle.mv_move_types.specs.declared.instruction.Instruction.TheVariants.{Pop, Ret, BrTrue, BrFalse, Branch, LdU64, LdConst, LdTrue, LdFalse, CopyLoc, MoveLoc, StLoc, MutBorrowLoc, ImmBorrowLoc, MutBorrowField, ImmBorrowField, Call, Pack, Unpack, ReadRef, WriteRef, Add, Sub, Mul, Mod, Div, BitOr, BitAnd, Xor, Or, And, Not, Eq, Neq, Lt, Gt, Le, Ge, Abort, Nop, Exists, MutBorrowGlobal, ImmBorrowGlobal, MoveFrom, MoveTo, FreezeRef, Shl, Shr, LdU8, LdU128, CastU8, CastU64, CastU128, LdU16, LdU32, CastU16, CastU32}
+use Rattle.mv_move_types.specs.declared.instruction.Instruction.TheVariants.{Pop, Ret, BrTrue, BrFalse, Branch, LdU64, LdConst, LdTrue, LdFalse, CopyLoc, MoveLoc, StLoc, MutBorrowLoc, ImmBorrowLoc, MutBorrowField, ImmBorrowField, Pack, Unpack, ReadRef, WriteRef, Add, Sub, Mul, Mod, Div, BitOr, BitAnd, Xor, Or, And, Not, Eq, Neq, Lt, Gt, Le, Ge, Abort, Nop, Exists, MutBorrowGlobal, ImmBorrowGlobal, MoveFrom, MoveTo, FreezeRef, Shl, Shr, LdU8, LdU128, CastU8, CastU64, CastU128, LdU16, LdU32, CastU16, CastU32}
 use Rattle.mv_move_types.specs.Results.{for_each}
-use Rattle.mv_machine.specs.Value.{Reference, Value, Leaf, Struct, fields_of}
+use Rattle.mv_machine.specs.Value.{fields_of}
 use Rattle.mv_move_types.specs.Tokens.{same_width}
-use Rattle.mv_machine.specs.Live.{reference_of}
-use Rattle.mv_move_types.specs.Flow.{successors}
-use Rattle.mv_machine.specs.Typing.{Failure, Faults, Aborts, TypeFault, LostFault, entry, tag_named, have_tags}
+use Rattle.mv_machine.specs.Typing.{Failure, Aborts, have_tags}
 use Rattle.mv_machine.specs.declared.Kind.TheVariants.{Code}
-use Rattle.mv_edges.specs.Edges.{Edge, without}
-use Rattle.mv_type_states.specs.TypesHold.{Point}
 use Rattle.mv_borrow_graph.specs.BorrowRules.{edges_after}
 use Rattle.mv_interpreter.specs.Borrows.Links.{Reaches}
 use Rattle.mv_machine.specs.Numbers.{sum_of, difference_of, product_of, remainder_of, quotient_of, shifted_left, shifted_right}
-use Rattle.mv_machine.specs.StepParts.{Turn, gives, goes_to, with_top, with_stack, operand, operands, can_drop, as_boolean, as_fields, as_number, truth}
+use Rattle.mv_machine.specs.StepParts.{goes_to, operands, as_boolean, as_number, truth}
 use Rattle.mv_machine.specs.StepStructs.{pack, unpack, own_struct, tallied}
 use Rattle.mv_machine.specs.Step.{rule}
 use Rattle.mv_machine.specs.StepLocals.{pop}
 use Rattle.mv_machine.specs.StepNumbers.{constant, constant_value}
 use Rattle.mv_machine.specs.StepControl.{branch_if, abort}
-use Rattle.mv_interpreter.specs.Borrows.Stood.{Descending}
 use Rattle.mv_move_types.specs.declared.token.ValueType.TheVariants.{OfLeaf, OfStruct}
 use Rattle.mv_move_types.specs.declared.token.LeafKind.TheVariants.{Number}
 use Rattle.mv_move_types.specs.Numbers.{leaf_number}
 use Rattle.mv_interpreter.proofs.Borrows.Same.{same-all}
 use Rattle.mv_interpreter.proofs.Borrows.Kept.{Falls, falls-pushed, falls-same}
-use Rattle.mv_machine.proofs.Laws.{on_bind, on_need}
-use Rattle.mv_machine.proofs.Binds.{ok-is, operand-is, operands-is}
+use Rattle.mv_machine.proofs.Laws.{on_need}
+use Rattle.mv_machine.proofs.Binds.{operands-is}
 use Rattle.mv_interpreter.proofs.Borrows.Operands.{bind, met, fields-are, one-off, none-more, none-reverse, drop-falls}
 use Rattle.mv_machine.proofs.Operations.{binary-gives, comparison-gives, shift-gives, cast-gives, logic-gives, negation-gives, equality-gives}
 use Rattle.mv_interpreter.proofs.Borrows.Standing.{Standing, Among, IsTransfer, ends, calm, calm-leaf, calm-pushes, StandTop, Kept, dropped-calm}
@@ -66,7 +55,8 @@ module _ (this : Standing) where
   step-pop y es' e g =
       bind (pop h h.state.top.stack) _ y e (λ s s_is e0.
       on_pop s s_is (λ top top_is same.
-      ends this Pop (with_top h.state (record (h.state.top) { stack = s; at = h.state.top.at + 1 })) y (without (Temp (length types - 1)) es) es' e0 (same_Some (without (Temp (length types - 1)) es) es' g) (
+      ends this Pop (with_top h.state (record (h.state.top) { stack = s; at = h.state.top.at + 1 })) y
+      (without (Temp (length types - 1)) es) es' e0 (same_Some (without (Temp (length types - 1)) es) es' g) (
         subst (λ u. StandTop this (record (h.state.top) { stack = u; at = h.state.top.at + 1 }) (without (Temp (length types - 1)) es)) same
             (dropped-calm this top.0 top.1 top.1 (h.state.top.at + 1) (operand-is h.state.top.stack top top_is) (falls-same (map reference_of top.1))),
         (refl, refl, refl, same-all h.state.below, refl, inl refl),
@@ -87,7 +77,8 @@ module _ (this : Standing) where
       ends this (Pack i) (tallied true struct (with_top h.state (record (h.state.top) { stack = Struct struct.name (fields_of taken.0) ∷ taken.1; at = h.state.top.at + 1 }))) y es es' e4 (same_Some es es' g) (
         calm this (Struct struct.name (fields_of taken.0) ∷ taken.1) (h.state.top.at + 1)
             (falls-pushed os (map reference_of taken.1) None refl
-            (subst (λ (x : List Value × List Value). Falls os (map reference_of x.1)) (sym (operands-is (length struct.fields) h.state.top.stack taken taken_is).1) (drop-falls (length struct.fields) h.state.top.stack))),
+            (subst (λ (x : List Value × List Value). Falls os (map reference_of x.1))
+            (sym (operands-is (length struct.fields) h.state.top.stack taken taken_is).1) (drop-falls (length struct.fields) h.state.top.stack))),
         (refl, refl, refl, same-all h.state.below, refl, inl refl),
       )))))
 
@@ -112,12 +103,15 @@ module _ (this : Standing) where
       bind (constant_value c.token c.bytes) _ y e1 (λ v v_is e2.
       calm-pushes this (LdConst i) v y es' (inl refl) e2 g (constant-none c.token c.bytes v v_is)))
 
-  branch-by : (i : Instruction) (b : Bool) (target : ℕ) (s : List Value) (y : Turn) (es' : List Edge) → Among target (successors h.state.top.at i) → Among (h.state.top.at + 1) (successors h.state.top.at i)
-      → goes_to (cond b target (h.state.top.at + 1)) (with_stack h.state s) ≡ Ok y → Some es ≡ Some es' → Falls os (map reference_of s) → Kept this i es' (Ok y)
+  branch-by : (i : Instruction) (b : Bool) (target : ℕ) (s : List Value) (y : Turn) (es' : List Edge) → Among target (successors h.state.top.at i)
+      → Among (h.state.top.at + 1) (successors h.state.top.at i) → goes_to (cond b target (h.state.top.at + 1)) (with_stack h.state s) ≡ Ok y
+      → Some es ≡ Some es' → Falls os (map reference_of s) → Kept this i es' (Ok y)
   branch-by i true target s y es' there next e g falls =
-      ends this i (with_top h.state (record (h.state.top) { stack = s; at = target })) y es es' e (same_Some es es' g) (calm this s target falls, (refl, refl, refl, same-all h.state.below, refl, there))
+      ends this i (with_top h.state (record (h.state.top) { stack = s; at = target })) y es es' e
+      (same_Some es es' g) (calm this s target falls, (refl, refl, refl, same-all h.state.below, refl, there))
   branch-by i false target s y es' there next e g falls =
-      ends this i (with_top h.state (record (h.state.top) { stack = s; at = h.state.top.at + 1 })) y es es' e (same_Some es es' g) (calm this s (h.state.top.at + 1) falls, (refl, refl, refl, same-all h.state.below, refl, next))
+      ends this i (with_top h.state (record (h.state.top) { stack = s; at = h.state.top.at + 1 })) y es es' e
+      (same_Some es es' g) (calm this s (h.state.top.at + 1) falls, (refl, refl, refl, same-all h.state.below, refl, next))
 
   branch-kept : (wanted : Bool) (i : Instruction) (target : ℕ) (y : Turn) (es' : List Edge) → Among target (successors h.state.top.at i) → Among (h.state.top.at + 1) (successors h.state.top.at i)
       → branch_if wanted h target ≡ Ok y → Some es ≡ Some es' → Kept this i es' (Ok y)
@@ -129,7 +123,8 @@ module _ (this : Standing) where
 
   stays-here : (i : Instruction) (target : ℕ) (y : Turn) (es' : List Edge) → Among target (successors h.state.top.at i) → goes_to target h.state ≡ Ok y → Some es ≡ Some es' → Kept this i es' (Ok y)
   stays-here i target y es' there e g =
-      ends this i (with_top h.state (record (h.state.top) { at = target })) y es es' e (same_Some es es' g) (calm this h.state.top.stack target (falls-same os), (refl, refl, refl, same-all h.state.below, refl, there))
+      ends this i (with_top h.state (record (h.state.top) { at = target })) y es es' e (same_Some es es' g)
+      (calm this h.state.top.stack target (falls-same os), (refl, refl, refl, same-all h.state.below, refl, there))
 
   no-abort : (y : Turn) → abort h ≡ Ok y → ⊥
   unfolding abort
@@ -142,7 +137,8 @@ module _ (this : Standing) where
       never k z = cc
 
   -- every instruction but Call and Ret
-  pub step-kept : (i : Instruction) (y : Turn) (es' : List Edge) → (IsTransfer i → ⊥) → Reaches h.function.acquires i → Descending (h.state.top ∷ h.state.below) → rule i h ≡ Ok y → edges_after p i es ≡ Some es' → Kept this i es' (Ok y)
+  pub step-kept : (i : Instruction) (y : Turn) (es' : List Edge) → (IsTransfer i → ⊥) → Reaches h.function.acquires i
+      → Descending (h.state.top ∷ h.state.below) → rule i h ≡ Ok y → edges_after p i es ≡ Some es' → Kept this i es' (Ok y)
   unfolding rule edges_after
   step-kept Pop y es' n q o e g = step-pop y es' e g
   step-kept Ret y es' n q o e g = absurd (n tt)

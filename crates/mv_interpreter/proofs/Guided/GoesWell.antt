@@ -1,23 +1,15 @@
 -- What rules look up and compute goes well: it gives a value, or fails otherwise than by what is lost or frozen.
-use Rattle.std.proofs.Common.{ℕ, ◌-◌, List, length, Bool, true, false, cond, Ok, Err}
-use Rattle.std.specs.Prelude.{ok_or, ◌&&◌, ◌||◌, ◌==◌}
-use Rattle.mv_move_types.specs.declared.token.Token.{Token}
-use Rattle.mv_move_types.specs.declared.token.ValueType.{ValueType}
-use Rattle.mv_move_types.specs.declared.token.ValueType.TheVariants.{OfLeaf, OfStruct}
-use Rattle.mv_move_types.specs.declared.token.Token.TheVariants.{Plain, Reference as ReferenceTo, MutableReference as MutableReferenceTo}
+use Rattle.mv_interpreter.proofs.Guided.Common.{ℕ, ◌-◌, List, length, Bool, true, false, cond, Ok, Err, ok_or, ◌&&◌, ◌||◌, ◌==◌, Token, ValueType, OfLeaf, OfStruct, Plain, ReferenceTo, MutableReferenceTo, Module, local_tokens, struct_name, Value, Failure, Faults, TypeFault, LinkageFault, entry, linked, tag_named, same_tags, declared, same_abilities, Here, operand, operands, as_reference, as_boolean, as_number}
 use Rattle.mv_move_types.specs.declared.token.Width.{Width}
 use Rattle.mv_move_types.specs.declared.token.Width.TheVariants.{U8}
 use Rattle.mv_move_types.specs.Names.{same_module}
-use Rattle.mv_move_types.specs.Module.{Module, local_tokens, module_name, struct_name, own_name}
-use Rattle.mv_machine.specs.Value.{Value}
+use Rattle.mv_move_types.specs.Module.{module_name, own_name}
 use Rattle.mv_move_types.specs.Tokens.{same_width}
 use Rattle.mv_machine.specs.Numbers.{Operator, fitting}
 use Rattle.mv_move_types.specs.Numbers.{leaf_number}
-use Rattle.mv_machine.specs.Typing.{Failure, Faults, TypeFault, LinkageFault, entry, linked, tag_named, value_type_tag, have_tags}
-use Rattle.mv_move_types.specs.Tags.{same_tags}
-use Rattle.mv_move_types.specs.Named.{declared, module_place, is_public, function_place}
-use Rattle.mv_move_types.specs.AbilitySets.{same_abilities}
-use Rattle.mv_machine.specs.StepParts.{Here, operand, operands, as_reference, as_boolean, as_number, follow}
+use Rattle.mv_machine.specs.Typing.{value_type_tag, have_tags}
+use Rattle.mv_move_types.specs.Named.{module_place, is_public, function_place}
+use Rattle.mv_machine.specs.StepParts.{follow}
 use Rattle.mv_machine.specs.StepLocals.{local_tag}
 use Rattle.mv_machine.specs.StepReferences.{freeze, own_field}
 use Rattle.mv_machine.specs.StepGlobals.{keyed_struct}

@@ -1,44 +1,23 @@
 -- Each step of a state that is as the certificates say leads to such a state, and meets nothing lost or frozen.
-use Rattle.std.proofs.Common.{◌≡◌, ℕ, ◌+◌, List, [], ◌∷◌, ◌++◌, map, length, reverse, true, refl, sym, ◌∙◌, ap, ap₂, subst, Option, Some, Result, Ok, Err, inl}
-use Rattle.std.specs.Prelude.{slice_get, ok_or, nat_lt, ⊤}
-use Rattle.std.specs.List.{list_all}
-use Rattle.std.proofs.lemmas.Bool.{and_parts}
-use Rattle.std.proofs.lemmas.Option.{same_Some}
-use Rattle.mv_move_types.specs.declared.instruction.Instruction.{Instruction}
-use Rattle.mv_move_types.specs.declared.instruction.Instruction.TheVariants.{Ret, Call}
+use Rattle.mv_interpreter.proofs.Guided.Common.{◌≡◌, ℕ, ◌+◌, List, [], ◌∷◌, ◌++◌, map, length, reverse, true, refl, sym, ◌∙◌, ap, ap₂, subst, Option, Some, Result, Ok, Err, inl, slice_get, ok_or, ⊤, list_all, and_parts, same_Some, Instruction, Ret, Call, local_of, alone, Module, FunctionDefinition, Value, Reference, Frame, State, reference_of, Failure, Faults, TypeFault, LinkageFault, entry, Known, Certificate, locals_leq, edges_leq, Point, Types, known_before, Here, Goes, Callee, ok-is, found-is, Fits, token_kind, operand_kind, Stood, seen_of, point_of, layers, StoodOn, Sound, Reaches, callee-is, AsKnown, AllPlaced, StoodFit, AllAgree, Guided, StoreFacts, TypeFacts}
+use Rattle.std.specs.Prelude.{nat_lt}
 use Rattle.mv_move_types.specs.declared.tables.Definition.{Definition}
-use Rattle.mv_interpreter.specs.Borrows.View.{local_of, alone}
-use Rattle.mv_move_types.specs.Module.{Module, FunctionDefinition}
-use Rattle.mv_machine.specs.Value.{Value, Reference}
-use Rattle.mv_machine.specs.State.{Frame, State}
-use Rattle.mv_machine.specs.Live.{reference_of}
-use Rattle.mv_machine.specs.Typing.{Failure, Faults, TypeFault, LinkageFault, entry}
 use Rattle.mv_move_types.specs.Flow.{successors}
-use Rattle.mv_certificate.specs.Certificate.{Known, Certificate}
-use Rattle.mv_locals_safety.specs.LocalsRules.{locals_leq, locals_after}
-use Rattle.mv_edges.specs.Edges.{edges_leq}
-use Rattle.mv_type_states.specs.TypesHold.{Point}
+use Rattle.mv_locals_safety.specs.LocalsRules.{locals_after}
 use Rattle.mv_borrow_graph.specs.BorrowRules.{edges_after, call_edges, return_edges}
-use Rattle.mv_type_states.specs.TypeRules.{Types, types_after}
-use Rattle.mv_certificate.specs.Known.{known_before}
-use Rattle.mv_machine.specs.StepParts.{Here, Turn, Goes, Returns}
-use Rattle.mv_machine.specs.StepControl.{Callee, call, return_results, leaves}
+use Rattle.mv_type_states.specs.TypeRules.{types_after}
+use Rattle.mv_machine.specs.StepParts.{Turn, Returns}
+use Rattle.mv_machine.specs.StepControl.{call, return_results, leaves}
 use Rattle.mv_machine.specs.Step.{rule, step}
-use Rattle.mv_machine.proofs.Binds.{ok-is, found-is}
-use Rattle.mv_interpreter.specs.Borrows.Hypotheses.{Fits, token_kind, operand_kind}
-use Rattle.mv_interpreter.specs.Borrows.Stood.{Stood, seen_of, point_of, layers, StoodOn, Sound}
 use Rattle.mv_interpreter.proofs.Borrows.Edges.{then-some}
 use Rattle.mv_interpreter.proofs.Borrows.Same.{SameFrames}
 use Rattle.mv_interpreter.proofs.Borrows.Certified.{edges-below}
 use Rattle.mv_interpreter.proofs.Borrows.Standing.{Standing, IsTransfer, Stays}
 use Rattle.mv_interpreter.proofs.Borrows.Steps.{step-kept}
-use Rattle.mv_interpreter.specs.Borrows.Links.{Reaches}
-use Rattle.mv_machine.proofs.Transfers.{callee-is, return-is, ReturnedTo, returned, Called, called}
+use Rattle.mv_machine.proofs.Transfers.{return-is, ReturnedTo, returned, Called, called}
 use Rattle.mv_interpreter.proofs.Borrows.Invariant.{refit, sound-row, sound-call, sound-return}
 use Rattle.mv_interpreter.proofs.Borrows.Available.{known-above, known-same}
-use Rattle.mv_interpreter.specs.Borrows.Locals.{AsKnown}
-use Rattle.mv_interpreter.specs.Guided.Guided.{Placed, AllPlaced, StoodFit, AllAgree, Guided}
-use Rattle.mv_interpreter.specs.Guided.Facts.{StoreFacts, TypeFacts}
+use Rattle.mv_interpreter.specs.Guided.Guided.{Placed}
 use Rattle.mv_interpreter.proofs.Guided.Before.{Onward, goes-on, starts-known}
 use Rattle.mv_interpreter.proofs.Guided.Ends.{Ends, Goes_well, given, after, tests, found-well}
 use Rattle.mv_interpreter.proofs.Guided.Chains.{guided-from}
@@ -54,7 +33,8 @@ abbrev pub TurnGuided : (ℕ → ℕ → Type 0) → List Module → List Certif
 TurnGuided depends modules certificates (Goes t) = Guided depends modules certificates t
 TurnGuided depends modules certificates (Returns t) = ⊤
 
-placed-refit : (modules : List Module) (certificates : List Certificate) (lent : List (Option Reference)) (fs gs : List Frame) (xs : List Stood) → StoodOn lent fs xs → SameFrames fs gs → AllPlaced modules certificates xs → AllPlaced modules certificates (refit xs gs)
+placed-refit : (modules : List Module) (certificates : List Certificate) (lent : List (Option Reference)) (fs gs : List Frame) (xs : List Stood)
+    → StoodOn lent fs xs → SameFrames fs gs → AllPlaced modules certificates xs → AllPlaced modules certificates (refit xs gs)
 placed-refit modules certificates lent [] [] [] s q p = tt
 placed-refit modules certificates lent [] [] (x ∷ xs) s q p = absurd s
 placed-refit modules certificates lent [] (g ∷ gs) xs s q p = absurd q
@@ -79,8 +59,9 @@ placed-refit modules certificates lent (f ∷ fs) (g ∷ gs) (x ∷ xs) s q p =
     )
 
 -- a frame that goes on in its function
-pub placed-on : (modules : List Module) (certificates : List Certificate) (x : Stood) (p : Placed modules certificates x) (f : Frame) (l : Known) (us : Types) → f.function ≡ x.frame.function
-    → known_before x.home x.function p.stated f.at ≡ Some (l, us) → AsKnown l.locals f.locals → Placed modules certificates (record { home = x.home; function = x.function; frame = f; lent = []; types = us; edges = l.edges })
+pub placed-on : (modules : List Module) (certificates : List Certificate) (x : Stood) (p : Placed modules certificates x) (f : Frame) (l : Known) (us : Types)
+    → f.function ≡ x.frame.function → known_before x.home x.function p.stated f.at ≡ Some (l, us) → AsKnown l.locals f.locals
+    → Placed modules certificates (record { home = x.home; function = x.function; frame = f; lent = []; types = us; edges = l.edges })
 placed-on modules certificates x p f l us function is_known are_locals = record {
   certificate = p.certificate;
   stated = p.stated;
@@ -150,8 +131,10 @@ module _ (depends : ℕ → ℕ → Type 0) (modules : List Module) (certificate
           let st : Stays i s t = (step-kept standing i (Goes t) o.next.edges transfer reaches w.sound.ordered is o.edges).1 in
           let l = o.leads t.top.at st.5 in
           let below = and_parts (locals_leq o.next.locals l.0.locals) (edges_leq o.next.edges l.0.edges) l.3 in
-          guided-from depends store.through store.no_cycle modules certificates t (record { home = w.home; function = w.function; frame = t.top; lent = []; types = l.1; edges = l.0.edges }) (refit w.waiting t.below)
-          (sound-row depends store.through store.no_cycle modules s x w.waiting w.sound i t o.next.edges l.0.edges l.1 transfer reaches is w.fits facts.inside o.edges (edges-below t.top.function.place o.next.edges l.0.edges below.1)) (
+          guided-from depends store.through store.no_cycle modules certificates t
+          (record { home = w.home; function = w.function; frame = t.top; lent = []; types = l.1; edges = l.0.edges }) (refit w.waiting t.below)
+          (sound-row depends store.through store.no_cycle modules s x w.waiting w.sound i t o.next.edges l.0.edges l.1 transfer reaches is w.fits facts.inside o.edges
+          (edges-below t.top.function.place o.next.edges l.0.edges below.1)) (
             placed-on modules certificates x placed-here t.top l.0 l.1 st.1 l.2 (known-above o.next.locals l.0.locals t.top.locals below.0 k),
             placed-refit modules certificates s.top.entered_with s.below t.below w.waiting w.sound.stood.2 st.3 w.placed,
           )
@@ -159,7 +142,8 @@ module _ (depends : ℕ → ℕ → Type 0) (modules : List Module) (certificate
           (agree-refit w.home w.function s.top.entered_with s.below t.below w.waiting w.sound.stood.2 st.3 w.agree)
 
   -- a Call
-  call-keeps : (j : ℕ) → slice_get w.function.code s.top.at ≡ Some (Call j) → Onward w.home w.function w.stated s.top.at (Call j) w.known w.types → Goes_well (call h j) → Ends (TurnGuided depends modules certificates) (call h j)
+  call-keeps : (j : ℕ) → slice_get w.function.code s.top.at ≡ Some (Call j) → Onward w.home w.function w.stated s.top.at (Call j) w.known w.types
+      → Goes_well (call h j) → Ends (TurnGuided depends modules certificates) (call h j)
   unfolding edges_after types_after
   call-keeps j at o well = by_result (call h j) refl well
     where
@@ -167,7 +151,8 @@ module _ (depends : ℕ → ℕ → Type 0) (modules : List Module) (certificate
       call-is a b z = cc
 
       -- the arguments that the waiting frame lent, and what is left on its stack
-      called-stack : (t : State) (stack : List Value) (ws : List Stood) → StoodOn t.top.entered_with t.below (record { home = w.home; function = w.function; frame = record (s.top) { stack = stack }; lent = t.top.entered_with; types = w.types; edges = w.known.edges } ∷ ws)
+      called-stack : (t : State) (stack : List Value) (ws : List Stood)
+          → StoodOn t.top.entered_with t.below (record { home = w.home; function = w.function; frame = record (s.top) { stack = stack }; lent = t.top.entered_with; types = w.types; edges = w.known.edges } ∷ ws)
           → Called h j t → map reference_of s.top.stack ≡ reverse t.top.entered_with ++ map reference_of stack
       called-stack t stack ws st k =
           let below = subst (λ fs. StoodOn t.top.entered_with fs (record { home = w.home; function = w.function; frame = record (s.top) { stack = stack }; lent = t.top.entered_with; types = w.types; edges = w.known.edges } ∷ ws)) k.below st in
@@ -230,16 +215,19 @@ module _ (depends : ℕ → ℕ → Type 0) (modules : List Module) (certificate
           )
           (waits-fit t u.2.0 (called-stack t u.2.0 w.waiting (u.2.1).stood.2 (called h j (Goes t) is)), w.waiting_fit) (
             λ i handle results i_at handle_at results_at own own_results own_at own_results_at.
-                callee-agrees h j n.c n.is_callee handle results (subst (λ k. slice_get w.home.function_handles k ≡ Some handle) (call-is i j (same_Some (Call i) (Call j) (sym i_at ∙ at))) handle_at) results_at
+                callee-agrees h j n.c n.is_callee handle results (subst (λ k. slice_get w.home.function_handles k ≡ Some handle)
+                (call-is i j (same_Some (Call i) (Call j) (sym i_at ∙ at))) handle_at) results_at
                 own own_results own_at own_results_at,
             w.agree,
           )
 
 -- a Ret
-return-goes : (depends : ℕ → ℕ → Type 0) (modules : List Module) (certificates : List Certificate) → StoreFacts depends modules certificates → (s t : State) (x v : Stood) (vs : List Stood) (sound : Sound depends s x (v ∷ vs))
-    → Fits (point_of x) (alone s.top) → Fits (point_of v) (seen_of v) → Placed modules certificates v → AllPlaced modules certificates vs → return_edges (point_of x) x.edges ≡ Some x.edges
-    → StoodFit vs → AllAgree x.home x.function (v ∷ vs)
-    → return_results (record { modules = modules; home = x.home; function = x.function; state = s }) ≡ Ok (Goes t) → Guided depends modules certificates t
+return-goes : (depends : ℕ → ℕ → Type 0) (modules : List Module) (certificates : List Certificate) → StoreFacts depends modules certificates
+    → (s t : State) (x v : Stood) (vs : List Stood) (sound : Sound depends s x (v ∷ vs)) → Fits (point_of x) (alone s.top)
+    → Fits (point_of v) (seen_of v) → Placed modules certificates v → AllPlaced modules certificates vs
+    → return_edges (point_of x) x.edges ≡ Some x.edges → StoodFit vs → AllAgree x.home x.function (v ∷ vs)
+    → return_results (record { modules = modules; home = x.home; function = x.function; state = s }) ≡ Ok (Goes t)
+    → Guided depends modules certificates t
 unfolding edges_after locals_after
 return-goes depends modules certificates store s t x v vs sound fits fits_v p ps free fit_vs agree e =
     let link = sound.links.0 in
@@ -285,12 +273,14 @@ module _ (depends : ℕ → ℕ → Type 0) (modules : List Module) (certificate
       no-frames [] st = refl
       no-frames (f ∷ fs) st = absurd st
 
-      by_result : (r : Result Turn Failure) → return_results (record { modules = modules; home = w.home; function = w.function; state = s }) ≡ r → Goes_well r → Ends (TurnGuided depends modules certificates) r
+      by_result : (r : Result Turn Failure) → return_results (record { modules = modules; home = w.home; function = w.function; state = s }) ≡ r
+          → Goes_well r → Ends (TurnGuided depends modules certificates) r
       by_result (Err e) is k = k
       by_result (Ok (Returns t)) is k = tt
       by_result (Ok (Goes t)) is k = by_waiting w.waiting w.sound w.waiting_fit w.placed w.agree
         where
-          by_waiting : (ws : List Stood) → Sound depends s (worked s w.home w.function w.types w.known.edges) ws → StoodFit ws → AllPlaced modules certificates ws → AllAgree w.home w.function ws → Guided depends modules certificates t
+          by_waiting : (ws : List Stood) → Sound depends s (worked s w.home w.function w.types w.known.edges) ws → StoodFit ws
+              → AllPlaced modules certificates ws → AllAgree w.home w.function ws → Guided depends modules certificates t
           by_waiting [] sound fit pl ag = absurd (last-returns (record { modules = modules; home = w.home; function = w.function; state = s }) t (no-frames s.below sound.stood.2) is)
           by_waiting (v ∷ vs) sound fit pl ag =
               return-goes depends modules certificates store s t (worked s w.home w.function w.types w.known.edges) v vs sound w.fits fit.0 pl.0 pl.1 free fit.1 ag is
@@ -304,8 +294,8 @@ module _ (depends : ℕ → ℕ → Type 0) (modules : List Module) (certificate
   rule-keeps i at q o ends = row-keeps depends modules certificates store s w facts i (λ z. z) q o ends
 
 -- every step
-pub step-keeps : (depends : ℕ → ℕ → Type 0) (modules : List Module) (certificates : List Certificate) → StoreFacts depends modules certificates → (s : State) → Guided depends modules certificates s → TypeFacts modules s
-    → Ends (TurnGuided depends modules certificates) (step modules s)
+pub step-keeps : (depends : ℕ → ℕ → Type 0) (modules : List Module) (certificates : List Certificate) → StoreFacts depends modules certificates
+    → (s : State) → Guided depends modules certificates s → TypeFacts modules s → Ends (TurnGuided depends modules certificates) (step modules s)
 unfolding step
 step-keeps depends modules certificates store s g facts =
     let w = working depends modules certificates s g facts.fit in

@@ -1,31 +1,20 @@
 -- Every rule but those of Call and Ret leaves the locals as they are known then, and none meets what is lost or frozen.
-use Rattle.std.proofs.Common.{◌≡◌, ℕ, suc, ◌-◌, List, [], ◌∷◌, ◌++◌, map, length, Bool, true, false, not, refl, sym, ◌∙◌, ap, subst, arith, Option, Some, None, Result, Ok}
-use Rattle.std.specs.Prelude.{slice_get, slice_set, ok_or, ◌&&◌, ◌||◌, ◌==◌, bit_or, bit_and, bit_xor, nat_lt, nat_le, is_some, flat_map, ⊤}
-use Rattle.std.specs.List.{list_any, list_all}
-use Rattle.std.proofs.lemmas.Option.{same_Some}
+use Rattle.mv_interpreter.proofs.Guided.Common.{◌≡◌, ℕ, suc, ◌-◌, List, [], ◌∷◌, ◌++◌, map, length, Bool, true, false, refl, sym, ◌∙◌, ap, subst, arith, Option, Some, None, Result, Ok, slice_get, ok_or, ◌&&◌, ◌||◌, ◌==◌, nat_le, flat_map, ⊤, list_any, list_all, same_Some, Unavailable, Available, Glob, Instruction, Ret, StLoc, Call, MoveFrom, for_each, Module, FunctionDefinition, local_tokens, local_type, Stored, Reference, Value, Ref, Frame, State, reference_of, references, frame_references, Failure, Faults, Aborts, TypeFault, LostFault, FrozenFault, DanglingFault, entry, tag_named, StructTag, Edge, Known, Point, no_edge_out, Types, Here, Goes, operand, operands, as_reference, as_boolean, as_number, on_some, alone, Stood, Sound, Fits, InRefs, found-is, Reaches, AsKnown, Rooted}
+use Rattle.std.proofs.Common.{not}
+use Rattle.std.specs.Prelude.{slice_set, bit_or, bit_and, bit_xor, nat_lt, is_some}
 use Rattle.mv_move_types.specs.declared.borrow.Availability.{Availability}
-use Rattle.mv_move_types.specs.declared.borrow.Availability.TheVariants.{Unavailable, Available}
-use Rattle.mv_move_types.specs.declared.borrow.Node.TheVariants.{Glob, Temp}
+use Rattle.mv_move_types.specs.declared.borrow.Node.TheVariants.{Temp}
 use Rattle.mv_move_types.specs.declared.token.Width.TheVariants.{U8, U16, U32, U64, U128}
-use Rattle.mv_move_types.specs.declared.instruction.Instruction.{Instruction}
-use Rattle.mv_move_types.specs.declared.instruction.Instruction.TheVariants.{Pop, Ret, BrTrue, BrFalse, Branch, LdU64, LdConst, LdTrue, LdFalse, CopyLoc, MoveLoc, StLoc, MutBorrowLoc, ImmBorrowLoc, MutBorrowField, ImmBorrowField, Call, Pack, Unpack, ReadRef, WriteRef, Add, Sub, Mul, Mod, Div, BitOr, BitAnd, Xor, Or, And, Not, Eq, Neq, Lt, Gt, Le, Ge, Abort, Nop, Exists, MutBorrowGlobal, ImmBorrowGlobal, MoveFrom, MoveTo, FreezeRef, Shl, Shr, LdU8, LdU128, CastU8, CastU64, CastU128, LdU16, LdU32, CastU16, CastU32}
-use Rattle.mv_move_types.specs.Results.{for_each}
-use Rattle.mv_move_types.specs.Module.{Module, FunctionDefinition, local_tokens, local_type}
-use Rattle.mv_machine.specs.Value.{Stored, Reference, Value, Ref}
+use Rattle.mv_move_types.specs.declared.instruction.Instruction.TheVariants.{Pop, BrTrue, BrFalse, Branch, LdU64, LdConst, LdTrue, LdFalse, CopyLoc, MoveLoc, MutBorrowLoc, ImmBorrowLoc, MutBorrowField, ImmBorrowField, Pack, Unpack, ReadRef, WriteRef, Add, Sub, Mul, Mod, Div, BitOr, BitAnd, Xor, Or, And, Not, Eq, Neq, Lt, Gt, Le, Ge, Abort, Nop, Exists, MutBorrowGlobal, ImmBorrowGlobal, MoveTo, FreezeRef, Shl, Shr, LdU8, LdU128, CastU8, CastU64, CastU128, LdU16, LdU32, CastU16, CastU32}
 use Rattle.mv_move_types.specs.Tokens.{same_width}
-use Rattle.mv_machine.specs.State.{Frame, State, stored_at, with_place, place_value}
-use Rattle.mv_machine.specs.Live.{reference_of, references, frame_references, live, is_frozen_by}
+use Rattle.mv_machine.specs.State.{stored_at, with_place, place_value}
+use Rattle.mv_machine.specs.Live.{live, is_frozen_by}
 use Rattle.mv_machine.specs.Numbers.{sum_of, difference_of, product_of, remainder_of, quotient_of, shifted_left, shifted_right}
-use Rattle.mv_machine.specs.Typing.{Failure, Faults, Aborts, TypeFault, LostFault, FrozenFault, DanglingFault, entry, tag_named, has_tag, have_tags, tag_of}
-use Rattle.mv_move_types.specs.Tags.{StructTag}
+use Rattle.mv_machine.specs.Typing.{has_tag, have_tags, tag_of}
 use Rattle.mv_machine.specs.declared.Kind.TheVariants.{Exists as AlreadyThere, Missing}
-use Rattle.mv_edges.specs.Edges.{Edge}
-use Rattle.mv_certificate.specs.Certificate.{Known}
-use Rattle.mv_type_states.specs.TypesHold.{Point}
 use Rattle.mv_locals_safety.specs.LocalsRules.{locals_after, needs_available, may_overwrite, may_leave}
-use Rattle.mv_borrow_graph.specs.BorrowRules.{edges_after, no_edge_out, top_temp}
-use Rattle.mv_type_states.specs.TypeRules.{Types}
-use Rattle.mv_machine.specs.StepParts.{Here, Turn, Goes, Returns, gives, with_stack, operand, operands, can_copy, can_drop, may_drop, is_reference_tag, as_reference, as_address, as_boolean, as_fields, as_signer, as_number, follow}
+use Rattle.mv_borrow_graph.specs.BorrowRules.{edges_after, top_temp}
+use Rattle.mv_machine.specs.StepParts.{Turn, Returns, gives, with_stack, can_copy, can_drop, may_drop, is_reference_tag, as_address, as_fields, as_signer, follow}
 use Rattle.mv_machine.specs.Step.{rule}
 use Rattle.mv_machine.specs.StepLocals.{copy_local, move_local, store_local, borrow_local, pop, held, local_place, local_tag}
 use Rattle.mv_machine.specs.StepReferences.{borrow_field, write_reference, read_reference, freeze, own_field, lends}
@@ -33,19 +22,14 @@ use Rattle.mv_machine.specs.StepGlobals.{borrow_global, move_from, move_to, exis
 use Rattle.mv_machine.specs.StepStructs.{pack, unpack, own_struct}
 use Rattle.mv_machine.specs.StepNumbers.{constant, constant_value, binary, comparison, shift, cast, logic, negation, equality}
 use Rattle.mv_machine.specs.StepControl.{branch_if, abort, call, signature_tags, return_results, leaves, holds_frame}
-use Rattle.mv_linker.proofs.Found.{on_some}
-use Rattle.mv_interpreter.specs.Borrows.View.{alone}
-use Rattle.mv_interpreter.specs.Borrows.Stood.{Stood, Sound}
-use Rattle.mv_interpreter.specs.Borrows.Hypotheses.{Fits, NoneInside, InRefs}
+use Rattle.mv_interpreter.specs.Borrows.Hypotheses.{NoneInside}
 use Rattle.mv_interpreter.proofs.Borrows.Edges.{then-some}
 use Rattle.mv_interpreter.proofs.Borrows.Mutability.{kinds-length}
 use Rattle.mv_interpreter.proofs.Borrows.Same.{write-same, plain-tagged}
-use Rattle.mv_machine.proofs.Binds.{found-is, held-is, operand-is, operands-is, reference-is, none-is}
-use Rattle.mv_interpreter.specs.Borrows.Links.{Reaches}
+use Rattle.mv_machine.proofs.Binds.{held-is, operand-is, operands-is, reference-is, none-is}
 use Rattle.mv_interpreter.proofs.Borrows.Free.{struct-unfrozen, write-unfrozen, return-unfrozen}
 use Rattle.mv_interpreter.proofs.Borrows.Available.{known-at, known-set, known-same, held-found, needed-holds, overwritten-drops, left-drops}
-use Rattle.mv_interpreter.specs.Borrows.Locals.{AsKnown}
-use Rattle.mv_interpreter.specs.Guided.Facts.{Rooted, Able}
+use Rattle.mv_interpreter.specs.Guided.Facts.{Able}
 use Rattle.mv_interpreter.proofs.Guided.Ends.{Ends, Goes_well, after, given, tests, passes, found-well, operand-well, operands-well, number-well, boolean-well, address-well, signer-well, reference-well, fields-well, each-well}
 use Rattle.mv_interpreter.proofs.Guided.Working.{worked}
 use Rattle.mv_interpreter.proofs.Guided.GoesWell.{tag-well, own-struct-well, keyed-well, own-field-well, local-tag-well, signature-well, choice-well, other-well, binary-well, comparison-well, shift-well, cast-well, logic-well, negation-well, freeze-well, constant-well, call-well}
@@ -213,8 +197,10 @@ module _ (depends : ℕ → ℕ → Type 0) (through : (a b c : ℕ) → depends
           passes _ (can_drop h old) (Faults LostFault) _ (able r top.1 old stack_is followed)
           (passes _ (not (is_frozen_by (live (with_stack s lower.1)) r.place)) (Faults FrozenFault) _
           (turned (write-unfrozen depends through no_cycle s x xs sound.stood sound.chain r (map reference_of top.1) operands_are mutable
-          (subst (λ n. no_edge_out (Temp n) known.edges ≡ true) (height types (map reference_of s.top.stack) (Some r) (map reference_of top.1) (kinds-length types (map reference_of s.top.stack) fits.stack) operands_are) free)
-          (live (with_stack s lower.1)) (λ q i. fewer-live s top.0 top.1 q (operand-is s.top.stack top top_is) (fewer-live (with_stack s top.1) lower.0 lower.1 q (operand-is top.1 lower lower_is) i))))
+          (subst (λ n. no_edge_out (Temp n) known.edges ≡ true) (height types (map reference_of s.top.stack) (Some r)
+          (map reference_of top.1) (kinds-length types (map reference_of s.top.stack) fits.stack) operands_are) free)
+          (live (with_stack s lower.1)) (λ q i. fewer-live s top.0 top.1 q (operand-is s.top.stack top top_is)
+          (fewer-live (with_stack s top.1) lower.0 lower.1 q (operand-is top.1 lower lower_is) i))))
           (after _ (ok_or (with_place (with_stack s lower.1) r.place lower.0) (Faults DanglingFault)) _ (found-well _ _ tt) (λ t t_is.
           let w = write-same (with_stack s lower.1) r.place old lower.0 t sound.ordered followed old_none
           (plain-tagged s old lower.0 tag old_none (found-is (tag_of s old) _ tag tag_is) fit) (found-is (with_place (with_stack s lower.1) r.place lower.0) _ t t_is) in
@@ -242,7 +228,8 @@ module _ (depends : ℕ → ℕ → Type 0) (through : (a b c : ℕ) → depends
         (after _ (local_tag h l) _ (local-tag-well h l) (λ tag e1.
         tests _ (not (is_reference_tag tag)) (Faults TypeFault) _ tt (λ ok. stay ls (ap Some (sym same)))))
 
-    move-ends : (l : ℕ) (ls : List Availability) (es : List Edge) → locals_after p (MoveLoc l) known.locals ≡ Some ls → edges_after p (MoveLoc l) known.edges ≡ Some es → Ends (LocalsKnown ls) (move_local h l)
+    move-ends : (l : ℕ) (ls : List Availability) (es : List Edge) → locals_after p (MoveLoc l) known.locals ≡ Some ls
+        → edges_after p (MoveLoc l) known.edges ≡ Some es → Ends (LocalsKnown ls) (move_local h l)
     unfolding move_local locals_after edges_after
     move-ends l ls es e g =
         on_some (needs_available l known.locals) _ ls e (λ before before_is e1.
@@ -252,9 +239,11 @@ module _ (depends : ℕ → ℕ → Type 0) (through : (a b c : ℕ) → depends
         given _ (held h l) _ v.0 v.1
         (passes _ (not (is_frozen_by (live s) (local_place h l))) (Faults FrozenFault) _
         (turned (local-not-frozen depends through no_cycle h types known.edges xs sound fits rooted l t t_is (moved-free p l t known.edges es g1) (live s) (λ r i. i)))
-        (subst (λ z. AsKnown z (slice_set s.top.locals l None)) (ap (λ z. slice_set z l Unavailable) (sym same) ∙ same_Some _ ls e1) (known-set known.locals s.top.locals l Unavailable None as_known refl)))))
+        (subst (λ z. AsKnown z (slice_set s.top.locals l None)) (ap (λ z. slice_set z l Unavailable) (sym same) ∙ same_Some _ ls e1)
+        (known-set known.locals s.top.locals l Unavailable None as_known refl)))))
 
-    store-ends : (l : ℕ) (ls : List Availability) (es : List Edge) → Able h types (StLoc l) → locals_after p (StLoc l) known.locals ≡ Some ls → edges_after p (StLoc l) known.edges ≡ Some es → Ends (LocalsKnown ls) (store_local h l)
+    store-ends : (l : ℕ) (ls : List Availability) (es : List Edge) → Able h types (StLoc l) → locals_after p (StLoc l) known.locals ≡ Some ls
+        → edges_after p (StLoc l) known.edges ≡ Some es → Ends (LocalsKnown ls) (store_local h l)
     unfolding store_local locals_after edges_after
     store-ends l ls es able e g =
         on_some (local_type home function l) _ ls e (λ t t_is e1.
@@ -269,7 +258,8 @@ module _ (depends : ℕ → ℕ → Type 0) (through : (a b c : ℕ) → depends
         passes _ (may_drop h old) (Faults LostFault) _
         (overwritten-drops h p t a old (λ v is d. able v t (there ∙ ap Some is) t_is d) (known-at known.locals s.top.locals l a old as_known a_is there) drops.0)
         (passes _ (not (is_frozen_by (live (with_stack s top.1)) (local_place h l))) (Faults FrozenFault) _
-        (turned (local-not-frozen depends through no_cycle h types known.edges xs sound fits rooted l u u_is (stored-free p l u known.edges es g1) (live (with_stack s top.1)) (λ r i. fewer-live s top.0 top.1 r (operand-is s.top.stack top top_is) i)))
+        (turned (local-not-frozen depends through no_cycle h types known.edges xs sound fits rooted l u u_is (stored-free p l u known.edges es g1)
+        (live (with_stack s top.1)) (λ r i. fewer-live s top.0 top.1 r (operand-is s.top.stack top top_is) i)))
         (subst (λ z. AsKnown z (slice_set s.top.locals l (Some top.0))) (sym drops.1) (known-set known.locals s.top.locals l Available (Some top.0) as_known refl))))))))))
 
     -- ---- Ret
@@ -287,7 +277,8 @@ module _ (depends : ℕ → ℕ → Type 0) (through : (a b c : ℕ) → depends
         passes _ (list_all (may_drop h) s.top.locals) (Faults LostFault) _ (left-drops h p ts known.locals s.top.locals (able ts ts_are) as_known leave)
         (passes _ (not (list_any (holds_frame s.top.number) (references taken.0 ++ flat_map frame_references s.below))) (Faults FrozenFault) _
         (turned (return-unfrozen depends through no_cycle s x xs sound.stood sound.chain p (g ∙ ap Some stays) taken.0
-        (λ r i. from-taken r (length tags) s.top.stack (subst (λ (z : List Value). InRefs r (references z)) (ap (λ (z : List Value × List Value). z.0) (operands-is (length tags) s.top.stack taken taken_is).1) i))))
+        (λ r i. from-taken r (length tags) s.top.stack (subst (λ (z : List Value). InRefs r (references z))
+        (ap (λ (z : List Value × List Value). z.0) (operands-is (length tags) s.top.stack taken taken_is).1) i))))
         (ends-well s.below taken.0))))))))
       where
         ends-well : (below : List Frame) (results : List Value) → Goes_well (leaves h results below)
@@ -300,7 +291,8 @@ module _ (depends : ℕ → ℕ → Type 0) (through : (a b c : ℕ) → depends
     RowEnds i ls = Ends (LocalsKnown ls) (rule i h)
 
     -- every rule
-    pub rule-ends : (i : Instruction) (ls : List Availability) (es : List Edge) → Reaches function.acquires i → Able h types i → locals_after p i known.locals ≡ Some ls → edges_after p i known.edges ≡ Some es → RowEnds i ls
+    pub rule-ends : (i : Instruction) (ls : List Availability) (es : List Edge) → Reaches function.acquires i → Able h types i
+        → locals_after p i known.locals ≡ Some ls → edges_after p i known.edges ≡ Some es → RowEnds i ls
     unfolding rule locals_after
     rule-ends Pop ls es q able e g = pop-ends ls e able
     rule-ends Ret ls es q able e g = return-ends ls es able e g

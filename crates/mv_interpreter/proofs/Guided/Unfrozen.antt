@@ -1,31 +1,15 @@
 -- What live references lead to, where a local is emptied or overwritten and where a value is stored: nothing there is frozen.
-use Rattle.std.proofs.Common.{◌≡◌, ℕ, zero, suc, ◌-◌, List, [], ◌∷◌, ◌++◌, reverse, take, Bool, true, false, cond, ◌⊎◌, inl, inr, refl, sym, ◌∙◌, ap, subst, Option, Some, None}
-use Rattle.std.specs.Prelude.{◌==◌, flat_map}
-use Rattle.std.specs.List.{cons_option}
-use Rattle.std.proofs.lemmas.Bool.{and_parts, eq-eqb, eqb-true}
-use Rattle.std.proofs.lemmas.Grind.{reverse_onto}
-use Rattle.std.proofs.lemmas.Option.{same_Some}
+use Rattle.mv_interpreter.proofs.Guided.Common.{◌≡◌, ℕ, zero, suc, ◌-◌, List, [], ◌∷◌, ◌++◌, reverse, Bool, true, false, cond, ◌⊎◌, inl, inr, refl, sym, ◌∙◌, ap, subst, Option, Some, None, ◌==◌, flat_map, cons_option, and_parts, eq-eqb, eqb-true, reverse_onto, same_Some, Own, Token, Plain, ReferenceTo, MutableReferenceTo, local_type, Root, Local, Stored, Reference, Value, State, reference_of, references, local_references, frame_references, Edge, Point, no_edge_out, Types, Here, root_of, alone, Stood, Sound, Fits, token_kind, operand_kind, InRefs, Rooted}
+use Rattle.std.proofs.Common.{take}
 use Rattle.mv_move_types.specs.declared.tables.Key.{Key}
-use Rattle.mv_move_types.specs.declared.borrow.Node.TheVariants.{Own}
-use Rattle.mv_move_types.specs.declared.token.Token.{Token}
-use Rattle.mv_move_types.specs.declared.token.Token.TheVariants.{Plain, Reference as ReferenceTo, MutableReference as MutableReferenceTo}
-use Rattle.mv_move_types.specs.Module.{local_type}
-use Rattle.mv_machine.specs.Value.{Root, Local, Stored, Reference, Value}
-use Rattle.mv_machine.specs.State.{State, stored_at, local_value, local_in, root_value}
-use Rattle.mv_machine.specs.Live.{reference_of, references, local_references, frame_references, live, is_frozen_by, same_root}
-use Rattle.mv_edges.specs.Edges.{Edge}
-use Rattle.mv_type_states.specs.TypesHold.{Point}
-use Rattle.mv_borrow_graph.specs.BorrowRules.{move_edges, store_edges, no_edge_out}
-use Rattle.mv_type_states.specs.TypeRules.{Types}
-use Rattle.mv_machine.specs.StepParts.{Here, with_stack}
+use Rattle.mv_machine.specs.State.{stored_at, local_value, local_in, root_value}
+use Rattle.mv_machine.specs.Live.{live, is_frozen_by, same_root}
+use Rattle.mv_borrow_graph.specs.BorrowRules.{move_edges, store_edges}
+use Rattle.mv_machine.specs.StepParts.{with_stack}
 use Rattle.mv_machine.specs.StepLocals.{local_place}
-use Rattle.mv_interpreter.specs.Borrows.View.{root_of, alone}
-use Rattle.mv_interpreter.specs.Borrows.Stood.{Stood, Sound}
-use Rattle.mv_interpreter.specs.Borrows.Hypotheses.{Fits, token_kind, operand_kind, InRefs}
 use Rattle.mv_interpreter.proofs.Borrows.Edges.{then-some}
 use Rattle.mv_storage.proofs.Keys.{same_key-to}
 use Rattle.mv_interpreter.proofs.Borrows.Free.{in-either, none-frozen, local-free}
-use Rattle.mv_interpreter.specs.Guided.Facts.{Rooted}
 use Rattle.mv_interpreter.proofs.Guided.Working.{worked}
 use Rattle.mv_interpreter.proofs.Guided.Avoids.{in-left, in-right}
 
@@ -134,15 +118,17 @@ module _ (depends : ℕ → ℕ → Type 0) (through : (a b c : ℕ) → depends
     plain-local r l i e =
         let v = rooted r i in
         let there : root_value h.state (Local h.state.top.number l) ≡ Some v.0 = subst (λ (z : Root). root_value h.state z ≡ Some v.0) e v.1 in
-        let here : local_value h.state.top l ≡ Some v.0 = sym (ap (λ (b : Bool). cond b (local_value h.state.top l) (local_in h.state.below h.state.top.number l)) (eq-eqb h.state.top.number h.state.top.number refl)) ∙ there in
+        let here : local_value h.state.top l ≡ Some v.0 =
+        sym (ap (λ (b : Bool). cond b (local_value h.state.top l) (local_in h.state.below h.state.top.number l)) (eq-eqb h.state.top.number h.state.top.number refl)) ∙ there in
         let t = fits.locals l v.0 here in
         (t.0, t.1, t.2 ∙ ap operand_kind v.2)
 
     -- so a local that is emptied or overwritten is not frozen
-    pub local-not-frozen : (l : ℕ) (t : Token) → local_type h.home h.function l ≡ Some t → (token_kind t ≡ None → no_edge_out (Own l) edges ≡ true) → (rs : List Reference) → ((r : Reference) → InRefs r rs → InRefs r (live h.state))
-        → is_frozen_by rs (local_place h l) ≡ false
+    pub local-not-frozen : (l : ℕ) (t : Token) → local_type h.home h.function l ≡ Some t → (token_kind t ≡ None → no_edge_out (Own l) edges ≡ true)
+        → (rs : List Reference) → ((r : Reference) → InRefs r rs → InRefs r (live h.state)) → is_frozen_by rs (local_place h l) ≡ false
     local-not-frozen l t is free rs among =
         none-frozen rs (local_place h l) (λ r i im o.
         let e = local-root r.place.root h.state.top.number l (and_parts (same_root r.place.root (Local h.state.top.number l)) _ o).0 in
         let q = plain-local r l (among r i) e in
-        local-free depends through no_cycle h.state (worked h.state h.home h.function types edges) xs sound.stood sound.chain l (free (ap token_kind (same_Some t q.0 (sym is ∙ q.1)) ∙ q.2)) r (among r i) (ap root_of e))
+        local-free depends through no_cycle h.state (worked h.state h.home h.function types edges) xs sound.stood sound.chain l
+        (free (ap token_kind (same_Some t q.0 (sym is ∙ q.1)) ∙ q.2)) r (among r i) (ap root_of e))

@@ -1,13 +1,9 @@
 -- The parts of a rule, one after the other: each gives a value of which something holds, or fails harmlessly.
-use Rattle.std.proofs.Common.{◌≡◌, Bool, true, false, refl, sym, subst, Result, Ok, Err}
-use Rattle.mv_move_types.specs.Results.{◌>>=◌, ◌>>◌, need}
-use Rattle.mv_machine.specs.Typing.{Failure, Faults, LostFault, FrozenFault}
+use Rattle.mv_interpreter.proofs.Typing.Common.{◌≡◌, Bool, true, false, refl, sym, subst, Result, Ok, Err, ◌>>◌, need, Failure, Faults, LostFault, FrozenFault, State, untouched, not}
+use Rattle.mv_move_types.specs.Results.{◌>>=◌}
 use Rattle.mv_interpreter.specs.Typing.StateTyped.{Harmless}
 use Rattle.mv_machine.specs.Value.{Place}
-use Rattle.mv_machine.specs.State.{State}
 use Rattle.mv_machine.specs.Live.{live, is_frozen_by}
-use Rattle.mv_machine.specs.StepParts.{untouched}
-use Rattle.std.specs.Prelude.{not}
 
 -- a part gives a value of which P holds, or fails harmlessly
 abbrev pub Part : {A : Type 0} → (A → Type 0) → Result A Failure → Type 0
