@@ -121,27 +121,30 @@ module _ (depends : ℕ → ℕ → Type 0) (through : (a b c : ℕ) → depends
     here_at = record { modules = modules; home = x.home; function = x.function; state = s }
 
     -- the layer of the frame at work
-    top-layer : layer_at x ≡ layer_of x.function.acquires (alone s.top) x.edges
+    pub top-layer : layer_at x ≡ layer_of x.function.acquires (alone s.top) x.edges
     top-layer = rw (sound.stood.0, sound.stood.1) refl
+
+    -- what the frame at work stands on
+    abbrev pub standing : Fits (point_of x) (alone s.top) → NoneInside s → Standing
+    standing fits inside = record {
+      depends = depends;
+      through = through;
+      no_cycle = no_cycle;
+      rest = layers xs;
+      h = here_at;
+      types = x.types;
+      es = x.edges;
+      stands = subst (λ u. Chain depends home_of (u ∷ layers xs)) top-layer sound.chain;
+      fits = fits;
+      inside = inside;
+    }
 
     -- a step by any instruction but Call and Ret; what the certificate says of the next instruction is above what the rule leaves
     pub sound-row : (i : Instruction) (t : State) (edges es' : List Edge) (types' : Types) → (IsTransfer i → ⊥) → Reaches x.function.acquires i → rule i here_at ≡ Ok (Goes t)
         → Fits (point_of x) (alone s.top) → NoneInside s → edges_after (point_of x) i x.edges ≡ Some edges → EdgesBelow (edges_of t.top.function.place edges) (edges_of t.top.function.place es')
         → Sound depends t (record { home = x.home; function = x.function; frame = t.top; lent = []; types = types'; edges = es' }) (refit xs t.below)
     sound-row i t edges es' types' transfer reaches e fits inside g below =
-        let standing : Standing = record {
-          depends = depends;
-          through = through;
-          no_cycle = no_cycle;
-          rest = layers xs;
-          h = here_at;
-          types = x.types;
-          es = x.edges;
-          stands = subst (λ u. Chain depends home_of (u ∷ layers xs)) top-layer sound.chain;
-          fits = fits;
-          inside = inside;
-        } in
-        let k = step-kept standing i (Goes t) edges transfer reaches sound.ordered e g in
+        let k = step-kept (standing fits inside) i (Goes t) edges transfer reaches sound.ordered e g in
         let stays : Stays i s t = k.1 in
         record {
           stood = (refl, refl, stood-refit s.top.entered_with t.top.entered_with s.below t.below xs stays.2 sound.stood.2 stays.3);

@@ -20,17 +20,17 @@ use Rattle.mv_machine.proofs.Operations.{GivesLeaf}
 use Rattle.mv_interpreter.proofs.Typing.Tests.{beq-is}
 
 -- the same for what lives higher
-pub bind : {A B E : Type 0} {P : Type 1} (r : Result A E) (f : A → Result B E) (y : B) → (r >>= f) ≡ Ok y → ((x : A) → r ≡ Ok x → f x ≡ Ok y → P) → P
-bind (Ok x) f y e go = go x refl e
-bind (Err d) f y e go = absurd cc
+pub on_result : {A B E : Type 0} {P : Type 1} (r : Result A E) (f : A → Result B E) (y : B) → (r >>= f) ≡ Ok y → ((x : A) → r ≡ Ok x → f x ≡ Ok y → P) → P
+on_result (Ok x) f y e go = go x refl e
+on_result (Err d) f y e go = absurd cc
 
-pub met : {B E : Type 0} {P : Type 1} (b : Bool) (d : E) (r : Result B E) (y : B) → (need b d >> r) ≡ Ok y → (b ≡ true → r ≡ Ok y → P) → P
-met true d r y e go = go refl e
-met false d r y e go = absurd cc
+pub on_passed : {B E : Type 0} {P : Type 1} (b : Bool) (d : E) (r : Result B E) (y : B) → (need b d >> r) ≡ Ok y → (b ≡ true → r ≡ Ok y → P) → P
+on_passed true d r y e go = go refl e
+on_passed false d r y e go = absurd cc
 
-pub some-bind : {A B : Type 0} {P : Type 1} (r : Option A) (f : A → Option B) (y : B) → (r >>> f) ≡ Some y → ((x : A) → r ≡ Some x → f x ≡ Some y → P) → P
-some-bind (Some x) f y e go = go x refl e
-some-bind None f y e go = absurd cc
+pub on_option : {A B : Type 0} {P : Type 1} (r : Option A) (f : A → Option B) (y : B) → (r >>> f) ≡ Some y → ((x : A) → r ≡ Some x → f x ≡ Some y → P) → P
+on_option (Some x) f y e go = go x refl e
+on_option None f y e go = absurd cc
 
 pub fields-are : (name : StructName) (v : Value) (fs : List Value) → as_fields name v ≡ Ok fs → HoldsNone v → NoneOf fs
 fields-are name (Leaf j n) fs h k = absurd cc
@@ -99,7 +99,7 @@ plain-tag modules m (OfStruct i) tag h =
     on_bind (entry m.struct_handles i) _ tag h (λ handle handle_is e1.
     on_bind (linked (struct_name m i)) _ tag e1 (λ name name_is e2.
     on_bind (linked (declared modules name)) _ tag e2 (λ abilities abilities_is e3.
-    on_need (same_abilities abilities handle.abilities) (Faults LinkageFault) _ tag e3 (λ met e4. subst IsPlainTag (ok-is (StructTag name) tag e4) tt))))
+    on_need (same_abilities abilities handle.abilities) (Faults LinkageFault) _ tag e3 (λ ok e4. subst IsPlainTag (ok-is (StructTag name) tag e4) tt))))
 
 reference-tag : (modules : List Module) (m : Module) (b : Bool) (t : ValueType) (tag : Tag)
     → (value_type_tag modules m t >>= λ to. Ok (ReferenceTag b to)) ≡ Ok tag → (to : Tag) × (tag ≡ ReferenceTag b to)

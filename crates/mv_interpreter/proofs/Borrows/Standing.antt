@@ -9,7 +9,7 @@ use Rattle.mv_interpreter.proofs.Borrows.Same.{SameFrames, same-all}
 use Rattle.mv_interpreter.proofs.Borrows.Mutability.{kinds, kinds-length}
 use Rattle.mv_interpreter.proofs.Borrows.Kept.{Falls, falls-pushed, falls-same, below-from, kept-falls, kept-drop, Stand}
 use Rattle.mv_machine.proofs.Binds.{reference-is}
-use Rattle.mv_interpreter.proofs.Borrows.Operands.{bind, leaf-falls}
+use Rattle.mv_interpreter.proofs.Borrows.Operands.{on_result, leaf-falls}
 use Rattle.mv_machine.proofs.Operations.{GivesLeaf}
 
 -- a number is in a list
@@ -106,7 +106,7 @@ module _ (this : Standing) where
   pub calm-gives : (i : Instruction) (r : Result (List Value) Failure) (y : Turn) (es' : List Edge) → Among (h.state.top.at + 1) (successors h.state.top.at i)
       → gives h r ≡ Ok y → Some es ≡ Some es' → ((s : List Value) → r ≡ Ok s → Falls os (map reference_of s)) → Kept i es' (Ok y)
   calm-gives i r y es' next e g falls =
-      bind r _ y e (λ s s_is e1.
+      on_result r _ y e (λ s s_is e1.
       ends i (with_top h.state (record (h.state.top) { stack = s; at = h.state.top.at + 1 })) y es es' e1 (same_Some es es' g)
       (calm s (h.state.top.at + 1) (falls s s_is), (refl, refl, refl, same-all h.state.below, refl, next)))
 

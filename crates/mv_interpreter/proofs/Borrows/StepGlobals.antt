@@ -1,5 +1,5 @@
 -- A step on the storage keeps the chain of frames.
-use Rattle.mv_interpreter.proofs.Borrows.Common.{◌≡◌, ℕ, suc, ◌+◌, ◌-◌, List, [], ◌∷◌, ◌++◌, map, length, Bool, true, false, not, inl, refl, sym, ◌∙◌, ap, arith, subst, Option, Some, None, Ok, ok_or, ◌==◌, list_any, and_from, eq-eqb, same_Some, Key, Glob, Temp, Instruction, need, Stored, Reference, Value, Ref, Frame, reference_of, live, is_frozen_by, successors, Faults, TypeFault, FrozenFault, has_tag, Edge, here, without, an_edge, Point, is_mutable, no_edge_out, no_mutable_from, defined, acquires_of, edges_of, kind_at, held_as, Turn, with_top, operand, as_reference, TheLabel, TheNode, AtSlot, AtOwn, AtGlob, AtTemp, Bars, Kinds, stack_ref, found-is, operand-is}
+use Rattle.mv_interpreter.proofs.Borrows.Common.{◌≡◌, ℕ, suc, ◌+◌, ◌-◌, List, [], ◌∷◌, ◌++◌, map, length, Bool, true, false, not, inl, refl, sym, ◌∙◌, ap, arith, subst, Option, Some, None, Ok, ok_or, ◌==◌, list_any, and_from, eq-eqb, same_Some, Key, Glob, Temp, Instruction, need, Stored, Reference, Value, Ref, Frame, reference_of, live, is_frozen_by, successors, Faults, TypeFault, FrozenFault, has_tag, Edge, here, without, an_edge, Point, no_edge_out, no_mutable_from, defined, acquires_of, edges_of, kind_at, held_as, Turn, with_top, operand, as_reference, TheLabel, TheNode, AtSlot, AtOwn, AtGlob, AtTemp, Bars, Kinds, stack_ref, found-is, operand-is}
 use Rattle.std.specs.Prelude.{is_some}
 use Rattle.mv_move_types.specs.declared.instruction.Instruction.TheVariants.{Exists, MutBorrowGlobal, ImmBorrowGlobal, MoveFrom, MoveTo}
 use Rattle.mv_machine.specs.State.{stored_at, without_stored, with_stored}
@@ -13,7 +13,7 @@ use Rattle.mv_borrow_graph.proofs.Abstract.Lists.{stack_under}
 use Rattle.mv_interpreter.proofs.Borrows.Same.{same-all}
 use Rattle.mv_interpreter.proofs.Borrows.Edges.{free_out, free_mutable, then-some}
 use Rattle.mv_interpreter.proofs.Borrows.Kept.{falls-pushed, falls-popped, below-from, kept-falls, kept-borrow-global, kept-drop, act}
-use Rattle.mv_interpreter.proofs.Borrows.Operands.{bind, met, one-off}
+use Rattle.mv_interpreter.proofs.Borrows.Operands.{on_result, on_passed, one-off}
 use Rattle.mv_interpreter.proofs.Borrows.Standing.{Standing, Among, at_top, ends, calm, StandTop, StandList, Kept, address-top, size, typed}
 
 module _ (this : Standing) where
@@ -40,10 +40,10 @@ module _ (this : Standing) where
       → ((x : TheLabel) (c : TheNode) → edges_of place es (AtGlob (defined place i)) x c → Bars m (kind_at p) c → ⊥) → Kept this ins es' (Ok y)
   unfolding borrow_global
   borrow-global-by m ins i y es' next e acq g need =
-      bind (keyed_struct h i) _ y e (λ struct struct_is e1.
-      bind (operand h.state.top.stack) _ y e1 (λ top top_is e2.
-      bind (as_address top.0) _ y e2 (λ a a_is e3.
-      bind (ok_or (stored_at h.state.storage (key_at h i a)) (Aborts Missing 0)) _ y e3 (λ v v_is e4.
+      on_result (keyed_struct h i) _ y e (λ struct struct_is e1.
+      on_result (operand h.state.top.stack) _ y e1 (λ top top_is e2.
+      on_result (as_address top.0) _ y e2 (λ a a_is e3.
+      on_result (ok_or (stored_at h.state.storage (key_at h i a)) (Aborts Missing 0)) _ y e3 (λ v v_is e4.
       ends this ins (with_top h.state (global_frame m (key_at h i a) top.1)) y (global_edges p i es) es' e4 (sym g) (
         at_top this (λ n. es ++ an_edge (Glob i) here (Temp n) ∷ []) h.state.top.locals
             (Some (record { is_mutable = m; place = record { root = Stored (key_at h i a); path = [] } }) ∷ map reference_of top.1)
@@ -70,11 +70,11 @@ module _ (this : Standing) where
   pub step-move-from : (i : ℕ) (y : Turn) (es' : List Edge) → move_from h i ≡ Ok y → edges_after p (MoveFrom i) es ≡ Some es' → Kept this (MoveFrom i) es' (Ok y)
   unfolding move_from edges_after
   step-move-from i y es' e g =
-      bind (keyed_struct h i) _ y e (λ struct struct_is e1.
-      bind (operand h.state.top.stack) _ y e1 (λ top top_is e2.
-      bind (as_address top.0) _ y e2 (λ a a_is e3.
-      met (not (is_frozen_by (live h.state) (record { root = Stored (key_at h i a); path = [] }))) (Faults FrozenFault) _ y e3 (λ ok e4.
-      bind (ok_or (stored_at h.state.storage (key_at h i a)) (Aborts Missing 0)) _ y e4 (λ v v_is e5.
+      on_result (keyed_struct h i) _ y e (λ struct struct_is e1.
+      on_result (operand h.state.top.stack) _ y e1 (λ top top_is e2.
+      on_result (as_address top.0) _ y e2 (λ a a_is e3.
+      on_passed (not (is_frozen_by (live h.state) (record { root = Stored (key_at h i a); path = [] }))) (Faults FrozenFault) _ y e3 (λ ok e4.
+      on_result (ok_or (stored_at h.state.storage (key_at h i a)) (Aborts Missing 0)) _ y e4 (λ v v_is e5.
       let b = then-some (no_edge_out (Glob i) es) es es' g in
       ends this (MoveFrom i)
       (record (h.state) { storage = without_stored h.state.storage (key_at h i a); top = record (h.state.top) { stack = v ∷ top.1; at = h.state.top.at + 1 } }) y es es' e5 (sym b.1) (
@@ -95,16 +95,16 @@ module _ (this : Standing) where
   pub step-move-to : (i : ℕ) (y : Turn) (es' : List Edge) → move_to h i ≡ Ok y → edges_after p (MoveTo i) es ≡ Some es' → Kept this (MoveTo i) es' (Ok y)
   unfolding move_to edges_after
   step-move-to i y es' e g =
-      bind (keyed_struct h i) _ y e (λ struct struct_is e1.
-      bind (operand h.state.top.stack) _ y e1 (λ top top_is e2.
-      bind (operand top.1) _ y e2 (λ lower lower_is e3.
-      met (has_tag h.state top.0 (StructTag struct.name)) (Faults TypeFault) _ y e3 (λ fit e4.
-      bind (as_reference lower.0) _ y e4 (λ r r_is e5.
-      met (not r.is_mutable) (Faults TypeFault) _ y e5 (λ imm e6.
-      bind (follow h.state r) _ y e6 (λ v v_is e7.
-      bind (as_signer v) _ y e7 (λ a a_is e8.
-      met (not (is_some (stored_at h.state.storage (key_at h i a)))) (Aborts AlreadyThere 0) _ y e8 (λ ok e9.
-      met (not (is_frozen_by (live h.state) (record { root = Stored (key_at h i a); path = [] }))) (Faults FrozenFault) _ y e9 (λ unfrozen e10.
+      on_result (keyed_struct h i) _ y e (λ struct struct_is e1.
+      on_result (operand h.state.top.stack) _ y e1 (λ top top_is e2.
+      on_result (operand top.1) _ y e2 (λ lower lower_is e3.
+      on_passed (has_tag h.state top.0 (StructTag struct.name)) (Faults TypeFault) _ y e3 (λ fit e4.
+      on_result (as_reference lower.0) _ y e4 (λ r r_is e5.
+      on_passed (not r.is_mutable) (Faults TypeFault) _ y e5 (λ imm e6.
+      on_result (follow h.state r) _ y e6 (λ v v_is e7.
+      on_result (as_signer v) _ y e7 (λ a a_is e8.
+      on_passed (not (is_some (stored_at h.state.storage (key_at h i a)))) (Aborts AlreadyThere 0) _ y e8 (λ ok e9.
+      on_passed (not (is_frozen_by (live h.state) (record { root = Stored (key_at h i a); path = [] }))) (Faults FrozenFault) _ y e9 (λ unfrozen e10.
       ends this (MoveTo i)
       (record (h.state) { storage = with_stored h.state.storage (key_at h i a) top.0; top = record (h.state.top) { stack = lower.1; at = h.state.top.at + 1 } }) y
       (without (Temp (length types - 2)) es) es' e10
@@ -129,9 +129,9 @@ module _ (this : Standing) where
   pub step-exists : (i : ℕ) (y : Turn) (es' : List Edge) → exists h i ≡ Ok y → edges_after p (Exists i) es ≡ Some es' → Kept this (Exists i) es' (Ok y)
   unfolding exists edges_after
   step-exists i y es' e g =
-      bind (keyed_struct h i) _ y e (λ struct struct_is e1.
-      bind (operand h.state.top.stack) _ y e1 (λ top top_is e2.
-      bind (as_address top.0) _ y e2 (λ a a_is e3.
+      on_result (keyed_struct h i) _ y e (λ struct struct_is e1.
+      on_result (operand h.state.top.stack) _ y e1 (λ top top_is e2.
+      on_result (as_address top.0) _ y e2 (λ a a_is e3.
       ends this (Exists i) (with_top h.state (record (h.state.top) { stack = truth (is_some (stored_at h.state.storage (key_at h i a))) ∷ top.1; at = h.state.top.at + 1 })) y es es' e3 (same_Some es es' g) (
         calm this (truth (is_some (stored_at h.state.storage (key_at h i a))) ∷ top.1) (h.state.top.at + 1)
             (falls-pushed os (map reference_of top.1) None refl (one-off h.state.top.stack top top_is)),

@@ -1,5 +1,5 @@
 -- A step on a local keeps the chain of frames: copies, moves, stores and borrows.
-use Rattle.mv_interpreter.proofs.Borrows.Common.{◌≡◌, ℕ, zero, suc, ◌+◌, ◌-◌, List, [], ◌∷◌, ◌++◌, map, length, Bool, true, false, not, inl, refl, sym, ◌∙◌, ap, subst, Option, Some, None, Ok, slice_get, slice_set, same_Some, Slot, Own, Temp, Token, Plain, ReferenceTo, MutableReferenceTo, Instruction, need, ◌>>>◌, Reference, Value, Ref, Frame, reference_of, live, is_frozen_by, successors, Faults, TypeFault, LostFault, FrozenFault, entry, tag_named, has_tag, Tag, Edge, here, without, inherited, renamed, an_edge, Point, is_mutable, no_edge_out, no_mutable_from, edges_of, kind_at, Turn, with_top, with_stack, operand, TheLabel, TheNode, AtOwn, Bars, token_kind, operand_kind, on_bind, found-is, operand-is}
+use Rattle.mv_interpreter.proofs.Borrows.Common.{◌≡◌, ℕ, zero, suc, ◌+◌, List, [], ◌∷◌, ◌++◌, map, length, Bool, true, false, not, inl, refl, sym, ◌∙◌, ap, subst, Option, Some, None, Ok, slice_get, slice_set, same_Some, Slot, Own, Temp, Token, Plain, ReferenceTo, MutableReferenceTo, Instruction, need, ◌>>>◌, Reference, Value, Ref, Frame, reference_of, live, is_frozen_by, successors, Faults, TypeFault, LostFault, FrozenFault, entry, tag_named, has_tag, Tag, Edge, here, without, inherited, renamed, an_edge, Point, no_edge_out, no_mutable_from, edges_of, kind_at, Turn, with_top, with_stack, operand, TheLabel, TheNode, AtOwn, Bars, token_kind, operand_kind, on_bind, found-is, operand-is}
 use Rattle.mv_move_types.specs.declared.instruction.Instruction.TheVariants.{CopyLoc, MoveLoc, StLoc, MutBorrowLoc, ImmBorrowLoc}
 use Rattle.mv_move_types.specs.Module.{local_tokens, local_type}
 use Rattle.mv_machine.specs.Typing.{linked}
@@ -11,7 +11,7 @@ use Rattle.mv_interpreter.proofs.Borrows.Edges.{free_out, free_mutable, then-som
 use Rattle.mv_interpreter.proofs.Borrows.Mutability.{operand-plain}
 use Rattle.mv_interpreter.proofs.Borrows.Kept.{falls-pushed, falls-popped, falls-same, below-from, kept-falls, kept-copy, kept-copy-mutable, kept-move, kept-store, kept-borrow-local}
 use Rattle.mv_machine.proofs.Binds.{held-is}
-use Rattle.mv_interpreter.proofs.Borrows.Operands.{bind, met, some-bind, tag-kind}
+use Rattle.mv_interpreter.proofs.Borrows.Operands.{on_result, on_passed, on_option, tag-kind}
 use Rattle.mv_interpreter.proofs.Borrows.Standing.{Standing, Among, at_next, at_top, local-kind, ends, calm, StandTop, Kept, typed}
 
 kind-some : (o : Option Reference) (b : Bool) → Some b ≡ operand_kind o → (r : Reference) × (o ≡ Some r) × (r.is_mutable ≡ b)
@@ -65,9 +65,9 @@ module _ (this : Standing) where
   pub step-copy : (l : ℕ) (y : Turn) (es' : List Edge) → copy_local h l ≡ Ok y → edges_after p (CopyLoc l) es ≡ Some es' → Kept this (CopyLoc l) es' (Ok y)
   unfolding copy_local edges_after
   step-copy l y es' e g =
-      bind (held h l) _ y e (λ v v_is e1.
-      met (can_copy h v) (Faults LostFault) _ y e1 (λ ok e2.
-      some-bind (local_type h.home h.function l) _ es' g (λ t t_is g1.
+      on_result (held h l) _ y e (λ v v_is e1.
+      on_passed (can_copy h v) (Faults LostFault) _ y e1 (λ ok e2.
+      on_option (local_type h.home h.function l) _ es' g (λ t t_is g1.
       ends this (CopyLoc l) (with_top h.state (record (h.state.top) { stack = v ∷ h.state.top.stack; at = h.state.top.at + 1 })) y es' es' e2 refl
       (copy-by l v es' t (held-is h l v v_is) (local-kind this l v t (held-is h l v v_is) t_is) g1, (refl, refl, refl, same-all h.state.below, refl, inl refl)))))
 
@@ -95,9 +95,9 @@ module _ (this : Standing) where
   pub step-move : (l : ℕ) (y : Turn) (es' : List Edge) → move_local h l ≡ Ok y → edges_after p (MoveLoc l) es ≡ Some es' → Kept this (MoveLoc l) es' (Ok y)
   unfolding move_local edges_after
   step-move l y es' e g =
-      bind (held h l) _ y e (λ v v_is e1.
-      met (not (is_frozen_by (live h.state) (local_place h l))) (Faults FrozenFault) _ y e1 (λ ok e2.
-      some-bind (local_type h.home h.function l) _ es' g (λ t t_is g1.
+      on_result (held h l) _ y e (λ v v_is e1.
+      on_passed (not (is_frozen_by (live h.state) (local_place h l))) (Faults FrozenFault) _ y e1 (λ ok e2.
+      on_option (local_type h.home h.function l) _ es' g (λ t t_is g1.
       ends this (MoveLoc l) (with_top h.state (moved_frame l v)) y es' es' e2 refl
       (move-by l v es' t (held-is h l v v_is) (local-kind this l v t (held-is h l v v_is) t_is) g1, (refl, refl, refl, same-all h.state.below, refl, inl refl)))))
 
@@ -133,13 +133,13 @@ module _ (this : Standing) where
   pub step-store : (l : ℕ) (y : Turn) (es' : List Edge) → store_local h l ≡ Ok y → edges_after p (StLoc l) es ≡ Some es' → Kept this (StLoc l) es' (Ok y)
   unfolding store_local edges_after
   step-store l y es' e g =
-      bind (operand h.state.top.stack) _ y e (λ top top_is e1.
-      bind (entry h.state.top.locals l) _ y e1 (λ old old_is e2.
-      bind (local_tag h l) _ y e2 (λ tag tag_is e3.
-      met (has_tag h.state top.0 tag) (Faults TypeFault) _ y e3 (λ fit e4.
-      met (may_drop h old) (Faults LostFault) _ y e4 (λ drops e5.
-      met (not (is_frozen_by (live (with_stack h.state top.1)) (local_place h l))) (Faults FrozenFault) _ y e5 (λ ok e6.
-      some-bind (local_type h.home h.function l) _ es' g (λ t t_is g1.
+      on_result (operand h.state.top.stack) _ y e (λ top top_is e1.
+      on_result (entry h.state.top.locals l) _ y e1 (λ old old_is e2.
+      on_result (local_tag h l) _ y e2 (λ tag tag_is e3.
+      on_passed (has_tag h.state top.0 tag) (Faults TypeFault) _ y e3 (λ fit e4.
+      on_passed (may_drop h old) (Faults LostFault) _ y e4 (λ drops e5.
+      on_passed (not (is_frozen_by (live (with_stack h.state top.1)) (local_place h l))) (Faults FrozenFault) _ y e5 (λ ok e6.
+      on_option (local_type h.home h.function l) _ es' g (λ t t_is g1.
       let u = local-tag-is l tag tag_is in
       ends this (StLoc l) (with_top h.state (stored_frame l top.0 top.1)) y es' es' e6 refl (
         store-by l top.0 top.1 es' t (ap (map reference_of) (operand-is h.state.top.stack top top_is))
@@ -162,9 +162,9 @@ module _ (this : Standing) where
       → ((x : TheLabel) (c : TheNode) → edges_of place es (AtOwn l) x c → Bars m (kind_at p) c → ⊥) → Kept this i es' (Ok y)
   unfolding borrow_local
   borrow-local-by m i l y es' next e g need =
-      bind (held h l) _ y e (λ v v_is e1.
-      bind (local_tag h l) _ y e1 (λ tag tag_is e2.
-      met (not (is_reference_tag tag)) (Faults TypeFault) _ y e2 (λ ok e3.
+      on_result (held h l) _ y e (λ v v_is e1.
+      on_result (local_tag h l) _ y e1 (λ tag tag_is e2.
+      on_passed (not (is_reference_tag tag)) (Faults TypeFault) _ y e2 (λ ok e3.
       ends this i (with_top h.state (borrowed_local m l)) y (es ++ an_edge (Own l) here (Temp (length types)) ∷ []) es' e3 (sym g)
       (local-borrowed m l need, (refl, refl, refl, same-all h.state.below, refl, next)))))
 

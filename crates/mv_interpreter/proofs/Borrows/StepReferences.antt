@@ -14,7 +14,7 @@ use Rattle.mv_interpreter.proofs.Borrows.Same.{SameSeen, same-all, layer-same, w
 use Rattle.mv_interpreter.proofs.Borrows.Edges.{kind_of_node, free_mutable, then-some, none_any, node_of-inj, node-is, member_filter}
 use Rattle.mv_interpreter.proofs.Borrows.Kept.{Falls, falls-pushed, falls-popped, falls-same, kept-borrow-field, kept-freeze}
 use Rattle.mv_machine.proofs.Binds.{reference-is}
-use Rattle.mv_interpreter.proofs.Borrows.Operands.{bind, met, some-bind}
+use Rattle.mv_interpreter.proofs.Borrows.Operands.{on_result, on_passed, on_option}
 use Rattle.mv_interpreter.proofs.Borrows.Standing.{Standing, Among, at_top, under, ends, StandTop, Kept, dropped-calm, ref-top, typed}
 
 agrees-begins : (l : List ℕ) (i : ℕ) → AgreesWith l i → (begins l (i ∷ []) || begins (i ∷ []) l) ≡ true
@@ -86,12 +86,12 @@ module _ (this : Standing) where
       → ((n : ℕ) → n ≡ length types - 1 → Need (BorrowField m f) n (kind_at p) (edges_of place es)) → Kept this ins es' (Ok y)
   unfolding borrow_field
   borrow-field-by m ins i f y es' next e position g need =
-      bind (own_field h i) _ y e (λ field field_is e1.
-      bind (operand h.state.top.stack) _ y e1 (λ top top_is e2.
-      bind (as_reference top.0) _ y e2 (λ r r_is e3.
-      met (lends m r) (Faults TypeFault) _ y e3 (λ lent e4.
-      bind (follow h.state r) _ y e4 (λ v v_is e5.
-      bind (as_fields field.0.name v) _ y e5 (λ fields fields_is e6.
+      on_result (own_field h i) _ y e (λ field field_is e1.
+      on_result (operand h.state.top.stack) _ y e1 (λ top top_is e2.
+      on_result (as_reference top.0) _ y e2 (λ r r_is e3.
+      on_passed (lends m r) (Faults TypeFault) _ y e3 (λ lent e4.
+      on_result (follow h.state r) _ y e4 (λ v v_is e5.
+      on_result (as_fields field.0.name v) _ y e5 (λ fields fields_is e6.
       let same : field.1 ≡ f = same_Some field.1 f (sym (own-field-is i field field_is) ∙ position) in
       ends this ins (with_top h.state (field_frame m field.1 r top.1)) y es' es' e6 refl (
         subst (λ j. StandTop this (field_frame m j r top.1) es') (sym same)
@@ -102,7 +102,7 @@ module _ (this : Standing) where
   pub step-field-mutable : (i : ℕ) (y : Turn) (es' : List Edge) → borrow_field true h i ≡ Ok y → edges_after p (MutBorrowField i) es ≡ Some es' → Kept this (MutBorrowField i) es' (Ok y)
   unfolding edges_after
   step-field-mutable i y es' e g =
-      some-bind (position_of p i) _ es' g (λ f f_is g1.
+      on_option (position_of p i) _ es' g (λ f f_is g1.
       let b = then-some (not (list_any (λ e. agrees f e.label) (out_of (top_temp p) es))) (field_edges p f es) es' g1 in
       borrow-field-by true (MutBorrowField i) i f y es' (inl refl) e f_is b.1
       (λ n is. free-field f n (subst (λ k. not (list_any (λ e. agrees f e.label) (out_of (Temp k) es)) ≡ true) (sym is) b.0)))
@@ -110,7 +110,7 @@ module _ (this : Standing) where
   pub step-field-immutable : (i : ℕ) (y : Turn) (es' : List Edge) → borrow_field false h i ≡ Ok y → edges_after p (ImmBorrowField i) es ≡ Some es' → Kept this (ImmBorrowField i) es' (Ok y)
   unfolding edges_after
   step-field-immutable i y es' e g =
-      some-bind (position_of p i) _ es' g (λ f f_is g1.
+      on_option (position_of p i) _ es' g (λ f f_is g1.
       let b = then-some (not (list_any (λ e. is_mutable p e.to && agrees f e.label) (out_of (top_temp p) es))) (field_edges p f es) es' g1 in
       borrow-field-by false (ImmBorrowField i) i f y es' (inl refl) e f_is b.1
       (λ n is. free-field-mutable f n (subst (λ k. not (list_any (λ e. is_mutable p e.to && agrees f e.label) (out_of (Temp k) es)) ≡ true) (sym is) b.0)))
@@ -118,11 +118,11 @@ module _ (this : Standing) where
   pub step-freeze : (y : Turn) (es' : List Edge) → gives h (freeze h h.state.top.stack) ≡ Ok y → edges_after p FreezeRef es ≡ Some es' → Kept this FreezeRef es' (Ok y)
   unfolding freeze edges_after
   step-freeze y es' e g =
-      bind (freeze h h.state.top.stack) _ y e (λ s s_is e0.
-      bind (operand h.state.top.stack) _ s s_is (λ top top_is q1.
-      bind (as_reference top.0) _ s q1 (λ r r_is q2.
-      met r.is_mutable (Faults TypeFault) _ s q2 (λ ok q3.
-      bind (follow h.state r) _ s q3 (λ v v_is q4.
+      on_result (freeze h h.state.top.stack) _ y e (λ s s_is e0.
+      on_result (operand h.state.top.stack) _ s s_is (λ top top_is q1.
+      on_result (as_reference top.0) _ s q1 (λ r r_is q2.
+      on_passed r.is_mutable (Faults TypeFault) _ s q2 (λ ok q3.
+      on_result (follow h.state r) _ s q3 (λ v v_is q4.
       let b = then-some (no_mutable_from p (top_temp p) es) (filter (λ e. not (same_node e.from (top_temp p))) es) es' g in
       ends this FreezeRef (with_top h.state (record (h.state.top) { stack = s; at = h.state.top.at + 1 })) y (filter (λ e. not (same_node e.from (top_temp p))) es) es' e0 (sym b.1) (
         subst (λ u. StandTop this (record (h.state.top) { stack = u; at = h.state.top.at + 1 }) (filter (λ e. not (same_node e.from (top_temp p))) es))
@@ -140,11 +140,11 @@ module _ (this : Standing) where
   pub step-read : (y : Turn) (es' : List Edge) → gives h (read_reference h h.state.top.stack) ≡ Ok y → edges_after p ReadRef es ≡ Some es' → Kept this ReadRef es' (Ok y)
   unfolding read_reference edges_after
   step-read y es' e g =
-      bind (read_reference h h.state.top.stack) _ y e (λ s s_is e0.
-      bind (operand h.state.top.stack) _ s s_is (λ top top_is q1.
-      bind (as_reference top.0) _ s q1 (λ r r_is q2.
-      bind (follow h.state r) _ s q2 (λ v v_is q3.
-      met (can_copy h v) (Faults LostFault) _ s q3 (λ ok q4.
+      on_result (read_reference h h.state.top.stack) _ y e (λ s s_is e0.
+      on_result (operand h.state.top.stack) _ s s_is (λ top top_is q1.
+      on_result (as_reference top.0) _ s q1 (λ r r_is q2.
+      on_result (follow h.state r) _ s q2 (λ v v_is q3.
+      on_passed (can_copy h v) (Faults LostFault) _ s q3 (λ ok q4.
       let b = then-some (no_mutable_from p (top_temp p) es) (without (top_temp p) es) es' g in
       ends this ReadRef (with_top h.state (record (h.state.top) { stack = s; at = h.state.top.at + 1 })) y (without (top_temp p) es) es' e0 (sym b.1) (
         dropped-calm this top.0 top.1 s (h.state.top.at + 1) (operand-is h.state.top.stack top top_is)
@@ -158,16 +158,16 @@ module _ (this : Standing) where
   pub step-write : (y : Turn) (es' : List Edge) → Descending (h.state.top ∷ h.state.below) → write_reference h ≡ Ok y → edges_after p WriteRef es ≡ Some es' → Kept this WriteRef es' (Ok y)
   unfolding write_reference edges_after
   step-write y es' ordered e g =
-      bind (operand h.state.top.stack) _ y e (λ top top_is e1.
-      bind (operand top.1) _ y e1 (λ lower lower_is e2.
-      bind (as_reference top.0) _ y e2 (λ r r_is e3.
-      met r.is_mutable (Faults TypeFault) _ y e3 (λ mutable e4.
-      bind (follow h.state r) _ y e4 (λ old old_is e5.
-      bind (ok_or (tag_of h.state old) (Faults TypeFault)) _ y e5 (λ tag tag_is e6.
-      met (has_tag h.state lower.0 tag) (Faults TypeFault) _ y e6 (λ fit e7.
-      met (can_drop h old) (Faults LostFault) _ y e7 (λ drops e8.
-      met (not (is_frozen_by (live (with_stack h.state lower.1)) r.place)) (Faults FrozenFault) _ y e8 (λ ok e9.
-      bind (ok_or (with_place (with_stack h.state lower.1) r.place lower.0) (Faults DanglingFault)) _ y e9 (λ t t_is e10.
+      on_result (operand h.state.top.stack) _ y e (λ top top_is e1.
+      on_result (operand top.1) _ y e1 (λ lower lower_is e2.
+      on_result (as_reference top.0) _ y e2 (λ r r_is e3.
+      on_passed r.is_mutable (Faults TypeFault) _ y e3 (λ mutable e4.
+      on_result (follow h.state r) _ y e4 (λ old old_is e5.
+      on_result (ok_or (tag_of h.state old) (Faults TypeFault)) _ y e5 (λ tag tag_is e6.
+      on_passed (has_tag h.state lower.0 tag) (Faults TypeFault) _ y e6 (λ fit e7.
+      on_passed (can_drop h old) (Faults LostFault) _ y e7 (λ drops e8.
+      on_passed (not (is_frozen_by (live (with_stack h.state lower.1)) r.place)) (Faults FrozenFault) _ y e8 (λ ok e9.
+      on_result (ok_or (with_place (with_stack h.state lower.1) r.place lower.0) (Faults DanglingFault)) _ y e9 (λ t t_is e10.
       let old_none : reference_of old ≡ None =
       inside.led_to r top.1 old (operand-is h.state.top.stack top top_is ∙ ap (λ (u : Value). u ∷ top.1) (reference-is top.0 r r_is)) (found-is (place_value h.state r.place) _ old old_is) in
       let w = write-same (with_stack h.state lower.1) r.place old lower.0 t ordered (found-is (place_value h.state r.place) _ old old_is) old_none

@@ -24,7 +24,7 @@ use Rattle.mv_interpreter.proofs.Borrows.Same.{same-all}
 use Rattle.mv_interpreter.proofs.Borrows.Kept.{Falls, falls-pushed, falls-same}
 use Rattle.mv_machine.proofs.Laws.{on_need}
 use Rattle.mv_machine.proofs.Binds.{operands-is}
-use Rattle.mv_interpreter.proofs.Borrows.Operands.{bind, met, fields-are, one-off, none-more, none-reverse, drop-falls}
+use Rattle.mv_interpreter.proofs.Borrows.Operands.{on_result, on_passed, fields-are, one-off, none-more, none-reverse, drop-falls}
 use Rattle.mv_machine.proofs.Operations.{binary-gives, comparison-gives, shift-gives, cast-gives, logic-gives, negation-gives, equality-gives}
 use Rattle.mv_interpreter.proofs.Borrows.Standing.{Standing, Among, IsTransfer, ends, calm, calm-leaf, calm-pushes, StandTop, Kept, dropped-calm}
 use Rattle.mv_interpreter.proofs.Borrows.StepLocals.{step-copy, step-move, step-store, step-borrow-mutable, step-borrow-immutable}
@@ -53,7 +53,7 @@ module _ (this : Standing) where
   pub step-pop : (y : Turn) (es' : List Edge) → gives h (pop h h.state.top.stack) ≡ Ok y → edges_after p Pop es ≡ Some es' → Kept this Pop es' (Ok y)
   unfolding pop edges_after
   step-pop y es' e g =
-      bind (pop h h.state.top.stack) _ y e (λ s s_is e0.
+      on_result (pop h h.state.top.stack) _ y e (λ s s_is e0.
       on_pop s s_is (λ top top_is same.
       ends this Pop (with_top h.state (record (h.state.top) { stack = s; at = h.state.top.at + 1 })) y
       (without (Temp (length types - 1)) es) es' e0 (same_Some (without (Temp (length types - 1)) es) es' g) (
@@ -64,16 +64,16 @@ module _ (this : Standing) where
     where
       on_pop : {P : Type 1} (s : List Value) → pop h h.state.top.stack ≡ Ok s → ((top : Value × List Value) → operand h.state.top.stack ≡ Ok top → top.1 ≡ s → P) → P
       on_pop s q go =
-          bind (operand h.state.top.stack) _ s q (λ top top_is q1.
-          met (can_drop h top.0) (Faults LostFault) _ s q1 (λ ok q2. go top top_is (ok-is top.1 s q2)))
+          on_result (operand h.state.top.stack) _ s q (λ top top_is q1.
+          on_passed (can_drop h top.0) (Faults LostFault) _ s q1 (λ ok q2. go top top_is (ok-is top.1 s q2)))
 
   pub step-pack : (i : ℕ) (y : Turn) (es' : List Edge) → pack h i ≡ Ok y → edges_after p (Pack i) es ≡ Some es' → Kept this (Pack i) es' (Ok y)
   unfolding pack edges_after
   step-pack i y es' e g =
-      bind (own_struct h i) _ y e (λ struct struct_is e1.
-      bind (operands (length struct.fields) h.state.top.stack) _ y e1 (λ taken taken_is e2.
-      bind (for_each (λ f. tag_named h.modules h.home f.token) struct.fields) _ y e2 (λ tags tags_is e3.
-      met (have_tags h.state taken.0 tags) (Faults TypeFault) _ y e3 (λ fit e4.
+      on_result (own_struct h i) _ y e (λ struct struct_is e1.
+      on_result (operands (length struct.fields) h.state.top.stack) _ y e1 (λ taken taken_is e2.
+      on_result (for_each (λ f. tag_named h.modules h.home f.token) struct.fields) _ y e2 (λ tags tags_is e3.
+      on_passed (have_tags h.state taken.0 tags) (Faults TypeFault) _ y e3 (λ fit e4.
       ends this (Pack i) (tallied true struct (with_top h.state (record (h.state.top) { stack = Struct struct.name (fields_of taken.0) ∷ taken.1; at = h.state.top.at + 1 }))) y es es' e4 (same_Some es es' g) (
         calm this (Struct struct.name (fields_of taken.0) ∷ taken.1) (h.state.top.at + 1)
             (falls-pushed os (map reference_of taken.1) None refl
@@ -85,9 +85,9 @@ module _ (this : Standing) where
   pub step-unpack : (i : ℕ) (y : Turn) (es' : List Edge) → unpack h i ≡ Ok y → edges_after p (Unpack i) es ≡ Some es' → Kept this (Unpack i) es' (Ok y)
   unfolding unpack edges_after
   step-unpack i y es' e g =
-      bind (own_struct h i) _ y e (λ struct struct_is e1.
-      bind (operand h.state.top.stack) _ y e1 (λ top top_is e2.
-      bind (as_fields struct.name top.0) _ y e2 (λ fields fields_is e3.
+      on_result (own_struct h i) _ y e (λ struct struct_is e1.
+      on_result (operand h.state.top.stack) _ y e1 (λ top top_is e2.
+      on_result (as_fields struct.name top.0) _ y e2 (λ fields fields_is e3.
       ends this (Unpack i) (tallied false struct (with_top h.state (record (h.state.top) { stack = reverse fields ++ top.1; at = h.state.top.at + 1 }))) y es es' e3 (same_Some es es' g) (
         calm this (reverse fields ++ top.1) (h.state.top.at + 1)
             (none-more (reverse fields) h.state.top.stack top.1
@@ -99,8 +99,8 @@ module _ (this : Standing) where
   pub step-constant : (i : ℕ) (y : Turn) (es' : List Edge) → constant h i ≡ Ok y → edges_after p (LdConst i) es ≡ Some es' → Kept this (LdConst i) es' (Ok y)
   unfolding constant edges_after
   step-constant i y es' e g =
-      bind (entry h.home.constants i) _ y e (λ c c_is e1.
-      bind (constant_value c.token c.bytes) _ y e1 (λ v v_is e2.
+      on_result (entry h.home.constants i) _ y e (λ c c_is e1.
+      on_result (constant_value c.token c.bytes) _ y e1 (λ v v_is e2.
       calm-pushes this (LdConst i) v y es' (inl refl) e2 g (constant-none c.token c.bytes v v_is)))
 
   branch-by : (i : Instruction) (b : Bool) (target : ℕ) (s : List Value) (y : Turn) (es' : List Edge) → Among target (successors h.state.top.at i)
@@ -117,8 +117,8 @@ module _ (this : Standing) where
       → branch_if wanted h target ≡ Ok y → Some es ≡ Some es' → Kept this i es' (Ok y)
   unfolding branch_if
   branch-kept wanted i target y es' there next e g =
-      bind (operand h.state.top.stack) _ y e (λ top top_is e1.
-      bind (as_boolean top.0) _ y e1 (λ x x_is e2.
+      on_result (operand h.state.top.stack) _ y e (λ top top_is e1.
+      on_result (as_boolean top.0) _ y e1 (λ x x_is e2.
       branch-by i (beq x wanted) target top.1 y es' there next e2 g (one-off h.state.top.stack top top_is)))
 
   stays-here : (i : Instruction) (target : ℕ) (y : Turn) (es' : List Edge) → Among target (successors h.state.top.at i) → goes_to target h.state ≡ Ok y → Some es ≡ Some es' → Kept this i es' (Ok y)

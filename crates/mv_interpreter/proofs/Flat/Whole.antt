@@ -13,6 +13,7 @@ use Rattle.mv_interpreter.proofs.Flat.Arguments.{ListWords}
 use Rattle.mv_interpreter.proofs.Flat.Grow.{entered_locals, all_named, named_split}
 use Rattle.mv_interpreter.proofs.Flat.Calls.{types_are}
 use Rattle.mv_interpreter.proofs.Flat.Run.{turns_follow}
+use Rattle.std.proofs.lemmas.Option.{none-some}
 
 -- values of types have the types' names
 types_named : (modules : List Module) (look : Roots) (home : Module) (vs : List Value) (ts : List Token) (tags : List Tag)
@@ -34,10 +35,7 @@ module _ (modules : List Module) (history : History) where
   argument_words (Struct name fields) t h = refl
   argument_words (Ref r) (LeafTag k) h = absurd h
   argument_words (Ref r) (StructTag name) h = absurd h
-  argument_words (Ref r) (ReferenceTag m to) h = absurd (never h.1.root.value h.1.root.is_there)
-    where
-      never : (v : Value) → None ≡ Some v → ⊥
-      never v e = cc
+  argument_words (Ref r) (ReferenceTag m to) h = absurd (none-some h.1.root.value h.1.root.is_there)
 
   arguments_words : (vs : List Value) (ts : List Tag) → HaveTypes (fields_by_name modules) Nowhere vs ts → ListWords modules history vs (flat_map flat vs)
   arguments_words [] ts h = refl

@@ -1,5 +1,5 @@
 -- Each step of a state that is as the certificates say leads to such a state, and meets nothing lost or frozen.
-use Rattle.mv_interpreter.proofs.Guided.Common.{◌≡◌, ℕ, ◌+◌, List, [], ◌∷◌, ◌++◌, map, length, reverse, true, refl, sym, ◌∙◌, ap, ap₂, subst, Option, Some, Result, Ok, Err, inl, slice_get, ok_or, ⊤, list_all, and_parts, same_Some, Instruction, Ret, Call, local_of, alone, Module, FunctionDefinition, Value, Reference, Frame, State, reference_of, Failure, Faults, TypeFault, LinkageFault, entry, Known, Certificate, locals_leq, edges_leq, Point, Types, known_before, Here, Goes, Callee, ok-is, found-is, Fits, token_kind, operand_kind, Stood, seen_of, point_of, layers, StoodOn, Sound, Reaches, callee-is, AsKnown, AllPlaced, StoodFit, AllAgree, Guided, StoreFacts, TypeFacts}
+use Rattle.mv_interpreter.proofs.Guided.Common.{◌≡◌, ℕ, ◌+◌, List, [], ◌∷◌, ◌++◌, map, length, reverse, true, refl, sym, ◌∙◌, ap, ap₂, subst, Option, Some, Result, Ok, Err, inl, slice_get, ok_or, ⊤, list_all, and_parts, same_Some, Instruction, Ret, Call, local_of, alone, Module, FunctionDefinition, Value, Reference, Frame, State, reference_of, Failure, Faults, TypeFault, LinkageFault, entry, Known, Certificate, locals_leq, edges_leq, Point, Types, known_before, Here, Goes, Callee, ok-is, found-is, Fits, token_kind, operand_kind, Stood, seen_of, point_of, StoodOn, Sound, Reaches, callee-is, AsKnown, AllPlaced, StoodFit, AllAgree, Guided, StoreFacts, TypeFacts}
 use Rattle.std.specs.Prelude.{nat_lt}
 use Rattle.mv_move_types.specs.declared.tables.Definition.{Definition}
 use Rattle.mv_move_types.specs.Flow.{successors}
@@ -12,10 +12,10 @@ use Rattle.mv_machine.specs.Step.{rule, step}
 use Rattle.mv_interpreter.proofs.Borrows.Edges.{then-some}
 use Rattle.mv_interpreter.proofs.Borrows.Same.{SameFrames}
 use Rattle.mv_interpreter.proofs.Borrows.Certified.{edges-below}
-use Rattle.mv_interpreter.proofs.Borrows.Standing.{Standing, IsTransfer, Stays}
+use Rattle.mv_interpreter.proofs.Borrows.Standing.{IsTransfer, Stays}
 use Rattle.mv_interpreter.proofs.Borrows.Steps.{step-kept}
 use Rattle.mv_machine.proofs.Transfers.{return-is, ReturnedTo, returned, Called, called}
-use Rattle.mv_interpreter.proofs.Borrows.Invariant.{refit, sound-row, sound-call, sound-return}
+use Rattle.mv_interpreter.proofs.Borrows.Invariant.{refit, sound-row, sound-call, sound-return, standing}
 use Rattle.mv_interpreter.proofs.Borrows.Available.{known-above, known-same}
 use Rattle.mv_interpreter.specs.Guided.Guided.{Placed}
 use Rattle.mv_interpreter.proofs.Guided.Before.{Onward, goes-on, starts-known}
@@ -116,19 +116,7 @@ module _ (depends : ℕ → ℕ → Type 0) (modules : List Module) (certificate
       by_result (Err e) is k = k
       by_result (Ok (Returns t)) is k = tt
       by_result (Ok (Goes t)) is k =
-          let standing : Standing = record {
-            depends = depends;
-            through = store.through;
-            no_cycle = store.no_cycle;
-            rest = layers w.waiting;
-            h = h;
-            types = w.types;
-            es = w.known.edges;
-            stands = w.sound.chain;
-            fits = w.fits;
-            inside = facts.inside;
-          } in
-          let st : Stays i s t = (step-kept standing i (Goes t) o.next.edges transfer reaches w.sound.ordered is o.edges).1 in
+          let st : Stays i s t = (step-kept (standing depends store.through store.no_cycle modules s x w.waiting w.sound w.fits facts.inside) i (Goes t) o.next.edges transfer reaches w.sound.ordered is o.edges).1 in
           let l = o.leads t.top.at st.5 in
           let below = and_parts (locals_leq o.next.locals l.0.locals) (edges_leq o.next.edges l.0.edges) l.3 in
           guided-from depends store.through store.no_cycle modules certificates t

@@ -38,7 +38,7 @@ certificates_from (p ∷ ps) each =
 
 module _ (store : List PublishedModule) (is : IsStore store) where
   -- the tables of such a store are accepted
-  accepted : StoreAccepted (tables_in store)
+  pub accepted : StoreAccepted (tables_in store)
   accepted = record {
     each = λ place m at. each place m (of-tables store place m at);
     once = is.once;

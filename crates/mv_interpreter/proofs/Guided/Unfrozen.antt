@@ -1,5 +1,5 @@
 -- What live references lead to, where a local is emptied or overwritten and where a value is stored: nothing there is frozen.
-use Rattle.mv_interpreter.proofs.Guided.Common.{◌≡◌, ℕ, zero, suc, ◌-◌, List, [], ◌∷◌, ◌++◌, reverse, Bool, true, false, cond, ◌⊎◌, inl, inr, refl, sym, ◌∙◌, ap, subst, Option, Some, None, ◌==◌, flat_map, cons_option, and_parts, eq-eqb, eqb-true, reverse_onto, same_Some, Own, Token, Plain, ReferenceTo, MutableReferenceTo, local_type, Root, Local, Stored, Reference, Value, State, reference_of, references, local_references, frame_references, Edge, Point, no_edge_out, Types, Here, root_of, alone, Stood, Sound, Fits, token_kind, operand_kind, InRefs, Rooted}
+use Rattle.mv_interpreter.proofs.Guided.Common.{◌≡◌, ℕ, zero, suc, List, [], ◌∷◌, ◌++◌, reverse, Bool, true, false, cond, ◌⊎◌, inl, inr, refl, sym, ◌∙◌, ap, subst, Option, Some, None, ◌==◌, flat_map, cons_option, and_parts, eq-eqb, eqb-true, reverse_onto, same_Some, Own, Token, Plain, ReferenceTo, MutableReferenceTo, local_type, Root, Local, Stored, Reference, Value, State, reference_of, references, local_references, frame_references, Edge, Point, no_edge_out, Types, Here, root_of, alone, Stood, Sound, Fits, token_kind, operand_kind, InRefs, Rooted}
 use Rattle.std.proofs.Common.{take}
 use Rattle.mv_move_types.specs.declared.tables.Key.{Key}
 use Rattle.mv_machine.specs.State.{stored_at, local_value, local_in, root_value}
@@ -12,6 +12,7 @@ use Rattle.mv_storage.proofs.Keys.{same_key-to}
 use Rattle.mv_interpreter.proofs.Borrows.Free.{in-either, none-frozen, local-free}
 use Rattle.mv_interpreter.proofs.Guided.Working.{worked}
 use Rattle.mv_interpreter.proofs.Guided.Avoids.{in-left, in-right}
+use Rattle.std.proofs.lemmas.Option.{none-some}
 
 -- a root that is this local
 pub local-root : (root : Root) (n l : ℕ) → same_root root (Local n l) ≡ true → root ≡ Local n l
@@ -94,9 +95,6 @@ nothing-frozen s rooted key none =
     let v = rooted r i in
     let there : stored_at s.storage key ≡ Some v.0 = subst (λ (z : Root). root_value s z ≡ Some v.0) e v.1 in
     none-some v.0 (sym none ∙ there))
-  where
-    none-some : (v : Value) → None ≡ Some v → ⊥
-    none-some v e = cc
 
 -- a local of no reference's type that is emptied or overwritten has no edge out
 pub moved-free : (p : Point) (l : ℕ) (t : Token) (edges es : List Edge) → move_edges p l t edges ≡ Some es → token_kind t ≡ None → no_edge_out (Own l) edges ≡ true

@@ -16,7 +16,7 @@ use Rattle.mv_type_states.proofs.Tokens.{lists_equal}
 use Rattle.mv_interpreter.specs.Typing.StateTyped.{IsWaiting}
 use Rattle.mv_interpreter.specs.Typing.Facts.{CallFacts}
 use Rattle.mv_interpreter.specs.Typing.Unreached.{BelowAvoid, Leaving}
-use Rattle.mv_interpreter.proofs.Typing.Parts.{Part, known, met, tested, lost}
+use Rattle.mv_interpreter.proofs.Typing.Parts.{Part, known, passes, tested, lost}
 use Rattle.mv_interpreter.proofs.Typing.Operands.{on_test, takes_gives-is, joined, turned, take_operands}
 use Rattle.mv_interpreter.proofs.Typing.Keep.{Kept, ValueAvoids, Nothing, avoid_nothing, below_avoids_nothing, keep_value, keep_stack, keep_locals, keep_below}
 use Rattle.mv_interpreter.proofs.Typing.Roots.{tokens_have_tags, typed_have_tags}
@@ -166,7 +166,7 @@ module _ (h : Here) (k : ℕ) (types after : Types) (row : Row h (Call k) types 
       known (TurnTyped h.modules) (callee h k) _ f.callee_is f.is_found
       (known (TurnTyped h.modules) (operands (length f.callee_is.parameters) h.state.top.stack) _ (taken.arguments, taken.rest)
       (subst (λ (n : ℕ). operands n h.state.top.stack ≡ Ok (taken.arguments, taken.rest)) long taken.is_taken)
-      (met (TurnTyped h.modules) (have_tags h.state taken.arguments f.callee_is.parameters) _ _ (typed_have_tags (fields_by_name h.modules) h.state taken.arguments f.callee_is.parameters typed)
+      (passes (TurnTyped h.modules) (have_tags h.state taken.arguments f.callee_is.parameters) _ _ (typed_have_tags (fields_by_name h.modules) h.state taken.arguments f.callee_is.parameters typed)
       (known (TurnTyped h.modules) (entry f.callee_is.home.signatures f.callee_is.definition.locals) _ f.others (ap (λ (x : Option (List Token)). ok_or x (Faults LinkageFault)) f.are_others)
       (enters handle parameters results handle_is parameters_are results_are f parts.0 taken.arguments taken.rest parts.1 parts.2 taken.arguments_typed taken.rest_typed)))))))
 
@@ -257,8 +257,8 @@ module _ (h : Here) (types after : Types) (row : Row h Ret types after) where
       (known (TurnTyped h.modules) (entry h.home.signatures handle.results >>=ᵣ for_each (tag_named h.modules h.home)) _ row.stands.results (tags_are handle results results_are named)
       (known (TurnTyped h.modules) (operands (length row.stands.results) h.state.top.stack) _ (taken.arguments, taken.rest)
       (subst (λ (n : ℕ). operands n h.state.top.stack ≡ Ok (taken.arguments, taken.rest)) long taken.is_taken)
-      (met (TurnTyped h.modules) (eqb (length taken.rest) 0) _ _ (nothing_left h.modules look h.home taken.rest taken.rest_typed)
-      (met (TurnTyped h.modules) (have_tags h.state taken.arguments row.stands.results) _ _ (typed_have_tags (fields_by_name h.modules) h.state taken.arguments row.stands.results typed)
+      (passes (TurnTyped h.modules) (eqb (length taken.rest) 0) _ _ (nothing_left h.modules look h.home taken.rest taken.rest_typed)
+      (passes (TurnTyped h.modules) (have_tags h.state taken.arguments row.stands.results) _ _ (typed_have_tags (fields_by_name h.modules) h.state taken.arguments row.stands.results typed)
       (tested (TurnTyped h.modules) (need (list_all (may_drop h) h.state.top.locals) (Faults LostFault)) _ (lost (list_all (may_drop h) h.state.top.locals))
       (tested (TurnTyped h.modules) (need (not (list_any (holds_frame h.state.top.number) (references taken.arguments ++ flat_map frame_references h.state.below)))
       (Faults FrozenFault)) _ (never_frozen (not (list_any (holds_frame h.state.top.number) (references taken.arguments ++ flat_map frame_references h.state.below))))

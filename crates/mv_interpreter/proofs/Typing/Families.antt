@@ -12,7 +12,7 @@ use Rattle.mv_type_states.specs.TypeRules.{number, top_width, of_two_numbers, of
 use Rattle.mv_machine.specs.Numbers.{Operator, fitting, sum_of, difference_of, product_of, remainder_of, quotient_of, shifted_left, shifted_right}
 use Rattle.mv_machine.specs.StepNumbers.{binary, comparison, shift, cast, logic, negation}
 use Rattle.mv_interpreter.proofs.Typing.Tests.{same_width-same}
-use Rattle.mv_interpreter.proofs.Typing.Parts.{Part, some, met}
+use Rattle.mv_interpreter.proofs.Typing.Parts.{Part, some, passes}
 use Rattle.mv_interpreter.proofs.Typing.Operands.{takes_gives-is, taken-is, top_type-is, leaf, of_leaf}
 
 -- ---- operators keep their width
@@ -167,7 +167,7 @@ module _ (modules : List Module) (look : Roots) (home : Module) where
       let w : Width = parts.0 in
       let n = two_numbers stack w parts.1 (subst (λ (ts : Types). HaveTokens modules look home stack ts) parts.2 h) in
       subst (λ (s : List Value). Part (λ (s : List Value). HaveTokens modules look home s after) (binary operator s)) (sym n.are)
-      (met (λ (s : List Value). HaveTokens modules look home s after) (same_width w w) _ _ (same_width-same w)
+      (passes (λ (s : List Value). HaveTokens modules look home s after) (same_width w w) _ _ (same_width-same w)
       (some (λ (s : List Value). HaveTokens modules look home s after) (Fits w) (operator w n.left n.right) _ (keeps w n.left n.right n.left_fits n.right_fits) (λ m fits.
       subst (λ (ts : Types). HaveTokens modules look home (Leaf (Number w) m ∷ n.rest) ts) (sym parts.3) (of_leaf modules look home (Number w) m fits, n.typed))))
 
@@ -187,7 +187,7 @@ module _ (modules : List Module) (look : Roots) (home : Module) where
       let w : Width = parts.0 in
       let n = two_numbers stack w parts.1 (subst (λ (ts : Types). HaveTokens modules look home stack ts) parts.2 h) in
       subst (λ (s : List Value). Part (Typed after) (comparison test s)) (sym n.are)
-      (met (Typed after) (same_width w w) _ _ (same_width-same w)
+      (passes (Typed after) (same_width w w) _ _ (same_width-same w)
       (subst (λ (ts : Types). HaveTokens modules look home (truth (test n.left n.right) ∷ n.rest) ts) (sym parts.3) (of_truth (test n.left n.right), n.typed)))
 
   pub shift_typed : (operator : Operator) → KeepsLeft operator → (stack : List Value) (types after : Types) → HaveTokens modules look home stack types → of_shift types ≡ Some after →

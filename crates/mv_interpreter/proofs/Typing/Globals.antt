@@ -12,14 +12,15 @@ use Rattle.mv_machine.specs.Step.{keyed_struct, move_to, key_at, as_signer, with
 use Rattle.mv_machine.specs.StepGlobals.{exists, borrow_global, move_from}
 use Rattle.mv_interpreter.specs.Typing.HasType.{fields_by_name}
 use Rattle.mv_interpreter.specs.Typing.Unreached.{Unlent}
-use Rattle.mv_interpreter.proofs.Typing.Parts.{Part, known, met, tried, tested, frozen}
-use Rattle.mv_interpreter.proofs.Typing.Operands.{on_test, takes_gives-is, one, leaf}
+use Rattle.mv_interpreter.proofs.Typing.Parts.{Part, known, passes, tried, tested, frozen}
+use Rattle.mv_interpreter.proofs.Typing.Operands.{on_test, takes_gives-is, one_operand, leaf}
 use Rattle.mv_interpreter.proofs.Typing.Keep.{Kept, Nothing, avoid_nothing, none_to_nothing, keep_stack, keep_locals, keep_below}
 use Rattle.mv_interpreter.proofs.Typing.Roots.{place_of, typed_has_tag}
-use Rattle.mv_interpreter.proofs.Typing.Stays.{gives_typed, moved}
+use Rattle.mv_interpreter.proofs.Typing.Stays.{gives_typed, moved, top_typed}
 use Rattle.mv_interpreter.proofs.Typing.Families.{of_truth}
 use Rattle.mv_interpreter.proofs.Typing.Storage.{stored_other, unstored_other, stored_typed, typed_with, typed_without}
 use Rattle.mv_interpreter.proofs.Typing.References.{immutable}
+use Rattle.std.proofs.lemmas.Option.{none-some}
 
 -- an own struct with key
 pub record KeyedFacts (h : Here) (k : ℕ) (u : ValueType) : Type 0 where
@@ -57,8 +58,7 @@ module _ (h : Here) (i : Instruction) (types after : Types) (row : Row h i types
   at_address : (k : ℕ) (given : Token) → takes_gives (address ∷ []) (given ∷ []) types ≡ Some after → AtAddress k given
   at_address k given e =
       let parts = takes_gives-is (address ∷ []) (given ∷ []) types after e in
-      let top = one h.modules (root_value h.state) h.home h.state.top.stack address parts.0
-      (subst (λ (ts : Types). HaveTokens h.modules (root_value h.state) h.home h.state.top.stack ts) parts.1 row.stands.stack) in
+      let top = top_typed h i types after row address parts.0 parts.1 in
       let x = leaf h.modules (root_value h.state) h.home top.0 Address top.3 in
       record { a = x.number; rest = top.1; below = parts.0; are = top.2 ∙ ap (λ (v : Value). v ∷ top.1) x.is_leaf; all = parts.1; typed = top.4; given_is = parts.2 }
 
@@ -163,10 +163,7 @@ module _ (h : Here) (i : Instruction) (types after : Types) (row : Row h i types
       by_case false p = record { value = r.value; is_there = stored_other h.state.storage key other v p ∙ r.is_there; is_of = r.is_of }
       by_case true p =
           let there : stored_at h.state.storage key ≡ Some r.value = subst (λ (x : Key). stored_at h.state.storage x ≡ Some r.value) (sym (same_key-to key other p)) r.is_there in
-          absurd (none_some (sym none ∙ there))
-        where
-          none_some : None ≡ Some r.value → ⊥
-          none_some e = cc
+          absurd (none-some r.value (sym none ∙ there))
 
   signer_leaf : (table : Table) (v : Value) → IsOf table v (LeafTag Signer) → (n : ℕ) × (v ≡ Leaf Signer n) × IsTrue (address_fits n)
   signer_leaf table (Leaf k n) e = (n, ap (λ x. Leaf x n) e.0, subst (λ x. IsTrue (in_range x n)) e.0 e.1)
@@ -181,9 +178,8 @@ module _ (h : Here) (i : Instruction) (types after : Types) (row : Row h i types
       let table = fields_by_name h.modules in
       let look : Roots = root_value h.state in
       let parts = takes_gives-is (ReferenceTo (OfLeaf Signer) ∷ Plain u ∷ []) [] types after e1 in
-      let top = one h.modules look h.home h.state.top.stack (Plain u) (ReferenceTo (OfLeaf Signer) ∷ parts.0)
-      (subst (λ (ts : Types). HaveTokens h.modules look h.home h.state.top.stack ts) parts.1 row.stands.stack) in
-      let under = one h.modules look h.home top.1 (ReferenceTo (OfLeaf Signer)) parts.0 top.4 in
+      let top = top_typed h i types after row (Plain u) (ReferenceTo (OfLeaf Signer) ∷ parts.0) parts.1 in
+      let under = one_operand h.modules look h.home top.1 (ReferenceTo (OfLeaf Signer)) parts.0 top.4 in
       let ref = immutable h.modules look h.home under.0 (OfLeaf Signer) under.3 in
       let r : Reference = ref.reference in
       let signer_tag : ref.tag ≡ LeafTag Signer = same_Some ref.tag (LeafTag Signer) (sym ref.names) in
@@ -194,9 +190,9 @@ module _ (h : Here) (i : Instruction) (types after : Types) (row : Row h i types
       known (TurnTyped h.modules) (keyed_struct h k) _ f.struct f.is_found
       (known (TurnTyped h.modules) (operand h.state.top.stack) _ (top.0, top.1) (ap operand top.2)
       (known (TurnTyped h.modules) (operand top.1) _ (under.0, under.1) (ap operand under.2)
-      (met (TurnTyped h.modules) (has_tag h.state top.0 (StructTag f.struct.name)) _ _ (typed_has_tag table h.state top.0 (StructTag f.struct.name) value_is)
+      (passes (TurnTyped h.modules) (has_tag h.state top.0 (StructTag f.struct.name)) _ _ (typed_has_tag table h.state top.0 (StructTag f.struct.name) value_is)
       (known (TurnTyped h.modules) (as_reference under.0) _ r (ap as_reference ref.is_reference)
-      (met (TurnTyped h.modules) (not r.is_mutable) _ _ (ap not ref.mutable)
+      (passes (TurnTyped h.modules) (not r.is_mutable) _ _ (ap not ref.mutable)
       (known (TurnTyped h.modules) (follow h.state r) _ there.0 (ap (λ (x : Option Value). ok_or x (Faults DanglingFault)) there.1)
       (known (TurnTyped h.modules) (as_signer there.0) _ signer.0 (ap as_signer signer.1)
       (tried (TurnTyped h.modules) (not (is_some (stored_at h.state.storage (key_at h k signer.0)))) (Aborts AlreadyThere 0) _ tt (λ free.

@@ -9,11 +9,11 @@ use Rattle.mv_machine.specs.StepLocals.{copy_local, store_local, with_own_local}
 use Rattle.mv_machine.specs.StepParts.{can_copy}
 use Rattle.mv_interpreter.specs.Typing.HasType.{fields_by_name}
 use Rattle.mv_interpreter.specs.Typing.Unreached.{Unborrowed}
-use Rattle.mv_interpreter.proofs.Typing.Parts.{Part, known, some, met, tried, tested, lost, frozen}
-use Rattle.mv_interpreter.proofs.Typing.Operands.{on_test, taken-is, one}
+use Rattle.mv_interpreter.proofs.Typing.Parts.{Part, known, some, passes, tried, tested, lost, frozen}
+use Rattle.mv_interpreter.proofs.Typing.Operands.{on_test, taken-is}
 use Rattle.mv_interpreter.proofs.Typing.Keep.{Kept, Nothing, none_to_nothing, keep_stack, keep_locals, keep_below}
 use Rattle.mv_interpreter.proofs.Typing.Roots.{named_plain, plain_is, typed_has_tag, local_at, local_set, other_roots, own_root}
-use Rattle.mv_interpreter.proofs.Typing.Stays.{stays_at, moved}
+use Rattle.mv_interpreter.proofs.Typing.Stays.{stays_at, moved, top_typed}
 
 -- two roots are one or not
 pub root_is : (root : Root) (n l : ℕ) → (root ≡ Local n l) ⊎ (root ≡ Local n l → ⊥)
@@ -143,8 +143,7 @@ module _ (h : Here) (i : Instruction) (types after : Types) (row : Row h i types
       on_some (local_type h.home h.function l) (λ t. taken (t ∷ []) types) after e (λ t t_is e1.
       let d = declared l t t_is in
       let all : types ≡ t ∷ after = taken-is (t ∷ []) types after e1 in
-      let top = one h.modules (root_value h.state) h.home h.state.top.stack t after
-      (subst (λ (ts : Types). HaveTokens h.modules (root_value h.state) h.home h.state.top.stack ts) all row.stands.stack) in
+      let top = top_typed h i types after row t after all in
       let taken_is : operand h.state.top.stack ≡ Ok (top.0, top.1) = ap operand top.2 in
       let look' : Roots = root_value (with_own_local h.state l (Some top.0)) in
       let b = stays_but h.modules h.state l (Some top.0) d.value d.holds free in
@@ -153,7 +152,7 @@ module _ (h : Here) (i : Instruction) (types after : Types) (row : Row h i types
       known (TurnTyped h.modules) (operand h.state.top.stack) _ (top.0, top.1) taken_is
       (known (TurnTyped h.modules) (entry h.state.top.locals l) _ d.value (subst (λ (x : Option (Option Value)). ok_or x (Faults LinkageFault) ≡ Ok d.value) (sym d.holds) refl)
       (known (TurnTyped h.modules) (local_tag h l) _ top.3.tag (local_tag-is l t top.3.tag d top.3.names)
-      (met (TurnTyped h.modules) _ _ _ (typed_has_tag (fields_by_name h.modules) h.state top.0 top.3.tag top.3.typed)
+      (passes (TurnTyped h.modules) _ _ _ (typed_has_tag (fields_by_name h.modules) h.state top.0 top.3.tag top.3.typed)
       (tested (TurnTyped h.modules) (need (may_drop h d.value) (Faults LostFault)) _ (lost (may_drop h d.value)) (
       tested (TurnTyped h.modules) (untouched (with_stack h.state top.1) (local_place h l)) _ (frozen (with_stack h.state top.1) (local_place h l)) (
       changed l t (Some top.0) top.1 b d kept.0 kept.1)))))))
@@ -185,7 +184,7 @@ module _ (h : Here) (i : Instruction) (types after : Types) (row : Row h i types
       let d : Declared l (Plain u) = declared l (Plain u) (subst (λ (x : Token). local_type h.home h.function l ≡ Some x) plain t_is) in
       some (TurnTyped h.modules) _ (held h l) _ (held_typed l (Plain u) d) (λ v typed.
       known (TurnTyped h.modules) (local_tag h l) _ typed.0.tag (local_tag-is l (Plain u) typed.0.tag d typed.0.names)
-      (met (TurnTyped h.modules) _ _ _ (ap not (named_plain h.home u typed.0.tag typed.0.names))
+      (passes (TurnTyped h.modules) _ _ _ (ap not (named_plain h.home u typed.0.tag typed.0.names))
       (stays_at h i types after (Ref (record { is_mutable = is_mutable; place = local_place h l }) ∷ h.state.top.stack) (h.state.top.at + 1) row
       (subst (λ (ts : Types). HaveTokens h.modules (root_value h.state) h.home (Ref (record { is_mutable = is_mutable; place = local_place h l }) ∷ h.state.top.stack) ts)
       (same_Some (given u ∷ types) after e2)

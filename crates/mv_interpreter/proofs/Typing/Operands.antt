@@ -62,11 +62,11 @@ module _ (modules : List Module) (look : Roots) (home : Module) where
   pub of_leaf : (k : LeafKind) (n : ℕ) → IsTrue (in_range k n) → HasToken modules look home (Leaf k n) (Plain (OfLeaf k))
   of_leaf k n h = record { tag = LeafTag k; names = refl; typed = (refl, h) }
 
-  -- the topmost operand
-  pub one : (stack : List Value) (t : Token) (ts : List Token) → HaveTokens modules look home stack (t ∷ ts)
+  -- one operand is on top
+  pub one_operand : (stack : List Value) (t : Token) (ts : List Token) → HaveTokens modules look home stack (t ∷ ts)
       → (v : Value) × (vs : List Value) × (stack ≡ v ∷ vs) × HasToken modules look home v t × HaveTokens modules look home vs ts
-  one [] t ts h = absurd h
-  one (v ∷ vs) t ts h = (v, vs, refl, h.0, h.1)
+  one_operand [] t ts h = absurd h
+  one_operand (v ∷ vs) t ts h = (v, vs, refl, h.0, h.1)
 
   -- operands above others
   pub apart : (vs : List Value) (as' bs : List Token) → HaveTokens modules look home vs (as' ++ bs)

@@ -22,8 +22,8 @@ module _ {A B : Type 0} (P : B → Type 0) where
 
 module _ {B : Type 0} (P : B → Type 0) where
   -- a test that passes
-  pub met : (b : Bool) (e : Failure) (r : Result B Failure) → b ≡ true → Part P r → Part P (need b e >> r)
-  met b e r h go = subst (λ c. Part P (need c e >> r)) (sym h) go
+  pub passes : (b : Bool) (e : Failure) (r : Result B Failure) → b ≡ true → Part P r → Part P (need b e >> r)
+  passes b e r h go = subst (λ c. Part P (need c e >> r)) (sym h) go
 
   -- a test that passes, or a harmless failure
   pub tried : (b : Bool) (e : Failure) (r : Result B Failure) → Harmless e → (b ≡ true → Part P r) → Part P (need b e >> r)

@@ -10,10 +10,10 @@ use Rattle.mv_machine.specs.StepParts.{as_fields, can_copy}
 use Rattle.mv_interpreter.specs.Typing.HasType.{fields_by_name}
 use Rattle.mv_linker.proofs.NameLemmas.{same_struct-same}
 use Rattle.mv_interpreter.proofs.Typing.Within.{leads_on}
-use Rattle.mv_interpreter.proofs.Typing.Parts.{Part, known, met, tested, lost}
-use Rattle.mv_interpreter.proofs.Typing.Operands.{on_test, takes_gives-is, top_type-is, same_value_type-is, one}
+use Rattle.mv_interpreter.proofs.Typing.Parts.{Part, known, passes, tested, lost}
+use Rattle.mv_interpreter.proofs.Typing.Operands.{on_test, takes_gives-is, top_type-is, same_value_type-is}
 use Rattle.mv_interpreter.proofs.Typing.Roots.{place_of, is_plain}
-use Rattle.mv_interpreter.proofs.Typing.Stays.{gives_typed}
+use Rattle.mv_interpreter.proofs.Typing.Stays.{gives_typed, top_typed}
 use Rattle.mv_interpreter.proofs.Typing.Locals.{plain_of-is}
 
 -- a value of a reference's type
@@ -155,24 +155,18 @@ module _ (h : Here) (i : Instruction) (types after : Types) (row : Row h i types
       known (TurnTyped h.modules) (own_field h k) _ (f.found, f.position) f.is_found
       (known (TurnTyped h.modules) (operand h.state.top.stack) _ (v, rest) (ap operand are)
       (known (TurnTyped h.modules) (as_reference v) _ r (ap as_reference ref.is_reference)
-      (met (TurnTyped h.modules) (lends wants r) _ _ (lent r ref.mutable)
+      (passes (TurnTyped h.modules) (lends wants r) _ _ (lent r ref.mutable)
       (known (TurnTyped h.modules) (follow h.state r) _ there.0 (ap (λ (x : Option Value). ok_or x (Faults DanglingFault)) there.1)
       (known (TurnTyped h.modules) (as_fields f.found.name there.0) _ (list_of fields.0) fields.2
       (gives_typed h i types after (Ok (Ref new ∷ rest)) row next
       (subst (λ (ts : Types). HaveTokens h.modules (root_value h.state) h.home (Ref new ∷ rest) ts) (sym same) (new_typed, typed))))))))
-
-  -- the topmost operand by its type
-  top_typed : (t : Token) (below : Types) → types ≡ t ∷ below
-      → (v : Value) × (vs : List Value) × (h.state.top.stack ≡ v ∷ vs) × HasToken h.modules (root_value h.state) h.home v t × HaveTokens h.modules (root_value h.state) h.home vs below
-  top_typed t below same =
-      one h.modules (root_value h.state) h.home h.state.top.stack t below (subst (λ (ts : Types). HaveTokens h.modules (root_value h.state) h.home h.state.top.stack ts) same row.stands.stack)
 
   pub mutable_field : (k : ℕ) → of_mutable_field h.home k types ≡ Some after → Part (TurnTyped h.modules) (borrow_field true h k)
   mutable_field k e =
       on_some (field_types h.home k) _ after e (λ x x_is e1.
       let f = field_facts h row.facts k x x_is in
       let parts = takes_gives-is (MutableReferenceTo x.0 ∷ []) (MutableReferenceTo x.1 ∷ []) types after e1 in
-      let top = top_typed (MutableReferenceTo x.0) parts.0 parts.1 in
+      let top = top_typed h i types after row (MutableReferenceTo x.0) parts.0 parts.1 in
       lent_field true k x.0 x.1 f MutableReferenceTo (mutable_names h.home) h.state.top.stack top.0 top.1 parts.0 true top.2
       (mutable_one h.modules (root_value h.state) h.home top.0 x.0 top.3) (λ r is. is) top.4 parts.2)
 
@@ -183,7 +177,7 @@ module _ (h : Here) (i : Instruction) (types after : Types) (row : Row h i types
       on_some (target_of t.0) _ after e2 (λ u u_is e3.
       on_test (same_value_type u x.0) (ReferenceTo x.1 ∷ t.1) after e3 (λ same given.
       let f = field_facts h row.facts k x x_is in
-      let top = top_typed t.0 t.1 (top_type-is types t t_is) in
+      let top = top_typed h i types after row t.0 t.1 (top_type-is types t t_is) in
       let ref = either h.modules (root_value h.state) h.home top.0 t.0 u u_is top.3 in
       let ref_there = subst (λ (y : ValueType). IsReference h.modules (root_value h.state) h.home top.0 ref.0 y) (same_value_type-is u x.0 same) ref.1 in
       lent_field false k x.0 x.1 f ReferenceTo (immutable_names h.home) h.state.top.stack top.0 top.1 t.1 ref.0 top.2 ref_there (λ r is. refl) top.4 (sym given)))))
@@ -196,7 +190,7 @@ module _ (h : Here) (i : Instruction) (types after : Types) (row : Row h i types
       on_some (value_type_abilities h.home u) _ after e2 (λ a a_is e3.
       on_test a.copy (Plain u ∷ t.1) after e3 (λ able given.
       let P : List Value → Type 0 = λ stack. HaveTokens h.modules (root_value h.state) h.home stack after in
-      let top = top_typed t.0 t.1 (top_type-is types t t_is) in
+      let top = top_typed h i types after row t.0 t.1 (top_type-is types t t_is) in
       let ref = either h.modules (root_value h.state) h.home top.0 t.0 u u_is top.3 in
       let r : Reference = ref.1.reference in
       let there = place_of (fields_by_name h.modules) h.state r ref.1.tag ref.1.points in
@@ -213,7 +207,7 @@ module _ (h : Here) (i : Instruction) (types after : Types) (row : Row h i types
       on_some (top_type types) _ after e (λ t t_is e1.
       on_some (mutable_target_of t.0) _ after e1 (λ u u_is e2.
       let P : List Value → Type 0 = λ stack. HaveTokens h.modules (root_value h.state) h.home stack after in
-      let top = top_typed t.0 t.1 (top_type-is types t t_is) in
+      let top = top_typed h i types after row t.0 t.1 (top_type-is types t t_is) in
       let ref = mutable_one h.modules (root_value h.state) h.home top.0 u
       (subst (λ (x : Token). HasToken h.modules (root_value h.state) h.home top.0 x) (mutable_target-is h.modules (root_value h.state) h.home t.0 u u_is) top.3) in
       let r : Reference = ref.reference in
@@ -222,7 +216,7 @@ module _ (h : Here) (i : Instruction) (types after : Types) (row : Row h i types
       let new_points : PointsTo (fields_by_name h.modules) (root_value h.state) new ref.tag = record { base = ref.points.base; root = ref.points.root; leads = ref.points.leads } in
       known P (operand h.state.top.stack) _ (top.0, top.1) (ap operand top.2)
       (known P (as_reference top.0) _ r (ap as_reference ref.is_reference)
-      (met P r.is_mutable _ _ ref.mutable
+      (passes P r.is_mutable _ _ ref.mutable
       (known P (follow h.state r) _ there.0 (ap (λ (x : Option Value). ok_or x (Faults DanglingFault)) there.1)
       (subst (λ (ts : Types). HaveTokens h.modules (root_value h.state) h.home (Ref new ∷ top.1) ts) (same_Some (ReferenceTo u ∷ t.1) after e2)
       (of_reference h.modules (root_value h.state) h.home false ReferenceTo (immutable_names h.home) new u ref.tag refl ref.names new_points, top.4)))))))

@@ -10,7 +10,7 @@ use Rattle.mv_machine.specs.Step.{rule, step}
 use Rattle.mv_machine.specs.StepLocals.{pop}
 use Rattle.mv_machine.specs.StepReferences.{read_reference}
 use Rattle.mv_interpreter.specs.Typing.Unreached.{Guarded, StepGuarded}
-use Rattle.mv_interpreter.proofs.Typing.Parts.{Part, known, met}
+use Rattle.mv_interpreter.proofs.Typing.Parts.{Part, known, passes}
 use Rattle.mv_interpreter.proofs.Typing.Stays.{gives_typed, here_of, advance_of, row_of}
 use Rattle.mv_interpreter.proofs.Typing.Families.{binary_typed, comparison_typed, shift_typed, cast_typed, logic_typed, negation_typed, sum_keeps, difference_keeps, product_keeps, remainder_keeps, quotient_keeps, or_keeps, and_keeps, xor_keeps, left_keeps, right_keeps}
 use Rattle.mv_interpreter.proofs.Typing.Locals.{copies, moves, stores, borrows}
@@ -108,7 +108,7 @@ step_typed modules s store typed guarded =
     known (TurnTyped modules) (entry modules s.top.function.place) _ typed.home (ap (λ (x : Option Module). ok_or x (Faults LinkageFault)) typed.is_home)
     (known (TurnTyped modules) (entry typed.home.functions s.top.function.index) _ typed.function (ap (λ (x : Option FunctionDefinition). ok_or x (Faults LinkageFault)) typed.is_function)
     (known (TurnTyped modules) (ok_or (slice_get typed.function.code s.top.at) (Faults TypeFault)) _ a.instruction (ap (λ (x : Option Instruction). ok_or x (Faults TypeFault)) a.is_there)
-    (met (TurnTyped modules) (list_all (λ t. nat_lt t (length typed.function.code)) (successors s.top.at a.instruction)) _ _ a.inside
+    (passes (TurnTyped modules) (list_all (λ t. nat_lt t (length typed.function.code)) (successors s.top.at a.instruction)) _ _ a.inside
     (rule_typed h a.instruction typed.types a.after row (guarded typed.home typed.function a.instruction typed.is_home typed.is_function a.is_there)))))
 
 -- the count of steps is no matter of types

@@ -1,8 +1,9 @@
 -- The row at which a typed state stands, and the typed state that a rule leads to in the same frame.
-use Rattle.mv_interpreter.proofs.Typing.Common.{ℕ, ◌+◌, List, Option, Result, Ok, Err, Instruction, Module, Value, Storage, Frame, State, root_value, Failure, Types, Here, gives, TypesAt, HaveTokens, LocalsHaveTokens, Numbered, AreWaiting, StorageTyped, StateTyped, TurnTyped, Row, SoundStore, Advance}
+use Rattle.mv_interpreter.proofs.Typing.Common.{ℕ, ◌+◌, List, Option, Result, Ok, Err, Instruction, Module, Value, Storage, Frame, State, root_value, Failure, Types, Here, gives, TypesAt, HaveTokens, LocalsHaveTokens, Numbered, AreWaiting, StorageTyped, StateTyped, TurnTyped, Row, SoundStore, Advance, ◌≡◌, ◌∷◌, subst, Token, HasToken}
 use Rattle.mv_machine.specs.State.{Event}
 use Rattle.mv_machine.specs.StepParts.{with_top}
 use Rattle.mv_interpreter.proofs.Typing.Parts.{Part}
+use Rattle.mv_interpreter.proofs.Typing.Operands.{one_operand}
 
 -- the state with these locals, operands and frames below, this storage and this tally, at this instruction of the frame at work
 abbrev pub moved_to : State → ℕ → List (Option Value) → List Value → List Frame → Storage → List Event → State
@@ -35,6 +36,13 @@ moved h i types after row target locals stack below storage tally next numbered 
     storage = stored;
   };
 }
+
+-- the operand on top, where the row's types have one
+pub top_typed : (h : Here) (i : Instruction) (types after : Types) → Row h i types after → (t : Token) (below : Types) → types ≡ t ∷ below
+    → (v : Value) × (vs : List Value) × (h.state.top.stack ≡ v ∷ vs) × HasToken h.modules (root_value h.state) h.home v t × HaveTokens h.modules (root_value h.state) h.home vs below
+top_typed h i types after row t below same =
+    one_operand h.modules (root_value h.state) h.home h.state.top.stack t below
+    (subst (λ (ts : Types). HaveTokens h.modules (root_value h.state) h.home h.state.top.stack ts) same row.stands.stack)
 
 -- the state with these operands, at this instruction
 pub stays_at : (h : Here) (i : Instruction) (types after : Types) (stack : List Value) (target : ℕ) → Row h i types after

@@ -8,11 +8,11 @@ use Rattle.mv_machine.specs.StepStructs.{unpack, tallied}
 use Rattle.mv_machine.specs.StepParts.{as_fields}
 use Rattle.mv_interpreter.specs.Typing.HasType.{fields_by_name}
 use Rattle.mv_interpreter.specs.Typing.Facts.{are_plain}
-use Rattle.mv_interpreter.proofs.Typing.Parts.{Part, known, met}
-use Rattle.mv_interpreter.proofs.Typing.Operands.{takes_gives-is, one, joined, turned, take_operands}
+use Rattle.mv_interpreter.proofs.Typing.Parts.{Part, known, passes}
+use Rattle.mv_interpreter.proofs.Typing.Operands.{takes_gives-is, joined, turned, take_operands}
 use Rattle.mv_interpreter.proofs.Typing.Roots.{is_plain, plain_is, tokens_have_tags, typed_have_tags}
 use Rattle.mv_interpreter.proofs.Typing.References.{struct_fields}
-use Rattle.mv_interpreter.proofs.Typing.Stays.{moved}
+use Rattle.mv_interpreter.proofs.Typing.Stays.{moved, top_typed}
 use Rattle.std.proofs.lemmas.Bool.{not-true}
 
 -- the tags of a list of types are found
@@ -107,7 +107,7 @@ module _ (h : Here) (i : Instruction) (types after : Types) (row : Row h i types
       known (TurnTyped h.modules) (own_struct h k) _ own.struct own.is_found
       (known (TurnTyped h.modules) (operands (length own.struct.fields) h.state.top.stack) _ (taken.arguments, taken.rest) taken_is
       (known (TurnTyped h.modules) (for_each (λ (f : Field). tag_named h.modules h.home f.token) own.struct.fields) _ own.tags tags_are
-      (met (TurnTyped h.modules) (have_tags h.state taken.arguments own.tags) _ _ (typed_have_tags (fields_by_name h.modules) h.state taken.arguments own.tags typed)
+      (passes (TurnTyped h.modules) (have_tags h.state taken.arguments own.tags) _ _ (typed_have_tags (fields_by_name h.modules) h.state taken.arguments own.tags typed)
       (tallies true own.struct (new ∷ taken.rest) (subst (λ (ts : Types). HaveTokens h.modules look h.home (new ∷ taken.rest) ts) (sym parts.2) (new_typed, taken.rest_typed)))))))
 
   pub unpacks : (k : ℕ) → of_unpack h.home k types ≡ Some after → Part (TurnTyped h.modules) (unpack h k)
@@ -119,8 +119,7 @@ module _ (h : Here) (i : Instruction) (types after : Types) (row : Row h i types
       let parts = takes_gives-is (Plain (OfStruct d.handle) ∷ []) wanted types after e1 in
       let look : Roots = root_value h.state in
       let table = fields_by_name h.modules in
-      let top = one h.modules look h.home h.state.top.stack (Plain (OfStruct d.handle)) parts.0
-      (subst (λ (ts : Types). HaveTokens h.modules look h.home h.state.top.stack ts) parts.1 row.stands.stack) in
+      let top = top_typed h i types after row (Plain (OfStruct d.handle)) parts.0 parts.1 in
       let names : value_type_named h.home (OfStruct d.handle) ≡ Some (StructTag own.struct.name) = rw own.is_named refl in
       let tag : top.3.tag ≡ StructTag own.struct.name = same_Some top.3.tag (StructTag own.struct.name) (sym top.3.names ∙ names) in
       let value_is : IsOf table top.0 (StructTag own.struct.name) = subst (λ (t : Tag). HasType table look top.0 t) tag top.3.typed in

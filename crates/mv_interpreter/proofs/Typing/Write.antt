@@ -8,14 +8,14 @@ use Rattle.mv_machine.specs.StepReferences.{write_reference}
 use Rattle.mv_machine.specs.StepParts.{can_drop}
 use Rattle.mv_interpreter.specs.Typing.HasType.{fields_by_name}
 use Rattle.mv_interpreter.proofs.Typing.Within.{one_type, write_within}
-use Rattle.mv_interpreter.proofs.Typing.Parts.{Part, known, met, tested, lost, frozen}
-use Rattle.mv_interpreter.proofs.Typing.Operands.{on_test, taken-is, top_type-is, one}
+use Rattle.mv_interpreter.proofs.Typing.Parts.{Part, known, passes, tested, lost, frozen}
+use Rattle.mv_interpreter.proofs.Typing.Operands.{on_test, taken-is, top_type-is, one_operand}
 use Rattle.mv_interpreter.proofs.Typing.Keep.{Kept, Nothing, avoid_nothing, below_avoids_nothing, keep_stack, keep_locals, keep_below}
 use Rattle.mv_interpreter.proofs.Typing.Roots.{place_of, typed_tag, typed_has_tag, is_plain, plain_is, named_plain}
 use Rattle.mv_interpreter.proofs.Typing.Frames.{written_below, written_in, frame_written, below_written}
 use Rattle.mv_interpreter.proofs.Typing.Storage.{entry_of, stored_same, stored_other, stored_typed, typed_with}
 use Rattle.mv_interpreter.proofs.Typing.References.{mutable_one, mutable_target-is}
-use Rattle.mv_interpreter.proofs.Typing.Stays.{moved}
+use Rattle.mv_interpreter.proofs.Typing.Stays.{moved, top_typed}
 
 -- the numbers stay
 pub numbers_stay : (n l : ℕ) (v : Value) (bound : ℕ) (fs : List Frame) → Numbered bound fs → Numbered bound (map (with_local n l v) fs)
@@ -128,9 +128,8 @@ module _ (h : Here) (i : Instruction) (types after : Types) (row : Row h i types
       let all : types ≡ MutableReferenceTo u ∷ Plain u ∷ after =
       top_type-is types t t_is ∙ ap (λ (x : Token). x ∷ t.1) (mutable_target-is h.modules look h.home t.0 u u_is) ∙ ap
       (λ (x : Types). MutableReferenceTo u ∷ x) (taken-is (Plain u ∷ []) t.1 below below_is) ∙ ap (λ (x : Types). MutableReferenceTo u ∷ Plain u ∷ x) given in
-      let top = one h.modules look h.home h.state.top.stack (MutableReferenceTo u) (Plain u ∷ after)
-      (subst (λ (ts : Types). HaveTokens h.modules look h.home h.state.top.stack ts) all row.stands.stack) in
-      let under = one h.modules look h.home top.1 (Plain u) after top.4 in
+      let top = top_typed h i types after row (MutableReferenceTo u) (Plain u ∷ after) all in
+      let under = one_operand h.modules look h.home top.1 (Plain u) after top.4 in
       let ref = mutable_one h.modules look h.home top.0 u top.3 in
       let r : Reference = ref.reference in
       let there = place_of table h.state r ref.tag ref.points in
@@ -144,11 +143,11 @@ module _ (h : Here) (i : Instruction) (types after : Types) (row : Row h i types
       known (TurnTyped h.modules) (operand h.state.top.stack) _ (top.0, top.1) (ap operand top.2)
       (known (TurnTyped h.modules) (operand top.1) _ (under.0, under.1) (ap operand under.2)
       (known (TurnTyped h.modules) (as_reference top.0) _ r (ap as_reference ref.is_reference)
-      (met (TurnTyped h.modules) r.is_mutable _ _ ref.mutable
+      (passes (TurnTyped h.modules) r.is_mutable _ _ ref.mutable
       (known (TurnTyped h.modules) (follow h.state r) _ old (ap (λ (x : Option Value). ok_or x (Faults DanglingFault)) there.1)
       (known (TurnTyped h.modules) (ok_or (tag_of h.state old) (Faults TypeFault)) _ ref.tag
       (ap (λ (x : Option Tag). ok_or x (Faults TypeFault)) (typed_tag table h.state old ref.tag (is_plain table look old ref.tag there.2)))
-      (met (TurnTyped h.modules) (has_tag h.state under.0 ref.tag) _ _ (typed_has_tag table h.state under.0 ref.tag new_has)
+      (passes (TurnTyped h.modules) (has_tag h.state under.0 ref.tag) _ _ (typed_has_tag table h.state under.0 ref.tag new_has)
       (tested (TurnTyped h.modules) (need (can_drop h old) (Faults LostFault)) _ (lost (can_drop h old))
       (tested (TurnTyped h.modules) (untouched (with_stack h.state under.1) r.place) _ (frozen (with_stack h.state under.1) r.place)
       (known (TurnTyped h.modules) (ok_or (with_place (with_stack h.state under.1) r.place under.0) (Faults DanglingFault)) _
