@@ -332,7 +332,8 @@ frames-together lent (y ∷ fs) (x ∷ xs) st t zero (suc j) (suc k) e f g a b p
 frames-together lent (y ∷ fs) (x ∷ xs) st t (suc i) (suc j) (suc k) e f g a b p q r same = frames-together y.entered_with fs xs st.2 t.1 i j k e f g (omega (arith, a)) (omega (arith, b)) p q r same
 
 -- pairs of frames, an upper and a lower one
-module _ (P : Stood → Stood → Type 0) (Q : Frame → Frame → Type 0) (modules : List Module) (certificates : List Certificate) (gives : (u w : Stood) → Placed modules certificates u → P u w → Q u.frame w.frame) where
+module _ (P : Stood → Stood → Type 0) (Q : Frame → Frame → Type 0) (modules : List Module) (certificates : List Certificate)
+    (gives : (u w : Stood) → Placed modules certificates u → P u w → Q u.frame w.frame) where
   frames-pairs : (lent : List (Option Reference)) (fs : List Frame) (xs : List Stood) → StoodOn lent fs xs → AllPlaced modules certificates xs → EachBelow P xs → AllPairs Q fs
   frames-pairs lent [] xs st p e i j d a b = absurd (omega (arith, b))
   frames-pairs lent (f ∷ fs) [] st p e i j d a b = absurd st

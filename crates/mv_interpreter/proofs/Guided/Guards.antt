@@ -10,7 +10,8 @@ use Rattle.mv_interpreter.proofs.Guided.Unfrozen.{moved-free, stored-free}
 use Rattle.mv_interpreter.proofs.Guided.Avoids.{local-unreached, struct-unreached, leaving}
 use Rattle.mv_interpreter.proofs.Guided.Accepted.{flows-at}
 
-module _ (depends : ℕ → ℕ → Type 0) (modules : List Module) (certificates : List Certificate) (store : StoreFacts depends modules certificates) (s : State) (w : Working depends modules certificates s) (facts : TypeFacts modules s) where
+module _ (depends : ℕ → ℕ → Type 0) (modules : List Module) (certificates : List Certificate) (store : StoreFacts depends modules certificates)
+    (s : State) (w : Working depends modules certificates s) (facts : TypeFacts modules s) where
   abbrev p : Point
   p = record { home = w.home; function = w.function; types = w.types }
 

@@ -82,7 +82,8 @@ last-returns h t none e = let r = return-is h (Goes t) e in never (ok-is (Return
     never : Returns h.state ≡ Goes t → ⊥
     never z = cc
 
-module _ (depends : ℕ → ℕ → Type 0) (modules : List Module) (certificates : List Certificate) (store : StoreFacts depends modules certificates) (s : State) (w : Working depends modules certificates s) (facts : TypeFacts modules s) where
+module _ (depends : ℕ → ℕ → Type 0) (modules : List Module) (certificates : List Certificate) (store : StoreFacts depends modules certificates)
+    (s : State) (w : Working depends modules certificates s) (facts : TypeFacts modules s) where
   abbrev h : Here
   h = record { modules = modules; home = w.home; function = w.function; state = s }
 
@@ -247,7 +248,8 @@ return-goes depends modules certificates store s t x v vs sound fits fits_v p ps
       ap (λ (y : Frame). y.locals) r.top ∙ ap (λ (y : Frame). y.locals) (sym st.0),
     )
 
-module _ (depends : ℕ → ℕ → Type 0) (modules : List Module) (certificates : List Certificate) (store : StoreFacts depends modules certificates) (s : State) (w : Working depends modules certificates s) (facts : TypeFacts modules s) where
+module _ (depends : ℕ → ℕ → Type 0) (modules : List Module) (certificates : List Certificate) (store : StoreFacts depends modules certificates)
+    (s : State) (w : Working depends modules certificates s) (facts : TypeFacts modules s) where
   return-keeps : slice_get w.function.code s.top.at ≡ Some Ret → (o : Onward w.home w.function w.stated s.top.at Ret w.known w.types)
       → Goes_well (return_results (record { modules = modules; home = w.home; function = w.function; state = s }))
       → Ends (TurnGuided depends modules certificates) (return_results (record { modules = modules; home = w.home; function = w.function; state = s }))

@@ -39,7 +39,9 @@ through_all None h = absurd (differ h)
 through_all (Some []) h = refl
 through_all (Some (x ∷ xs)) h = let long : suc (length xs) ≡ 0 = eqb-true (suc (length xs)) 0 h in absurd (omega (arith, long))
 
-module _ (m : Module) (d : FunctionDefinition) (typed : IsTrue (function_is_typed m d)) (ends : IsTrue (ends_well d.code)) (inside : IsTrue (list_all (instruction_in m (local_count m d) (length d.code)) d.code)) (fits : IsTrue (list_all (instruction_fits m.version) d.code)) where
+module _ (m : Module) (d : FunctionDefinition) (typed : IsTrue (function_is_typed m d)) (ends : IsTrue (ends_well d.code))
+    (inside : IsTrue (list_all (instruction_in m (local_count m d) (length d.code)) d.code))
+    (fits : IsTrue (list_all (instruction_fits m.version) d.code)) where
   abbrev starts : List ℕ
   starts = starts_from d.code 0 true d.code
 
