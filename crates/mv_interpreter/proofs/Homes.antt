@@ -19,7 +19,8 @@ use Rattle.mv_interpreter.specs.Owned.{IsOwn}
 use Rattle.mv_interpreter.proofs.Lists.{mapped_at, All-at}
 
 -- the structs of a module of a store are found by their names
-pub own_of_store : (published : List PublishedModule) (place : ℕ) (m : Module) → IsStore published → slice_get (tables_in published) place ≡ Some m → (i : ℕ) (d : StructDefinition) → slice_get m.structs i ≡ Some d → IsOwn (tables_in published) m i d
+pub own_of_store : (published : List PublishedModule) (place : ℕ) (m : Module) → IsStore published → slice_get (tables_in published) place ≡ Some m
+    → (i : ℕ) (d : StructDefinition) → slice_get m.structs i ≡ Some d → IsOwn (tables_in published) m i d
 own_of_store published place m store at i d d_at =
     let p = mapped_at (λ (p : PublishedModule). p.tables) published place m at in
     let passed : IsPublishable p.0 = All-at IsPublishable published place p.0 store.passed p.1 in

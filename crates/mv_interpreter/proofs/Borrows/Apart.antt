@@ -1,15 +1,9 @@
 -- The clauses across frames: what an upper frame acquires no lower one refers to, and no mutable reference overlaps an immutable one below.
-use Rattle.std.proofs.Common.{refl, sym, ◌≡◌, ℕ, List, [], ◌∷◌, true, false, ◌⊎◌, inl, inr, ap, subst}
-use Rattle.std.specs.Prelude.{◌==◌, ⊤}
-use Rattle.std.specs.List.{list_any}
-use Rattle.std.proofs.lemmas.Bool.{and_from, eq-eqb}
-use Rattle.mv_move_types.specs.declared.tables.Key.{Key}
-use Rattle.mv_machine.specs.Value.{Stored, Reference}
+use Rattle.mv_interpreter.proofs.Borrows.Common.{refl, sym, ◌≡◌, ℕ, List, [], ◌∷◌, true, false, ◌⊎◌, inl, inr, ap, subst, ◌==◌, ⊤, list_any, and_from, eq-eqb, Key, Stored, Reference, Chain, ref_of, defined, Stood, seen_of, layer_at, layers, home_of}
 use Rattle.mv_machine.specs.Live.{frame_references, overlap}
-use Rattle.mv_borrow_graph.specs.Abstract.Stack.{OnStack, Top, Lower, Chain}
+use Rattle.mv_borrow_graph.specs.Abstract.Stack.{OnStack, Top, Lower}
 use Rattle.mv_borrow_graph.proofs.Abstract.Stack.{acquired_apart, immutable_apart, chain_return, adjacent, reaches}
-use Rattle.mv_interpreter.specs.Borrows.View.{root_of, ref_of, defined}
-use Rattle.mv_interpreter.specs.Borrows.Stood.{Stood, seen_of, layer_at, layers, home_of}
+use Rattle.mv_interpreter.specs.Borrows.View.{root_of}
 use Rattle.mv_interpreter.proofs.Borrows.Free.{live-at, overlap-is}
 use Rattle.mv_interpreter.specs.Borrows.Hypotheses.{InRefs}
 
@@ -77,7 +71,9 @@ module _ (depends : ℕ → ℕ → Type 0) (through : (a b c : ℕ) → depends
   chain-on x [] d = tt
   chain-on x (y ∷ ys) d = chain_return depends home_of through no_cycle (layer_at x) (layer_at y) (layers ys) d
 
-  from-at : (x : Stood) (ys : List Stood) → ((w : Stood) → InStood w ys → (w.frame.function.place ≡ x.frame.function.place) ⊎ depends w.frame.function.place x.frame.function.place) → ChainOn ys → From x ys
+  from-at : (x : Stood) (ys : List Stood)
+      → ((w : Stood) → InStood w ys → (w.frame.function.place ≡ x.frame.function.place) ⊎ depends w.frame.function.place x.frame.function.place)
+      → ChainOn ys → From x ys
   from-at x [] r d = tt
   from-at x (w ∷ ws) r d = (
     (λ z i same. adjacent depends home_of through no_cycle (layer_at w) (layer_at z) (layers ws) x.frame.function.place d (Lower (on-layers z ws i)) (r w (inl refl)) (sym same)),

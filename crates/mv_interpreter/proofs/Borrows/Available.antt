@@ -1,21 +1,14 @@
 -- Availabilities: what is known of each local is as it is, and what that gives.
-use Rattle.std.proofs.Common.{◌≡◌, ℕ, zero, suc, List, [], ◌∷◌, ◌++◌, map, length, true, refl, sym, subst, Option, Some, None, Ok}
-use Rattle.std.specs.Prelude.{slice_get, slice_set, replicate}
-use Rattle.std.specs.List.{list_all}
-use Rattle.std.proofs.lemmas.Bool.{and_parts, and_from, true≢false}
-use Rattle.std.proofs.lemmas.Option.{same_Some}
+use Rattle.mv_interpreter.proofs.Borrows.Common.{◌≡◌, ℕ, zero, suc, List, [], ◌∷◌, ◌++◌, map, length, true, refl, sym, subst, Option, Some, None, Ok, slice_get, slice_set, replicate, list_all, and_parts, and_from, same_Some, Token, Value, Point, Here, can_drop, local_of}
+use Rattle.std.proofs.lemmas.Bool.{true≢false}
 use Rattle.mv_move_types.specs.declared.borrow.Availability.{Availability}
 use Rattle.mv_move_types.specs.declared.borrow.Availability.TheVariants.{Unavailable, Available, Maybe}
-use Rattle.mv_move_types.specs.declared.token.Token.{Token}
-use Rattle.mv_machine.specs.Value.{Value}
 use Rattle.mv_locals_safety.specs.LocalsRules.{availability_leq, locals_leq, is_available, needs_available, has_drop, may_overwrite, may_leave}
-use Rattle.mv_type_states.specs.TypesHold.{Point}
 use Rattle.mv_interpreter.specs.Borrows.Locals.{DropFits, AsKnown}
 use Rattle.mv_interpreter.specs.Borrows.Covers.{IsAs}
-use Rattle.mv_machine.specs.StepParts.{Here, can_drop, may_drop}
+use Rattle.mv_machine.specs.StepParts.{may_drop}
 use Rattle.mv_machine.specs.StepLocals.{held}
 use Rattle.mv_linker.proofs.Found.{on_some}
-use Rattle.mv_interpreter.specs.Borrows.View.{local_of}
 use Rattle.mv_interpreter.proofs.Borrows.Edges.{then-some}
 
 -- the clause on locals of what covers a frame
@@ -27,7 +20,8 @@ known-at (b ∷ as') (y ∷ xs) zero a x k h g = subst (λ z. IsAs a z) (same_So
 known-at (b ∷ as') (y ∷ xs) (suc l) a x k h g = known-at as' xs l a x k.1 h g
 
 -- a local that is known to be available holds a value
-available-holds : (as' : List Availability) (xs : List (Option Value)) (l : ℕ) (a : Availability) → AsKnown as' xs → slice_get as' l ≡ Some a → is_available a ≡ true → (v : Value) × (slice_get xs l ≡ Some (Some v))
+available-holds : (as' : List Availability) (xs : List (Option Value)) (l : ℕ) (a : Availability) → AsKnown as' xs → slice_get as' l ≡ Some a
+    → is_available a ≡ true → (v : Value) × (slice_get xs l ≡ Some (Some v))
 available-holds [] xs l a k h g = absurd cc
 available-holds (b ∷ as') [] l a k h g = absurd k
 available-holds (b ∷ as') (y ∷ xs) zero a k h g = there a y g (subst (λ z. IsAs z y) (same_Some b a h) k.0)
@@ -86,7 +80,8 @@ known-start [] (suc n) = (refl, known-start [] n)
 known-start (v ∷ vs) n = (refl, known-start vs n)
 
 -- a return leaves behind nothing that may not be dropped
-pub left-drops : (h : Here) (p : Point) (ts : List Token) (as' : List Availability) (xs : List (Option Value)) → DropFits h p ts xs → AsKnown as' xs → may_leave p ts as' ≡ true → list_all (may_drop h) xs ≡ true
+pub left-drops : (h : Here) (p : Point) (ts : List Token) (as' : List Availability) (xs : List (Option Value)) → DropFits h p ts xs → AsKnown as' xs
+    → may_leave p ts as' ≡ true → list_all (may_drop h) xs ≡ true
 left-drops h p ts as' [] d k m = refl
 left-drops h p [] as' (x ∷ xs) d k m = absurd d
 left-drops h p (t ∷ ts) [] (x ∷ xs) d k m = absurd k
@@ -103,8 +98,8 @@ left-drops h p (t ∷ ts) (Maybe ∷ as') (Some v ∷ xs) d k m =
     let u = and_parts (has_drop p t) (may_leave p ts as') m in and_from (can_drop h v) (list_all (may_drop h) xs) (d.0 u.0) (left-drops h p ts as' xs d.1 k.1 u.1)
 
 -- nor does a write of a local
-pub overwritten-drops : (h : Here) (p : Point) (t : Token) (a : Availability) (old : Option Value) → ((v : Value) → old ≡ Some v → has_drop p t ≡ true → can_drop h v ≡ true) → IsAs a old → may_overwrite p t a ≡ true
-    → may_drop h old ≡ true
+pub overwritten-drops : (h : Here) (p : Point) (t : Token) (a : Availability) (old : Option Value)
+    → ((v : Value) → old ≡ Some v → has_drop p t ≡ true → can_drop h v ≡ true) → IsAs a old → may_overwrite p t a ≡ true → may_drop h old ≡ true
 overwritten-drops h p t a None d k m = refl
 overwritten-drops h p t Unavailable (Some v) d k m = absurd (not-none k)
   where

@@ -1,40 +1,25 @@
 -- A Call and a Ret keep the chain of frames.
-use Rattle.std.proofs.Common.{◌≡◌, ℕ, zero, suc, ◌≤◌, ◌+◌, ◌-◌, List, [], ◌∷◌, ◌++◌, map, length, reverse, take, drop, Bool, true, false, not, cond, inl, inr, refl, sym, ◌∙◌, ap, ap₂, append_assoc, arith, subst, Option, Some, None, eqb}
-use Rattle.std.specs.Prelude.{slice_get, ◌&&◌, ◌||◌, ◌==◌, replicate, if◌then◌else◌}
-use Rattle.std.specs.List.{list_any, list_all}
-use Rattle.std.proofs.lemmas.Grind.{reverse_onto}
-use Rattle.std.proofs.lemmas.Bool.{eq-eqb, ne_eqb, and_parts, and_from, eqb-true, not-true}
-use Rattle.std.proofs.lemmas.Bool.Decides.{eqb_tells}
-use Rattle.std.proofs.lemmas.List.{length-drop, take-append-drop, length-append, length-map, length-reverse, map-append, reverse-reverse}
-use Rattle.std.proofs.lemmas.Option.{same_Some}
-use Rattle.mv_move_types.specs.declared.borrow.Node.{Node}
-use Rattle.mv_move_types.specs.declared.borrow.Node.TheVariants.{Slot, Own, Glob, Temp}
-use Rattle.mv_move_types.specs.declared.token.Token.{Token}
-use Rattle.mv_move_types.specs.declared.token.Token.TheVariants.{Plain, Reference as ReferenceTo, MutableReference as MutableReferenceTo}
-use Rattle.mv_move_types.specs.Options.{◌>>=◌ as ◌>>>◌}
-use Rattle.mv_move_types.specs.Module.{Module, FunctionDefinition, own_acquires}
-use Rattle.mv_machine.specs.Value.{Reference, Value}
-use Rattle.mv_machine.specs.State.{Frame}
-use Rattle.mv_machine.specs.Live.{reference_of}
-use Rattle.mv_edges.specs.Edges.{Edge, same_node, without, inherited, opened}
-use Rattle.mv_type_states.specs.TypesHold.{Point}
-use Rattle.mv_borrow_graph.specs.BorrowRules.{no_edge_out, reference_nodes, is_mutable_token, is_reference_token, call_edges, without_all, result_edges, opened_edges, is_mutable, is_temp, is_root_node, return_edges}
-use Rattle.mv_type_states.specs.TypeRules.{Types, of_call, taken}
+use Rattle.mv_interpreter.proofs.Borrows.Common.{◌≡◌, ℕ, zero, suc, ◌≤◌, ◌+◌, ◌-◌, List, [], ◌∷◌, ◌++◌, map, length, reverse, Bool, true, false, not, cond, inl, inr, refl, sym, ◌∙◌, ap, ap₂, arith, subst, Option, Some, None, eqb, slice_get, ◌&&◌, ◌||◌, ◌==◌, replicate, list_any, list_all, reverse_onto, eq-eqb, and_parts, and_from, eqb-true, not-true, eqb_tells, length-map, same_Some, Node, Slot, Own, Glob, Temp, Token, Plain, ReferenceTo, MutableReferenceTo, ◌>>>◌, Module, FunctionDefinition, Reference, Value, Frame, reference_of, Edge, same_node, without, inherited, Point, no_edge_out, is_mutable, return_edges, Types, Seen, Defined, TheLabel, TheNode, AtOwn, AtGlob, AtTemp, TheRef, Live, TheValue, seen_frame, local_ref, Layer, Chain, home_of, defined, node_of, Member, edges_of, held_as, activation, acquires_of, layer_of, operands_of, kind_at, label_from, local_of, alone, token_kind, operand_kind, Fits, layer}
+use Rattle.std.specs.Prelude.{if◌then◌else◌}
+use Rattle.std.proofs.Common.{take, drop, append_assoc}
+use Rattle.std.proofs.lemmas.Bool.{ne_eqb}
+use Rattle.std.proofs.lemmas.List.{length-drop, take-append-drop, length-append, length-reverse, map-append, reverse-reverse}
+use Rattle.mv_move_types.specs.Module.{own_acquires}
+use Rattle.mv_edges.specs.Edges.{opened}
+use Rattle.mv_borrow_graph.specs.BorrowRules.{reference_nodes, is_mutable_token, is_reference_token, call_edges, without_all, result_edges, opened_edges, is_temp, is_root_node}
+use Rattle.mv_type_states.specs.TypeRules.{of_call, taken}
 use Rattle.mv_move_types.specs.Tokens.{same_tokens, same_token}
-use Rattle.mv_interpreter.specs.Borrows.Covers.{Seen}
-use Rattle.mv_borrow_graph.specs.Abstract.Places.{Defined, Label as TheLabel, opened as the_opened}
-use Rattle.mv_borrow_graph.specs.Abstract.Covers.{Node as TheNode, Own as AtOwn, Glob as AtGlob, Temp as AtTemp, Ref as TheRef, Live, InList}
+use Rattle.mv_borrow_graph.specs.Abstract.Places.{opened as the_opened}
+use Rattle.mv_borrow_graph.specs.Abstract.Covers.{InList}
 use Rattle.mv_borrow_graph.specs.Abstract.Rows.{IsArgument, after_call}
-use Rattle.mv_borrow_graph.specs.Abstract.Lists.{Value as TheValue, seen as seen_frame, Activation, refs_among, local_ref, first_locals, Lent, GivenAt}
-use Rattle.mv_borrow_graph.specs.Abstract.Stack.{Layer, Chain, Calls, Homed}
+use Rattle.mv_borrow_graph.specs.Abstract.Lists.{Activation, refs_among, first_locals, Lent, GivenAt}
+use Rattle.mv_borrow_graph.specs.Abstract.Stack.{Calls, Homed}
 use Rattle.mv_borrow_graph.proofs.Abstract.Calls.{passed_at}
-use Rattle.mv_interpreter.specs.Borrows.Stood.{home_of}
-use Rattle.mv_interpreter.specs.Borrows.View.{defined, node_of, AmongNodes, Member, edges_of, held_as, activation, acquires_of, layer_of, operands_of, kind_at, label_from, local_of, value_of, alone}
-use Rattle.mv_interpreter.specs.Borrows.Hypotheses.{token_kind, operand_kind, Fits}
+use Rattle.mv_interpreter.specs.Borrows.View.{AmongNodes, value_of}
 use Rattle.mv_interpreter.specs.Borrows.Links.{IsCall}
 use Rattle.mv_interpreter.proofs.Borrows.Edges.{none_any, free_out, then-some, member_filter, member_flat, member_left, member_right, node-not, node_of-inj, Included}
-use Rattle.mv_interpreter.proofs.Borrows.EdgeRows.{inherited_in}
-use Rattle.mv_borrow_graph.proofs.Abstract.Run.{ByRet, ByCall, chain_steps, layer}
+use Rattle.mv_interpreter.proofs.Borrows.EdgeRows.{inherited_in, away}
+use Rattle.mv_borrow_graph.proofs.Abstract.Run.{ByRet, ByCall, chain_steps}
 use Rattle.mv_interpreter.proofs.Borrows.Kept.{below-from}
 use Rattle.mv_interpreter.proofs.Borrows.Lists.{place_get, place-reverse, stack-back}
 use Rattle.mv_interpreter.proofs.Borrows.Mutability.{kinds, kinds-length, kind-at, kind-mutable, kind-reference}
@@ -113,21 +98,22 @@ same-kinds (x ∷ xs) (y ∷ ys) h =
     one (MutableReferenceTo a) (Plain b) h = absurd cc
     one (MutableReferenceTo a) (ReferenceTo b) h = absurd cc
 
+plus-zero : (n : ℕ) → n + 0 ≡ n
+plus-zero n = omega arith
+
+plus-suc : (n j : ℕ) → n + 1 + j ≡ n + suc j
+plus-suc n j = omega arith
+
 -- the node of a parameter that passes the test
 pub among-nodes : (test : Token → Bool) (base j : ℕ) (ts : List Token) (t : Token) → slice_get ts j ≡ Some t → test t ≡ true → AmongNodes (Temp (base + j)) (reference_nodes test base ts)
 among-nodes test base j [] t h k = absurd cc
 among-nodes test base zero (x ∷ ts) t h k =
-    subst (λ b. AmongNodes (Temp (base + 0)) ((if b then (Temp base ∷ []) else []) ++ reference_nodes test (base + 1) ts)) (sym (ap test (same_Some x t h) ∙ k)) (inl (ap Temp (none base)))
-  where
-    none : (n : ℕ) → n + 0 ≡ n
-    none n = omega arith
+    subst (λ b. AmongNodes (Temp (base + 0)) ((if b then (Temp base ∷ []) else []) ++ reference_nodes test (base + 1) ts)) (sym (ap test (same_Some x t h) ∙ k)) (inl (ap Temp (plus-zero base)))
 among-nodes test base (suc j) (x ∷ ts) t h k =
-    further (test x) (subst (λ n. AmongNodes (Temp n) (reference_nodes test (base + 1) ts)) (more base j) (among-nodes test (base + 1) j ts t h k))
+    further (test x) (subst (λ n. AmongNodes (Temp n) (reference_nodes test (base + 1) ts)) (plus-suc base j) (among-nodes test (base + 1) j ts t h k))
   where
-    more : (n j : ℕ) → n + 1 + j ≡ n + suc j
-    more n j = omega arith
-
-    further : (b : Bool) → AmongNodes (Temp (base + suc j)) (reference_nodes test (base + 1) ts) → AmongNodes (Temp (base + suc j)) ((if b then (Temp base ∷ []) else []) ++ reference_nodes test (base + 1) ts)
+    further : (b : Bool) → AmongNodes (Temp (base + suc j)) (reference_nodes test (base + 1) ts)
+        → AmongNodes (Temp (base + suc j)) ((if b then (Temp base ∷ []) else []) ++ reference_nodes test (base + 1) ts)
     further true a = inr a
     further false a = a
 
@@ -161,16 +147,15 @@ from-base test base (t ∷ ts) n a = by_case (test t) a (λ b. from-base test (b
     by_case true (inr b) further = weaker (further b)
     by_case false b further = weaker (further b)
 
-away : (a b : Bool) → a ≡ false → b ≡ false → (not a && not b) ≡ true
-away a b h k = rw (h, k)
-
 pub without-all : (ns : List Node) (es : List Edge) (e : Edge) → ((n : Node) → AmongNodes n ns → (e.from ≡ n → ⊥) × (e.to ≡ n → ⊥)) → Member e es → Member e (without_all ns es)
 without-all [] es e far m = m
 without-all (n ∷ ns) es e far m =
     without-all ns (without n es) e (λ k a. far k (inr a))
-    (member_filter (λ e. not (same_node e.from n) && not (same_node e.to n)) e es (away (same_node e.from n) (same_node e.to n) (node-not e.from n (far n (inl refl)).0) (node-not e.to n (far n (inl refl)).1)) m)
+    (member_filter (λ e. not (same_node e.from n) && not (same_node e.to n)) e es
+    (away (same_node e.from n) (same_node e.to n) (node-not e.from n (far n (inl refl)).0) (node-not e.to n (far n (inl refl)).1)) m)
 
-opened-in : (ns : List Node) (new n : Node) (es : List Edge) (e : Edge) → AmongNodes n ns → Member e es → e.to ≡ n → Member (record { from = e.from; label = opened e.label; to = new }) (opened_edges ns new es)
+opened-in : (ns : List Node) (new n : Node) (es : List Edge) (e : Edge) → AmongNodes n ns → Member e es → e.to ≡ n
+    → Member (record { from = e.from; label = opened e.label; to = new }) (opened_edges ns new es)
 opened-in ns new n es e a m to =
     member_flat (λ n. inherited opened n new es) (record { from = e.from; label = opened e.label; to = new }) n ns a (inherited_in opened n new e es m to)
 
@@ -180,27 +165,21 @@ pub result-in : (mutable all : List Node) (k i : ℕ) (ts : List Token) (t : Tok
 result-in mutable all k i [] t es e n at ref a b m to = absurd cc
 result-in mutable all k zero (x ∷ ts) t es e n at ref a b m to = first x (same_Some x t at)
   where
-    none : (n : ℕ) → n + 0 ≡ n
-    none n = omega arith
-
     first : (x : Token) → x ≡ t → Member (record { from = e.from; label = opened e.label; to = Temp (k + 0) }) (result_edges mutable all k (x ∷ ts) es)
     first (Plain v) h = absurd (never (ap is_reference_token h ∙ ref))
       where
         never : false ≡ true → ⊥
         never z = cc
     first (ReferenceTo v) h =
-        subst (λ n. Member (record { from = e.from; label = opened e.label; to = Temp n }) (result_edges mutable all k (ReferenceTo v ∷ ts) es)) (sym (none k))
+        subst (λ n. Member (record { from = e.from; label = opened e.label; to = Temp n }) (result_edges mutable all k (ReferenceTo v ∷ ts) es)) (sym (plus-zero k))
         (member_left _ (opened_edges all (Temp k) es) (result_edges mutable all (k + 1) ts es) (opened-in all (Temp k) n es e a m to))
     first (MutableReferenceTo v) h =
-        subst (λ n. Member (record { from = e.from; label = opened e.label; to = Temp n }) (result_edges mutable all k (MutableReferenceTo v ∷ ts) es)) (sym (none k))
+        subst (λ n. Member (record { from = e.from; label = opened e.label; to = Temp n }) (result_edges mutable all k (MutableReferenceTo v ∷ ts) es)) (sym (plus-zero k))
         (member_left _ (opened_edges mutable (Temp k) es) (result_edges mutable all (k + 1) ts es) (opened-in mutable (Temp k) n es e (b (sym (ap is_mutable_token h))) m to))
 result-in mutable all k (suc i) (x ∷ ts) t es e n at ref a b m to =
-    further x (subst (λ n. Member (record { from = e.from; label = opened e.label; to = Temp n }) (result_edges mutable all (k + 1) ts es)) (more k i)
+    further x (subst (λ n. Member (record { from = e.from; label = opened e.label; to = Temp n }) (result_edges mutable all (k + 1) ts es)) (plus-suc k i)
     (result-in mutable all (k + 1) i ts t es e n at ref a b m to))
   where
-    more : (n j : ℕ) → n + 1 + j ≡ n + suc j
-    more n j = omega arith
-
     further : (x : Token) → Member (record { from = e.from; label = opened e.label; to = Temp (k + suc i) }) (result_edges mutable all (k + 1) ts es)
         → Member (record { from = e.from; label = opened e.label; to = Temp (k + suc i) }) (result_edges mutable all k (x ∷ ts) es)
     further (Plain v) q = q
@@ -304,7 +283,8 @@ module _ (depends : ℕ → ℕ → Type 0) (home : Module) (function : Function
 
     pub calls-hold : (eu : List Edge) → Calls depends (layer_of function.acquires w es) (layer_of acquires (record { frame = upper; lent = [] }) eu) (IsArgument height)
     calls-hold eu = record {
-      passed = λ g i. passed_at act_w (map held_as (reverse w.lent)) (map held_as (map reference_of w.frame.stack)) (map-join w.lent w.frame.stack) g (subst (λ l. InList g (refs_among (map held_as (reverse l)))) (sym lent_is) i);
+      passed = λ g i. passed_at act_w (map held_as (reverse w.lent)) (map held_as (map reference_of w.frame.stack))
+          (map-join w.lent w.frame.stack) g (subst (λ l. InList g (refs_among (map held_as (reverse l)))) (sym lent_is) i);
       free = λ n g x c is live mutable e. at_argument n g x c is live mutable e;
       store_free = λ same t acq. at_store same t (and_parts (t.place == upper.function.place) (list_any (λ y. y == t.index) acquires) acq);
       later = link.later;

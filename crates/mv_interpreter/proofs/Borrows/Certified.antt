@@ -1,20 +1,12 @@
 -- What a certificate that holds says at an instruction and after it.
-use Rattle.std.proofs.Common.{◌≡◌, ℕ, List, [], ◌∷◌, ◌++◌, Bool, true, false, inl, inr, refl, sym, ◌∙◌, ap, ap₂, subst, Option, Some, None}
-use Rattle.std.specs.Prelude.{◌&&◌}
-use Rattle.std.specs.Bool.{beq}
+use Rattle.mv_interpreter.proofs.Borrows.Common.{◌≡◌, ℕ, List, [], ◌∷◌, ◌++◌, Bool, true, false, inl, inr, refl, sym, ◌∙◌, ap, ap₂, subst, Option, Some, None, ◌&&◌, beq, option_map_or, list_any, list_all, and_parts, same_Some, Instruction, Module, FunctionDefinition, begins, Types, Edge, Label, same_node, EdgesBelow, node_of, label_from, Member, edges_of}
 use Rattle.std.specs.Str.{bytes_eq}
-use Rattle.std.specs.Option.{option_map_or}
-use Rattle.std.specs.List.{list_any, list_all}
-use Rattle.std.proofs.lemmas.Bool.{and_parts, or_cases}
+use Rattle.std.proofs.lemmas.Bool.{or_cases}
 use Rattle.std.proofs.lemmas.Slice.Eq.{bytes_eq-Decides}
-use Rattle.std.proofs.lemmas.Option.{same_Some}
 use Rattle.mv_move_types.specs.declared.borrow.Availability.{Availability}
-use Rattle.mv_move_types.specs.declared.instruction.Instruction.{Instruction}
-use Rattle.mv_move_types.specs.Module.{Module, FunctionDefinition}
-use Rattle.mv_move_types.specs.Paths.{begins}
 use Rattle.mv_cfg.specs.Blocks.{BasicBlock as Block}
-use Rattle.mv_type_states.specs.TypeRules.{Types, types_after}
-use Rattle.mv_edges.specs.Edges.{Edge, Label, same_node, label_leq, edge_leq, edges_leq}
+use Rattle.mv_type_states.specs.TypeRules.{types_after}
+use Rattle.mv_edges.specs.Edges.{label_leq, edge_leq, edges_leq}
 use Rattle.mv_certificate.specs.Certificate.{Known, Rule, through, instructions_of, stated_at, flows_into, block_holds}
 use Rattle.mv_locals_safety.specs.LocalsRules.{locals_after}
 use Rattle.mv_borrow_graph.specs.BorrowRules.{edges_after}
@@ -22,9 +14,8 @@ use Rattle.mv_certificate.specs.Known.{known_after}
 use Rattle.mv_machine.proofs.Laws.{begins-more}
 use Rattle.mv_interpreter.proofs.Borrows.Edges.{same_node-is}
 use Rattle.mv_borrow_graph.specs.Abstract.Places.{LabelBelow, Begins}
-use Rattle.mv_borrow_graph.proofs.Abstract.Run.{EdgesBelow}
 use Rattle.mv_linker.proofs.Found.{on_some}
-use Rattle.mv_interpreter.specs.Borrows.View.{node_of, label_of, label_from, Member, edges_of}
+use Rattle.mv_interpreter.specs.Borrows.View.{label_of}
 use Rattle.mv_interpreter.proofs.Borrows.Kept.{label-self}
 use Rattle.mv_interpreter.proofs.Typing.Tests.{beq-is}
 
@@ -124,7 +115,8 @@ module _ {S : Type 0} (rule : Rule S) (m : Module) (d : FunctionDefinition) wher
   pub held : (leq : S → S → Bool) (stated : List (Block × Option S)) (b : Block) (known : S) → block_holds rule leq m d stated (b, Some known) ≡ true → Held leq stated b known
   held leq stated b known h = by_case (through rule m d (instructions_of d b) (known, [])) refl h
     where
-      by_case : (o : Option (S × Types)) → through rule m d (instructions_of d b) (known, []) ≡ o → option_map_or (λ end. list_all (flows_into leq stated end.0) b.next) o false ≡ true → Held leq stated b known
+      by_case : (o : Option (S × Types)) → through rule m d (instructions_of d b) (known, []) ≡ o
+          → option_map_or (λ end. list_all (flows_into leq stated end.0) b.next) o false ≡ true → Held leq stated b known
       by_case None e k = absurd cc
       by_case (Some end) e k = record { end = end; goes = e; exits = k }
 
@@ -140,7 +132,8 @@ module _ {S : Type 0} (rule : Rule S) (m : Module) (d : FunctionDefinition) wher
 pub both-through : (m : Module) (d : FunctionDefinition) (is : List Instruction) (k : Known) (types : Types) (ls : List Availability) (es : List Edge) (ts us : Types)
     → through locals_after m d is (k.locals, types) ≡ Some (ls, ts) → through edges_after m d is (k.edges, types) ≡ Some (es, us)
     → through known_after m d is (k, types) ≡ Some (record { locals = ls; edges = es }, ts)
-both-through m d [] k types ls es ts us a b = ap₂ (λ (x : List Availability × Types) (y : List Edge × Types). Some (record { locals = x.0; edges = y.0 }, x.1)) (same_Some (k.locals, types) (ls, ts) a) (same_Some (k.edges, types) (es, us) b)
+both-through m d [] k types ls es ts us a b =
+    ap₂ (λ (x : List Availability × Types) (y : List Edge × Types). Some (record { locals = x.0; edges = y.0 }, x.1)) (same_Some (k.locals, types) (ls, ts) a) (same_Some (k.edges, types) (es, us) b)
 both-through m d (i ∷ is) k types ls es ts us a b =
     on_some (locals_after (record { home = m; function = d; types = types }) i k.locals) _ (ls, ts) a (λ l l_is a1.
     on_some (types_after m d i types) _ (ls, ts) a1 (λ t t_is a2.

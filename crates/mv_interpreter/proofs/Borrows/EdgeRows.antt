@@ -1,13 +1,10 @@
 -- Each rule on lists of edges includes what the borrow theory's row leaves.
-use Rattle.std.proofs.Common.{◌≡◌, ℕ, List, [], ◌∷◌, ◌++◌, Bool, true, false, not, ◌&&◌, inl, inr, refl, sym, ◌∙◌, ap}
-use Rattle.std.specs.Prelude.{filter}
-use Rattle.mv_move_types.specs.declared.borrow.Node.{Node}
-use Rattle.mv_move_types.specs.declared.borrow.Node.TheVariants.{Slot, Temp}
-use Rattle.mv_edges.specs.Edges.{Label, Edge, same_node, here, into, without, inherited, renamed, renamed_node, an_edge, extended}
-use Rattle.mv_borrow_graph.specs.Abstract.Places.{Label as TheLabel, extend}
-use Rattle.mv_borrow_graph.specs.Abstract.Covers.{Node as TheNode}
+use Rattle.mv_interpreter.proofs.Borrows.Common.{◌≡◌, ℕ, List, [], ◌∷◌, ◌++◌, Bool, true, false, not, inl, inr, refl, sym, ◌∙◌, ap, filter, Node, Slot, Temp, Label, Edge, same_node, here, without, inherited, renamed, an_edge, extended, TheLabel, TheNode, node_of, label_from, Member, edges_of}
+use Rattle.std.proofs.Common.{◌&&◌}
+use Rattle.mv_edges.specs.Edges.{into, renamed_node}
+use Rattle.mv_borrow_graph.specs.Abstract.Places.{extend}
 use Rattle.mv_borrow_graph.specs.Abstract.Rows.{after_copy, after_copy_mutable, apart_from, after_field, after_freeze, after_borrow, after_move, after_store, Renamed}
-use Rattle.mv_interpreter.specs.Borrows.View.{node_of, label_of, label_from, Member, edges_of}
+use Rattle.mv_interpreter.specs.Borrows.View.{label_of}
 use Rattle.mv_interpreter.proofs.Borrows.Edges.{node_of-inj, node-is, node-not, member_left, member_right, member_map, member_filter, Included}
 
 pub inherited_in : (change : Label → Label) (old new : Node) (e : Edge) (es : List Edge) → Member e es → e.to ≡ old
@@ -40,7 +37,8 @@ borrow_in w k root es p x c (inl h) = included_left w es (an_edge root here (Tem
 borrow_in w k root es p x c (inr (a, b, d)) =
     included_right w es (an_edge root here (Temp k) ∷ []) p x c (an_edge root here (Temp k), inl refl, a, b, d)
 
-away : (a b : Bool) → a ≡ false → b ≡ false → (not a && not b) ≡ true
+-- an edge with neither end there
+pub away : (a b : Bool) → a ≡ false → b ≡ false → (not a && not b) ≡ true
 away a b h k = rw (h, k)
 
 pub without_in : (w : ℕ) (n : Node) (es : List Edge) (p : TheNode) (x : TheLabel) (c : TheNode)

@@ -1,19 +1,15 @@
 -- Edges of a list, and what the tests on a list say of them.
-use Rattle.std.proofs.Common.{◌≡◌, ℕ, suc, List, [], ◌∷◌, ◌++◌, map, length, Bool, true, false, ◌||◌, inl, inr, refl, sym, ◌∙◌, ap, arith, Some}
-use Rattle.std.specs.Prelude.{filter, flat_map}
+use Rattle.mv_interpreter.proofs.Borrows.Common.{◌≡◌, ℕ, suc, List, [], ◌∷◌, ◌++◌, map, length, Bool, true, false, inl, inr, refl, sym, ◌∙◌, ap, arith, Some, filter, list_any, eqb-true, not-true, Node, Slot, Own, Glob, Temp, Edge, same_node, Point, no_edge_out, no_mutable_from, is_mutable, Defined, TheLabel, TheNode, AtGlob, defined, node_of, Member, edges_of, kind_at}
+use Rattle.std.proofs.Common.{◌||◌}
+use Rattle.std.specs.Prelude.{flat_map}
 use Rattle.std.specs.Bool.{then_some}
-use Rattle.std.specs.List.{list_any}
-use Rattle.std.proofs.lemmas.Bool.{eqb-true, cases_Bool, not-true, true≢false}
-use Rattle.mv_move_types.specs.declared.borrow.Node.{Node}
-use Rattle.mv_move_types.specs.declared.borrow.Node.TheVariants.{Slot, Own, Glob, Temp}
-use Rattle.mv_edges.specs.Edges.{Edge, same_node, out_of}
-use Rattle.mv_type_states.specs.TypesHold.{Point}
+use Rattle.std.proofs.lemmas.Bool.{cases_Bool, true≢false}
+use Rattle.mv_edges.specs.Edges.{out_of}
 use Rattle.mv_edges.specs.Equality.{same_node_decides}
-use Rattle.mv_borrow_graph.specs.BorrowRules.{is_empty, no_edge_out, no_mutable_from, is_mutable}
-use Rattle.mv_borrow_graph.specs.Abstract.Places.{Defined, Label as TheLabel}
-use Rattle.mv_borrow_graph.specs.Abstract.Covers.{Node as TheNode, Glob as AtGlob, Edges}
+use Rattle.mv_borrow_graph.specs.BorrowRules.{is_empty}
+use Rattle.mv_borrow_graph.specs.Abstract.Covers.{Edges}
 use Rattle.mv_borrow_graph.specs.There.{node_itself}
-use Rattle.mv_interpreter.specs.Borrows.View.{defined, node_of, Member, AmongNodes, edges_of, kind_at}
+use Rattle.mv_interpreter.specs.Borrows.View.{AmongNodes}
 
 -- ---- nodes
 

@@ -1,31 +1,21 @@
 -- What no live reference of any frame leads into.
-use Rattle.std.proofs.Common.{◌≡◌, ℕ, suc, ◌<◌, ◌≤◌, List, [], ◌∷◌, ◌++◌, map, length, reverse, true, false, not, ◌⊎◌, inl, inr, refl, sym, ◌∙◌, ap, ap₂, arith, subst, Option, Some, None}
-use Rattle.std.specs.Prelude.{◌&&◌, ◌||◌, ◌==◌, flat_map}
-use Rattle.std.specs.List.{list_any, cons_option}
-use Rattle.std.proofs.lemmas.Bool.{and_parts, and_from, eq-eqb, or_cases, eqb-true, cases_Bool, not-true}
-use Rattle.std.proofs.lemmas.Bool.Decides.{eqb_tells}
-use Rattle.mv_move_types.specs.declared.tables.Key.{Key}
-use Rattle.mv_move_types.specs.declared.borrow.Node.TheVariants.{Slot, Own, Glob, Temp}
-use Rattle.mv_machine.specs.Value.{Root, Local, Stored, Place, Reference, Value}
-use Rattle.mv_machine.specs.State.{Frame, State, frames, same_key}
-use Rattle.mv_machine.specs.Live.{reference_of, references, local_references, frame_references, live, same_root, overlap, is_frozen_by}
-use Rattle.mv_move_types.specs.Paths.{begins}
-use Rattle.mv_borrow_graph.specs.BorrowRules.{no_edge_out, return_edges, is_temp, is_root_node, is_mutable}
+use Rattle.mv_interpreter.proofs.Borrows.Common.{◌≡◌, ℕ, suc, ◌<◌, ◌≤◌, List, [], ◌∷◌, ◌++◌, map, length, reverse, true, false, not, ◌⊎◌, inl, inr, refl, sym, ◌∙◌, ap, ap₂, arith, subst, Option, Some, None, ◌&&◌, ◌||◌, ◌==◌, list_any, and_parts, and_from, eq-eqb, eqb-true, not-true, eqb_tells, Key, Slot, Own, Glob, Temp, Local, Stored, Reference, Value, Frame, State, reference_of, live, is_frozen_by, begins, no_edge_out, return_edges, is_mutable, Seen, Defined, TheLabel, TheNode, AtSlot, AtTemp, AtOwn, AtGlob, TheRef, Live, local_ref, stack_ref, seen_frame, Layer, Chain, Edge, Node, Point, home_of, Stood, seen_of, layer_at, layers, StoodOn, held_as, node_of, edges_of, Member, defined, ref_of, local_of, acquires_of, operands_of, activation}
+use Rattle.std.specs.Prelude.{flat_map}
+use Rattle.std.specs.List.{cons_option}
+use Rattle.std.proofs.lemmas.Bool.{or_cases, cases_Bool}
+use Rattle.mv_machine.specs.Value.{Root, Place}
+use Rattle.mv_machine.specs.State.{frames, same_key}
+use Rattle.mv_machine.specs.Live.{references, local_references, frame_references, same_root, overlap}
+use Rattle.mv_borrow_graph.specs.BorrowRules.{is_temp, is_root_node}
 use Rattle.mv_interpreter.specs.Borrows.Hypotheses.{InRefs}
-use Rattle.mv_interpreter.specs.Borrows.Covers.{Seen}
 use Rattle.mv_machine.proofs.Laws.{begins-more}
-use Rattle.mv_borrow_graph.specs.Abstract.Places.{Defined, Local as InLocal, Global as InStore, Overlap, Reach, Label as TheLabel}
-use Rattle.mv_borrow_graph.specs.Abstract.Covers.{Node as TheNode, Slot as AtSlot, Temp as AtTemp, Own as AtOwn, Glob as AtGlob, Ref as TheRef, Live, Covers as TheCovers}
-use Rattle.mv_borrow_graph.specs.Abstract.Lists.{local_ref, stack_ref, seen as seen_frame}
-use Rattle.mv_borrow_graph.specs.Abstract.Stack.{Layer, OnStack, Top, Lower, Chain, Above}
+use Rattle.mv_borrow_graph.specs.Abstract.Places.{Local as InLocal, Global as InStore, Overlap, Reach}
+use Rattle.mv_borrow_graph.specs.Abstract.Covers.{Covers as TheCovers}
+use Rattle.mv_borrow_graph.specs.Abstract.Stack.{OnStack, Top, Lower, Above}
 use Rattle.mv_borrow_graph.proofs.Abstract.Stack.{local_unborrowed, struct_unborrowed, write_unfrozen, local_below, number_below, chain_covers}
 use Rattle.mv_borrow_graph.proofs.Abstract.Places.{overlap_sym}
-use Rattle.mv_edges.specs.Edges.{Edge}
-use Rattle.mv_move_types.specs.declared.borrow.Node.{Node}
 use Rattle.mv_machine.specs.StepControl.{holds_frame, is_local_of}
-use Rattle.mv_type_states.specs.TypesHold.{Point}
-use Rattle.mv_interpreter.specs.Borrows.Stood.{home_of, Stood, seen_of, layer_at, layers, StoodOn}
-use Rattle.mv_interpreter.specs.Borrows.View.{held_as, node_of, edges_of, Member, defined, root_of, place_of, ref_of, local_of, acquires_of, operands_of, activation}
+use Rattle.mv_interpreter.specs.Borrows.View.{root_of, place_of}
 use Rattle.mv_interpreter.proofs.Borrows.Edges.{free_out, none_any, then-some, node_of-inj}
 use Rattle.mv_interpreter.proofs.Borrows.Lists.{place_get, stack-seen}
 use Rattle.mv_interpreter.proofs.Borrows.Kept.{place-under}
@@ -40,7 +30,8 @@ in-local r [] h = absurd h
 in-local r (None ∷ xs) h = let t = in-local r xs h in (suc t.0, t.1)
 in-local r (Some v ∷ xs) h = by_case (reference_of v) refl h (λ g. in-local r xs g)
   where
-    by_case : (o : Option Reference) → reference_of v ≡ o → InRefs r (cons_option o (local_references xs)) → (InRefs r (local_references xs) → (l : ℕ) × (local_ref (map local_of xs) l ≡ Some (ref_of r)))
+    by_case : (o : Option Reference) → reference_of v ≡ o → InRefs r (cons_option o (local_references xs))
+        → (InRefs r (local_references xs) → (l : ℕ) × (local_ref (map local_of xs) l ≡ Some (ref_of r)))
         → (l : ℕ) × (local_ref (map local_of (Some v ∷ xs)) l ≡ Some (ref_of r))
     by_case None e g further = let t = further g in (suc t.0, t.1)
     by_case (Some q) e (inl g) further = (0, rw e (ap (λ (x : Reference). Some (ref_of x)) (sym g)))

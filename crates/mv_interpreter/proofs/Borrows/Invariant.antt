@@ -1,31 +1,21 @@
 -- Every step keeps what the borrow rules need of a state.
-use Rattle.std.proofs.Common.{◌≡◌, ℕ, ◌<◌, ◌+◌, List, [], ◌∷◌, ◌++◌, map, length, reverse, refl, sym, ◌∙◌, ap, ap₂, arith, subst, Option, Some, Ok}
-use Rattle.std.specs.Prelude.{slice_get}
-use Rattle.mv_move_types.specs.declared.instruction.Instruction.{Instruction}
-use Rattle.mv_move_types.specs.Module.{Module, FunctionDefinition}
-use Rattle.mv_machine.specs.Value.{Reference, Value}
-use Rattle.mv_machine.specs.State.{Frame, State}
-use Rattle.mv_machine.specs.Live.{reference_of}
-use Rattle.mv_edges.specs.Edges.{Edge}
-use Rattle.mv_borrow_graph.specs.BorrowRules.{edges_after, call_edges, return_edges}
-use Rattle.mv_move_types.specs.declared.instruction.Instruction.TheVariants.{Call}
+use Rattle.mv_interpreter.proofs.Borrows.Common.{◌≡◌, ℕ, ◌<◌, ◌+◌, List, [], ◌∷◌, ◌++◌, map, length, reverse, refl, sym, ◌∙◌, ap, ap₂, arith, subst, Option, Some, Ok, slice_get, Instruction, Module, FunctionDefinition, Reference, Value, Frame, State, reference_of, Edge, return_edges, Call, length-map, Types, token_kind, operand_kind, Fits, activation, held_as, edges_of, layer_of, alone, layer, EdgesBelow, Here, Layer, Chain, Stood, seen_of, layer_at, layers, StoodOn, Descending, home_of}
+use Rattle.mv_borrow_graph.specs.BorrowRules.{edges_after, call_edges}
 use Rattle.mv_move_types.specs.declared.tables.Definition.{Definition}
-use Rattle.std.proofs.lemmas.List.{length-map, map-append}
-use Rattle.mv_type_states.specs.TypeRules.{of_call, Types}
+use Rattle.std.proofs.lemmas.List.{map-append}
+use Rattle.mv_type_states.specs.TypeRules.{of_call}
 use Rattle.mv_machine.specs.StepControl.{Callee, callee, call, return_results}
 use Rattle.mv_interpreter.specs.Borrows.Links.{CallFacts, IsCall, Reaches}
-use Rattle.mv_interpreter.specs.Borrows.Hypotheses.{token_kind, operand_kind, Fits, NoneInside}
-use Rattle.mv_interpreter.specs.Borrows.View.{activation, held_as, edges_of, layer_of, alone}
-use Rattle.mv_borrow_graph.proofs.Abstract.Run.{layer, EdgesBelow}
+use Rattle.mv_interpreter.specs.Borrows.Hypotheses.{NoneInside}
 use Rattle.mv_interpreter.proofs.Borrows.Calls.{call-kept, return-kept}
 use Rattle.mv_machine.proofs.Transfers.{called, Called, callee-is, signature-is, tags-long, returned, ReturnedTo}
-use Rattle.mv_machine.specs.StepParts.{Here, Goes}
+use Rattle.mv_machine.specs.StepParts.{Goes}
 use Rattle.mv_machine.specs.Step.{rule}
-use Rattle.mv_borrow_graph.specs.Abstract.Stack.{Layer, Chain}
-use Rattle.mv_interpreter.specs.Borrows.Stood.{Stood, seen_of, point_of, layer_at, layers, StoodOn, AllUnder, Descending, home_of, Linked, LinkedTo, Sound}
+use Rattle.mv_interpreter.specs.Borrows.Stood.{point_of, AllUnder, Linked, LinkedTo, Sound}
 use Rattle.mv_interpreter.proofs.Borrows.Same.{SameSeen, SameFrames, layer-same}
 use Rattle.mv_interpreter.proofs.Borrows.Kept.{falls-same, kept-falls}
-use Rattle.mv_interpreter.proofs.Borrows.Steps.{IsTransfer, step-kept, Stays}
+use Rattle.mv_interpreter.proofs.Borrows.Standing.{Standing, IsTransfer, Stays}
+use Rattle.mv_interpreter.proofs.Borrows.Steps.{step-kept}
 use Rattle.mv_interpreter.proofs.Lists.{map-turned}
 
 -- the same with these frames
@@ -86,8 +76,9 @@ module _ (depends : ℕ → ℕ → Type 0) where
     leads = rw (c, e) l.leads;
   }
 
-  linked-refit : (u u' : Stood) (xs : List Stood) (lent : List (Option Reference)) (fs gs : List Frame) → u'.function ≡ u.function → u'.frame.number ≡ u.frame.number → u'.frame.function ≡ u.frame.function
-      → u'.frame.entered_with ≡ u.frame.entered_with → StoodOn lent fs xs → SameFrames fs gs → LinkedTo depends u xs → LinkedTo depends u' (refit xs gs)
+  linked-refit : (u u' : Stood) (xs : List Stood) (lent : List (Option Reference)) (fs gs : List Frame) → u'.function ≡ u.function
+      → u'.frame.number ≡ u.frame.number → u'.frame.function ≡ u.frame.function → u'.frame.entered_with ≡ u.frame.entered_with → StoodOn lent fs xs
+      → SameFrames fs gs → LinkedTo depends u xs → LinkedTo depends u' (refit xs gs)
   unfolding link-same
   linked-refit u u' [] lent fs gs z a b c s q l = tt
   linked-refit u u' (w ∷ ws) lent [] gs z a b c s q l = absurd s
@@ -95,7 +86,8 @@ module _ (depends : ℕ → ℕ → Type 0) where
   linked-refit u u' (w ∷ ws) lent (f ∷ fs) (g ∷ gs) z a b c s q l = (
     record {
       link = subst (λ (d : FunctionDefinition). IsCall depends w.home w.function g u'.frame d.acquires) (sym z)
-          (link-same w.home w.function w.frame u.frame g u'.frame u.function.acquires l.0.link (q.0.at ∙ ap (λ (y : Frame). y.at) (sym s.0)) (q.0.number ∙ ap (λ (y : Frame). y.number) (sym s.0)) (q.0.function ∙ ap (λ (y : Frame). y.function) (sym s.0)) a b c);
+          (link-same w.home w.function w.frame u.frame g u'.frame u.function.acquires l.0.link (q.0.at ∙ ap (λ (y : Frame). y.at) (sym s.0))
+          (q.0.number ∙ ap (λ (y : Frame). y.number) (sym s.0)) (q.0.function ∙ ap (λ (y : Frame). y.function) (sym s.0)) a b c);
       edges = l.0.edges;
       types = l.0.types;
       need = l.0.need;
@@ -129,15 +121,30 @@ module _ (depends : ℕ → ℕ → Type 0) (through : (a b c : ℕ) → depends
     here_at = record { modules = modules; home = x.home; function = x.function; state = s }
 
     -- the layer of the frame at work
-    top-layer : layer_at x ≡ layer_of x.function.acquires (alone s.top) x.edges
+    pub top-layer : layer_at x ≡ layer_of x.function.acquires (alone s.top) x.edges
     top-layer = rw (sound.stood.0, sound.stood.1) refl
+
+    -- what the frame at work stands on
+    abbrev pub standing : Fits (point_of x) (alone s.top) → NoneInside s → Standing
+    standing fits inside = record {
+      depends = depends;
+      through = through;
+      no_cycle = no_cycle;
+      rest = layers xs;
+      h = here_at;
+      types = x.types;
+      es = x.edges;
+      stands = subst (λ u. Chain depends home_of (u ∷ layers xs)) top-layer sound.chain;
+      fits = fits;
+      inside = inside;
+    }
 
     -- a step by any instruction but Call and Ret; what the certificate says of the next instruction is above what the rule leaves
     pub sound-row : (i : Instruction) (t : State) (edges es' : List Edge) (types' : Types) → (IsTransfer i → ⊥) → Reaches x.function.acquires i → rule i here_at ≡ Ok (Goes t)
         → Fits (point_of x) (alone s.top) → NoneInside s → edges_after (point_of x) i x.edges ≡ Some edges → EdgesBelow (edges_of t.top.function.place edges) (edges_of t.top.function.place es')
         → Sound depends t (record { home = x.home; function = x.function; frame = t.top; lent = []; types = types'; edges = es' }) (refit xs t.below)
     sound-row i t edges es' types' transfer reaches e fits inside g below =
-        let k = step-kept depends through no_cycle (layers xs) here_at x.types x.edges (subst (λ u. Chain depends home_of (u ∷ layers xs)) top-layer sound.chain) fits inside i (Goes t) edges transfer reaches sound.ordered e g in
+        let k = step-kept (standing fits inside) i (Goes t) edges transfer reaches sound.ordered e g in
         let stays : Stays i s t = k.1 in
         record {
           stood = (refl, refl, stood-refit s.top.entered_with t.top.entered_with s.below t.below xs stays.2 sound.stood.2 stays.3);
@@ -145,7 +152,8 @@ module _ (depends : ℕ → ℕ → Type 0) (through : (a b c : ℕ) → depends
               (kept-falls depends through no_cycle x.function.acquires t.top (layers xs) t.top.locals (map reference_of t.top.stack) edges k.0 t.top.locals (map reference_of t.top.stack) es'
               (λ l v r at is. at) (falls-same (map reference_of t.top.stack)) below);
           links = linked-refit depends x (record { home = x.home; function = x.function; frame = t.top; lent = []; types = types'; edges = es' }) xs s.top.entered_with s.below t.below refl
-              (stays.0 ∙ ap (λ (y : Frame). y.number) (sym sound.stood.0)) (stays.1 ∙ ap (λ (y : Frame). y.function) (sym sound.stood.0)) (stays.2 ∙ ap (λ (y : Frame). y.entered_with) (sym sound.stood.0))
+              (stays.0 ∙ ap (λ (y : Frame). y.number) (sym sound.stood.0)) (stays.1 ∙ ap (λ (y : Frame). y.function) (sym sound.stood.0))
+              (stays.2 ∙ ap (λ (y : Frame). y.entered_with) (sym sound.stood.0))
               sound.stood.2 stays.3 sound.links;
           ordered = (under-refit s.top.number t.top.number s.below t.below stays.0 stays.3 sound.ordered.0, descending-refit s.below t.below stays.3 sound.ordered.1);
           next = rw (stays.0, stays.4) sound.next;
@@ -210,7 +218,8 @@ module _ (depends : ℕ → ℕ → Type 0) (through : (a b c : ℕ) → depends
                   chain = call-kept depends x.home x.function (seen_of (waits k.stack t.top.entered_with)) t.top k.c.definition.acquires x.types types' x.edges edges link refl
                       (fits-top fits k.stack t.top.entered_with operands) need typing through no_cycle (layers xs) eu k.arguments (length k.others)
                       (ap (λ (f : Frame). f.locals) k.top) (ap (λ (f : Frame). f.stack) k.top) entered
-                      (subst (λ (os : List (Option Reference)). Chain depends home_of (layer (record (activation x.function.acquires (alone s.top)) { stack = map held_as os }) (edges_of s.top.function.place x.edges) ∷ layers xs))
+                      (subst (λ (os : List (Option Reference)). Chain depends home_of
+                      (layer (record (activation x.function.acquires (alone s.top)) { stack = map held_as os }) (edges_of s.top.function.place x.edges) ∷ layers xs))
                       (sym operands) (subst (λ u. Chain depends home_of (u ∷ layers xs)) top-layer sound.chain));
                   links = (
                     record { link = link; edges = edges; types = types'; need = need; typing = typing },
@@ -263,12 +272,15 @@ module _ (depends : ℕ → ℕ → Type 0) (through : (a b c : ℕ) → depends
             (subst (λ u. Chain depends home_of (u ∷ layers (w ∷ ws))) lone-layer sound.chain)) in
             record {
               stood = (refl, refl, subst (λ gs. StoodOn t.top.entered_with gs ws) (sym k.below) (subst (λ l. StoodOn l fs ws) (ap (λ (g : Frame). g.entered_with) (sym stood.0) ∙ ap (λ (g : Frame). g.entered_with) (sym top)) stood.2));
-              chain = kept-falls depends through no_cycle w.function.acquires t.top (layers ws) t.top.locals (map reference_of t.top.stack) link.edges stood_top t.top.locals (map reference_of t.top.stack) es'
+              chain =
+                  kept-falls depends through no_cycle w.function.acquires t.top (layers ws) t.top.locals
+                  (map reference_of t.top.stack) link.edges stood_top t.top.locals (map reference_of t.top.stack) es'
                   (λ l v r at is. at) (falls-same (map reference_of t.top.stack))
                   (subst (λ (n : ℕ). EdgesBelow (edges_of n link.edges) (edges_of n es')) (ap (λ (g : Frame). g.function.place) (sym top)) above);
               links = linked-top depends w (record { home = w.home; function = w.function; frame = t.top; lent = []; types = types'; edges = es' }) ws refl number (ap (λ (g : Frame). g.function) top)
                   (ap (λ (g : Frame). g.entered_with) top) sound.links.1;
-              ordered = subst (λ gs. AllUnder t.top.number gs × Descending gs) (sym k.below) (subst (λ n. AllUnder n fs) (ap (λ (g : Frame). g.number) (sym stood.0) ∙ sym number) ordered.0, ordered.1);
+              ordered = subst (λ gs. AllUnder t.top.number gs × Descending gs) (sym k.below)
+                  (subst (λ n. AllUnder n fs) (ap (λ (g : Frame). g.number) (sym stood.0) ∙ sym number) ordered.0, ordered.1);
               next = below-next number k.entered link.link.later (ap (λ (g : Frame). g.number) sound.stood.0) sound.next;
             }
           where

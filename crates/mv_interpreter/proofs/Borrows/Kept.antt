@@ -1,24 +1,12 @@
 -- A step of the frame at work keeps the chain of frames: one lemma a row, at the machine's lists.
-use Rattle.std.proofs.Common.{◌≡◌, ℕ, ◌<◌, List, [], ◌∷◌, ◌++◌, map, length, Bool, true, false, not, inl, inr, refl, sym, ◌∙◌, ap, arith, subst, Option, Some, None}
-use Rattle.std.specs.Prelude.{slice_get, slice_set, filter}
-use Rattle.std.proofs.lemmas.Bool.Decides.{eqb_tells}
-use Rattle.std.proofs.lemmas.List.{length-map}
-use Rattle.mv_move_types.specs.declared.tables.Key.{Key}
-use Rattle.mv_move_types.specs.declared.borrow.Node.TheVariants.{Slot, Own, Glob, Temp}
-use Rattle.mv_machine.specs.Value.{Local, Stored, Reference, Value}
-use Rattle.mv_machine.specs.State.{Frame}
-use Rattle.mv_machine.specs.Live.{reference_of}
-use Rattle.mv_edges.specs.Edges.{Edge, same_node, here, without, inherited, renamed, an_edge, extended}
-use Rattle.mv_borrow_graph.specs.Abstract.Places.{Label as TheLabel, LabelBelow, Exact, Open}
+use Rattle.mv_interpreter.proofs.Borrows.Common.{◌≡◌, ℕ, ◌<◌, List, [], ◌∷◌, ◌++◌, map, length, Bool, true, false, not, inl, inr, refl, sym, ◌∙◌, ap, arith, subst, Option, Some, None, slice_get, slice_set, filter, eqb_tells, length-map, Key, Slot, Own, Glob, Temp, Local, Stored, Reference, Value, Frame, reference_of, Edge, same_node, here, without, inherited, renamed, an_edge, extended, TheLabel, TheNode, AtSlot, AtOwn, AtGlob, AtTemp, TheRef, Live, Bars, TheValue, seen_frame, Layer, Chain, layer, EdgesBelow, Kinds, home_of, defined, ref_of, held_as, local_of, acquires_of, activation, edges_of}
+use Rattle.mv_borrow_graph.specs.Abstract.Places.{LabelBelow, Exact, Open}
 use Rattle.mv_borrow_graph.proofs.Abstract.Places.{begins_self}
-use Rattle.mv_borrow_graph.specs.Abstract.Covers.{Node as TheNode, Slot as AtSlot, Own as AtOwn, Glob as AtGlob, Temp as AtTemp, Ref as TheRef, Live, Edges}
-use Rattle.mv_borrow_graph.specs.Abstract.Rows.{Row, CopyRef, CopyMut, MoveRef, StoreRef, BorrowLocal, BorrowField, BorrowGlobal, Freeze, Drop, Need, After, Bars}
-use Rattle.mv_borrow_graph.specs.Abstract.Lists.{Value as TheValue, Reference as Held, set_local, refs_of, Activation, seen as seen_frame}
-use Rattle.mv_borrow_graph.specs.Abstract.Stack.{Layer, Chain}
+use Rattle.mv_borrow_graph.specs.Abstract.Covers.{Edges}
+use Rattle.mv_borrow_graph.specs.Abstract.Rows.{Row, CopyRef, CopyMut, MoveRef, StoreRef, BorrowLocal, BorrowField, BorrowGlobal, Freeze, Drop, Need, After}
+use Rattle.mv_borrow_graph.specs.Abstract.Lists.{Reference as Held, set_local, refs_of, Activation}
 use Rattle.mv_borrow_graph.proofs.Abstract.Turns.{Turn, Copies, CopiesMutable, Moves, Stores, BorrowsLocal, BorrowsField, BorrowsGlobal, Freezes, Drops}
-use Rattle.mv_borrow_graph.proofs.Abstract.Run.{layer, EdgesBelow, Kinds, ByRow, ByValue, chain_steps}
-use Rattle.mv_interpreter.specs.Borrows.Stood.{home_of}
-use Rattle.mv_interpreter.specs.Borrows.View.{defined, ref_of, held_as, local_of, acquires_of, activation, edges_of}
+use Rattle.mv_borrow_graph.proofs.Abstract.Run.{ByRow, ByValue, chain_steps}
 use Rattle.mv_interpreter.proofs.Borrows.Edges.{Included}
 use Rattle.mv_interpreter.proofs.Borrows.Lists.{place_get, stack-seen, stack-back, local-back, local-seen, set-map}
 use Rattle.mv_interpreter.proofs.Borrows.EdgeRows.{copy_in, copy_mutable_in, borrow_in, drop_in, field_in, freeze_in, move_in, store_in}
@@ -189,7 +177,8 @@ module _ (depends : ℕ → ℕ → Type 0) (through : (a b c : ℕ) → depends
           → ((x : TheLabel) (c : TheNode) → E es (AtGlob (defined f.function.place key.index)) x c → Bars m kind c → ⊥)
           → Stand locals (Some (record { is_mutable = m; place = record { root = Stored key; path = [] } }) ∷ s) (es ++ an_edge (Glob key.index) here (Temp (length s)) ∷ [])
       kept-borrow-global m key s kind typed top acq home need =
-          row (BorrowGlobal m (defined key.place key.index)) (length (map held_as s)) (act acquires f locals (Some (record { is_mutable = m; place = record { root = Stored key; path = [] } }) ∷ s)) kind
+          row (BorrowGlobal m (defined key.place key.index)) (length (map held_as s))
+          (act acquires f locals (Some (record { is_mutable = m; place = record { root = Stored key; path = [] } }) ∷ s)) kind
           (es ++ an_edge (Glob key.index) here (Temp (length s)) ∷ [])
           (BorrowsGlobal before m key.address (defined key.place key.index) 0 (map held_as s) (on_top None s top) acq) typed
           (λ x c h. need x c (subst (λ (w : ℕ). E es (AtGlob (defined w key.index)) x c) home h))

@@ -1,15 +1,8 @@
 -- Lists of locals and operands, as the machine has them and as the borrow theory has them.
-use Rattle.std.proofs.Common.{◌≡◌, ℕ, zero, suc, ◌<◌, ◌≤◌, ◌+◌, List, [], ◌∷◌, ◌++◌, map, length, reverse, cond, inl, inr, refl, sym, ◌∙◌, ap, arith, Option, Some, None, eqb}
-use Rattle.std.specs.Prelude.{slice_get, slice_set}
+use Rattle.mv_interpreter.proofs.Borrows.Common.{◌≡◌, ℕ, zero, suc, ◌<◌, ◌≤◌, ◌+◌, List, [], ◌∷◌, ◌++◌, map, length, reverse, cond, inl, inr, refl, sym, ◌∙◌, ap, arith, Option, Some, None, eqb, slice_get, slice_set, eqb_tells, reverse_onto, length-map, Reference, Value, reference_of, TheRef, TheValue, stack_ref, local_ref, ref_of, held_as, local_of}
 use Rattle.std.proofs.lemmas.Bool.{cases_lt}
-use Rattle.std.proofs.lemmas.Bool.Decides.{eqb_tells}
-use Rattle.std.proofs.lemmas.Grind.{reverse_onto}
-use Rattle.std.proofs.lemmas.List.{length-append, length-map, length-reverse}
-use Rattle.mv_machine.specs.Value.{Reference, Value}
-use Rattle.mv_machine.specs.Live.{reference_of}
-use Rattle.mv_borrow_graph.specs.Abstract.Covers.{Ref as TheRef}
-use Rattle.mv_borrow_graph.specs.Abstract.Lists.{Value as TheValue, stack_ref, local_ref, set_local, ref_of as the_ref_of}
-use Rattle.mv_interpreter.specs.Borrows.View.{ref_of, held_as, local_of}
+use Rattle.std.proofs.lemmas.List.{length-append, length-reverse}
+use Rattle.mv_borrow_graph.specs.Abstract.Lists.{set_local, ref_of as the_ref_of}
 
 -- the element with k under it
 abbrev pub place_get : {A : Type 0} → List A → ℕ → Option A

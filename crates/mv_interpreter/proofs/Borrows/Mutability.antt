@@ -1,19 +1,6 @@
 -- A frame's references have the mutability that the types say.
-use Rattle.std.proofs.Common.{◌≡◌, ℕ, List, [], ◌∷◌, map, length, Bool, true, false, cond, inl, inr, refl, sym, ◌∙◌, ap, Option, Some, None, eqb}
-use Rattle.std.specs.Prelude.{option_and_then}
-use Rattle.std.specs.Option.{option_map_or}
-use Rattle.std.proofs.lemmas.Bool.Decides.{eqb_tells}
-use Rattle.std.proofs.lemmas.List.{length-map}
-use Rattle.mv_move_types.specs.declared.token.Token.{Token}
-use Rattle.mv_move_types.specs.declared.token.Token.TheVariants.{Plain, Reference as ReferenceTo, MutableReference as MutableReferenceTo}
-use Rattle.mv_machine.specs.Value.{Reference, Value}
-use Rattle.mv_type_states.specs.TypesHold.{Point}
+use Rattle.mv_interpreter.proofs.Borrows.Common.{◌≡◌, ℕ, List, [], ◌∷◌, map, length, Bool, true, false, cond, inl, inr, refl, sym, ◌∙◌, ap, Option, Some, None, eqb, option_and_then, option_map_or, eqb_tells, length-map, Token, Plain, ReferenceTo, MutableReferenceTo, Reference, Value, Point, Seen, TheNode, AtSlot, AtOwn, AtGlob, AtTemp, TheRef, Live, seen_frame, ref_of, operands_of, activation, kind_at, token_kind, operand_kind, Fits}
 use Rattle.mv_borrow_graph.specs.BorrowRules.{is_mutable_token, is_reference_token}
-use Rattle.mv_interpreter.specs.Borrows.Covers.{Seen}
-use Rattle.mv_borrow_graph.specs.Abstract.Covers.{Node as TheNode, Slot as AtSlot, Own as AtOwn, Glob as AtGlob, Temp as AtTemp, Ref as TheRef, Live}
-use Rattle.mv_borrow_graph.specs.Abstract.Lists.{seen as seen_frame}
-use Rattle.mv_interpreter.specs.Borrows.View.{ref_of, operands_of, activation, kind_at}
-use Rattle.mv_interpreter.specs.Borrows.Hypotheses.{token_kind, operand_kind, Fits}
 use Rattle.mv_interpreter.proofs.Borrows.Lists.{place_get, local-back, stack-back, place-reverse}
 
 pub kind-mutable : (t : Token) (b : Bool) → token_kind t ≡ Some b → is_mutable_token t ≡ b

@@ -1,45 +1,36 @@
 -- The machine's rules taken apart: what they take off the stack and put on it.
-use Rattle.std.proofs.Common.{◌≡◌, ℕ, zero, suc, List, [], ◌∷◌, ◌++◌, map, reverse, drop, Bool, true, false, refl, sym, ◌∙◌, ap, subst, Option, Some, None, Result, Ok, Err, ap₂}
-use Rattle.std.specs.Prelude.{option_map, option_and_then, ⊤}
-use Rattle.std.proofs.lemmas.Grind.{reverse_onto}
+use Rattle.mv_interpreter.proofs.Borrows.Common.{◌≡◌, ℕ, zero, suc, List, [], ◌∷◌, ◌++◌, map, reverse, Bool, true, false, refl, sym, ◌∙◌, ap, subst, Option, Some, None, Result, Ok, Err, ap₂, option_and_then, ⊤, reverse_onto, Module, Token, Plain, ReferenceTo, MutableReferenceTo, beq, option_map_or, and_parts, State, place_value, tag_named, Faults, TypeFault, entry, has_tag, Tag, token_kind, operand_kind, need, ◌>>>◌, Value, Leaf, Struct, Ref, reference_of, Here, operand, as_fields, on_bind, ok-is, operand-is}
+use Rattle.std.proofs.Common.{drop}
+use Rattle.std.specs.Prelude.{option_map}
 use Rattle.mv_move_types.specs.Names.{StructName}
-use Rattle.mv_move_types.specs.Module.{Module, struct_name}
+use Rattle.mv_move_types.specs.Module.{struct_name}
 use Rattle.mv_move_types.specs.declared.token.LeafKind.{LeafKind}
 use Rattle.mv_move_types.specs.declared.token.ValueType.{ValueType}
 use Rattle.mv_move_types.specs.declared.token.ValueType.TheVariants.{OfLeaf, OfStruct}
-use Rattle.mv_move_types.specs.declared.token.Token.{Token}
-use Rattle.mv_move_types.specs.declared.token.Token.TheVariants.{Plain, Reference as ReferenceTo, MutableReference as MutableReferenceTo}
-use Rattle.std.specs.Bool.{beq}
-use Rattle.std.specs.Option.{option_map_or}
-use Rattle.std.proofs.lemmas.Bool.{and_parts}
-use Rattle.mv_machine.specs.State.{State, place_value}
-use Rattle.mv_machine.specs.Typing.{linked, LinkageFault, value_type_tag, tag_named, have_tags, plain_tag, Faults, TypeFault, entry, has_tag}
-use Rattle.mv_move_types.specs.Tags.{Tag, LeafTag, ReferenceTag, StructTag, same_tag}
+use Rattle.mv_machine.specs.Typing.{linked, LinkageFault, value_type_tag, have_tags, plain_tag}
+use Rattle.mv_move_types.specs.Tags.{LeafTag, ReferenceTag, StructTag, same_tag}
 use Rattle.mv_move_types.specs.AbilitySets.{same_abilities}
 use Rattle.mv_move_types.specs.Named.{declared}
-use Rattle.mv_interpreter.specs.Borrows.Hypotheses.{token_kind, operand_kind, NoneOf, HoldsNone}
-use Rattle.mv_move_types.specs.Results.{for_each, ◌>>=◌, ◌>>◌, need}
-use Rattle.mv_move_types.specs.Options.{◌>>=◌ as ◌>>>◌}
-use Rattle.mv_machine.specs.Value.{Value, Leaf, Struct, Ref, list_of}
-use Rattle.mv_machine.specs.Live.{reference_of}
-use Rattle.mv_machine.specs.StepParts.{Here, operand, as_fields}
-use Rattle.mv_machine.proofs.Laws.{on_bind, on_need}
-use Rattle.mv_machine.proofs.Binds.{ok-is, operand-is}
+use Rattle.mv_interpreter.specs.Borrows.Hypotheses.{NoneOf, HoldsNone}
+use Rattle.mv_move_types.specs.Results.{for_each, ◌>>=◌, ◌>>◌}
+use Rattle.mv_machine.specs.Value.{list_of}
+use Rattle.mv_machine.proofs.Laws.{on_need}
 use Rattle.mv_interpreter.proofs.Borrows.Kept.{Falls, falls-popped, falls-pushed, falls-then, falls-same}
 use Rattle.mv_machine.proofs.Operations.{GivesLeaf}
+use Rattle.mv_interpreter.proofs.Typing.Tests.{beq-is}
 
 -- the same for what lives higher
-pub bind : {A B E : Type 0} {P : Type 1} (r : Result A E) (f : A → Result B E) (y : B) → (r >>= f) ≡ Ok y → ((x : A) → r ≡ Ok x → f x ≡ Ok y → P) → P
-bind (Ok x) f y e go = go x refl e
-bind (Err d) f y e go = absurd cc
+pub on_result : {A B E : Type 0} {P : Type 1} (r : Result A E) (f : A → Result B E) (y : B) → (r >>= f) ≡ Ok y → ((x : A) → r ≡ Ok x → f x ≡ Ok y → P) → P
+on_result (Ok x) f y e go = go x refl e
+on_result (Err d) f y e go = absurd cc
 
-pub met : {B E : Type 0} {P : Type 1} (b : Bool) (d : E) (r : Result B E) (y : B) → (need b d >> r) ≡ Ok y → (b ≡ true → r ≡ Ok y → P) → P
-met true d r y e go = go refl e
-met false d r y e go = absurd cc
+pub on_passed : {B E : Type 0} {P : Type 1} (b : Bool) (d : E) (r : Result B E) (y : B) → (need b d >> r) ≡ Ok y → (b ≡ true → r ≡ Ok y → P) → P
+on_passed true d r y e go = go refl e
+on_passed false d r y e go = absurd cc
 
-pub some-bind : {A B : Type 0} {P : Type 1} (r : Option A) (f : A → Option B) (y : B) → (r >>> f) ≡ Some y → ((x : A) → r ≡ Some x → f x ≡ Some y → P) → P
-some-bind (Some x) f y e go = go x refl e
-some-bind None f y e go = absurd cc
+pub on_option : {A B : Type 0} {P : Type 1} (r : Option A) (f : A → Option B) (y : B) → (r >>> f) ≡ Some y → ((x : A) → r ≡ Some x → f x ≡ Some y → P) → P
+on_option (Some x) f y e go = go x refl e
+on_option None f y e go = absurd cc
 
 pub fields-are : (name : StructName) (v : Value) (fs : List Value) → as_fields name v ≡ Ok fs → HoldsNone v → NoneOf fs
 fields-are name (Leaf j n) fs h k = absurd cc
@@ -108,9 +99,10 @@ plain-tag modules m (OfStruct i) tag h =
     on_bind (entry m.struct_handles i) _ tag h (λ handle handle_is e1.
     on_bind (linked (struct_name m i)) _ tag e1 (λ name name_is e2.
     on_bind (linked (declared modules name)) _ tag e2 (λ abilities abilities_is e3.
-    on_need (same_abilities abilities handle.abilities) (Faults LinkageFault) _ tag e3 (λ met e4. subst IsPlainTag (ok-is (StructTag name) tag e4) tt))))
+    on_need (same_abilities abilities handle.abilities) (Faults LinkageFault) _ tag e3 (λ ok e4. subst IsPlainTag (ok-is (StructTag name) tag e4) tt))))
 
-reference-tag : (modules : List Module) (m : Module) (b : Bool) (t : ValueType) (tag : Tag) → (value_type_tag modules m t >>= λ to. Ok (ReferenceTag b to)) ≡ Ok tag → (to : Tag) × (tag ≡ ReferenceTag b to)
+reference-tag : (modules : List Module) (m : Module) (b : Bool) (t : ValueType) (tag : Tag)
+    → (value_type_tag modules m t >>= λ to. Ok (ReferenceTag b to)) ≡ Ok tag → (to : Tag) × (tag ≡ ReferenceTag b to)
 reference-tag modules m b t tag h = on_bind (value_type_tag modules m t) _ tag h (λ to to_is e. (to, sym (ok-is (ReferenceTag b to) tag e)))
 
 pub not-plain : (b : Bool) (x tag : Tag) → IsPlainTag tag → same_tag (ReferenceTag b x) tag ≡ true → ⊥
@@ -120,12 +112,6 @@ not-plain b x (ReferenceTag c to) p h = p
 
 same-flag : (a b : Bool) (x to tag : Tag) → tag ≡ ReferenceTag b to → same_tag (ReferenceTag a x) tag ≡ true → a ≡ b
 same-flag a b x to tag h e = beq-is a b (and_parts (beq a b) (same_tag x to) (sym (ap (same_tag (ReferenceTag a x)) h) ∙ e)).0
-  where
-    beq-is : (a b : Bool) → beq a b ≡ true → a ≡ b
-    beq-is true true h = refl
-    beq-is false false h = refl
-    beq-is true false h = absurd cc
-    beq-is false true h = absurd cc
 
 pub followed : (o : Option Tag) (a : Bool) (tag : Tag) → option_map_or (λ own. same_tag own tag) (option_map (ReferenceTag a) o) false ≡ true → (x : Tag) × (same_tag (ReferenceTag a x) tag ≡ true)
 followed None a tag h = absurd cc
@@ -166,7 +152,8 @@ tags-kinds modules m s vs (t ∷ ts) tags h k =
     on_bind (for_each (tag_named modules m) ts) _ tags e1 (λ more more_is e2.
     one vs tag more tag_is (λ us g. tags-kinds modules m s us ts more more_is g) (subst (λ (x : List Tag). have_tags s vs x ≡ true) (sym (ok-is (tag ∷ more) tags e2)) k)))
   where
-    one : (vs : List Value) (tag : Tag) (more : List Tag) → tag_named modules m t ≡ Ok tag → ((us : List Value) → have_tags s us more ≡ true → map token_kind ts ≡ map operand_kind (map reference_of us))
+    one : (vs : List Value) (tag : Tag) (more : List Tag) → tag_named modules m t ≡ Ok tag
+        → ((us : List Value) → have_tags s us more ≡ true → map token_kind ts ≡ map operand_kind (map reference_of us))
         → have_tags s vs (tag ∷ more) ≡ true → token_kind t ∷ map token_kind ts ≡ map operand_kind (map reference_of vs)
     one [] tag more d g k = absurd cc
     one (v ∷ vs) tag more d g k =

@@ -1,17 +1,10 @@
 -- A write through a reference changes no reference of any frame.
-use Rattle.std.proofs.Common.{◌≡◌, ℕ, zero, suc, ◌<◌, List, [], ◌∷◌, map, Bool, true, false, cond, inl, inr, refl, sym, ◌∙◌, ap, arith, subst, Option, Some, None}
-use Rattle.std.specs.Prelude.{slice_get, slice_set, option_and_then, option_map, ◌==◌, ⊤}
-use Rattle.std.proofs.lemmas.Bool.{eqb-true}
-use Rattle.std.proofs.lemmas.Bool.Decides.{eqb_tells}
-use Rattle.std.proofs.lemmas.Option.{same_Some}
-use Rattle.mv_machine.specs.Value.{Root, Local, Stored, Place, Reference, Value, Leaf, Struct, Ref, value_at, with_value_at, field_of, with_field_of}
-use Rattle.mv_machine.specs.State.{Frame, State, frames, local_in, root_value, place_value, with_local, with_root, with_place}
-use Rattle.mv_machine.specs.Live.{reference_of}
-use Rattle.mv_move_types.specs.Tags.{Tag}
-use Rattle.mv_machine.specs.Typing.{tag_of, has_tag}
-use Rattle.mv_edges.specs.Edges.{Edge}
-use Rattle.mv_interpreter.specs.Borrows.View.{local_of, layer_of}
-use Rattle.mv_interpreter.specs.Borrows.Stood.{AllUnder, Descending}
+use Rattle.mv_interpreter.proofs.Borrows.Common.{◌≡◌, ℕ, zero, suc, ◌<◌, List, [], ◌∷◌, map, Bool, true, false, cond, inl, inr, refl, sym, ◌∙◌, ap, arith, subst, Option, Some, None, slice_get, slice_set, option_and_then, ◌==◌, ⊤, eqb-true, eqb_tells, same_Some, Local, Stored, Reference, Value, Leaf, Struct, Ref, Frame, State, place_value, reference_of, Tag, has_tag, Edge, local_of, layer_of, Descending}
+use Rattle.std.specs.Prelude.{option_map}
+use Rattle.mv_machine.specs.Value.{Root, Place, value_at, with_value_at, field_of, with_field_of}
+use Rattle.mv_machine.specs.State.{frames, local_in, root_value, with_local, with_root, with_place}
+use Rattle.mv_machine.specs.Typing.{tag_of}
+use Rattle.mv_interpreter.specs.Borrows.Stood.{AllUnder}
 use Rattle.mv_interpreter.proofs.Borrows.Operands.{IsPlainTag, not-plain, followed}
 
 -- a frame with the same references, where the first one has them
@@ -117,8 +110,8 @@ pub write-same : (s : State) (q : Place) (old v : Value) (t : State) → Descend
     → with_place s q v ≡ Some t → SameSeen s.top t.top × SameFrames s.below t.below × (t.entered ≡ s.entered)
 write-same s q old v t d at a b e = by_root (root_value s q.root) refl at e
   where
-    by_root : (o : Option Value) → root_value s q.root ≡ o → option_and_then (λ w. value_at w q.path) o ≡ Some old → option_map (with_root s q.root) (option_and_then (λ w. with_value_at w q.path v) o) ≡ Some t
-        → WrittenAs s t
+    by_root : (o : Option Value) → root_value s q.root ≡ o → option_and_then (λ w. value_at w q.path) o ≡ Some old
+        → option_map (with_root s q.root) (option_and_then (λ w. with_value_at w q.path v) o) ≡ Some t → WrittenAs s t
     by_root None is h g = absurd cc
     by_root (Some w) is h g = by_new (with_value_at w q.path v) refl g
       where

@@ -1,19 +1,9 @@
 -- The first state of a run, whose arguments are no references.
-use Rattle.std.proofs.Common.{◌≡◌, ℕ, zero, suc, ◌<◌, List, [], ◌∷◌, ◌++◌, map, reverse, refl, sym, ◌∙◌, ap, subst, Some, None}
-use Rattle.std.specs.Prelude.{slice_get, replicate}
-use Rattle.std.proofs.lemmas.Option.{same_Some}
-use Rattle.mv_move_types.specs.Module.{Module, FunctionDefinition}
-use Rattle.mv_machine.specs.Value.{Reference, Value}
-use Rattle.mv_machine.specs.State.{State}
-use Rattle.mv_machine.specs.Live.{reference_of}
-use Rattle.mv_edges.specs.Edges.{Edge}
-use Rattle.mv_type_states.specs.TypeRules.{Types}
-use Rattle.mv_borrow_graph.specs.Abstract.Covers.{Node as TheNode, Slot as AtSlot, Own as AtOwn, Glob as AtGlob, Temp as AtTemp, Ref as TheRef, Live}
-use Rattle.mv_borrow_graph.specs.Abstract.Lists.{seen as seen_frame, refs_among, stack_ref}
+use Rattle.mv_interpreter.proofs.Borrows.Common.{◌≡◌, ℕ, zero, suc, ◌<◌, List, [], ◌∷◌, ◌++◌, map, reverse, refl, sym, ◌∙◌, ap, subst, Some, None, slice_get, replicate, same_Some, Module, FunctionDefinition, Reference, Value, State, reference_of, Edge, Types, TheNode, AtSlot, AtOwn, AtGlob, AtTemp, TheRef, Live, seen_frame, stack_ref, held_as, activation, alone, StoodOn, Descending}
+use Rattle.mv_borrow_graph.specs.Abstract.Lists.{refs_among}
 use Rattle.mv_borrow_graph.specs.Abstract.Stack.{Bottom}
-use Rattle.mv_interpreter.specs.Borrows.View.{held_as, activation, alone}
 use Rattle.mv_interpreter.specs.Borrows.Hypotheses.{NoneOf}
-use Rattle.mv_interpreter.specs.Borrows.Stood.{StoodOn, Descending, Sound}
+use Rattle.mv_interpreter.specs.Borrows.Stood.{Sound}
 use Rattle.mv_interpreter.proofs.Borrows.Lists.{local-back}
 use Rattle.mv_interpreter.proofs.Borrows.Operands.{none-reverse}
 use Rattle.mv_interpreter.proofs.Borrows.Calls.{homed}

@@ -1,32 +1,11 @@
 -- The whole: a run of linked code over an accepted store agrees with the machine's run.
-use Rattle.std.proofs.Common.{◌≡◌, ℕ, ◌≤◌, List, [], ◌∷◌, ◌++◌, map, length, refl, sym, ◌∙◌, subst, Option, Some, None, Result, Ok}
-use Rattle.std.specs.Prelude.{flat_map, replicate}
-use Rattle.std.specs.Option.{option_map_or}
-use Rattle.std.proofs.lemmas.Option.{same_Some}
-use Rattle.mv_move_types.specs.declared.token.Token.{Token}
-use Rattle.mv_move_types.specs.Module.{Module}
-use Rattle.mv_machine.specs.Value.{Value, Leaf, Struct, Ref}
-use Rattle.mv_machine.specs.State.{State, Storage}
-use Rattle.mv_machine.specs.Flat.{flat}
-use Rattle.mv_machine.specs.Typing.{Failure}
-use Rattle.mv_move_types.specs.Tags.{Tag, LeafTag, StructTag, ReferenceTag}
-use Rattle.mv_linker.specs.TypesByName.{token_named, tokens_named}
-use Rattle.mv_machine.specs.Run.{FunctionCall, outcome_from, run}
-use Rattle.mv_interpreter.specs.Typing.HasType.{Roots, HasType, HaveTypes, fields_by_name}
-use Rattle.mv_interpreter.specs.Typing.StateTyped.{HaveTokens, StorageTyped}
-use Rattle.mv_interpreter.specs.Typing.Facts.{SoundStore}
-use Rattle.mv_interpreter.specs.Typing.Outcome.{Guides}
-use Rattle.mv_interpreter.specs.Typing.Accepted.{StoreAccepted}
+use Rattle.mv_interpreter.proofs.Flat.Common.{◌≡◌, ℕ, ◌≤◌, List, [], ◌∷◌, ◌++◌, map, length, refl, sym, ◌∙◌, subst, Option, Some, None, Result, Ok, flat_map, replicate, option_map_or, same_Some, Token, Module, Value, Leaf, Struct, Ref, State, Storage, flat, Failure, Tag, LeafTag, StructTag, ReferenceTag, token_named, tokens_named, FunctionCall, Roots, HasType, HaveTypes, HaveTokens, StorageTyped, SoundStore, Guides, StoreAccepted, Program, width_of_tags, width_of_tokens, IsLinked, on_some, History, ValueWords, LocalsWords, Represented, flat_entry, SameOutcome}
+use Rattle.mv_machine.specs.Run.{outcome_from, run}
+use Rattle.mv_interpreter.specs.Typing.HasType.{fields_by_name}
 use Rattle.mv_interpreter.proofs.Typing.Structs.{names_length}
 use Rattle.mv_interpreter.proofs.Typing.First.{Nowhere, CallTyped, begun, first_typed, first_is}
 use Rattle.mv_interpreter.proofs.Typing.Addresses.{accepted_is_sound}
-use Rattle.mv_linker.specs.Operations.{Program}
-use Rattle.mv_linker.specs.Widths.{width_of_tags, width_of_tokens}
-use Rattle.mv_linker.specs.Linked.{IsLinked}
-use Rattle.mv_linker.proofs.Found.{on_some}
 use Rattle.mv_interpreter.specs.Flat.FlatRun.{FlatOutcome, FlatStuck, flat_turns, flat_first, flat_run, width_of_others}
-use Rattle.mv_interpreter.specs.Flat.Represents.{History, ValueWords, LocalsWords, Represented, flat_entry}
-use Rattle.mv_interpreter.specs.Flat.Outcomes.{SameOutcome}
 use Rattle.mv_interpreter.proofs.Flat.Wide.{Sized}
 use Rattle.mv_interpreter.proofs.Flat.Sizes.{sizes}
 use Rattle.mv_interpreter.proofs.Flat.Slot.{widths_named}
@@ -34,9 +13,11 @@ use Rattle.mv_interpreter.proofs.Flat.Arguments.{ListWords}
 use Rattle.mv_interpreter.proofs.Flat.Grow.{entered_locals, all_named, named_split}
 use Rattle.mv_interpreter.proofs.Flat.Calls.{types_are}
 use Rattle.mv_interpreter.proofs.Flat.Run.{turns_follow}
+use Rattle.std.proofs.lemmas.Option.{none-some}
 
 -- values of types have the types' names
-types_named : (modules : List Module) (look : Roots) (home : Module) (vs : List Value) (ts : List Token) (tags : List Tag) → HaveTokens modules look home vs ts → tokens_named home ts ≡ Some tags → HaveTypes (fields_by_name modules) look vs tags
+types_named : (modules : List Module) (look : Roots) (home : Module) (vs : List Value) (ts : List Token) (tags : List Tag)
+    → HaveTokens modules look home vs ts → tokens_named home ts ≡ Some tags → HaveTypes (fields_by_name modules) look vs tags
 types_named modules look home [] [] tags h e = subst (λ (x : List Tag). HaveTypes (fields_by_name modules) look [] x) (same_Some [] tags e) tt
 types_named modules look home [] (t ∷ ts) tags h e = absurd h
 types_named modules look home (v ∷ vs) [] tags h e = absurd h
@@ -54,10 +35,7 @@ module _ (modules : List Module) (history : History) where
   argument_words (Struct name fields) t h = refl
   argument_words (Ref r) (LeafTag k) h = absurd h
   argument_words (Ref r) (StructTag name) h = absurd h
-  argument_words (Ref r) (ReferenceTag m to) h = absurd (never h.1.root.value h.1.root.is_there)
-    where
-      never : (v : Value) → None ≡ Some v → ⊥
-      never v e = cc
+  argument_words (Ref r) (ReferenceTag m to) h = absurd (none-some h.1.root.value h.1.root.is_there)
 
   arguments_words : (vs : List Value) (ts : List Tag) → HaveTypes (fields_by_name modules) Nowhere vs ts → ListWords modules history vs (flat_map flat vs)
   arguments_words [] ts h = refl
@@ -78,7 +56,8 @@ first_represented modules storage call c store sized stored =
     let locals : LocalsWords modules history (map Some call.arguments ++ replicate (length apart.0) None) (first.0 ++ apart.0) (flat_map flat call.arguments ++ zeros) =
     entered_locals modules history sized Nowhere call.arguments first.0 apart.0 (flat_map flat call.arguments) typed (arguments_words modules history call.arguments first.0 typed) in
     let long : length apart.0 ≡ length c.others = names_length c.home c.others apart.0 apart.1 in
-    subst (λ (n : ℕ). Represented modules (begun storage call (length c.others)) (flat_first (map flat_entry storage) call.function (flat_map flat call.arguments) n)) (sym (widths_named modules c.home c.others apart.0 apart.1)) (
+    subst (λ (n : ℕ). Represented modules (begun storage call (length c.others)) (flat_first (map flat_entry storage) call.function (flat_map flat call.arguments) n))
+    (sym (widths_named modules c.home c.others apart.0 apart.1)) (
       history,
       record {
         counted = refl;
@@ -116,15 +95,18 @@ pub others_are : (modules : List Module) (call : FunctionCall) (c : CallTyped mo
 others_are modules call c = rw (c.is_home, c.is_function, c.are_others) refl
 
 -- a run of linked code from a typed call over a typed storage ends as the machine's run does, wherever that meets no fault
-pub flat_run_follows : (modules : List Module) (program : Program) (P : State → Type 0) (storage : Storage) (call : FunctionCall) (budget : ℕ) → StoreAccepted modules → length modules ≤ 65536 → IsLinked modules program → Guides modules P →
-    (c : CallTyped modules call) → StorageTyped modules storage → P (begun storage call (length c.others)) →
-    SameOutcome modules (run modules storage call budget) (flat_run modules program (map flat_entry storage) call.function (flat_map flat call.arguments) budget)
+pub flat_run_follows : (modules : List Module) (program : Program) (P : State → Type 0) (storage : Storage) (call : FunctionCall) (budget : ℕ)
+    → StoreAccepted modules → length modules ≤ 65536 → IsLinked modules program → Guides modules P → (c : CallTyped modules call)
+    → StorageTyped modules storage → P (begun storage call (length c.others))
+    → SameOutcome modules (run modules storage call budget) (flat_run modules program (map flat_entry storage) call.function (flat_map flat call.arguments) budget)
 unfolding run flat_run
 flat_run_follows modules program P storage call budget accepted few linked guides c stored p =
     let store : SoundStore modules = accepted_is_sound modules accepted in
     let sized : Sized modules = sizes modules accepted in
-    let flat_ends : Option ℕ → FlatOutcome = λ others. option_map_or (λ others. flat_turns program budget (flat_first (map flat_entry storage) call.function (flat_map flat call.arguments) others)) others FlatStuck in
+    let flat_ends : Option ℕ → FlatOutcome =
+    λ others. option_map_or (λ others. flat_turns program budget (flat_first (map flat_entry storage) call.function (flat_map flat call.arguments) others)) others FlatStuck in
     subst (λ (r : Result State Failure). SameOutcome modules (outcome_from modules budget r) (flat_ends (width_of_others modules call.function))) (sym (first_is modules storage call c))
     (subst (λ (r : Option ℕ). SameOutcome modules (outcome_from modules budget (Ok (begun storage call (length c.others)))) (flat_ends r)) (sym (others_are modules call c))
-    (turns_follow modules program P budget (begun storage call (length c.others)) (flat_first (map flat_entry storage) call.function (flat_map flat call.arguments) (width_of_tokens modules c.home c.others)) store sized few linked guides
+    (turns_follow modules program P budget (begun storage call (length c.others))
+    (flat_first (map flat_entry storage) call.function (flat_map flat call.arguments) (width_of_tokens modules c.home c.others)) store sized few linked guides
     (first_typed modules storage call c stored) p (first_represented modules storage call c store sized stored)))

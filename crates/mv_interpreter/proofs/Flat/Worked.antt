@@ -1,15 +1,11 @@
 -- Worked runs of linked code, by computation.
-use Rattle.std.specs.Prelude.{◌≡◌, refl, ℕ, true, false, [], ◌∷◌, map, flat_map}
+use Rattle.mv_interpreter.proofs.Flat.Common.{flat_map, U64, Number, OfLeaf, OfStruct, Plain, Ret, Call, Module, FunctionCall, flat, Push, program_of, flat_entry}
+use Rattle.std.specs.Prelude.{◌≡◌, refl, ℕ, true, false, [], ◌∷◌, map}
 use Rattle.mv_move_types.specs.declared.tables.Visibility.TheVariants.{Public, Private}
-use Rattle.mv_move_types.specs.declared.token.Width.TheVariants.{U64}
-use Rattle.mv_move_types.specs.declared.token.LeafKind.TheVariants.{Number}
-use Rattle.mv_move_types.specs.declared.token.ValueType.TheVariants.{OfLeaf, OfStruct}
-use Rattle.mv_move_types.specs.declared.token.Token.TheVariants.{Plain, MutableReference}
-use Rattle.mv_move_types.specs.declared.instruction.Instruction.TheVariants.{Ret, MutBorrowLoc, MutBorrowField, CopyLoc, MoveLoc, StLoc, Pack, Unpack, Pop, LdU64, Call, ReadRef, WriteRef, Add, Abort}
-use Rattle.mv_move_types.specs.Module.{Module}
+use Rattle.mv_move_types.specs.declared.token.Token.TheVariants.{MutableReference}
+use Rattle.mv_move_types.specs.declared.instruction.Instruction.TheVariants.{MutBorrowLoc, MutBorrowField, CopyLoc, MoveLoc, StLoc, Pack, Unpack, Pop, LdU64, ReadRef, WriteRef, Add, Abort}
 use Rattle.mv_machine.specs.declared.Kind.TheVariants.{Code, Exists as AlreadyThere}
-use Rattle.mv_machine.specs.Run.{FunctionCall, run, Aborted, turns}
-use Rattle.mv_machine.specs.Flat.{flat}
+use Rattle.mv_machine.specs.Run.{run, Aborted, turns}
 use Rattle.mv_machine.proofs.Coin.{coin_module, mint, one_coin}
 use Rattle.mv_machine.specs.StepNumbers.{binary, comparison, shift, cast, logic, negation, constant, equality}
 use Rattle.mv_machine.specs.StepLocals.{pop, copy_local, store_local}
@@ -19,11 +15,10 @@ use Rattle.mv_machine.specs.StepReferences.{own_field, borrow_field, read_refere
 use Rattle.mv_machine.specs.StepGlobals.{exists, borrow_global, move_from}
 use Rattle.mv_machine.specs.StepControl.{callee, call, branch_if, abort}
 use Rattle.mv_type_states.specs.TypeRules.{types_after}
-use Rattle.mv_linker.specs.Operations.{Discard, Push, BorrowLocal, BorrowInside, Load, Store, Read, Write, Sum, Skip, Tally, PutStored, Leave, Enter, GiveUp}
-use Rattle.mv_linker.specs.Linked.{linked, program_of}
+use Rattle.mv_linker.specs.Operations.{Discard, BorrowLocal, BorrowInside, Load, Store, Read, Write, Sum, Skip, Tally, PutStored, Leave, Enter, GiveUp}
+use Rattle.mv_linker.specs.Linked.{linked}
 use Rattle.mv_interpreter.specs.Flat.FlatStep.{apply}
 use Rattle.mv_interpreter.specs.Flat.FlatRun.{FlatReturned, FlatAborted, flat_turns, flat_run}
-use Rattle.mv_interpreter.specs.Flat.Represents.{flat_entry}
 
 -- all that a flat run computes with
 unfoldable computes : ℕ
@@ -34,7 +29,8 @@ coin_linked : program_of (coin_module ∷ []) ≡ ((BorrowLocal 0 ∷ Load 1 1 �
 unfolding computes
 coin_linked = refl
 
-flat_mint : flat_run (coin_module ∷ []) (program_of (coin_module ∷ [])) [] mint.function (flat_map flat mint.arguments) 100 ≡ FlatReturned 5 (map flat_entry one_coin) (record { is_pack = true; definition = record { place = 0; index = 0 } } ∷ [])
+flat_mint : flat_run (coin_module ∷ []) (program_of (coin_module ∷ [])) [] mint.function (flat_map flat mint.arguments) 100 ≡ FlatReturned 5
+    (map flat_entry one_coin) (record { is_pack = true; definition = record { place = 0; index = 0 } } ∷ [])
 unfolding computes
 flat_mint = refl
 
@@ -54,7 +50,8 @@ pairs = record {
   identifiers = (77 ∷ []) ∷ (80 ∷ []) ∷ (102 ∷ []) ∷ (103 ∷ []) ∷ [];
   addresses = 1 ∷ [];
   structs = record { handle = 0; fields = record { name = 2; token = Plain (OfLeaf (Number U64)) } ∷ record { name = 3; token = Plain (OfLeaf (Number U64)) } ∷ [] } ∷ [];
-  functions = record { handle = 0; visibility = Public; is_entry = true; acquires = []; locals = 2; code = LdU64 3 ∷ LdU64 4 ∷ Pack 0 ∷ StLoc 1 ∷ MutBorrowLoc 1 ∷ Call 1 ∷ MoveLoc 1 ∷ Unpack 0 ∷ StLoc 0 ∷ Pop ∷ MoveLoc 0 ∷ Abort ∷ [] }
+  functions =
+      record { handle = 0; visibility = Public; is_entry = true; acquires = []; locals = 2; code = LdU64 3 ∷ LdU64 4 ∷ Pack 0 ∷ StLoc 1 ∷ MutBorrowLoc 1 ∷ Call 1 ∷ MoveLoc 1 ∷ Unpack 0 ∷ StLoc 0 ∷ Pop ∷ MoveLoc 0 ∷ Abort ∷ [] }
       ∷ record { handle = 1; visibility = Private; is_entry = false; acquires = []; locals = 3; code = MoveLoc 0 ∷ MutBorrowField 0 ∷ StLoc 1 ∷ CopyLoc 1 ∷ ReadRef ∷ LdU64 5 ∷ Add ∷ MoveLoc 1 ∷ WriteRef ∷ Ret ∷ [] } ∷ [];
   field_handles = record { definition = 0; position = 1 } ∷ [];
   own = 0;
@@ -71,7 +68,8 @@ flat_pairs_aborts : flat_run (pairs ∷ []) (program_of (pairs ∷ [])) [] adds.
 unfolding computes
 flat_pairs_aborts = refl
 
-pairs_linked : program_of (pairs ∷ []) ≡ ((Push 3 ∷ Push 4 ∷ Skip ∷ Store 1 2 ∷ BorrowLocal 1 ∷ Enter (record { place = 0; index = 1 }) 2 2 ∷ Load 1 2 ∷ Skip ∷ Store 0 1 ∷ Discard 1 ∷ Load 0 1 ∷ GiveUp ∷ [])
+pairs_linked : program_of (pairs ∷ []) ≡ ((Push 3 ∷ Push 4 ∷ Skip ∷ Store 1 2 ∷ BorrowLocal 1 ∷ Enter
+    (record { place = 0; index = 1 }) 2 2 ∷ Load 1 2 ∷ Skip ∷ Store 0 1 ∷ Discard 1 ∷ Load 0 1 ∷ GiveUp ∷ [])
     ∷ (Load 0 2 ∷ BorrowInside 1 ∷ Store 2 2 ∷ Load 2 2 ∷ Read 1 ∷ Push 5 ∷ Sum U64 ∷ Load 2 2 ∷ Write 1 ∷ Leave 0 ∷ []) ∷ []) ∷ []
 unfolding computes
 pairs_linked = refl

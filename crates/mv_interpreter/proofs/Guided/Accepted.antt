@@ -1,27 +1,14 @@
 -- A certificate that holds of a module holds of each of its functions; and what is known where a callee begins.
-use Rattle.std.proofs.Common.{◌≡◌, ℕ, zero, suc, ◌+◌, ◌-◌, List, [], ◌∷◌, ◌++◌, map, length, replicate, true, false, refl, sym, ◌∙◌, ap, subst, arith, Bool, Option, Some, None, option_map, Ok}
-use Rattle.std.specs.Prelude.{slice_get}
-use Rattle.std.specs.Option.{option_map_or}
-use Rattle.std.proofs.lemmas.Bool.{and_parts}
+use Rattle.mv_interpreter.proofs.Guided.Common.{◌≡◌, ℕ, zero, suc, ◌+◌, ◌-◌, List, [], ◌∷◌, ◌++◌, map, length, true, false, refl, sym, ◌∙◌, ap, subst, arith, Bool, Option, Some, None, option_map, Ok, slice_get, option_map_or, and_parts, same_Some, FunctionHandle, Token, Available, Unavailable, Module, FunctionDefinition, local_tokens, Value, Tag, same_tag, same_tags, Known, Certificate, Stated, locals_leq, edges_leq, Here, Callee, on_some, callee-is, AsKnown, StoreFacts}
+use Rattle.std.proofs.Common.{replicate}
 use Rattle.std.proofs.lemmas.List.{length-append}
-use Rattle.std.proofs.lemmas.Option.{same_Some}
-use Rattle.mv_move_types.specs.declared.tables.FunctionHandle.{FunctionHandle}
-use Rattle.mv_move_types.specs.declared.token.Token.{Token}
-use Rattle.mv_move_types.specs.declared.borrow.Availability.TheVariants.{Available, Unavailable}
-use Rattle.mv_move_types.specs.Module.{Module, FunctionDefinition, local_tokens, parameter_tokens}
-use Rattle.mv_machine.specs.Value.{Value}
-use Rattle.mv_move_types.specs.Tags.{Tag, same_tag, same_tags}
-use Rattle.mv_certificate.specs.Certificate.{Known, known_at_start, Certificate, Stated, flow_holds, locals_hold, edges_hold, each_function}
-use Rattle.mv_locals_safety.specs.LocalsRules.{locals_leq, locals_after}
-use Rattle.mv_edges.specs.Edges.{edges_leq}
+use Rattle.mv_move_types.specs.Module.{parameter_tokens}
+use Rattle.mv_certificate.specs.Certificate.{known_at_start, flow_holds, locals_hold, edges_hold, each_function}
+use Rattle.mv_locals_safety.specs.LocalsRules.{locals_after}
 use Rattle.mv_borrow_graph.specs.BorrowRules.{edges_after}
-use Rattle.mv_machine.specs.StepParts.{Here}
-use Rattle.mv_machine.specs.StepControl.{Callee, callee}
-use Rattle.mv_linker.proofs.Found.{on_some}
-use Rattle.mv_machine.proofs.Transfers.{callee-is, signature-is, tags-long}
+use Rattle.mv_machine.specs.StepControl.{callee}
+use Rattle.mv_machine.proofs.Transfers.{signature-is, tags-long}
 use Rattle.mv_interpreter.proofs.Borrows.Available.{known-start}
-use Rattle.mv_interpreter.specs.Borrows.Locals.{AsKnown}
-use Rattle.mv_interpreter.specs.Guided.Facts.{StoreFacts}
 
 -- what is stated of a function flows
 pub record Flows (m : Module) (d : FunctionDefinition) (stated : Stated) : Type 0 where
@@ -87,12 +74,15 @@ own-parameters h i c e =
       parameters = p.0;
       is_handle = is.is_own;
       are_parameters = p.1;
-      long = tags-long _ p.0 is.own_parameters p.2 ∙ sym (same-long c.parameters is.own_parameters (and_parts (same_tags c.parameters is.own_parameters) (same_tags c.results is.own_results) is.agree).0);
+      long = tags-long _ p.0 is.own_parameters p.2 ∙ sym (same-long c.parameters is.own_parameters
+          (and_parts (same_tags c.parameters is.own_parameters) (same_tags c.results is.own_results) is.agree).0);
     }
 
 -- its locals are as known where it begins
-pub entered-known : (m : Module) (d : FunctionDefinition) (start : Known) (handle : FunctionHandle) (parameters others : List Token) (args : List Value) → slice_get m.function_handles d.handle ≡ Some handle → slice_get m.signatures handle.parameters ≡ Some parameters
-    → slice_get m.signatures d.locals ≡ Some others → length args ≡ length parameters → known_at_start m d ≡ Some start → AsKnown start.locals (map Some args ++ replicate (length others) None)
+pub entered-known : (m : Module) (d : FunctionDefinition) (start : Known) (handle : FunctionHandle) (parameters others : List Token) (args : List Value)
+    → slice_get m.function_handles d.handle ≡ Some handle → slice_get m.signatures handle.parameters ≡ Some parameters
+    → slice_get m.signatures d.locals ≡ Some others → length args ≡ length parameters → known_at_start m d ≡ Some start
+    → AsKnown start.locals (map Some args ++ replicate (length others) None)
 entered-known m d start handle parameters others args handle_is parameters_are others_are long e =
     on_some (parameter_tokens m d) _ start e (λ ps ps_are e1.
     on_some (local_tokens m d) _ start e1 (λ ts ts_are e2.

@@ -1,27 +1,18 @@
 -- What no live reference of any frame leads into, as the rules of types ask for it.
-use Rattle.std.proofs.Common.{◌≡◌, ℕ, List, [], ◌∷◌, ◌++◌, map, length, reverse, true, ◌⊎◌, inl, inr, refl, sym, ◌∙◌, ap, subst, Option, Some, None}
-use Rattle.std.specs.Prelude.{filter_map, ◌==◌}
-use Rattle.std.specs.List.{list_any, cons_option}
-use Rattle.std.proofs.lemmas.Bool.{and_from, eq-eqb}
+use Rattle.mv_interpreter.proofs.Guided.Common.{◌≡◌, ℕ, List, [], ◌∷◌, ◌++◌, map, length, reverse, true, ◌⊎◌, inl, inr, refl, sym, ◌∙◌, ap, subst, Option, Some, None, ◌==◌, list_any, cons_option, and_from, eq-eqb, reverse_onto, Own, Glob, Root, Local, Stored, Reference, Value, Frame, State, frames, reference_of, references, local_references, Point, no_edge_out, root_of, Stood, seen_of, layer_at, layers, StoodOn, InRefs}
+use Rattle.std.specs.Prelude.{filter_map}
 use Rattle.std.proofs.lemmas.Bool.Decides.{eqb_tells}
-use Rattle.std.proofs.lemmas.Grind.{reverse_onto}
-use Rattle.mv_move_types.specs.declared.borrow.Node.TheVariants.{Own, Glob}
-use Rattle.mv_machine.specs.Value.{Root, Local, Stored, Reference, Value}
-use Rattle.mv_machine.specs.State.{Frame, State, frames}
-use Rattle.mv_machine.specs.Live.{reference_of, references, local_references}
-use Rattle.mv_type_states.specs.TypesHold.{Point}
-use Rattle.mv_borrow_graph.specs.BorrowRules.{no_edge_out, return_edges}
+use Rattle.mv_borrow_graph.specs.BorrowRules.{return_edges}
 use Rattle.mv_borrow_graph.specs.Abstract.Places.{Local as InLocal, Global as InStore}
 use Rattle.mv_borrow_graph.specs.Abstract.Covers.{Node as TheNode, Temp as AtTemp, Live}
 use Rattle.mv_borrow_graph.specs.Abstract.Stack.{Layer, OnStack, Top, Lower, Chain}
 use Rattle.mv_borrow_graph.proofs.Abstract.Stack.{local_unborrowed, struct_unborrowed}
-use Rattle.mv_interpreter.specs.Borrows.View.{defined, root_of, ref_of, operands_of}
-use Rattle.mv_interpreter.specs.Borrows.Stood.{Stood, seen_of, layer_at, layers, StoodOn, home_of}
+use Rattle.mv_interpreter.specs.Borrows.View.{defined, ref_of, operands_of}
+use Rattle.mv_interpreter.specs.Borrows.Stood.{home_of}
 use Rattle.mv_interpreter.proofs.Borrows.Edges.{free_out}
 use Rattle.mv_interpreter.proofs.Borrows.Lists.{place_get, stack-seen}
 use Rattle.mv_interpreter.proofs.Borrows.Kept.{place-under}
 use Rattle.mv_interpreter.proofs.Borrows.Free.{live-at, below-free, result-free}
-use Rattle.mv_interpreter.specs.Borrows.Hypotheses.{InRefs}
 use Rattle.mv_interpreter.specs.Typing.Unreached.{Avoid, FrameAvoids, BelowAvoid, Unreached, Leaving}
 
 -- ---- lists of references
@@ -98,7 +89,8 @@ frame-avoids gone x f same free =
       avoid-from gone (references x.frame.stack) (λ r i. let u = live-at x.function.acquires (seen_of x) r (in-right r (local_references x.frame.locals) (references x.frame.stack) i) in free u.0 r u.1),
     )
 
-lent-avoids : (gone : Root → Type 0) (x : Stood) (lent : List (Option Reference)) → x.lent ≡ lent → ((n : TheNode) (r : Reference) → Live (layer_at x).frame n (ref_of r) → gone r.place.root → ⊥) → Avoid gone (filter_map (λ r. r) lent)
+lent-avoids : (gone : Root → Type 0) (x : Stood) (lent : List (Option Reference)) → x.lent ≡ lent
+    → ((n : TheNode) (r : Reference) → Live (layer_at x).frame n (ref_of r) → gone r.place.root → ⊥) → Avoid gone (filter_map (λ r. r) lent)
 lent-avoids gone x lent same free =
     subst (λ (l : List (Option Reference)). Avoid gone (filter_map (λ r. r) l)) same
     (avoid-from gone (filter_map (λ r. r) x.lent) (λ r i.

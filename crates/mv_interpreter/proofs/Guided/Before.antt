@@ -1,30 +1,25 @@
 -- What an accepted certificate says before an instruction, and that it goes on to what it says before each that may come next.
-use Rattle.std.proofs.Common.{◌≡◌, ℕ, ◌+◌, ◌-◌, ◌<◌, ◌≤◌, Bool, true, false, List, [], ◌∷◌, ◌++◌, map, length, take, drop, refl, sym, ap, ◌∙◌, subst, Option, Some, None, option_map, arith, ◌⊎◌, inl, inr}
-use Rattle.std.specs.Prelude.{slice_get, slice_range, nat_le, zip}
-use Rattle.std.specs.List.{list_all}
-use Rattle.std.specs.Option.{option_map_or}
-use Rattle.std.proofs.lemmas.Bool.{true≢false, and_parts, and_from, leb-true, le-leb, cases_Bool, false_from_ne_true}
-use Rattle.std.proofs.lemmas.Option.{same_Some}
+use Rattle.mv_interpreter.proofs.Guided.Common.{◌≡◌, ℕ, ◌+◌, ◌-◌, ◌<◌, ◌≤◌, Bool, true, false, List, [], ◌∷◌, ◌++◌, map, length, refl, sym, ap, ◌∙◌, subst, Option, Some, None, option_map, arith, inl, inr, slice_get, nat_le, zip, list_all, option_map_or, and_parts, and_from, same_Some, Unavailable, Available, Instruction, Module, FunctionDefinition, Block, starts_from, Edge, edges_leq, Known, Stated, locals_leq, known_before, Point, Types, on_some}
+use Rattle.std.proofs.Common.{take, drop}
+use Rattle.std.specs.Prelude.{slice_range}
+use Rattle.std.proofs.lemmas.Bool.{leb-true, false_from_ne_true}
 use Rattle.mv_move_types.specs.declared.borrow.Availability.{Availability}
-use Rattle.mv_move_types.specs.declared.borrow.Availability.TheVariants.{Unavailable, Available, Maybe}
-use Rattle.mv_move_types.specs.declared.instruction.Instruction.{Instruction}
-use Rattle.mv_move_types.specs.Module.{Module, FunctionDefinition}
-use Rattle.mv_cfg.specs.Blocks.{BasicBlock as Block, blocks, starts_from, leads_to}
+use Rattle.mv_move_types.specs.declared.borrow.Availability.TheVariants.{Maybe}
+use Rattle.mv_cfg.specs.Blocks.{blocks, leads_to}
 use Rattle.mv_move_types.specs.Flow.{ends_block, successors}
-use Rattle.mv_edges.specs.Edges.{Edge, edges_leq}
 use Rattle.mv_edges.proofs.Order.{edges_leq_itself}
-use Rattle.mv_certificate.specs.Certificate.{Known, Stated, through, instructions_of, stated_at, flows_into, block_holds, flow_holds}
-use Rattle.mv_locals_safety.specs.LocalsRules.{availability_leq, locals_leq, locals_after}
-use Rattle.mv_certificate.specs.Known.{known_leq, known_after, block_of, known_before}
-use Rattle.mv_type_states.specs.TypesHold.{Point}
+use Rattle.mv_certificate.specs.Certificate.{through, instructions_of, stated_at, flows_into, block_holds, flow_holds}
+use Rattle.mv_locals_safety.specs.LocalsRules.{availability_leq, locals_after}
+use Rattle.mv_certificate.specs.Known.{known_leq, known_after, block_of}
 use Rattle.mv_borrow_graph.specs.BorrowRules.{edges_after}
-use Rattle.mv_type_states.specs.TypeRules.{Types, types_after}
-use Rattle.mv_linker.proofs.Found.{each, on_some}
+use Rattle.mv_type_states.specs.TypeRules.{types_after}
+use Rattle.mv_linker.proofs.Found.{each}
 use Rattle.mv_interpreter.proofs.Typing.FlowFacts.{range_split, BlockFacts, block_facts, starts_rise, ended_begin}
-use Rattle.mv_interpreter.proofs.Borrows.Steps.{Among}
+use Rattle.mv_interpreter.proofs.Borrows.Standing.{Among}
 use Rattle.mv_interpreter.proofs.Borrows.Certified.{Inside, inside, held, flows, both-through}
 use Rattle.mv_interpreter.proofs.Guided.Tiles.{Tiles, tiles-blocks, starts-rise, holds_place, tile-found, tile-ordered, find-has, zip-parts, zip-maps, stated-maps, stated-has, next-is}
 use Rattle.mv_interpreter.proofs.Typing.Advances.{one_successor}
+use Rattle.mv_interpreter.proofs.Lists.{below-or-at}
 
 -- ---- each is below itself
 
@@ -159,16 +154,6 @@ module _ (m : Module) (d : FunctionDefinition) (stated : Stated) where
       pub starts-known : (l : Known) × (known_before m d stated 0 ≡ Some (l, [])) × (locals_leq start.locals l.locals ≡ true) × (edges_leq start.edges l.edges ≡ true)
       starts-known = both-flow 0 start.locals start.edges locals_both.0 edges_both.0
 
-      at_last_or : (a b : ℕ) → a ≤ b → (a < b) ⊎ (a ≡ b)
-      at_last_or a b h =
-          elim (cases_Bool (nat_le b a)) [
-            | inl t ↦ let g : b ≤ a = leb-true b a t in inr (omega (arith, h, g))
-            | inr t ↦ inl (lower (λ l. true≢false (sym (le-leb b a l) ∙ t)))
-          ]
-        where
-          lower : (b ≤ a → ⊥) → a < b
-          lower f = omega (arith, f)
-
       -- an instruction that the certificate speaks of meets its needs, and the certificate speaks of each that may come next
       pub goes-on : (at : ℕ) (k : Known) (ts : Types) (i : Instruction) → known_before m d stated at ≡ Some (k, ts) → slice_get d.code at ≡ Some i → Onward at i k ts
       goes-on at k ts i e is =
@@ -192,15 +177,18 @@ module _ (m : Module) (d : FunctionDefinition) (stated : Stated) where
           (subst (λ (xs : List Instruction). through known_after m d xs (b.known, []) ≡ Some (record { locals = l.end.0; edges = g.end.0 }, l.end.1)) whole.1
           (both-through m d (instructions_of d b.block) b.known [] l.end.0 g.end.0 l.end.1 g.end.1 l.goes g.goes)))
         where
-          from_inside : (b : Before at k ts) → BlockFacts d.code (starts_from d.code 0 true d.code) 0 b.block → (i : Instruction) → slice_get d.code at ≡ Some i
-              → (le : List Availability × Types) (ge : List Edge × Types) → list_all (flows_into locals_leq stated_locals le.0) b.block.next ≡ true → list_all (flows_into edges_leq stated_edges ge.0) b.block.next ≡ true
-              → (rest : List Instruction) → (b.block.last + 1 ≡ at + 1 → rest ≡ []) → slice_range d.code b.block.first (at + 1) ≡ slice_range d.code b.block.first at ++ i ∷ []
-              → Inside known_after m d (slice_range d.code b.block.first at) i rest (b.known, []) (record { locals = le.0; edges = ge.0 }, le.1) → Onward at i k ts
+          from_inside : (b : Before at k ts) → BlockFacts d.code (starts_from d.code 0 true d.code) 0 b.block → (i : Instruction)
+              → slice_get d.code at ≡ Some i → (le : List Availability × Types) (ge : List Edge × Types)
+              → list_all (flows_into locals_leq stated_locals le.0) b.block.next ≡ true
+              → list_all (flows_into edges_leq stated_edges ge.0) b.block.next ≡ true → (rest : List Instruction)
+              → (b.block.last + 1 ≡ at + 1 → rest ≡ []) → slice_range d.code b.block.first (at + 1) ≡ slice_range d.code b.block.first at ++ i ∷ []
+              → Inside known_after m d (slice_range d.code b.block.first at) i rest (b.known, []) (record { locals = le.0; edges = ge.0 }, le.1)
+              → Onward at i k ts
           from_inside b facts i is le ge exits_l exits_g rest rest_is front_is x =
               let same : (x.known, x.types) ≡ (k, ts) = same_Some (x.known, x.types) (k, ts) (sym x.here ∙ b.carried) in
               let met : known_after (point ts) i k ≡ Some x.next = subst (λ (z : Known × Types). known_after (point z.1) i z.0 ≡ Some x.next) same x.met in
               let parts = known-parts (point ts) i k x.next met in
-              let places = at_last_or at b.block.last b.not_behind in
+              let places = below-or-at at b.block.last b.not_behind in
               record {
                 next = x.next;
                 after = x.next_types;
@@ -243,7 +231,9 @@ module _ (m : Module) (d : FunctionDefinition) (stated : Stated) where
                   same_Some (x.next, x.next_types) (record { locals = le.0; edges = ge.0 }, le.1)
                   (subst (λ (is : List Instruction). through known_after m d is (x.next, x.next_types) ≡ Some (record { locals = le.0; edges = ge.0 }, le.1)) none x.onward) in
                   let next_is : b.block.next ≡ successors at i =
-                  next-is d.code (starts_from d.code 0 true d.code) b.place b.block b.is_block ∙ ap (leads_to d.code) (sym p) ∙ ap (λ (o : Option Instruction). option_map_or (successors at) o []) is in
+                  next-is d.code (starts_from d.code 0 true d.code) b.place b.block b.is_block ∙ ap (leads_to d.code)
+                  (sym p) ∙ ap (λ (o : Option Instruction). option_map_or (successors at) o []) is in
                   let there : Among j b.block.next = subst (λ xs. Among j xs) (sym next_is) a in
-                  let t = both-flow j le.0 ge.0 (all-among (flows_into locals_leq stated_locals le.0) b.block.next j exits_l there) (all-among (flows_into edges_leq stated_edges ge.0) b.block.next j exits_g there) in
+                  let t = both-flow j le.0 ge.0 (all-among (flows_into locals_leq stated_locals le.0) b.block.next j exits_l there)
+                  (all-among (flows_into edges_leq stated_edges ge.0) b.block.next j exits_g there) in
                   (t.0, [], t.1, subst (λ (z : Known × Types). known_leq z.0 t.0 ≡ true) (sym ended) (and_from (locals_leq le.0 t.0.locals) (edges_leq ge.0 t.0.edges) t.2 t.3))

@@ -1,18 +1,11 @@
 -- The invariant as the theory of borrows has it, and back.
-use Rattle.std.proofs.Common.{◌≡◌, ℕ, List, [], ◌∷◌, map, length, sym, ◌∙◌, ap, Option}
-use Rattle.mv_move_types.specs.Module.{Module}
-use Rattle.mv_machine.specs.Value.{Reference}
-use Rattle.mv_machine.specs.State.{Frame, State, frames}
-use Rattle.mv_machine.specs.Live.{reference_of}
-use Rattle.mv_certificate.specs.Certificate.{Certificate}
+use Rattle.mv_interpreter.proofs.Guided.Common.{◌≡◌, ℕ, List, [], ◌∷◌, map, length, sym, ◌∙◌, ap, Option, Module, Reference, Frame, State, frames, reference_of, Certificate, held_as, Fits, Stood, seen_of, point_of, layer_at, layers, StoodOn, Sound, AllPlaced, StoodFit, AllAgree, Guided}
 use Rattle.mv_borrow_graph.specs.Abstract.Stack.{Chain, Bottom, Above, Calls}
 use Rattle.mv_borrow_graph.specs.Abstract.Rows.{IsArgument}
 use Rattle.mv_borrow_graph.proofs.Abstract.Stack.{chain_covers, chain_return}
-use Rattle.mv_interpreter.specs.Borrows.View.{held_as}
-use Rattle.mv_interpreter.specs.Borrows.Hypotheses.{Fits}
-use Rattle.mv_interpreter.specs.Borrows.Stood.{Stood, seen_of, point_of, layer_at, layers, StoodOn, home_of, Linked, LinkedTo, Sound}
+use Rattle.mv_interpreter.specs.Borrows.Stood.{home_of, Linked, LinkedTo}
 use Rattle.mv_interpreter.proofs.Borrows.Calls.{homed, calls-hold}
-use Rattle.mv_interpreter.specs.Guided.Guided.{AllPlaced, AllCovered, FirstAlone, StoodFit, AllAgree, Guided}
+use Rattle.mv_interpreter.specs.Guided.Guided.{AllCovered, FirstAlone}
 
 module _ (depends : ℕ → ℕ → Type 0) where
   -- a waiting frame and the one above it
@@ -22,8 +15,8 @@ module _ (depends : ℕ → ℕ → Type 0) where
       let c = calls-hold depends w.home w.function (seen_of w) u.frame u.function.acquires w.types l.types w.edges l.edges l.link lent fits l.need l.typing u.edges in
       record { passed = c.passed; free = c.free; store_free = c.store_free; later = c.later; leads_on = c.leads_on }
 
-  pub chain-from : (lent : List (Option Reference)) (fs : List Frame) (x : Stood) (xs : List Stood) → StoodOn lent fs (x ∷ xs) → AllCovered (x ∷ xs) → FirstAlone (x ∷ xs) → LinkedTo depends x xs → StoodFit xs
-      → Chain depends home_of (layers (x ∷ xs))
+  pub chain-from : (lent : List (Option Reference)) (fs : List Frame) (x : Stood) (xs : List Stood) → StoodOn lent fs (x ∷ xs) → AllCovered (x ∷ xs)
+      → FirstAlone (x ∷ xs) → LinkedTo depends x xs → StoodFit xs → Chain depends home_of (layers (x ∷ xs))
   chain-from lent [] x xs s c f l fits = absurd s
   chain-from lent (g ∷ gs) x [] s c f l fits = Bottom c.0 (homed x.function.acquires (seen_of x)) f
   chain-from lent (g ∷ []) x (w ∷ ws) s c f l fits = absurd s.2
@@ -35,14 +28,16 @@ module _ (depends : ℕ → ℕ → Type 0) where
 module _ (depends : ℕ → ℕ → Type 0) (through : (a b c : ℕ) → depends a b → depends b c → depends a c) (no_cycle : (a : ℕ) → depends a a → ⊥) where
   pub all-covered : (x : Stood) (xs : List Stood) → Chain depends home_of (layers (x ∷ xs)) → AllCovered (x ∷ xs)
   all-covered x [] d = (chain_covers depends home_of through no_cycle (layer_at x) [] d, tt)
-  all-covered x (y ∷ ys) d = (chain_covers depends home_of through no_cycle (layer_at x) (layers (y ∷ ys)) d, all-covered y ys (chain_return depends home_of through no_cycle (layer_at x) (layer_at y) (layers ys) d))
+  all-covered x (y ∷ ys) d =
+      (chain_covers depends home_of through no_cycle (layer_at x) (layers (y ∷ ys)) d, all-covered y ys (chain_return depends home_of through no_cycle (layer_at x) (layer_at y) (layers ys) d))
 
   pub first-alone : (x : Stood) (xs : List Stood) → Chain depends home_of (layers (x ∷ xs)) → FirstAlone (x ∷ xs)
   first-alone x [] (Bottom c h e) = e
   first-alone x (y ∷ ys) d = first-alone y ys (chain_return depends home_of through no_cycle (layer_at x) (layer_at y) (layers ys) d)
 
   -- what the theory keeps, with where the frames stand, is the invariant
-  pub guided-from : (modules : List Module) (certificates : List Certificate) (s : State) (x : Stood) (xs : List Stood) → Sound depends s x xs → AllPlaced modules certificates (x ∷ xs) → StoodFit xs → AllAgree x.home x.function xs → Guided depends modules certificates s
+  pub guided-from : (modules : List Module) (certificates : List Certificate) (s : State) (x : Stood) (xs : List Stood) → Sound depends s x xs
+      → AllPlaced modules certificates (x ∷ xs) → StoodFit xs → AllAgree x.home x.function xs → Guided depends modules certificates s
   guided-from modules certificates s x xs sound placed fit agree = record {
     top = x;
     waiting = xs;

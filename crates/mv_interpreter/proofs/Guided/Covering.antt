@@ -1,49 +1,39 @@
 -- The invariant in the words of the definition: what is known covers each frame, and frames stand as they should to one another.
-use Rattle.std.proofs.Common.{◌≡◌, ◌≢◌, ℕ, zero, suc, ◌<◌, List, [], ◌∷◌, ◌++◌, map, length, reverse, Bool, true, false, ◌⊎◌, inl, inr, refl, sym, ◌∙◌, ap, ap₂, subst, append_assoc, arith, Option, Some, None}
-use Rattle.std.specs.Prelude.{slice_get, slice_index_or, IsTrue, Contains, All, AllPairs, option_and_then, ◌==◌}
-use Rattle.std.specs.List.{list_any}
-use Rattle.std.proofs.lemmas.Bool.{and_parts, and_from, eq-eqb, eqb-true, or_left, or_right, or_cases}
-use Rattle.std.proofs.lemmas.Grind.{reverse_onto}
+use Rattle.mv_interpreter.proofs.Guided.Common.{◌≡◌, ℕ, zero, suc, ◌<◌, List, [], ◌∷◌, ◌++◌, map, length, reverse, Bool, true, false, ◌⊎◌, inl, inr, refl, sym, ◌∙◌, ap, ap₂, subst, arith, Option, Some, None, slice_get, option_and_then, ◌==◌, list_any, and_parts, and_from, eq-eqb, eqb-true, reverse_onto, same_Some, Own, Glob, Module, Root, Local, Stored, Reference, Value, Frame, State, frames, reference_of, frame_references, Edge, Known, Certificate, root_of, held_as, local_of, Stood, seen_of, layer_at, StoodOn, InRefs, AsKnown, AllPlaced, Guided, StoreFacts}
+use Rattle.std.proofs.Common.{◌≢◌, append_assoc}
+use Rattle.std.specs.Prelude.{slice_index_or, IsTrue, Contains, All, AllPairs}
+use Rattle.std.proofs.lemmas.Bool.{or_left, or_right, or_cases}
 use Rattle.std.proofs.lemmas.List.{append-nil, reverse-append, reverse-reverse}
 use Rattle.std.proofs.lemmas.List.Elements.{All-nil, All-cons}
-use Rattle.std.proofs.lemmas.Option.{same_Some}
 use Rattle.mv_move_types.specs.declared.tables.Key.{Key}
 use Rattle.mv_move_types.specs.declared.borrow.Node.{Node}
-use Rattle.mv_move_types.specs.declared.borrow.Node.TheVariants.{Slot, Own, Glob, Temp}
-use Rattle.mv_move_types.specs.Module.{Module}
-use Rattle.mv_machine.specs.Value.{Root, Local, Stored, Reference, Value}
-use Rattle.mv_machine.specs.State.{Frame, State, frames}
-use Rattle.mv_machine.specs.Live.{reference_of, frame_references, overlap}
-use Rattle.mv_edges.specs.Edges.{Label, Edge}
-use Rattle.mv_certificate.specs.Certificate.{Known, Certificate}
+use Rattle.mv_move_types.specs.declared.borrow.Node.TheVariants.{Slot, Temp}
+use Rattle.mv_machine.specs.Live.{overlap}
+use Rattle.mv_edges.specs.Edges.{Label}
 use Rattle.mv_interpreter.specs.Borrows.Covers.{Seen, stack_references, reference_at, StandsFor, HasEdge, IsAcquired, IsOwn, IsLent, Covers}
 use Rattle.mv_interpreter.specs.Borrows.Invariant.{seen_under, IsCovered, acquires_of as acquires_in, KeepsOut, KeepsApart, StandTogether, Holds}
 use Rattle.mv_borrow_graph.specs.Abstract.Places.{Defined, Local as InLocal, Global as InStore, Label as TheLabel, Reach}
 use Rattle.mv_borrow_graph.specs.Abstract.Covers.{Glob as AtGlob, Ref as TheRef, Live, InList, Origin, FromOwn, FromStore, FromEntry, Leads, Covers as TheCovers}
 use Rattle.mv_borrow_graph.specs.Abstract.Lists.{refs_among, local_ref}
-use Rattle.mv_interpreter.specs.Borrows.View.{root_of, ref_of, node_of, label_from, label_of, held_as, operands_of, acquires_of, Member, edges_of, local_of, defined}
-use Rattle.mv_interpreter.specs.Borrows.Stood.{Stood, seen_of, layer_at, StoodOn}
+use Rattle.mv_interpreter.specs.Borrows.View.{ref_of, node_of, label_from, label_of, operands_of, acquires_of, Member, edges_of, defined}
 use Rattle.mv_interpreter.proofs.Borrows.Edges.{node_of-inj}
 use Rattle.mv_interpreter.proofs.Borrows.Lists.{place-reverse, local-seen, stack-seen}
 use Rattle.mv_interpreter.proofs.Borrows.Free.{overlap-is}
-use Rattle.mv_interpreter.specs.Borrows.Hypotheses.{InRefs}
 use Rattle.mv_interpreter.proofs.Borrows.Available.{known-at}
-use Rattle.mv_interpreter.specs.Borrows.Locals.{AsKnown}
 use Rattle.mv_interpreter.proofs.Borrows.Apart.{InStood, OutOf, ApartFrom, EachBelow, From, Together, all-out, all-apart, all-together}
-use Rattle.mv_interpreter.specs.Guided.Guided.{Placed, AllPlaced, AllCovered, Guided}
-use Rattle.mv_interpreter.specs.Guided.Facts.{StoreFacts}
+use Rattle.mv_interpreter.specs.Guided.Guided.{Placed, AllCovered}
 use Rattle.mv_interpreter.proofs.Guided.Chains.{sound-from}
 use Rattle.mv_interpreter.proofs.Lists.{map-turned}
 
 -- ---- lists by index
 
+suc-less : (a b : ℕ) → a < b → suc a < suc b
+suc-less a b h = omega (arith, h)
+
 contains-member : (e : Edge) (es : List Edge) → Member e es → Contains es e
 contains-member e [] m = absurd m
 contains-member e (x ∷ es) (inl m) = (0, omega arith, sym m)
 contains-member e (x ∷ es) (inr m) = let t = contains-member e es m in (suc t.0, suc-less t.0 (length es) t.1, t.2)
-  where
-    suc-less : (a b : ℕ) → a < b → suc a < suc b
-    suc-less a b h = omega (arith, h)
 
 in-refs : (r : Reference) (rs : List Reference) (k : ℕ) → k < length rs → slice_index_or rs k r ≡ r → InRefs r rs
 in-refs r [] k h e = absurd (omega (arith, h))
@@ -62,9 +52,6 @@ any-contains i (x ∷ xs) h =
       | inl t ↦ (0, omega arith, eqb-true x i t)
       | inr t ↦ let u = any-contains i xs t in (suc u.0, suc-less u.0 (length xs) u.1, u.2)
     ]
-  where
-    suc-less : (a b : ℕ) → a < b → suc a < suc b
-    suc-less a b h = omega (arith, h)
 
 -- an argument is in a list
 abbrev HasOption : Option Reference → List (Option Reference) → Type 0
@@ -88,9 +75,6 @@ option-contains : (o : Option Reference) (xs : List (Option Reference)) → HasO
 option-contains o [] h = absurd h
 option-contains o (x ∷ xs) (inl h) = (0, omega arith, h)
 option-contains o (x ∷ xs) (inr h) = let t = option-contains o xs h in (suc t.0, suc-less t.0 (length xs) t.1, t.2)
-  where
-    suc-less : (a b : ℕ) → a < b → suc a < suc b
-    suc-less a b h = omega (arith, h)
 
 -- ---- places
 
@@ -139,11 +123,14 @@ module _ (x : Stood) (known : Known) (are_locals : AsKnown known.locals x.frame.
   live-node : (n : Node) (r : Reference) → reference_at v n ≡ Some r → Live (layer_at x).frame (node_of place n) (ref_of r)
   live-node (Slot l) r e = by_local (slice_get x.frame.locals l) refl e
     where
-      by_local : (o : Option (Option Value)) → slice_get x.frame.locals l ≡ o → option_and_then reference_of (option_and_then (λ (v : Option Value). v) o) ≡ Some r → local_ref (map local_of x.frame.locals) l ≡ Some (ref_of r)
+      by_local : (o : Option (Option Value)) → slice_get x.frame.locals l ≡ o
+          → option_and_then reference_of (option_and_then (λ (v : Option Value). v) o) ≡ Some r
+          → local_ref (map local_of x.frame.locals) l ≡ Some (ref_of r)
       by_local None is g = absurd cc
       by_local (Some None) is g = absurd cc
       by_local (Some (Some w)) is g = local-seen x.frame.locals l w r is g
-  live-node (Temp k) r e = stack-seen (operands_of v) k r (sym (place-reverse (operands_of v) k) ∙ ap (λ (l : List (Option Reference)). slice_get l k) references-turned ∙ found (slice_get (stack_references v) k) e)
+  live-node (Temp k) r e =
+      stack-seen (operands_of v) k r (sym (place-reverse (operands_of v) k) ∙ ap (λ (l : List (Option Reference)). slice_get l k) references-turned ∙ found (slice_get (stack_references v) k) e)
     where
       found : (o : Option (Option Reference)) → option_and_then (λ (r : Option Reference). r) o ≡ Some r → o ≡ Some (Some r)
       found None g = absurd cc
@@ -158,7 +145,8 @@ module _ (x : Stood) (known : Known) (are_locals : AsKnown known.locals x.frame.
   stands-for (Glob t) r e = absurd cc
 
   -- an edge of the theory is one that is known
-  known-edge : (a b : Node) (y : TheLabel) → edges_of place known.edges (node_of place a) y (node_of place b) → (label : Label) × Contains known.edges (record { from = a; label = label; to = b }) × (y ≡ label_of label)
+  known-edge : (a b : Node) (y : TheLabel) → edges_of place known.edges (node_of place a) y (node_of place b)
+      → (label : Label) × Contains known.edges (record { from = a; label = label; to = b }) × (y ≡ label_of label)
   known-edge a b y (e, m, from, on, to) = (
     e.label,
     subst (λ (z : Edge). Contains known.edges z)
@@ -227,7 +215,8 @@ module _ (x : Stood) (known : Known) (are_locals : AsKnown known.locals x.frame.
   covers-between : (m n : Node) (q r : Reference) → m ≢ n → reference_at v m ≡ Some q → reference_at v n ≡ Some r → IsTrue (overlap q.place r.place) → IsTrue q.is_mutable ⊎ IsTrue r.is_mutable →
       (IsTrue q.is_mutable × HasEdge known v m n) ⊎ (IsTrue r.is_mutable × HasEdge known v n m)
   covers-between m n q r apart m_at n_at over mutable =
-      elim (c.pairs (node_of place m) (node_of place n) (ref_of q) (ref_of r) (λ e. apart (node_of-inj place m n e)) (live-node m q m_at) (live-node n r n_at) (overlap-is q.place r.place over) mutable) [
+      elim (c.pairs (node_of place m) (node_of place n) (ref_of q) (ref_of r) (λ e. apart (node_of-inj place m n e))
+      (live-node m q m_at) (live-node n r n_at) (overlap-is q.place r.place over) mutable) [
         | inl t ↦ inl (leads-edge m n q r m_at n_at t)
         | inr t ↦ inr (leads-edge n m r q n_at m_at t)
       ]
@@ -295,7 +284,8 @@ module _ (depends : ℕ → ℕ → Type 0) (modules : List Module) (certificate
     covers = covered x p.known p.are_locals (subst (λ (es : List Edge). TheCovers (layer_at x).frame (edges_of x.frame.function.place es)) (sym p.are_edges) c);
   }
 
-  frames-covered : (lent : List (Option Reference)) (fs : List Frame) (xs : List Stood) → StoodOn lent fs xs → AllPlaced modules certificates xs → AllCovered xs → All (IsCovered modules certificates) (seen_under lent fs)
+  frames-covered : (lent : List (Option Reference)) (fs : List Frame) (xs : List Stood) → StoodOn lent fs xs → AllPlaced modules certificates xs
+      → AllCovered xs → All (IsCovered modules certificates) (seen_under lent fs)
   frames-covered lent [] xs st p c = All-nil (IsCovered modules certificates)
   frames-covered lent (f ∷ fs) [] st p c = absurd st
   frames-covered lent (f ∷ fs) (x ∷ xs) st p c =
@@ -304,7 +294,8 @@ module _ (depends : ℕ → ℕ → Type 0) (modules : List Module) (certificate
       (frames-covered f.entered_with fs xs st.2 p.1 c.1)
 
 -- each frame is where one of these stands
-stood-at : (lent : List (Option Reference)) (fs : List Frame) (xs : List Stood) (k : ℕ) (d : Frame) → StoodOn lent fs xs → k < length fs → (w : Stood) × InStood w xs × (w.frame ≡ slice_index_or fs k d)
+stood-at : (lent : List (Option Reference)) (fs : List Frame) (xs : List Stood) (k : ℕ) (d : Frame) → StoodOn lent fs xs → k < length fs
+    → (w : Stood) × InStood w xs × (w.frame ≡ slice_index_or fs k d)
 stood-at lent [] xs k d st h = absurd (omega (arith, h))
 stood-at lent (f ∷ fs) [] k d st h = absurd st
 stood-at lent (f ∷ fs) (x ∷ xs) zero d st h = (x, inl refl, st.0)
@@ -317,8 +308,9 @@ stood-get lent (f ∷ fs) (x ∷ xs) zero g st h = (x, inl refl, st.0 ∙ same_S
 stood-get lent (f ∷ fs) (x ∷ xs) (suc k) g st h = let t = stood-get f.entered_with fs xs k g st.2 h in (t.0, inr t.1, t.2)
 
 -- frames of one module stand together
-from-frames : (x : Stood) (lent : List (Option Reference)) (fs : List Frame) (xs : List Stood) (j k : ℕ) (f g : Frame) → StoodOn lent fs xs → From x xs → j < k → slice_get fs j ≡ Some f → slice_get fs k ≡ Some g
-    → x.frame.function.place ≡ g.function.place → f.function.place ≡ x.frame.function.place
+from-frames : (x : Stood) (lent : List (Option Reference)) (fs : List Frame) (xs : List Stood) (j k : ℕ) (f g : Frame) → StoodOn lent fs xs
+    → From x xs → j < k → slice_get fs j ≡ Some f → slice_get fs k ≡ Some g → x.frame.function.place ≡ g.function.place
+    → f.function.place ≡ x.frame.function.place
 from-frames x lent [] xs j k f g st r l e h same = absurd cc
 from-frames x lent (y ∷ fs) [] j k f g st r l e h same = absurd st
 from-frames x lent (y ∷ fs) (w ∷ ws) j zero f g st r l e h same = absurd (omega (arith, l))
@@ -340,7 +332,8 @@ frames-together lent (y ∷ fs) (x ∷ xs) st t zero (suc j) (suc k) e f g a b p
 frames-together lent (y ∷ fs) (x ∷ xs) st t (suc i) (suc j) (suc k) e f g a b p q r same = frames-together y.entered_with fs xs st.2 t.1 i j k e f g (omega (arith, a)) (omega (arith, b)) p q r same
 
 -- pairs of frames, an upper and a lower one
-module _ (P : Stood → Stood → Type 0) (Q : Frame → Frame → Type 0) (modules : List Module) (certificates : List Certificate) (gives : (u w : Stood) → Placed modules certificates u → P u w → Q u.frame w.frame) where
+module _ (P : Stood → Stood → Type 0) (Q : Frame → Frame → Type 0) (modules : List Module) (certificates : List Certificate)
+    (gives : (u w : Stood) → Placed modules certificates u → P u w → Q u.frame w.frame) where
   frames-pairs : (lent : List (Option Reference)) (fs : List Frame) (xs : List Stood) → StoodOn lent fs xs → AllPlaced modules certificates xs → EachBelow P xs → AllPairs Q fs
   frames-pairs lent [] xs st p e i j d a b = absurd (omega (arith, b))
   frames-pairs lent (f ∷ fs) [] st p e i j d a b = absurd st
@@ -365,12 +358,15 @@ apart-is modules certificates u w p far q r (k, less, is) (n, lower, there) muta
     far q r (in-refs q (frame_references u.frame) k less is) (in-refs r (frame_references w.frame) n lower there) mutable immutable over
 
 -- the state is as the certificates say, in the words of the definition
-pub holds : (depends : ℕ → ℕ → Type 0) (modules : List Module) (certificates : List Certificate) → StoreFacts depends modules certificates → (s : State) → Guided depends modules certificates s → Holds modules certificates s
+pub holds : (depends : ℕ → ℕ → Type 0) (modules : List Module) (certificates : List Certificate) → StoreFacts depends modules certificates
+    → (s : State) → Guided depends modules certificates s → Holds modules certificates s
 holds depends modules certificates store s g =
     let sound = sound-from depends modules certificates s g in
     record {
       covered = frames-covered depends modules certificates [] (frames s) (g.top ∷ g.waiting) g.stood g.placed g.covered;
       together = frames-together [] (frames s) (g.top ∷ g.waiting) g.stood (all-together depends store.through store.no_cycle g.top g.waiting sound.chain);
-      kept_out = frames-pairs OutOf (KeepsOut modules) modules certificates (out-is modules certificates) [] (frames s) (g.top ∷ g.waiting) g.stood g.placed (all-out depends store.through store.no_cycle g.top g.waiting sound.chain);
-      kept_apart = frames-pairs ApartFrom KeepsApart modules certificates (apart-is modules certificates) [] (frames s) (g.top ∷ g.waiting) g.stood g.placed (all-apart depends store.through store.no_cycle g.top g.waiting sound.chain);
+      kept_out = frames-pairs OutOf (KeepsOut modules) modules certificates (out-is modules certificates) [] (frames s)
+          (g.top ∷ g.waiting) g.stood g.placed (all-out depends store.through store.no_cycle g.top g.waiting sound.chain);
+      kept_apart = frames-pairs ApartFrom KeepsApart modules certificates (apart-is modules certificates) [] (frames s)
+          (g.top ∷ g.waiting) g.stood g.placed (all-apart depends store.through store.no_cycle g.top g.waiting sound.chain);
     }

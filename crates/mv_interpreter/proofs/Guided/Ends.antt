@@ -1,13 +1,11 @@
 -- The parts of a rule, one after the other: each gives a value of which something holds, or fails otherwise than by what is lost or frozen.
-use Rattle.std.proofs.Common.{◌≡◌, ℕ, Bool, true, false, List, [], ◌∷◌, cond, refl, sym, subst, Option, Some, None, Result, Ok, Err}
-use Rattle.std.specs.Prelude.{ok_or, nat_le, length, reverse, take, drop, ⊤}
+use Rattle.mv_interpreter.proofs.Guided.Common.{◌≡◌, ℕ, Bool, true, false, List, [], ◌∷◌, cond, refl, sym, subst, Option, Some, None, Result, Ok, Err, ok_or, nat_le, ⊤, for_each, Value, Ref, Failure, Aborts, Faults, TypeFault, LinkageFault, LostFault, DanglingFault, FrozenFault, StructTag, same_tag, operand, operands, as_number, as_boolean, as_reference}
+use Rattle.std.specs.Prelude.{length, reverse, take, drop}
 use Rattle.mv_move_types.specs.declared.token.LeafKind.TheVariants.{Boolean, Number, Address, Signer}
-use Rattle.mv_move_types.specs.Results.{◌>>=◌, ◌>>◌, need, for_each}
+use Rattle.mv_move_types.specs.Results.{◌>>=◌, ◌>>◌, need}
 use Rattle.mv_move_types.specs.Names.{StructName}
-use Rattle.mv_machine.specs.Value.{Value, Leaf, Struct, Ref, list_of}
-use Rattle.mv_machine.specs.Typing.{Failure, Aborts, Faults, TypeFault, LinkageFault, LostFault, DanglingFault, FrozenFault}
-use Rattle.mv_move_types.specs.Tags.{StructTag, same_tag}
-use Rattle.mv_machine.specs.StepParts.{operand, operands, as_number, as_boolean, as_address, as_signer, as_reference, as_fields}
+use Rattle.mv_machine.specs.Value.{Leaf, Struct, list_of}
+use Rattle.mv_machine.specs.StepParts.{as_address, as_signer, as_fields}
 
 -- a failure other than by what is lost or frozen
 abbrev pub Fine : Failure → Type 0

@@ -1,33 +1,17 @@
 -- The invariant gives what the rules of types need of borrows at each step.
-use Rattle.std.proofs.Common.{◌≡◌, ℕ, List, sym, ◌∙◌, ap, subst, Option, Some, None}
-use Rattle.std.specs.Prelude.{slice_get, option_and_then}
-use Rattle.std.proofs.lemmas.Option.{same_Some}
-use Rattle.mv_move_types.specs.declared.borrow.Node.TheVariants.{Glob}
-use Rattle.mv_move_types.specs.declared.token.Token.{Token}
-use Rattle.mv_move_types.specs.declared.instruction.Instruction.{Instruction}
-use Rattle.mv_move_types.specs.declared.instruction.Instruction.TheVariants.{Ret, MoveLoc, StLoc, MoveFrom}
-use Rattle.mv_move_types.specs.Module.{Module, FunctionDefinition, local_type}
-use Rattle.mv_machine.specs.Value.{Value}
-use Rattle.mv_machine.specs.State.{State}
-use Rattle.mv_machine.specs.Live.{reference_of}
-use Rattle.mv_type_states.specs.TypesHold.{Point}
-use Rattle.mv_borrow_graph.specs.BorrowRules.{edges_after, no_edge_out}
-use Rattle.mv_certificate.specs.Certificate.{Certificate}
-use Rattle.mv_linker.proofs.Found.{on_some}
-use Rattle.mv_interpreter.specs.Borrows.Hypotheses.{token_kind, operand_kind}
-use Rattle.mv_interpreter.specs.Borrows.Stood.{Stood}
+use Rattle.mv_interpreter.proofs.Guided.Common.{◌≡◌, ℕ, List, sym, ◌∙◌, ap, subst, Option, Some, None, slice_get, option_and_then, same_Some, Glob, Token, Instruction, Ret, StLoc, MoveFrom, Module, FunctionDefinition, local_type, Value, State, reference_of, Point, no_edge_out, Certificate, on_some, token_kind, operand_kind, Stood, Reaches, Guided, StoreFacts, TypeFacts}
+use Rattle.mv_move_types.specs.declared.instruction.Instruction.TheVariants.{MoveLoc}
+use Rattle.mv_borrow_graph.specs.BorrowRules.{edges_after}
 use Rattle.mv_interpreter.proofs.Borrows.Edges.{then-some}
-use Rattle.mv_interpreter.specs.Borrows.Links.{Reaches}
 use Rattle.mv_interpreter.specs.Typing.Unreached.{Guarded, StepGuarded}
-use Rattle.mv_interpreter.specs.Guided.Guided.{Guided}
-use Rattle.mv_interpreter.specs.Guided.Facts.{StoreFacts, TypeFacts}
 use Rattle.mv_interpreter.proofs.Guided.Before.{Onward, goes-on}
 use Rattle.mv_interpreter.proofs.Guided.Working.{Working, worked, working}
-use Rattle.mv_interpreter.proofs.Guided.Rows.{moved-free, stored-free}
+use Rattle.mv_interpreter.proofs.Guided.Unfrozen.{moved-free, stored-free}
 use Rattle.mv_interpreter.proofs.Guided.Avoids.{local-unreached, struct-unreached, leaving}
 use Rattle.mv_interpreter.proofs.Guided.Accepted.{flows-at}
 
-module _ (depends : ℕ → ℕ → Type 0) (modules : List Module) (certificates : List Certificate) (store : StoreFacts depends modules certificates) (s : State) (w : Working depends modules certificates s) (facts : TypeFacts modules s) where
+module _ (depends : ℕ → ℕ → Type 0) (modules : List Module) (certificates : List Certificate) (store : StoreFacts depends modules certificates)
+    (s : State) (w : Working depends modules certificates s) (facts : TypeFacts modules s) where
   abbrev p : Point
   p = record { home = w.home; function = w.function; types = w.types }
 
@@ -45,18 +29,19 @@ module _ (depends : ℕ → ℕ → Type 0) (modules : List Module) (certificate
   guarded (MoveLoc l) q o = λ v at none.
       on_some (local_type w.home w.function l) _ o.next.edges o.edges (λ t t_is g.
       local-unreached depends store.through store.no_cycle s x w.waiting w.sound.stood w.sound.chain l
-      (moved-free depends store.through store.no_cycle modules s w.home w.function w.known w.types w.waiting w.sound w.fits w.are_locals facts.inside facts.rooted l t o.next.edges g (plain-at l t v t_is at none)))
+      (moved-free p l t w.known.edges o.next.edges g (plain-at l t v t_is at none)))
   guarded (StLoc l) q o = λ v at none.
       on_some (local_type w.home w.function l) _ o.next.edges o.edges (λ t t_is g.
       local-unreached depends store.through store.no_cycle s x w.waiting w.sound.stood w.sound.chain l
-      (stored-free depends store.through store.no_cycle modules s w.home w.function w.known w.types w.waiting w.sound w.fits w.are_locals facts.inside facts.rooted l t o.next.edges g (plain-at l t v t_is at none)))
+      (stored-free p l t w.known.edges o.next.edges g (plain-at l t v t_is at none)))
   guarded (MoveFrom k) q o = λ a rest e.
       struct-unreached depends store.through store.no_cycle s x w.waiting w.sound.stood w.sound.chain k a q (then-some (no_edge_out (Glob k) w.known.edges) w.known.edges o.next.edges o.edges).0
   guarded Ret q o = leaving depends store.through store.no_cycle s x w.waiting w.sound.stood w.sound.chain p (o.edges ∙ ap Some (then-some _ w.known.edges o.next.edges o.edges).1)
   guarded i q o = tt
 
 -- at the instruction that comes next no live reference leads into what it empties, overwrites or leaves behind
-pub guards : (depends : ℕ → ℕ → Type 0) (modules : List Module) (certificates : List Certificate) → StoreFacts depends modules certificates → (s : State) → Guided depends modules certificates s → TypeFacts modules s → StepGuarded modules s
+pub guards : (depends : ℕ → ℕ → Type 0) (modules : List Module) (certificates : List Certificate) → StoreFacts depends modules certificates
+    → (s : State) → Guided depends modules certificates s → TypeFacts modules s → StepGuarded modules s
 guards depends modules certificates store s g facts home function i is_home is_function is_next =
     let w = working depends modules certificates s g facts.fit in
     let one : home ≡ w.home = same_Some home w.home (sym is_home ∙ w.is_home) in

@@ -1,44 +1,23 @@
 -- Each step of a state that is as the certificates say leads to such a state, and meets nothing lost or frozen.
-use Rattle.std.proofs.Common.{◌≡◌, ℕ, ◌+◌, List, [], ◌∷◌, ◌++◌, map, length, reverse, true, refl, sym, ◌∙◌, ap, ap₂, subst, Option, Some, Result, Ok, Err, inl}
-use Rattle.std.specs.Prelude.{slice_get, ok_or, nat_lt, not, ◌==◌, flat_map, ⊤}
-use Rattle.std.specs.List.{list_all, list_any}
-use Rattle.std.proofs.lemmas.Bool.{and_parts}
-use Rattle.std.proofs.lemmas.Option.{same_Some}
-use Rattle.mv_move_types.specs.declared.instruction.Instruction.{Instruction}
-use Rattle.mv_move_types.specs.declared.instruction.Instruction.TheVariants.{Ret, Call}
+use Rattle.mv_interpreter.proofs.Guided.Common.{◌≡◌, ℕ, ◌+◌, List, [], ◌∷◌, ◌++◌, map, length, reverse, true, refl, sym, ◌∙◌, ap, ap₂, subst, Option, Some, Result, Ok, Err, inl, slice_get, ok_or, ⊤, list_all, and_parts, same_Some, Instruction, Ret, Call, local_of, alone, Module, FunctionDefinition, Value, Reference, Frame, State, reference_of, Failure, Faults, TypeFault, LinkageFault, entry, Known, Certificate, locals_leq, edges_leq, Point, Types, known_before, Here, Goes, Callee, ok-is, found-is, Fits, token_kind, operand_kind, Stood, seen_of, point_of, StoodOn, Sound, Reaches, callee-is, AsKnown, AllPlaced, StoodFit, AllAgree, Guided, StoreFacts, TypeFacts}
+use Rattle.std.specs.Prelude.{nat_lt}
 use Rattle.mv_move_types.specs.declared.tables.Definition.{Definition}
-use Rattle.mv_interpreter.specs.Borrows.View.{local_of, alone}
-use Rattle.mv_move_types.specs.Module.{Module, FunctionDefinition}
-use Rattle.mv_machine.specs.Value.{Value, Reference}
-use Rattle.mv_machine.specs.State.{Frame, State}
-use Rattle.mv_machine.specs.Live.{reference_of, references, frame_references}
-use Rattle.mv_machine.specs.Typing.{Failure, Faults, TypeFault, LinkageFault, LostFault, FrozenFault, entry, have_tags}
 use Rattle.mv_move_types.specs.Flow.{successors}
-use Rattle.mv_certificate.specs.Certificate.{Known, Certificate}
-use Rattle.mv_locals_safety.specs.LocalsRules.{locals_leq, locals_after}
-use Rattle.mv_edges.specs.Edges.{edges_leq}
-use Rattle.mv_type_states.specs.TypesHold.{Point}
+use Rattle.mv_locals_safety.specs.LocalsRules.{locals_after}
 use Rattle.mv_borrow_graph.specs.BorrowRules.{edges_after, call_edges, return_edges}
-use Rattle.mv_type_states.specs.TypeRules.{Types, types_after}
-use Rattle.mv_certificate.specs.Known.{known_before}
-use Rattle.mv_machine.specs.StepParts.{Here, Turn, Goes, Returns, operands, may_drop}
-use Rattle.mv_machine.specs.StepControl.{Callee, call, return_results, signature_tags, leaves, holds_frame}
+use Rattle.mv_type_states.specs.TypeRules.{types_after}
+use Rattle.mv_machine.specs.StepParts.{Turn, Returns}
+use Rattle.mv_machine.specs.StepControl.{call, return_results, leaves}
 use Rattle.mv_machine.specs.Step.{rule, step}
-use Rattle.mv_machine.proofs.Laws.{on_bind, on_need}
-use Rattle.mv_machine.proofs.Binds.{ok-is, found-is}
-use Rattle.mv_interpreter.specs.Borrows.Hypotheses.{Fits, token_kind, operand_kind}
-use Rattle.mv_interpreter.specs.Borrows.Stood.{Stood, seen_of, point_of, layers, StoodOn, Sound}
 use Rattle.mv_interpreter.proofs.Borrows.Edges.{then-some}
 use Rattle.mv_interpreter.proofs.Borrows.Same.{SameFrames}
 use Rattle.mv_interpreter.proofs.Borrows.Certified.{edges-below}
-use Rattle.mv_interpreter.proofs.Borrows.Steps.{IsTransfer, Stays, step-kept}
-use Rattle.mv_interpreter.specs.Borrows.Links.{Reaches}
-use Rattle.mv_machine.proofs.Transfers.{callee-is, ReturnedTo, returned, Called, called}
-use Rattle.mv_interpreter.proofs.Borrows.Invariant.{refit, sound-row, sound-call, sound-return}
+use Rattle.mv_interpreter.proofs.Borrows.Standing.{IsTransfer, Stays}
+use Rattle.mv_interpreter.proofs.Borrows.Steps.{step-kept}
+use Rattle.mv_machine.proofs.Transfers.{return-is, ReturnedTo, returned, Called, called}
+use Rattle.mv_interpreter.proofs.Borrows.Invariant.{refit, sound-row, sound-call, sound-return, standing}
 use Rattle.mv_interpreter.proofs.Borrows.Available.{known-above, known-same}
-use Rattle.mv_interpreter.specs.Borrows.Locals.{AsKnown}
-use Rattle.mv_interpreter.specs.Guided.Guided.{Placed, AllPlaced, StoodFit, AllAgree, Guided}
-use Rattle.mv_interpreter.specs.Guided.Facts.{StoreFacts, TypeFacts}
+use Rattle.mv_interpreter.specs.Guided.Guided.{Placed}
 use Rattle.mv_interpreter.proofs.Guided.Before.{Onward, goes-on, starts-known}
 use Rattle.mv_interpreter.proofs.Guided.Ends.{Ends, Goes_well, given, after, tests, found-well}
 use Rattle.mv_interpreter.proofs.Guided.Chains.{guided-from}
@@ -54,7 +33,8 @@ abbrev pub TurnGuided : (ℕ → ℕ → Type 0) → List Module → List Certif
 TurnGuided depends modules certificates (Goes t) = Guided depends modules certificates t
 TurnGuided depends modules certificates (Returns t) = ⊤
 
-placed-refit : (modules : List Module) (certificates : List Certificate) (lent : List (Option Reference)) (fs gs : List Frame) (xs : List Stood) → StoodOn lent fs xs → SameFrames fs gs → AllPlaced modules certificates xs → AllPlaced modules certificates (refit xs gs)
+placed-refit : (modules : List Module) (certificates : List Certificate) (lent : List (Option Reference)) (fs gs : List Frame) (xs : List Stood)
+    → StoodOn lent fs xs → SameFrames fs gs → AllPlaced modules certificates xs → AllPlaced modules certificates (refit xs gs)
 placed-refit modules certificates lent [] [] [] s q p = tt
 placed-refit modules certificates lent [] [] (x ∷ xs) s q p = absurd s
 placed-refit modules certificates lent [] (g ∷ gs) xs s q p = absurd q
@@ -79,8 +59,9 @@ placed-refit modules certificates lent (f ∷ fs) (g ∷ gs) (x ∷ xs) s q p =
     )
 
 -- a frame that goes on in its function
-pub placed-on : (modules : List Module) (certificates : List Certificate) (x : Stood) (p : Placed modules certificates x) (f : Frame) (l : Known) (us : Types) → f.function ≡ x.frame.function
-    → known_before x.home x.function p.stated f.at ≡ Some (l, us) → AsKnown l.locals f.locals → Placed modules certificates (record { home = x.home; function = x.function; frame = f; lent = []; types = us; edges = l.edges })
+pub placed-on : (modules : List Module) (certificates : List Certificate) (x : Stood) (p : Placed modules certificates x) (f : Frame) (l : Known) (us : Types)
+    → f.function ≡ x.frame.function → known_before x.home x.function p.stated f.at ≡ Some (l, us) → AsKnown l.locals f.locals
+    → Placed modules certificates (record { home = x.home; function = x.function; frame = f; lent = []; types = us; edges = l.edges })
 placed-on modules certificates x p f l us function is_known are_locals = record {
   certificate = p.certificate;
   stated = p.stated;
@@ -96,21 +77,13 @@ placed-on modules certificates x p f l us function is_known are_locals = record 
 
 -- the first frame's return doesn't go on
 last-returns : (h : Here) (t : State) → h.state.below ≡ [] → return_results h ≡ Ok (Goes t) → ⊥
-unfolding return_results
-last-returns h t none e =
-    on_bind (entry h.home.function_handles h.function.handle) _ (Goes t) e (λ handle handle_is e1.
-    on_bind (signature_tags h.modules h.home handle.results) _ (Goes t) e1 (λ tags tags_are e2.
-    on_bind (operands (length tags) h.state.top.stack) _ (Goes t) e2 (λ taken taken_is e3.
-    on_need (length taken.1 == 0) (Faults TypeFault) _ (Goes t) e3 (λ alone_there e4.
-    on_need (have_tags h.state taken.0 tags) (Faults TypeFault) _ (Goes t) e4 (λ fit e5.
-    on_need (list_all (may_drop h) h.state.top.locals) (Faults LostFault) _ (Goes t) e5 (λ drops e6.
-    on_need (not (list_any (holds_frame h.state.top.number) (references taken.0 ++ flat_map frame_references h.state.below))) (Faults FrozenFault) _ (Goes t) e6 (λ ok e7.
-    never (ok-is (Returns h.state) (Goes t) (sym (ap (leaves h taken.0) none) ∙ e7)))))))))
+last-returns h t none e = let r = return-is h (Goes t) e in never (ok-is (Returns h.state) (Goes t) (sym (ap (leaves h r.results) none) ∙ r.left))
   where
     never : Returns h.state ≡ Goes t → ⊥
     never z = cc
 
-module _ (depends : ℕ → ℕ → Type 0) (modules : List Module) (certificates : List Certificate) (store : StoreFacts depends modules certificates) (s : State) (w : Working depends modules certificates s) (facts : TypeFacts modules s) where
+module _ (depends : ℕ → ℕ → Type 0) (modules : List Module) (certificates : List Certificate) (store : StoreFacts depends modules certificates)
+    (s : State) (w : Working depends modules certificates s) (facts : TypeFacts modules s) where
   abbrev h : Here
   h = record { modules = modules; home = w.home; function = w.function; state = s }
 
@@ -144,11 +117,13 @@ module _ (depends : ℕ → ℕ → Type 0) (modules : List Module) (certificate
       by_result (Err e) is k = k
       by_result (Ok (Returns t)) is k = tt
       by_result (Ok (Goes t)) is k =
-          let st : Stays i s t = (step-kept depends store.through store.no_cycle (layers w.waiting) h w.types w.known.edges w.sound.chain w.fits facts.inside i (Goes t) o.next.edges transfer reaches w.sound.ordered is o.edges).1 in
+          let st : Stays i s t = (step-kept (standing depends store.through store.no_cycle modules s x w.waiting w.sound w.fits facts.inside) i (Goes t) o.next.edges transfer reaches w.sound.ordered is o.edges).1 in
           let l = o.leads t.top.at st.5 in
           let below = and_parts (locals_leq o.next.locals l.0.locals) (edges_leq o.next.edges l.0.edges) l.3 in
-          guided-from depends store.through store.no_cycle modules certificates t (record { home = w.home; function = w.function; frame = t.top; lent = []; types = l.1; edges = l.0.edges }) (refit w.waiting t.below)
-          (sound-row depends store.through store.no_cycle modules s x w.waiting w.sound i t o.next.edges l.0.edges l.1 transfer reaches is w.fits facts.inside o.edges (edges-below t.top.function.place o.next.edges l.0.edges below.1)) (
+          guided-from depends store.through store.no_cycle modules certificates t
+          (record { home = w.home; function = w.function; frame = t.top; lent = []; types = l.1; edges = l.0.edges }) (refit w.waiting t.below)
+          (sound-row depends store.through store.no_cycle modules s x w.waiting w.sound i t o.next.edges l.0.edges l.1 transfer reaches is w.fits facts.inside o.edges
+          (edges-below t.top.function.place o.next.edges l.0.edges below.1)) (
             placed-on modules certificates x placed-here t.top l.0 l.1 st.1 l.2 (known-above o.next.locals l.0.locals t.top.locals below.0 k),
             placed-refit modules certificates s.top.entered_with s.below t.below w.waiting w.sound.stood.2 st.3 w.placed,
           )
@@ -156,7 +131,8 @@ module _ (depends : ℕ → ℕ → Type 0) (modules : List Module) (certificate
           (agree-refit w.home w.function s.top.entered_with s.below t.below w.waiting w.sound.stood.2 st.3 w.agree)
 
   -- a Call
-  call-keeps : (j : ℕ) → slice_get w.function.code s.top.at ≡ Some (Call j) → Onward w.home w.function w.stated s.top.at (Call j) w.known w.types → Goes_well (call h j) → Ends (TurnGuided depends modules certificates) (call h j)
+  call-keeps : (j : ℕ) → slice_get w.function.code s.top.at ≡ Some (Call j) → Onward w.home w.function w.stated s.top.at (Call j) w.known w.types
+      → Goes_well (call h j) → Ends (TurnGuided depends modules certificates) (call h j)
   unfolding edges_after types_after
   call-keeps j at o well = by_result (call h j) refl well
     where
@@ -164,7 +140,8 @@ module _ (depends : ℕ → ℕ → Type 0) (modules : List Module) (certificate
       call-is a b z = cc
 
       -- the arguments that the waiting frame lent, and what is left on its stack
-      called-stack : (t : State) (stack : List Value) (ws : List Stood) → StoodOn t.top.entered_with t.below (record { home = w.home; function = w.function; frame = record (s.top) { stack = stack }; lent = t.top.entered_with; types = w.types; edges = w.known.edges } ∷ ws)
+      called-stack : (t : State) (stack : List Value) (ws : List Stood)
+          → StoodOn t.top.entered_with t.below (record { home = w.home; function = w.function; frame = record (s.top) { stack = stack }; lent = t.top.entered_with; types = w.types; edges = w.known.edges } ∷ ws)
           → Called h j t → map reference_of s.top.stack ≡ reverse t.top.entered_with ++ map reference_of stack
       called-stack t stack ws st k =
           let below = subst (λ fs. StoodOn t.top.entered_with fs (record { home = w.home; function = w.function; frame = record (s.top) { stack = stack }; lent = t.top.entered_with; types = w.types; edges = w.known.edges } ∷ ws)) k.below st in
@@ -227,16 +204,19 @@ module _ (depends : ℕ → ℕ → Type 0) (modules : List Module) (certificate
           )
           (waits-fit t u.2.0 (called-stack t u.2.0 w.waiting (u.2.1).stood.2 (called h j (Goes t) is)), w.waiting_fit) (
             λ i handle results i_at handle_at results_at own own_results own_at own_results_at.
-                callee-agrees h j n.c n.is_callee handle results (subst (λ k. slice_get w.home.function_handles k ≡ Some handle) (call-is i j (same_Some (Call i) (Call j) (sym i_at ∙ at))) handle_at) results_at
+                callee-agrees h j n.c n.is_callee handle results (subst (λ k. slice_get w.home.function_handles k ≡ Some handle)
+                (call-is i j (same_Some (Call i) (Call j) (sym i_at ∙ at))) handle_at) results_at
                 own own_results own_at own_results_at,
             w.agree,
           )
 
 -- a Ret
-return-goes : (depends : ℕ → ℕ → Type 0) (modules : List Module) (certificates : List Certificate) → StoreFacts depends modules certificates → (s t : State) (x v : Stood) (vs : List Stood) (sound : Sound depends s x (v ∷ vs))
-    → Fits (point_of x) (alone s.top) → Fits (point_of v) (seen_of v) → Placed modules certificates v → AllPlaced modules certificates vs → return_edges (point_of x) x.edges ≡ Some x.edges
-    → StoodFit vs → AllAgree x.home x.function (v ∷ vs)
-    → return_results (record { modules = modules; home = x.home; function = x.function; state = s }) ≡ Ok (Goes t) → Guided depends modules certificates t
+return-goes : (depends : ℕ → ℕ → Type 0) (modules : List Module) (certificates : List Certificate) → StoreFacts depends modules certificates
+    → (s t : State) (x v : Stood) (vs : List Stood) (sound : Sound depends s x (v ∷ vs)) → Fits (point_of x) (alone s.top)
+    → Fits (point_of v) (seen_of v) → Placed modules certificates v → AllPlaced modules certificates vs
+    → return_edges (point_of x) x.edges ≡ Some x.edges → StoodFit vs → AllAgree x.home x.function (v ∷ vs)
+    → return_results (record { modules = modules; home = x.home; function = x.function; state = s }) ≡ Ok (Goes t)
+    → Guided depends modules certificates t
 unfolding edges_after locals_after
 return-goes depends modules certificates store s t x v vs sound fits fits_v p ps free fit_vs agree e =
     let link = sound.links.0 in
@@ -268,7 +248,8 @@ return-goes depends modules certificates store s t x v vs sound fits fits_v p ps
       ap (λ (y : Frame). y.locals) r.top ∙ ap (λ (y : Frame). y.locals) (sym st.0),
     )
 
-module _ (depends : ℕ → ℕ → Type 0) (modules : List Module) (certificates : List Certificate) (store : StoreFacts depends modules certificates) (s : State) (w : Working depends modules certificates s) (facts : TypeFacts modules s) where
+module _ (depends : ℕ → ℕ → Type 0) (modules : List Module) (certificates : List Certificate) (store : StoreFacts depends modules certificates)
+    (s : State) (w : Working depends modules certificates s) (facts : TypeFacts modules s) where
   return-keeps : slice_get w.function.code s.top.at ≡ Some Ret → (o : Onward w.home w.function w.stated s.top.at Ret w.known w.types)
       → Goes_well (return_results (record { modules = modules; home = w.home; function = w.function; state = s }))
       → Ends (TurnGuided depends modules certificates) (return_results (record { modules = modules; home = w.home; function = w.function; state = s }))
@@ -282,12 +263,14 @@ module _ (depends : ℕ → ℕ → Type 0) (modules : List Module) (certificate
       no-frames [] st = refl
       no-frames (f ∷ fs) st = absurd st
 
-      by_result : (r : Result Turn Failure) → return_results (record { modules = modules; home = w.home; function = w.function; state = s }) ≡ r → Goes_well r → Ends (TurnGuided depends modules certificates) r
+      by_result : (r : Result Turn Failure) → return_results (record { modules = modules; home = w.home; function = w.function; state = s }) ≡ r
+          → Goes_well r → Ends (TurnGuided depends modules certificates) r
       by_result (Err e) is k = k
       by_result (Ok (Returns t)) is k = tt
       by_result (Ok (Goes t)) is k = by_waiting w.waiting w.sound w.waiting_fit w.placed w.agree
         where
-          by_waiting : (ws : List Stood) → Sound depends s (worked s w.home w.function w.types w.known.edges) ws → StoodFit ws → AllPlaced modules certificates ws → AllAgree w.home w.function ws → Guided depends modules certificates t
+          by_waiting : (ws : List Stood) → Sound depends s (worked s w.home w.function w.types w.known.edges) ws → StoodFit ws
+              → AllPlaced modules certificates ws → AllAgree w.home w.function ws → Guided depends modules certificates t
           by_waiting [] sound fit pl ag = absurd (last-returns (record { modules = modules; home = w.home; function = w.function; state = s }) t (no-frames s.below sound.stood.2) is)
           by_waiting (v ∷ vs) sound fit pl ag =
               return-goes depends modules certificates store s t (worked s w.home w.function w.types w.known.edges) v vs sound w.fits fit.0 pl.0 pl.1 free fit.1 ag is
@@ -301,8 +284,8 @@ module _ (depends : ℕ → ℕ → Type 0) (modules : List Module) (certificate
   rule-keeps i at q o ends = row-keeps depends modules certificates store s w facts i (λ z. z) q o ends
 
 -- every step
-pub step-keeps : (depends : ℕ → ℕ → Type 0) (modules : List Module) (certificates : List Certificate) → StoreFacts depends modules certificates → (s : State) → Guided depends modules certificates s → TypeFacts modules s
-    → Ends (TurnGuided depends modules certificates) (step modules s)
+pub step-keeps : (depends : ℕ → ℕ → Type 0) (modules : List Module) (certificates : List Certificate) → StoreFacts depends modules certificates
+    → (s : State) → Guided depends modules certificates s → TypeFacts modules s → Ends (TurnGuided depends modules certificates) (step modules s)
 unfolding step
 step-keeps depends modules certificates store s g facts =
     let w = working depends modules certificates s g facts.fit in

@@ -1,21 +1,16 @@
 -- Over published modules no run meets a fault, and each state that it comes to is as the certificates say.
-use Rattle.std.proofs.Common.{◌≡◌, ℕ, zero, suc, List, [], ◌∷◌, length, refl, sym, ◌∙◌, ap, subst, Option, Some, None}
-use Rattle.std.specs.Prelude.{slice_get, option_map, IsTrue}
-use Rattle.std.proofs.lemmas.Bool.{and_parts}
-use Rattle.std.proofs.lemmas.Option.{slice_get-map, same_Some}
-use Rattle.mv_move_types.specs.Module.{Module}
+use Rattle.mv_interpreter.proofs.Guided.Common.{◌≡◌, ℕ, zero, suc, List, [], ◌∷◌, length, refl, sym, ◌∙◌, ap, subst, Option, Some, None, slice_get, and_parts, same_Some, Module, Certificate, State, StoreCertified, ok-is}
+use Rattle.std.specs.Prelude.{option_map, IsTrue}
+use Rattle.std.proofs.lemmas.Option.{slice_get-map}
 use Rattle.mv_move_types.specs.Published.{PublishedModule}
 use Rattle.mv_acquires.specs.Acquires.{AcquiresHold}
-use Rattle.mv_certificate.specs.Certificate.{Certificate, all_locals_hold, all_edges_hold}
+use Rattle.mv_certificate.specs.Certificate.{all_locals_hold, all_edges_hold}
 use Rattle.mv_certificate.specs.CertificateText.{IsCertificateText}
 use Rattle.mv_certificate.proofs.OneCertificate.{one-certificate}
 use Rattle.mv_linker.specs.Link.{IsPublishable, IsStore, tables_in}
-use Rattle.mv_machine.specs.State.{State}
 use Rattle.mv_interpreter.specs.Typing.Accepted.{ModuleAccepted, StoreAccepted}
-use Rattle.mv_interpreter.specs.Guided.Store.{StoreCertified}
 use Rattle.mv_interpreter.specs.Guided.Outcome.{ComesTo}
 use Rattle.mv_interpreter.specs.Guided.Published.{AreCertificates, RunsAreFaultless, StatesHold}
-use Rattle.mv_machine.proofs.Binds.{ok-is}
 use Rattle.mv_interpreter.proofs.Typing.First.{begun, first_is}
 use Rattle.mv_interpreter.proofs.Guided.Whole.{run_faultless, run_holds}
 use Rattle.mv_interpreter.proofs.Lists.{All-at}
@@ -43,7 +38,7 @@ certificates_from (p ∷ ps) each =
 
 module _ (store : List PublishedModule) (is : IsStore store) where
   -- the tables of such a store are accepted
-  accepted : StoreAccepted (tables_in store)
+  pub accepted : StoreAccepted (tables_in store)
   accepted = record {
     each = λ place m at. each place m (of-tables store place m at);
     once = is.once;
@@ -71,7 +66,8 @@ module _ (store : List PublishedModule) (is : IsStore store) where
     acquires = λ place m at. let p = of-tables store place m at in subst AcquiresHold p.2 (All-at IsPublishable store place p.0 is.passed p.1).acquires;
   }
     where
-      certified : (place : ℕ) (m : Module) → (p : PublishedModule) × (slice_get store place ≡ Some p) × (p.tables ≡ m) → (c : Certificate) × (slice_get certificates place ≡ Some c) × IsTrue (all_locals_hold m c) × IsTrue (all_edges_hold m c)
+      certified : (place : ℕ) (m : Module) → (p : PublishedModule) × (slice_get store place ≡ Some p) × (p.tables ≡ m)
+          → (c : Certificate) × (slice_get certificates place ≡ Some c) × IsTrue (all_locals_hold m c) × IsTrue (all_edges_hold m c)
       certified place m (p, at, same) =
           let own = (All-at IsPublishable store place p is.passed at).certificate in
           let stated = are.each place p at in

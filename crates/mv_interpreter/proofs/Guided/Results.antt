@@ -1,40 +1,17 @@
 -- What stays as the types say while a frame waits; results are as the handle of the Call says.
-use Rattle.std.proofs.Common.{◌≡◌, ℕ, zero, suc, List, [], ◌∷◌, ◌++◌, map, length, reverse, take, drop, Bool, true, false, refl, sym, ◌∙◌, ap, ap₂, subst, Option, Some, None, Ok, arith}
-use Rattle.std.specs.Prelude.{slice_get, ◌==◌, option_and_then}
+use Rattle.mv_interpreter.proofs.Guided.Common.{◌≡◌, ℕ, zero, suc, List, [], ◌∷◌, ◌++◌, map, reverse, Bool, true, false, refl, sym, ◌∙◌, ap, ap₂, subst, Option, Some, None, Ok, slice_get, option_and_then, and_parts, same_Some, FunctionHandle, ValueType, Call, OfLeaf, OfStruct, Token, Plain, ReferenceTo, MutableReferenceTo, for_each, Module, FunctionDefinition, struct_name, Value, Reference, Frame, State, reference_of, Faults, LinkageFault, entry, linked, tag_named, Tag, StructTag, same_tag, same_tags, declared, same_abilities, Here, Goes, Callee, ok-is, local_of, held_as, Fits, token_kind, operand_kind, Stood, seen_of, point_of, StoodOn, StoodFit, AllAgree, callee-is}
 use Rattle.std.specs.Bool.{beq}
-use Rattle.std.proofs.lemmas.Bool.{and_parts, eqb-true}
-use Rattle.std.proofs.lemmas.List.{append-nil, reverse-reverse, take-append-drop}
-use Rattle.std.proofs.lemmas.Option.{same_Some}
-use Rattle.mv_move_types.specs.declared.tables.FunctionHandle.{FunctionHandle}
-use Rattle.mv_move_types.specs.declared.token.ValueType.{ValueType}
-use Rattle.mv_move_types.specs.declared.instruction.Instruction.TheVariants.{Call}
-use Rattle.mv_move_types.specs.declared.token.ValueType.TheVariants.{OfLeaf, OfStruct}
-use Rattle.mv_move_types.specs.declared.token.Token.{Token}
-use Rattle.mv_move_types.specs.declared.token.Token.TheVariants.{Plain, Reference as ReferenceTo, MutableReference as MutableReferenceTo}
-use Rattle.mv_move_types.specs.Results.{for_each}
-use Rattle.mv_move_types.specs.Module.{Module, FunctionDefinition, struct_name}
-use Rattle.mv_machine.specs.Value.{Value, Reference}
-use Rattle.mv_machine.specs.State.{Frame, State}
-use Rattle.mv_machine.specs.Live.{reference_of}
-use Rattle.mv_machine.specs.Typing.{Faults, TypeFault, LinkageFault, entry, linked, have_tags, tag_named, value_type_tag}
-use Rattle.mv_move_types.specs.Tags.{Tag, LeafTag, StructTag, ReferenceTag, same_tag, same_tags}
-use Rattle.mv_move_types.specs.Named.{declared}
-use Rattle.mv_move_types.specs.AbilitySets.{same_abilities}
-use Rattle.mv_machine.specs.StepParts.{Here, Goes, operands}
-use Rattle.mv_machine.specs.StepControl.{Callee, callee, signature_tags, return_results}
+use Rattle.mv_machine.specs.Typing.{value_type_tag}
+use Rattle.mv_move_types.specs.Tags.{LeafTag, ReferenceTag}
+use Rattle.mv_machine.specs.StepControl.{callee, signature_tags, return_results}
 use Rattle.mv_machine.proofs.Laws.{on_bind, on_need}
-use Rattle.mv_machine.proofs.Binds.{ok-is, found-is, operands-is}
 use Rattle.mv_borrow_graph.specs.Abstract.Lists.{Value as TheValue, Plain as NoRef, Reference as Held}
-use Rattle.mv_interpreter.specs.Borrows.View.{local_of, held_as}
-use Rattle.mv_interpreter.specs.Borrows.Hypotheses.{Fits, token_kind, operand_kind}
-use Rattle.mv_interpreter.specs.Borrows.Stood.{Stood, seen_of, point_of, StoodOn}
 use Rattle.mv_interpreter.proofs.Borrows.Same.{SameSeen, SameFrames}
 use Rattle.mv_interpreter.proofs.Borrows.Operands.{tags-kinds}
 use Rattle.mv_interpreter.proofs.Borrows.Invariant.{refit}
-use Rattle.mv_interpreter.specs.Guided.Guided.{StoodFit, AllAgree}
 use Rattle.mv_interpreter.proofs.Lists.{map-turned}
 use Rattle.mv_interpreter.proofs.Typing.Tests.{beq-is}
-use Rattle.mv_machine.proofs.Transfers.{callee-is}
+use Rattle.mv_machine.proofs.Transfers.{signature-is, return-is}
 
 -- ---- tags
 
@@ -85,22 +62,25 @@ same-kinds-tags (x ∷ xs) (y ∷ ys) h =
 
 -- ---- results
 
-signature-kinds : (modules : List Module) (m : Module) (i : ℕ) (tags : List Tag) (ts : List Token) → signature_tags modules m i ≡ Ok tags → slice_get m.signatures i ≡ Some ts → map token_kind ts ≡ map tag_kind tags
-unfolding signature_tags
+signature-kinds : (modules : List Module) (m : Module) (i : ℕ) (tags : List Tag) (ts : List Token) → signature_tags modules m i ≡ Ok tags → slice_get m.signatures i ≡ Some ts
+    → map token_kind ts ≡ map tag_kind tags
 signature-kinds modules m i tags ts e at =
-    on_bind (entry m.signatures i) _ tags e (λ us us_are e1.
-    ap (map token_kind) (same_Some ts us (sym at ∙ found-is (slice_get m.signatures i) _ us us_are)) ∙ named-kinds modules m us tags e1)
+    let named = signature-is modules m i tags e in
+    ap (map token_kind) (same_Some ts named.0 (sym at ∙ named.1)) ∙ named-kinds modules m named.0 tags named.2
 
 -- a callee's results are references where its handle says so
-pub callee-agrees : (h : Here) (j : ℕ) (c : Callee) → callee h j ≡ Ok c → (handle : FunctionHandle) (results : List Token) → slice_get h.home.function_handles j ≡ Some handle → slice_get h.home.signatures handle.results ≡ Some results
-    → (own : FunctionHandle) (own_results : List Token) → slice_get c.home.function_handles c.definition.handle ≡ Some own → slice_get c.home.signatures own.results ≡ Some own_results → map token_kind results ≡ map token_kind own_results
+pub callee-agrees : (h : Here) (j : ℕ) (c : Callee) → callee h j ≡ Ok c → (handle : FunctionHandle) (results : List Token)
+    → slice_get h.home.function_handles j ≡ Some handle → slice_get h.home.signatures handle.results ≡ Some results
+    → (own : FunctionHandle) (own_results : List Token) → slice_get c.home.function_handles c.definition.handle ≡ Some own
+    → slice_get c.home.signatures own.results ≡ Some own_results → map token_kind results ≡ map token_kind own_results
 callee-agrees h j c e handle results handle_at results_at own own_results own_at own_results_at =
     let is = callee-is h j c e in
     let one : handle ≡ is.handle = same_Some handle is.handle (sym handle_at ∙ is.is_handle) in
     let two : own ≡ is.own = same_Some own is.own (sym own_at ∙ is.is_own) in
     signature-kinds h.modules h.home is.handle.results c.results results is.are_results (subst (λ (z : FunctionHandle). slice_get h.home.signatures z.results ≡ Some results) one results_at)
     ∙ same-kinds-tags c.results is.own_results (and_parts (same_tags c.parameters is.own_parameters) (same_tags c.results is.own_results) is.agree).1
-    ∙ sym (signature-kinds h.modules c.home is.own.results is.own_results own_results is.are_own_results (subst (λ (z : FunctionHandle). slice_get c.home.signatures z.results ≡ Some own_results) two own_results_at))
+    ∙ sym (signature-kinds h.modules c.home is.own.results is.own_results own_results is.are_own_results
+    (subst (λ (z : FunctionHandle). slice_get c.home.signatures z.results ≡ Some own_results) two own_results_at))
 
 -- the results of a function that returns are references where its own handle says so
 pub record ReturnsAs (h : Here) : Type 0 where
@@ -111,29 +91,18 @@ pub record ReturnsAs (h : Here) : Type 0 where
   pub kinds : map token_kind (reverse results) ≡ map operand_kind (map reference_of h.state.top.stack)
 
 pub returns-as : (h : Here) (t : State) → return_results h ≡ Ok (Goes t) → ReturnsAs h
-unfolding return_results signature_tags
 returns-as h t e =
-    on_bind (entry h.home.function_handles h.function.handle) _ (Goes t) e (λ handle handle_is e1.
-    on_bind (signature_tags h.modules h.home handle.results) _ (Goes t) e1 (λ tags tags_are e2.
-    on_bind (operands (length tags) h.state.top.stack) _ (Goes t) e2 (λ taken taken_is e3.
-    on_need (length taken.1 == 0) (Faults TypeFault) _ (Goes t) e3 (λ alone_there e4.
-    on_need (have_tags h.state taken.0 tags) (Faults TypeFault) _ (Goes t) e4 (λ fit e5.
-    on_bind (entry h.home.signatures handle.results) _ tags tags_are (λ ts ts_are named.
-    let o = operands-is (length tags) h.state.top.stack taken taken_is in
-    let all : reverse taken.0 ≡ h.state.top.stack =
-    ap (λ (x : List Value × List Value). reverse x.0) o.1 ∙ reverse-reverse (take (length tags) h.state.top.stack) ∙ whole (length tags) taken.1 (eqb-true (length taken.1) 0 alone_there) (ap (λ (x : List Value × List Value). x.1) o.1) in
+    let r = return-is h (Goes t) e in
+    let named = signature-is h.modules h.home r.own.results r.tags r.are_tags in
+    let ts : List Token = named.0 in
     record {
-      own = handle;
+      own = r.own;
       results = ts;
-      is_own = found-is (slice_get h.home.function_handles h.function.handle) _ handle handle_is;
-      are_results = found-is (slice_get h.home.signatures handle.results) _ ts ts_are;
-      kinds = map-turned token_kind ts ∙ ap reverse (tags-kinds h.modules h.home h.state taken.0 ts tags named fit) ∙ sym (map-turned operand_kind (map reference_of taken.0))
-          ∙ ap (map operand_kind) (sym (map-turned reference_of taken.0)) ∙ ap (λ (l : List Value). map operand_kind (map reference_of l)) all;
-    }))))))
-  where
-    whole : (n : ℕ) (rest : List Value) → length rest ≡ 0 → rest ≡ drop n h.state.top.stack → take n h.state.top.stack ≡ h.state.top.stack
-    whole n [] z d = sym (append-nil (take n h.state.top.stack)) ∙ ap (λ (r : List Value). take n h.state.top.stack ++ r) d ∙ take-append-drop n h.state.top.stack
-    whole n (v ∷ rest) z d = absurd (omega arith)
+      is_own = r.is_own;
+      are_results = named.1;
+      kinds = map-turned token_kind ts ∙ ap reverse (tags-kinds h.modules h.home h.state r.results ts r.tags named.2 r.tagged) ∙ sym (map-turned operand_kind (map reference_of r.results))
+          ∙ ap (map operand_kind) (sym (map-turned reference_of r.results)) ∙ ap (λ (l : List Value). map operand_kind (map reference_of l)) r.are_all;
+    }
 
 -- ---- waiting frames
 
@@ -179,7 +148,8 @@ fit-refit lent (f ∷ fs) [] xs s q t = absurd q
 fit-refit lent (f ∷ fs) (g ∷ gs) [] s q t = absurd s
 fit-refit lent (f ∷ fs) (g ∷ gs) (x ∷ xs) s q t = (fits-same x g (subst (λ z. SameSeen z g) (sym s.0) q.0) t.0, fit-refit f.entered_with fs gs xs s.2 q.1 t.1)
 
-pub agree-refit : (home : Module) (function : FunctionDefinition) (lent : List (Option Reference)) (fs gs : List Frame) (xs : List Stood) → StoodOn lent fs xs → SameFrames fs gs → AllAgree home function xs → AllAgree home function (refit xs gs)
+pub agree-refit : (home : Module) (function : FunctionDefinition) (lent : List (Option Reference)) (fs gs : List Frame) (xs : List Stood)
+    → StoodOn lent fs xs → SameFrames fs gs → AllAgree home function xs → AllAgree home function (refit xs gs)
 agree-refit home function lent [] [] [] s q a = tt
 agree-refit home function lent [] [] (x ∷ xs) s q a = absurd s
 agree-refit home function lent [] (g ∷ gs) xs s q a = absurd q

@@ -1,241 +1,44 @@
 -- Every rule but those of Call and Ret leaves the locals as they are known then, and none meets what is lost or frozen.
-use Rattle.std.proofs.Common.{◌≡◌, ℕ, zero, suc, ◌-◌, List, [], ◌∷◌, ◌++◌, map, length, reverse, take, Bool, true, false, not, cond, ◌⊎◌, inl, inr, refl, sym, ◌∙◌, ap, subst, arith, Option, Some, None, Result, Ok, Err}
-use Rattle.std.specs.Prelude.{slice_get, slice_set, ok_or, ◌&&◌, ◌||◌, ◌==◌, bit_or, bit_and, bit_xor, nat_lt, nat_le, is_some, flat_map, ⊤}
-use Rattle.std.specs.List.{list_any, list_all, cons_option}
-use Rattle.std.proofs.lemmas.Bool.{and_parts, eq-eqb, eqb-true}
-use Rattle.std.proofs.lemmas.Grind.{reverse_onto}
-use Rattle.std.proofs.lemmas.Option.{same_Some}
-use Rattle.mv_move_types.specs.declared.tables.Key.{Key}
+use Rattle.mv_interpreter.proofs.Guided.Common.{◌≡◌, ℕ, suc, ◌-◌, List, [], ◌∷◌, ◌++◌, map, length, Bool, true, false, refl, sym, ◌∙◌, ap, subst, arith, Option, Some, None, Result, Ok, slice_get, ok_or, ◌&&◌, ◌||◌, ◌==◌, nat_le, flat_map, ⊤, list_any, list_all, same_Some, Unavailable, Available, Glob, Instruction, Ret, StLoc, Call, MoveFrom, for_each, Module, FunctionDefinition, local_tokens, local_type, Stored, Reference, Value, Ref, Frame, State, reference_of, references, frame_references, Failure, Faults, Aborts, TypeFault, LostFault, FrozenFault, DanglingFault, entry, tag_named, StructTag, Edge, Known, Point, no_edge_out, Types, Here, Goes, operand, operands, as_reference, as_boolean, as_number, on_some, alone, Stood, Sound, Fits, InRefs, found-is, Reaches, AsKnown, Rooted}
+use Rattle.std.proofs.Common.{not}
+use Rattle.std.specs.Prelude.{slice_set, bit_or, bit_and, bit_xor, nat_lt, is_some}
 use Rattle.mv_move_types.specs.declared.borrow.Availability.{Availability}
-use Rattle.mv_move_types.specs.declared.borrow.Availability.TheVariants.{Unavailable, Available}
-use Rattle.mv_move_types.specs.declared.borrow.Node.TheVariants.{Own, Glob, Temp}
-use Rattle.mv_move_types.specs.declared.token.Token.{Token}
-use Rattle.mv_move_types.specs.declared.token.ValueType.{ValueType}
-use Rattle.mv_move_types.specs.declared.token.ValueType.TheVariants.{OfLeaf, OfStruct}
-use Rattle.mv_move_types.specs.declared.token.Token.TheVariants.{Plain, Reference as ReferenceTo, MutableReference as MutableReferenceTo}
-use Rattle.mv_move_types.specs.declared.token.Width.{Width}
+use Rattle.mv_move_types.specs.declared.borrow.Node.TheVariants.{Temp}
 use Rattle.mv_move_types.specs.declared.token.Width.TheVariants.{U8, U16, U32, U64, U128}
-use Rattle.mv_move_types.specs.declared.instruction.Instruction.{Instruction}
-use Rattle.mv_move_types.specs.declared.instruction.Instruction.TheVariants.{Pop, Ret, BrTrue, BrFalse, Branch, LdU64, LdConst, LdTrue, LdFalse, CopyLoc, MoveLoc, StLoc, MutBorrowLoc, ImmBorrowLoc, MutBorrowField, ImmBorrowField, Call, Pack, Unpack, ReadRef, WriteRef, Add, Sub, Mul, Mod, Div, BitOr, BitAnd, Xor, Or, And, Not, Eq, Neq, Lt, Gt, Le, Ge, Abort, Nop, Exists, MutBorrowGlobal, ImmBorrowGlobal, MoveFrom, MoveTo, FreezeRef, Shl, Shr, LdU8, LdU128, CastU8, CastU64, CastU128, LdU16, LdU32, CastU16, CastU32}
-use Rattle.mv_move_types.specs.Results.{for_each}
-use Rattle.mv_move_types.specs.Names.{same_module}
-use Rattle.mv_move_types.specs.Module.{Module, FunctionDefinition, local_tokens, module_name, struct_name, own_name, local_type}
-use Rattle.mv_machine.specs.Value.{Root, Local, Stored, Reference, Value, Ref}
+use Rattle.mv_move_types.specs.declared.instruction.Instruction.TheVariants.{Pop, BrTrue, BrFalse, Branch, LdU64, LdConst, LdTrue, LdFalse, CopyLoc, MoveLoc, MutBorrowLoc, ImmBorrowLoc, MutBorrowField, ImmBorrowField, Pack, Unpack, ReadRef, WriteRef, Add, Sub, Mul, Mod, Div, BitOr, BitAnd, Xor, Or, And, Not, Eq, Neq, Lt, Gt, Le, Ge, Abort, Nop, Exists, MutBorrowGlobal, ImmBorrowGlobal, MoveTo, FreezeRef, Shl, Shr, LdU8, LdU128, CastU8, CastU64, CastU128, LdU16, LdU32, CastU16, CastU32}
 use Rattle.mv_move_types.specs.Tokens.{same_width}
-use Rattle.mv_machine.specs.State.{Frame, State, stored_at, with_place, place_value, local_value, local_in, root_value}
-use Rattle.mv_machine.specs.Live.{reference_of, references, local_references, frame_references, live, is_frozen_by, same_root}
-use Rattle.mv_machine.specs.Numbers.{Operator, fitting, sum_of, difference_of, product_of, remainder_of, quotient_of, shifted_left, shifted_right}
-use Rattle.mv_move_types.specs.Numbers.{leaf_number}
-use Rattle.mv_machine.specs.Typing.{Failure, Faults, Aborts, TypeFault, LostFault, FrozenFault, LinkageFault, DanglingFault, entry, linked, tag_named, value_type_tag, has_tag, have_tags, tag_of}
-use Rattle.mv_move_types.specs.Tags.{StructTag, same_tags}
-use Rattle.mv_move_types.specs.Named.{declared, module_place, is_public, function_place}
-use Rattle.mv_move_types.specs.AbilitySets.{same_abilities}
+use Rattle.mv_machine.specs.State.{stored_at, with_place, place_value}
+use Rattle.mv_machine.specs.Live.{live, is_frozen_by}
+use Rattle.mv_machine.specs.Numbers.{sum_of, difference_of, product_of, remainder_of, quotient_of, shifted_left, shifted_right}
+use Rattle.mv_machine.specs.Typing.{has_tag, have_tags, tag_of}
 use Rattle.mv_machine.specs.declared.Kind.TheVariants.{Exists as AlreadyThere, Missing}
-use Rattle.mv_edges.specs.Edges.{Edge}
-use Rattle.mv_certificate.specs.Certificate.{Known}
-use Rattle.mv_type_states.specs.TypesHold.{Point}
 use Rattle.mv_locals_safety.specs.LocalsRules.{locals_after, needs_available, may_overwrite, may_leave}
-use Rattle.mv_borrow_graph.specs.BorrowRules.{edges_after, move_edges, store_edges, no_edge_out, top_temp}
-use Rattle.mv_type_states.specs.TypeRules.{Types}
-use Rattle.mv_machine.specs.StepParts.{Here, Turn, Goes, Returns, gives, with_stack, operand, operands, can_copy, can_drop, may_drop, is_reference_tag, as_reference, as_address, as_boolean, as_fields, as_signer, as_number, follow}
+use Rattle.mv_borrow_graph.specs.BorrowRules.{edges_after, top_temp}
+use Rattle.mv_machine.specs.StepParts.{Turn, Returns, gives, with_stack, can_copy, can_drop, may_drop, is_reference_tag, as_address, as_fields, as_signer, follow}
 use Rattle.mv_machine.specs.Step.{rule}
 use Rattle.mv_machine.specs.StepLocals.{copy_local, move_local, store_local, borrow_local, pop, held, local_place, local_tag}
 use Rattle.mv_machine.specs.StepReferences.{borrow_field, write_reference, read_reference, freeze, own_field, lends}
 use Rattle.mv_machine.specs.StepGlobals.{borrow_global, move_from, move_to, exists, keyed_struct, key_at}
 use Rattle.mv_machine.specs.StepStructs.{pack, unpack, own_struct}
 use Rattle.mv_machine.specs.StepNumbers.{constant, constant_value, binary, comparison, shift, cast, logic, negation, equality}
-use Rattle.mv_machine.specs.StepControl.{branch_if, abort, callee, call, signature_tags, return_results, leaves, holds_frame}
-use Rattle.mv_linker.proofs.Found.{on_some}
-use Rattle.mv_interpreter.specs.Borrows.View.{root_of, alone}
-use Rattle.mv_interpreter.specs.Borrows.Stood.{Stood, Sound}
-use Rattle.mv_interpreter.specs.Borrows.Hypotheses.{Fits, NoneInside, token_kind, operand_kind, InRefs}
+use Rattle.mv_machine.specs.StepControl.{branch_if, abort, call, signature_tags, return_results, leaves, holds_frame}
+use Rattle.mv_interpreter.specs.Borrows.Hypotheses.{NoneInside}
 use Rattle.mv_interpreter.proofs.Borrows.Edges.{then-some}
 use Rattle.mv_interpreter.proofs.Borrows.Mutability.{kinds-length}
 use Rattle.mv_interpreter.proofs.Borrows.Same.{write-same, plain-tagged}
-use Rattle.mv_machine.proofs.Binds.{found-is, held-is, operand-is, operands-is, reference-is, none-is}
-use Rattle.mv_storage.proofs.Keys.{same_key-to}
-use Rattle.mv_interpreter.specs.Borrows.Links.{Reaches}
-use Rattle.mv_interpreter.proofs.Borrows.Free.{in-either, none-frozen, local-free, struct-unfrozen, write-unfrozen, return-unfrozen}
+use Rattle.mv_machine.proofs.Binds.{held-is, operand-is, operands-is, reference-is, none-is}
+use Rattle.mv_interpreter.proofs.Borrows.Free.{struct-unfrozen, write-unfrozen, return-unfrozen}
 use Rattle.mv_interpreter.proofs.Borrows.Available.{known-at, known-set, known-same, held-found, needed-holds, overwritten-drops, left-drops}
-use Rattle.mv_interpreter.specs.Borrows.Locals.{AsKnown}
-use Rattle.mv_interpreter.specs.Guided.Facts.{Rooted, Able}
+use Rattle.mv_interpreter.specs.Guided.Facts.{Able}
 use Rattle.mv_interpreter.proofs.Guided.Ends.{Ends, Goes_well, after, given, tests, passes, found-well, operand-well, operands-well, number-well, boolean-well, address-well, signer-well, reference-well, fields-well, each-well}
 use Rattle.mv_interpreter.proofs.Guided.Working.{worked}
-use Rattle.mv_interpreter.proofs.Guided.Avoids.{in-left, in-right}
+use Rattle.mv_interpreter.proofs.Guided.GoesWell.{tag-well, own-struct-well, keyed-well, own-field-well, local-tag-well, signature-well, choice-well, other-well, binary-well, comparison-well, shift-well, cast-well, logic-well, negation-well, freeze-well, constant-well, call-well}
+use Rattle.mv_interpreter.proofs.Guided.Unfrozen.{fewer-live, from-taken, local-not-frozen, nothing-frozen, moved-free, stored-free}
 
 -- the locals of a state are as known
 abbrev pub LocalsKnown : List Availability → Turn → Type 0
 LocalsKnown ls (Goes t) = AsKnown ls t.top.locals
 LocalsKnown ls (Returns t) = ⊤
-
--- ---- parts
-
-type-well : (modules : List Module) (m : Module) (t : ValueType) → Goes_well (value_type_tag modules m t)
-type-well modules m (OfLeaf kind) = tt
-type-well modules m (OfStruct i) =
-    after _ (entry m.struct_handles i) _ (found-well _ _ tt) (λ handle e1.
-    after _ (linked (struct_name m i)) _ (found-well _ _ tt) (λ name e2.
-    after _ (linked (declared modules name)) _ (found-well _ _ tt) (λ abilities e3.
-    tests _ (same_abilities abilities handle.abilities) (Faults LinkageFault) _ tt (λ ok. tt))))
-
-tag-well : (modules : List Module) (m : Module) (t : Token) → Goes_well (tag_named modules m t)
-tag-well modules m (Plain t) = type-well modules m t
-tag-well modules m (ReferenceTo t) = after _ (value_type_tag modules m t) _ (type-well modules m t) (λ tag e. tt)
-tag-well modules m (MutableReferenceTo t) = after _ (value_type_tag modules m t) _ (type-well modules m t) (λ tag e. tt)
-
-own-struct-well : (h : Here) (i : ℕ) → Goes_well (own_struct h i)
-unfolding own_struct
-own-struct-well h i =
-    after _ (entry h.home.structs i) _ (found-well _ _ tt) (λ d e1.
-    after _ (entry h.home.struct_handles d.handle) _ (found-well _ _ tt) (λ handle e2.
-    after _ (linked (struct_name h.home d.handle)) _ (found-well _ _ tt) (λ name e3.
-    after _ (linked (own_name h.home)) _ (found-well _ _ tt) (λ own e4.
-    tests _ (same_module name.home own) (Faults LinkageFault) _ tt (λ ok. tt)))))
-
-keyed-well : (h : Here) (i : ℕ) → Goes_well (keyed_struct h i)
-unfolding keyed_struct
-keyed-well h i = after _ (own_struct h i) _ (own-struct-well h i) (λ struct e1. tests _ struct.abilities.key (Faults TypeFault) _ tt (λ ok. tt))
-
-own-field-well : (h : Here) (i : ℕ) → Goes_well (own_field h i)
-unfolding own_field
-own-field-well h i =
-    after _ (entry h.home.field_handles i) _ (found-well _ _ tt) (λ handle e1.
-    after _ (own_struct h handle.definition) _ (own-struct-well h handle.definition) (λ struct e2.
-    after _ (entry struct.fields handle.position) _ (found-well _ _ tt) (λ field e3. tt)))
-
-local-tag-well : (h : Here) (l : ℕ) → Goes_well (local_tag h l)
-local-tag-well h l =
-    after _ (linked (local_tokens h.home h.function)) _ (found-well _ _ tt) (λ tokens e1.
-    after _ (entry tokens l) _ (found-well _ _ tt) (λ token e2. tag-well h.modules h.home token))
-
-signature-well : (modules : List Module) (m : Module) (i : ℕ) → Goes_well (signature_tags modules m i)
-unfolding signature_tags
-signature-well modules m i = after _ (entry m.signatures i) _ (found-well _ _ tt) (λ ts e1. each-well (tag_named modules m) ts (tag-well modules m))
-
--- ---- numbers
-
-choice-well : (b : Bool) (n : ℕ) (e : Failure) → Goes_well {A = ℕ} (Err e) → Goes_well {A = ℕ} (cond b (Ok n) (Err e))
-choice-well true n e h = tt
-choice-well false n e h = h
-
-other-well : (b : Bool) (n : ℕ) (e : Failure) → Goes_well {A = ℕ} (Err e) → Goes_well {A = ℕ} (cond b (Err e) (Ok n))
-other-well true n e h = h
-other-well false n e h = tt
-
-binary-well : (f : Operator) → ((w : Width) (x y : ℕ) → Goes_well (f w x y)) → (s : List Value) → Goes_well (binary f s)
-unfolding binary
-binary-well f ok s =
-    after _ (operand s) _ (operand-well s) (λ right e1.
-    after _ (operand right.1) _ (operand-well right.1) (λ left e2.
-    after _ (as_number right.0) _ (number-well right.0) (λ y e3.
-    after _ (as_number left.0) _ (number-well left.0) (λ x e4.
-    tests _ (same_width x.0 y.0) (Faults TypeFault) _ tt (λ same.
-    after _ (f x.0 x.1 y.1) _ (ok x.0 x.1 y.1) (λ n e5. tt))))))
-
-comparison-well : (test : ℕ → ℕ → Bool) (s : List Value) → Goes_well (comparison test s)
-unfolding comparison
-comparison-well test s =
-    after _ (operand s) _ (operand-well s) (λ right e1.
-    after _ (operand right.1) _ (operand-well right.1) (λ left e2.
-    after _ (as_number right.0) _ (number-well right.0) (λ y e3.
-    after _ (as_number left.0) _ (number-well left.0) (λ x e4.
-    tests _ (same_width x.0 y.0) (Faults TypeFault) _ tt (λ same. tt)))))
-
-shift-well : (f : Operator) → ((w : Width) (x y : ℕ) → Goes_well (f w x y)) → (s : List Value) → Goes_well (shift f s)
-unfolding shift
-shift-well f ok s =
-    after _ (operand s) _ (operand-well s) (λ right e1.
-    after _ (operand right.1) _ (operand-well right.1) (λ left e2.
-    after _ (as_number right.0) _ (number-well right.0) (λ y e3.
-    after _ (as_number left.0) _ (number-well left.0) (λ x e4.
-    tests _ (same_width y.0 U8) (Faults TypeFault) _ tt (λ same.
-    after _ (f x.0 x.1 y.1) _ (ok x.0 x.1 y.1) (λ n e5. tt))))))
-
-cast-well : (w : Width) (s : List Value) → Goes_well (cast w s)
-unfolding cast
-cast-well w s =
-    after _ (operand s) _ (operand-well s) (λ top e1.
-    after _ (as_number top.0) _ (number-well top.0) (λ x e2.
-    after _ (fitting w x.1) _ (choice-well _ _ _ tt) (λ n e3. tt)))
-
-logic-well : (f : Bool → Bool → Bool) (s : List Value) → Goes_well (logic f s)
-unfolding logic
-logic-well f s =
-    after _ (operand s) _ (operand-well s) (λ right e1.
-    after _ (operand right.1) _ (operand-well right.1) (λ left e2.
-    after _ (as_boolean right.0) _ (boolean-well right.0) (λ y e3.
-    after _ (as_boolean left.0) _ (boolean-well left.0) (λ x e4. tt))))
-
-negation-well : (s : List Value) → Goes_well (negation s)
-unfolding negation
-negation-well s = after _ (operand s) _ (operand-well s) (λ top e1. after _ (as_boolean top.0) _ (boolean-well top.0) (λ x e2. tt))
-
-freeze-well : (h : Here) (s : List Value) → Goes_well (freeze h s)
-unfolding freeze
-freeze-well h s =
-    after _ (operand s) _ (operand-well s) (λ top e1.
-    after _ (as_reference top.0) _ (reference-well top.0) (λ r e2.
-    tests _ r.is_mutable (Faults TypeFault) _ tt (λ ok.
-    after _ (follow h.state r) _ (found-well _ _ tt) (λ v e3. tt))))
-
-constant-well : (t : Token) (bytes : List ℕ) → Goes_well (constant_value t bytes)
-constant-well (Plain (OfLeaf kind)) bytes = after _ (ok_or (leaf_number kind bytes) (Faults TypeFault)) _ (found-well _ _ tt) (λ n e. tt)
-constant-well (Plain (OfStruct i)) bytes = tt
-constant-well (ReferenceTo t) bytes = tt
-constant-well (MutableReferenceTo t) bytes = tt
-
-callee-well : (h : Here) (i : ℕ) → Goes_well (callee h i)
-unfolding callee
-callee-well h i =
-    after _ (entry h.home.function_handles i) _ (found-well _ _ tt) (λ handle e1.
-    after _ (linked (module_name h.home handle.module)) _ (found-well _ _ tt) (λ home_name e2.
-    after _ (entry h.home.identifiers handle.name) _ (found-well _ _ tt) (λ name e3.
-    after _ (signature_tags h.modules h.home handle.parameters) _ (signature-well h.modules h.home handle.parameters) (λ parameters e4.
-    after _ (signature_tags h.modules h.home handle.results) _ (signature-well h.modules h.home handle.results) (λ results e5.
-    after _ (linked (module_place h.modules home_name)) _ (found-well _ _ tt) (λ place e6.
-    after _ (entry h.modules place) _ (found-well _ _ tt) (λ home e7.
-    after _ (linked (function_place home name)) _ (found-well _ _ tt) (λ index e8.
-    after _ (entry home.functions index) _ (found-well _ _ tt) (λ d e9.
-    after _ (entry home.function_handles d.handle) _ (found-well _ _ tt) (λ own_handle e10.
-    after _ (signature_tags h.modules home own_handle.parameters) _ (signature-well h.modules home own_handle.parameters) (λ own_parameters e11.
-    after _ (signature_tags h.modules home own_handle.results) _ (signature-well h.modules home own_handle.results) (λ own_results e12.
-    tests _ (same_tags parameters own_parameters && same_tags results own_results) (Faults LinkageFault) _ tt (λ same.
-    tests _ ((place == h.state.top.function.place) || is_public d) (Faults LinkageFault) _ tt (λ allowed. tt))))))))))))))
-
-pub call-well : (h : Here) (i : ℕ) → Goes_well (call h i)
-unfolding call
-call-well h i =
-    after _ (callee h i) _ (callee-well h i) (λ c e1.
-    after _ (operands (length c.parameters) h.state.top.stack) _ (operands-well (length c.parameters) h.state.top.stack) (λ taken e2.
-    tests _ (have_tags h.state taken.0 c.parameters) (Faults TypeFault) _ tt (λ fit.
-    after _ (entry c.home.signatures c.definition.locals) _ (found-well _ _ tt) (λ others e3. tt))))
-
--- ---- what a live reference leads to
-
--- a root that is this local
-pub local-root : (root : Root) (n l : ℕ) → same_root root (Local n l) ≡ true → root ≡ Local n l
-local-root (Local m k) n l h = let t = and_parts (m == n) (k == l) h in ap (λ (x : ℕ). Local x k) (eqb-true m n t.0) ∙ ap (λ (x : ℕ). Local n x) (eqb-true k l t.1)
-local-root (Stored key) n l h = absurd cc
-
--- a root that is this key
-stored-root : (root : Root) (key : Key) → same_root root (Stored key) ≡ true → root ≡ Stored key
-stored-root (Local m k) key h = absurd cc
-stored-root (Stored other) key h = ap Stored (same_key-to other key h)
-
--- fewer operands hold fewer references
-pub fewer-live : (s : State) (v : Value) (below : List Value) (r : Reference) → s.top.stack ≡ v ∷ below → InRefs r (live (with_stack s below)) → InRefs r (live s)
-fewer-live s v below r e i =
-    elim (in-either r (local_references s.top.locals ++ references below) (flat_map frame_references s.below) i) [
-      | inl t ↦ in-left r (frame_references s.top) (flat_map frame_references s.below) (elim (in-either r (local_references s.top.locals) (references below) t) [
-        | inl u ↦ in-left r (local_references s.top.locals) (references s.top.stack) u
-        | inr u ↦ in-right r (local_references s.top.locals) (references s.top.stack) (subst (λ (x : List Value). InRefs r (references x)) (sym e) (one-more (reference_of v) u))
-      ])
-      | inr t ↦ in-right r (frame_references s.top) (flat_map frame_references s.below) t
-    ]
-  where
-    one-more : (o : Option Reference) → InRefs r (references below) → InRefs r (cons_option o (references below))
-    one-more None u = u
-    one-more (Some q) u = inr u
 
 module _ (depends : ℕ → ℕ → Type 0) (through : (a b c : ℕ) → depends a b → depends b c → depends a c) (no_cycle : (a : ℕ) → depends a a → ⊥)
     (modules : List Module) (s : State) (home : Module) (function : FunctionDefinition) (known : Known) (types : Types) (xs : List Stood)
@@ -250,46 +53,6 @@ module _ (depends : ℕ → ℕ → Type 0) (through : (a b c : ℕ) → depends
 
     abbrev x : Stood
     x = worked s home function types known.edges
-
-    -- a reference into a local of the frame at work leads to a local that is no reference
-    plain-local : (r : Reference) (l : ℕ) → InRefs r (live s) → r.place.root ≡ Local s.top.number l → (t : Token) × (local_type home function l ≡ Some t) × (token_kind t ≡ None)
-    plain-local r l i e =
-        let v = rooted r i in
-        let there : root_value s (Local s.top.number l) ≡ Some v.0 = subst (λ (z : Root). root_value s z ≡ Some v.0) e v.1 in
-        let here : local_value s.top l ≡ Some v.0 = sym (ap (λ (b : Bool). cond b (local_value s.top l) (local_in s.below s.top.number l)) (eq-eqb s.top.number s.top.number refl)) ∙ there in
-        let t = fits.locals l v.0 here in
-        (t.0, t.1, t.2 ∙ ap operand_kind v.2)
-
-    -- so a local that is emptied or overwritten is not frozen
-    local-not-frozen : (l : ℕ) (t : Token) → local_type home function l ≡ Some t → (token_kind t ≡ None → no_edge_out (Own l) known.edges ≡ true) → (rs : List Reference) → ((r : Reference) → InRefs r rs → InRefs r (live s))
-        → is_frozen_by rs (local_place h l) ≡ false
-    local-not-frozen l t is free rs among =
-        none-frozen rs (local_place h l) (λ r i im o.
-        let e = local-root r.place.root s.top.number l (and_parts (same_root r.place.root (Local s.top.number l)) _ o).0 in
-        let q = plain-local r l (among r i) e in
-        local-free depends through no_cycle s x xs sound.stood sound.chain l (free (ap token_kind (same_Some t q.0 (sym is ∙ q.1)) ∙ q.2)) r (among r i) (ap root_of e))
-
-    -- a live reference leads into what is stored, so where nothing is stored nothing is frozen
-    nothing-frozen : (key : Key) → stored_at s.storage key ≡ None → is_frozen_by (live s) (record { root = Stored key; path = [] }) ≡ false
-    nothing-frozen key none =
-        none-frozen (live s) (record { root = Stored key; path = [] }) (λ r i im o.
-        let e = stored-root r.place.root key (and_parts (same_root r.place.root (Stored key)) _ o).0 in
-        let v = rooted r i in
-        let there : stored_at s.storage key ≡ Some v.0 = subst (λ (z : Root). root_value s z ≡ Some v.0) e v.1 in
-        none-some v.0 (sym none ∙ there))
-      where
-        none-some : (v : Value) → None ≡ Some v → ⊥
-        none-some v e = cc
-
-    pub moved-free : (l : ℕ) (t : Token) (es : List Edge) → move_edges p l t known.edges ≡ Some es → token_kind t ≡ None → no_edge_out (Own l) known.edges ≡ true
-    moved-free l (Plain t) es e k = (then-some (no_edge_out (Own l) known.edges) known.edges es e).0
-    moved-free l (ReferenceTo t) es e k = absurd cc
-    moved-free l (MutableReferenceTo t) es e k = absurd cc
-
-    pub stored-free : (l : ℕ) (t : Token) (es : List Edge) → store_edges p l t known.edges ≡ Some es → token_kind t ≡ None → no_edge_out (Own l) known.edges ≡ true
-    stored-free l (Plain t) es e k = (then-some (no_edge_out (Own l) known.edges) known.edges es e).0
-    stored-free l (ReferenceTo t) es e k = absurd cc
-    stored-free l (MutableReferenceTo t) es e k = absurd cc
 
     turned : {b : Bool} → b ≡ false → not b ≡ true
     turned e = rw e refl
@@ -403,7 +166,7 @@ module _ (depends : ℕ → ℕ → Type 0) (through : (a b c : ℕ) → depends
           after _ (as_signer v) _ (signer-well v) (λ a e6.
           tests _ (not (is_some (stored_at s.storage (key_at h i a)))) (Aborts AlreadyThere 0) _ tt (λ free.
           passes _ (not (is_frozen_by (live s) (record { root = Stored (key_at h i a); path = [] }))) (Faults FrozenFault) _
-          (turned (nothing-frozen (key_at h i a) (none-is (stored_at s.storage (key_at h i a)) free))) stay)))))))))
+          (turned (nothing-frozen s rooted (key_at h i a) (none-is (stored_at s.storage (key_at h i a)) free))) stay)))))))))
 
       move-from-ends : (i : ℕ) (es : List Edge) → Reaches function.acquires (MoveFrom i) → edges_after p (MoveFrom i) known.edges ≡ Some es → Ends (LocalsKnown ls) (move_from h i)
       unfolding move_from edges_after
@@ -434,8 +197,10 @@ module _ (depends : ℕ → ℕ → Type 0) (through : (a b c : ℕ) → depends
           passes _ (can_drop h old) (Faults LostFault) _ (able r top.1 old stack_is followed)
           (passes _ (not (is_frozen_by (live (with_stack s lower.1)) r.place)) (Faults FrozenFault) _
           (turned (write-unfrozen depends through no_cycle s x xs sound.stood sound.chain r (map reference_of top.1) operands_are mutable
-          (subst (λ n. no_edge_out (Temp n) known.edges ≡ true) (height types (map reference_of s.top.stack) (Some r) (map reference_of top.1) (kinds-length types (map reference_of s.top.stack) fits.stack) operands_are) free)
-          (live (with_stack s lower.1)) (λ q i. fewer-live s top.0 top.1 q (operand-is s.top.stack top top_is) (fewer-live (with_stack s top.1) lower.0 lower.1 q (operand-is top.1 lower lower_is) i))))
+          (subst (λ n. no_edge_out (Temp n) known.edges ≡ true) (height types (map reference_of s.top.stack) (Some r)
+          (map reference_of top.1) (kinds-length types (map reference_of s.top.stack) fits.stack) operands_are) free)
+          (live (with_stack s lower.1)) (λ q i. fewer-live s top.0 top.1 q (operand-is s.top.stack top top_is)
+          (fewer-live (with_stack s top.1) lower.0 lower.1 q (operand-is top.1 lower lower_is) i))))
           (after _ (ok_or (with_place (with_stack s lower.1) r.place lower.0) (Faults DanglingFault)) _ (found-well _ _ tt) (λ t t_is.
           let w = write-same (with_stack s lower.1) r.place old lower.0 t sound.ordered followed old_none
           (plain-tagged s old lower.0 tag old_none (found-is (tag_of s old) _ tag tag_is) fit) (found-is (with_place (with_stack s lower.1) r.place lower.0) _ t t_is) in
@@ -463,7 +228,8 @@ module _ (depends : ℕ → ℕ → Type 0) (through : (a b c : ℕ) → depends
         (after _ (local_tag h l) _ (local-tag-well h l) (λ tag e1.
         tests _ (not (is_reference_tag tag)) (Faults TypeFault) _ tt (λ ok. stay ls (ap Some (sym same)))))
 
-    move-ends : (l : ℕ) (ls : List Availability) (es : List Edge) → locals_after p (MoveLoc l) known.locals ≡ Some ls → edges_after p (MoveLoc l) known.edges ≡ Some es → Ends (LocalsKnown ls) (move_local h l)
+    move-ends : (l : ℕ) (ls : List Availability) (es : List Edge) → locals_after p (MoveLoc l) known.locals ≡ Some ls
+        → edges_after p (MoveLoc l) known.edges ≡ Some es → Ends (LocalsKnown ls) (move_local h l)
     unfolding move_local locals_after edges_after
     move-ends l ls es e g =
         on_some (needs_available l known.locals) _ ls e (λ before before_is e1.
@@ -472,10 +238,12 @@ module _ (depends : ℕ → ℕ → Type 0) (through : (a b c : ℕ) → depends
         let same = (needed-holds l known.locals before s.top.locals as_known before_is).0 in
         given _ (held h l) _ v.0 v.1
         (passes _ (not (is_frozen_by (live s) (local_place h l))) (Faults FrozenFault) _
-        (turned (local-not-frozen l t t_is (moved-free l t es g1) (live s) (λ r i. i)))
-        (subst (λ z. AsKnown z (slice_set s.top.locals l None)) (ap (λ z. slice_set z l Unavailable) (sym same) ∙ same_Some _ ls e1) (known-set known.locals s.top.locals l Unavailable None as_known refl)))))
+        (turned (local-not-frozen depends through no_cycle h types known.edges xs sound fits rooted l t t_is (moved-free p l t known.edges es g1) (live s) (λ r i. i)))
+        (subst (λ z. AsKnown z (slice_set s.top.locals l None)) (ap (λ z. slice_set z l Unavailable) (sym same) ∙ same_Some _ ls e1)
+        (known-set known.locals s.top.locals l Unavailable None as_known refl)))))
 
-    store-ends : (l : ℕ) (ls : List Availability) (es : List Edge) → Able h types (StLoc l) → locals_after p (StLoc l) known.locals ≡ Some ls → edges_after p (StLoc l) known.edges ≡ Some es → Ends (LocalsKnown ls) (store_local h l)
+    store-ends : (l : ℕ) (ls : List Availability) (es : List Edge) → Able h types (StLoc l) → locals_after p (StLoc l) known.locals ≡ Some ls
+        → edges_after p (StLoc l) known.edges ≡ Some es → Ends (LocalsKnown ls) (store_local h l)
     unfolding store_local locals_after edges_after
     store-ends l ls es able e g =
         on_some (local_type home function l) _ ls e (λ t t_is e1.
@@ -490,7 +258,8 @@ module _ (depends : ℕ → ℕ → Type 0) (through : (a b c : ℕ) → depends
         passes _ (may_drop h old) (Faults LostFault) _
         (overwritten-drops h p t a old (λ v is d. able v t (there ∙ ap Some is) t_is d) (known-at known.locals s.top.locals l a old as_known a_is there) drops.0)
         (passes _ (not (is_frozen_by (live (with_stack s top.1)) (local_place h l))) (Faults FrozenFault) _
-        (turned (local-not-frozen l u u_is (stored-free l u es g1) (live (with_stack s top.1)) (λ r i. fewer-live s top.0 top.1 r (operand-is s.top.stack top top_is) i)))
+        (turned (local-not-frozen depends through no_cycle h types known.edges xs sound fits rooted l u u_is (stored-free p l u known.edges es g1)
+        (live (with_stack s top.1)) (λ r i. fewer-live s top.0 top.1 r (operand-is s.top.stack top top_is) i)))
         (subst (λ z. AsKnown z (slice_set s.top.locals l (Some top.0))) (sym drops.1) (known-set known.locals s.top.locals l Available (Some top.0) as_known refl))))))))))
 
     -- ---- Ret
@@ -508,58 +277,13 @@ module _ (depends : ℕ → ℕ → Type 0) (through : (a b c : ℕ) → depends
         passes _ (list_all (may_drop h) s.top.locals) (Faults LostFault) _ (left-drops h p ts known.locals s.top.locals (able ts ts_are) as_known leave)
         (passes _ (not (list_any (holds_frame s.top.number) (references taken.0 ++ flat_map frame_references s.below))) (Faults FrozenFault) _
         (turned (return-unfrozen depends through no_cycle s x xs sound.stood sound.chain p (g ∙ ap Some stays) taken.0
-        (λ r i. from-taken r (length tags) s.top.stack (subst (λ (z : List Value). InRefs r (references z)) (ap (λ (z : List Value × List Value). z.0) (operands-is (length tags) s.top.stack taken taken_is).1) i))))
+        (λ r i. from-taken r (length tags) s.top.stack (subst (λ (z : List Value). InRefs r (references z))
+        (ap (λ (z : List Value × List Value). z.0) (operands-is (length tags) s.top.stack taken taken_is).1) i))))
         (ends-well s.below taken.0))))))))
       where
         ends-well : (below : List Frame) (results : List Value) → Goes_well (leaves h results below)
         ends-well [] results = tt
         ends-well (f ∷ fs) results = tt
-
-        cons-more : (r : Reference) (v : Value) (vs : List Value) → InRefs r (references (v ∷ [])) ⊎ InRefs r (references vs) → InRefs r (references (v ∷ vs))
-        cons-more r v vs i = by_case (reference_of v) i
-          where
-            by_case : (o : Option Reference) → InRefs r (cons_option o []) ⊎ InRefs r (references vs) → InRefs r (cons_option o (references vs))
-            by_case None (inl i) = absurd i
-            by_case None (inr i) = i
-            by_case (Some q) (inl (inl i)) = inl i
-            by_case (Some q) (inl (inr i)) = absurd i
-            by_case (Some q) (inr i) = inr i
-
-        cons-less : (r : Reference) (v : Value) (vs : List Value) → InRefs r (references (v ∷ vs)) → InRefs r (references (v ∷ [])) ⊎ InRefs r (references vs)
-        cons-less r v vs i = by_case (reference_of v) i
-          where
-            by_case : (o : Option Reference) → InRefs r (cons_option o (references vs)) → InRefs r (cons_option o []) ⊎ InRefs r (references vs)
-            by_case None i = inr i
-            by_case (Some q) (inl i) = inl (inl i)
-            by_case (Some q) (inr i) = inr i
-
-        apart-refs : (r : Reference) (vs ws : List Value) → InRefs r (references (vs ++ ws)) → InRefs r (references vs) ⊎ InRefs r (references ws)
-        apart-refs r [] ws i = inr i
-        apart-refs r (v ∷ vs) ws i =
-            elim (cons-less r v (vs ++ ws) i) [
-              | inl t ↦ inl (cons-more r v vs (inl t))
-              | inr t ↦ elim (apart-refs r vs ws t) [ inl u ↦ inl (cons-more r v vs (inr u)) | inr u ↦ inr u ]
-            ]
-
-        from-reverse : (r : Reference) (vs : List Value) → InRefs r (references (reverse vs)) → InRefs r (references vs)
-        from-reverse r [] i = i
-        from-reverse r (v ∷ vs) i =
-            elim (apart-refs r (reverse vs) (v ∷ []) (subst (λ (z : List Value). InRefs r (references z)) (reverse_onto vs v []) i)) [
-              | inl t ↦ cons-more r v vs (inr (from-reverse r vs t))
-              | inr t ↦ cons-more r v vs (inl t)
-            ]
-
-        from-take : (r : Reference) (n : ℕ) (vs : List Value) → InRefs r (references (take n vs)) → InRefs r (references vs)
-        from-take r zero vs i = absurd i
-        from-take r (suc n) [] i = i
-        from-take r (suc n) (v ∷ vs) i =
-            elim (cons-less r v (take n vs) i) [
-              | inl t ↦ cons-more r v vs (inl t)
-              | inr t ↦ cons-more r v vs (inr (from-take r n vs t))
-            ]
-
-        from-taken : (r : Reference) (n : ℕ) (vs : List Value) → InRefs r (references (reverse (take n vs))) → InRefs r (references vs)
-        from-taken r n vs i = from-take r n vs (from-reverse r (take n vs) i)
 
     abbrev pub RowEnds : Instruction → List Availability → Type 0
     RowEnds (Call i) ls = Goes_well (call h i)
@@ -567,7 +291,8 @@ module _ (depends : ℕ → ℕ → Type 0) (through : (a b c : ℕ) → depends
     RowEnds i ls = Ends (LocalsKnown ls) (rule i h)
 
     -- every rule
-    pub rule-ends : (i : Instruction) (ls : List Availability) (es : List Edge) → Reaches function.acquires i → Able h types i → locals_after p i known.locals ≡ Some ls → edges_after p i known.edges ≡ Some es → RowEnds i ls
+    pub rule-ends : (i : Instruction) (ls : List Availability) (es : List Edge) → Reaches function.acquires i → Able h types i
+        → locals_after p i known.locals ≡ Some ls → edges_after p i known.edges ≡ Some es → RowEnds i ls
     unfolding rule locals_after
     rule-ends Pop ls es q able e g = pop-ends ls e able
     rule-ends Ret ls es q able e g = return-ends ls es able e g

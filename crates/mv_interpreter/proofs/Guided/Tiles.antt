@@ -1,10 +1,8 @@
 -- Blocks tile the code: which block an instruction stands in, and what is stated where a block begins.
-use Rattle.std.proofs.Common.{◌≡◌, ℕ, zero, suc, ◌+◌, ◌-◌, ◌<◌, ◌≤◌, Bool, true, false, cond, List, [], ◌∷◌, ◌++◌, map, length, refl, sym, ap, ◌∙◌, subst, Option, Some, None, option_map, arith}
-use Rattle.std.specs.Prelude.{slice_get, nat_le, ◌&&◌, ◌||◌, ◌==◌, find, zip, option_and_then, ⊤}
-use Rattle.std.proofs.lemmas.Bool.{eqb-true, leb-true, le-leb, and_from, and_right, false_from_ne_true}
-use Rattle.std.proofs.lemmas.Option.{same_Some}
-use Rattle.mv_move_types.specs.declared.instruction.Instruction.{Instruction}
-use Rattle.mv_cfg.specs.Blocks.{BasicBlock as Block, blocks_at, block_between, starts_from, is_target, leads_to}
+use Rattle.mv_interpreter.proofs.Guided.Common.{◌≡◌, ℕ, zero, suc, ◌+◌, ◌-◌, ◌<◌, ◌≤◌, Bool, true, false, cond, List, [], ◌∷◌, ◌++◌, map, length, refl, sym, ap, ◌∙◌, subst, Option, Some, None, option_map, arith, slice_get, nat_le, ◌&&◌, ◌||◌, ◌==◌, zip, option_and_then, ⊤, eqb-true, and_from, same_Some, Instruction, Block, starts_from}
+use Rattle.std.specs.Prelude.{find}
+use Rattle.std.proofs.lemmas.Bool.{leb-true, le-leb, and_right, false_from_ne_true}
+use Rattle.mv_cfg.specs.Blocks.{blocks_at, block_between, is_target, leads_to}
 use Rattle.mv_move_types.specs.Flow.{ends_block}
 use Rattle.mv_certificate.specs.Certificate.{stated_at}
 
@@ -49,7 +47,8 @@ pub find-has : {X : Type 0} (p : X → Bool) (xs : List X) (z : X) → find p xs
 find-has p [] z e = absurd cc
 find-has p (x ∷ xs) z e = by_case (p x) refl e (λ g. find-has p xs z g)
   where
-    by_case : (b : Bool) → p x ≡ b → cond b (Some x) (find p xs) ≡ Some z → (find p xs ≡ Some z → (k : ℕ) × (slice_get xs k ≡ Some z) × (p z ≡ true)) → (k : ℕ) × (slice_get (x ∷ xs) k ≡ Some z) × (p z ≡ true)
+    by_case : (b : Bool) → p x ≡ b → cond b (Some x) (find p xs) ≡ Some z → (find p xs ≡ Some z → (k : ℕ) × (slice_get xs k ≡ Some z) × (p z ≡ true))
+        → (k : ℕ) × (slice_get (x ∷ xs) k ≡ Some z) × (p z ≡ true)
     by_case true h g further = (0, g, ap p (sym (same_Some x z g)) ∙ h)
     by_case false h g further = let t = further g in (suc t.0, t.1, t.2)
 
@@ -57,7 +56,8 @@ abbrev pub holds_place : {S : Type 0} → ℕ → Block × S → Bool
 holds_place i b = nat_le b.0.first i && nat_le i b.0.last
 
 -- the search for the block of a place finds the one that has it
-pub tile-found : {S : Type 0} (low : ℕ) (zs : List (Block × S)) (k i : ℕ) (z : Block × S) → Tiles low zs → slice_get zs k ≡ Some z → z.0.first ≤ i → i ≤ z.0.last → (find (holds_place i) zs ≡ Some z) × (low ≤ z.0.first)
+pub tile-found : {S : Type 0} (low : ℕ) (zs : List (Block × S)) (k i : ℕ) (z : Block × S) → Tiles low zs → slice_get zs k ≡ Some z → z.0.first ≤ i
+    → i ≤ z.0.last → (find (holds_place i) zs ≡ Some z) × (low ≤ z.0.first)
 tile-found low [] k i z t e a b = absurd cc
 tile-found {S = S} low (y ∷ zs) zero i z t e a b =
     let same = same_Some y z e in
@@ -105,7 +105,8 @@ stated-maps {S = S} {U = U} f (b ∷ bs) (s ∷ st) i = by_case (b.first == i) (
 pub stated-has : {S : Type 0} (zs : List (Block × Option S)) (i : ℕ) (s : S) → stated_at zs i ≡ Some s → (k : ℕ) × (z : Block × Option S) × (slice_get zs k ≡ Some z) × (z.0.first ≡ i) × (z.1 ≡ Some s)
 stated-has {S = S} zs i s e = by_case (find (λ b. b.0.first == i) zs) refl e
   where
-    by_case : (o : Option (Block × Option S)) → find (λ b. b.0.first == i) zs ≡ o → option_and_then (λ b. b.1) o ≡ Some s → (k : ℕ) × (z : Block × Option S) × (slice_get zs k ≡ Some z) × (z.0.first ≡ i) × (z.1 ≡ Some s)
+    by_case : (o : Option (Block × Option S)) → find (λ b. b.0.first == i) zs ≡ o → option_and_then (λ b. b.1) o ≡ Some s
+        → (k : ℕ) × (z : Block × Option S) × (slice_get zs k ≡ Some z) × (z.0.first ≡ i) × (z.1 ≡ Some s)
     by_case None f g = absurd cc
     by_case (Some z) f g = let t = find-has (λ (b : Block × Option S). b.0.first == i) zs z f in (t.0, z, t.1, eqb-true z.0.first i t.2, g)
 

@@ -1,18 +1,5 @@
 -- The invariant taken apart at the frame at work.
-use Rattle.std.proofs.Common.{◌≡◌, ℕ, List, [], sym, subst, Option, Some}
-use Rattle.std.specs.Prelude.{slice_get}
-use Rattle.mv_move_types.specs.Module.{Module, FunctionDefinition}
-use Rattle.mv_machine.specs.Value.{Reference}
-use Rattle.mv_machine.specs.State.{Frame, State}
-use Rattle.mv_edges.specs.Edges.{Edge}
-use Rattle.mv_certificate.specs.Certificate.{Known, Certificate, Stated}
-use Rattle.mv_type_states.specs.TypeRules.{Types}
-use Rattle.mv_certificate.specs.Known.{known_before}
-use Rattle.mv_interpreter.specs.Borrows.Hypotheses.{Fits}
-use Rattle.mv_interpreter.specs.Borrows.Stood.{Stood, Sound}
-use Rattle.mv_interpreter.specs.Borrows.View.{alone}
-use Rattle.mv_interpreter.specs.Borrows.Locals.{AsKnown}
-use Rattle.mv_interpreter.specs.Guided.Guided.{AllPlaced, StoodFit, AllAgree, Guided}
+use Rattle.mv_interpreter.proofs.Guided.Common.{◌≡◌, ℕ, List, [], sym, subst, Option, Some, slice_get, Module, FunctionDefinition, Reference, Frame, State, Edge, Known, Certificate, Stated, Types, known_before, Fits, Stood, Sound, alone, AsKnown, AllPlaced, StoodFit, AllAgree, Guided}
 use Rattle.mv_interpreter.specs.Guided.Facts.{FrameFits}
 use Rattle.mv_interpreter.proofs.Guided.Chains.{sound-from}
 
@@ -41,14 +28,16 @@ pub record Working (depends : ℕ → ℕ → Type 0) (modules : List Module) (c
   pub waiting_fit : StoodFit waiting
   pub agree : AllAgree home function waiting
 
-pub working : (depends : ℕ → ℕ → Type 0) (modules : List Module) (certificates : List Certificate) (s : State) → Guided depends modules certificates s → FrameFits modules (alone s.top) → Working depends modules certificates s
+pub working : (depends : ℕ → ℕ → Type 0) (modules : List Module) (certificates : List Certificate) (s : State) → Guided depends modules certificates s
+    → FrameFits modules (alone s.top) → Working depends modules certificates s
 working depends modules certificates s g fit =
     let x = g.top in
     let p = g.placed.0 in
     let same : x.frame ≡ s.top = g.stood.0 in
     let is_home : slice_get modules s.top.function.place ≡ Some x.home = subst (λ (f : Frame). slice_get modules f.function.place ≡ Some x.home) same p.is_home in
     let is_function : slice_get x.home.functions s.top.function.index ≡ Some x.function = subst (λ (f : Frame). slice_get x.home.functions f.function.index ≡ Some x.function) same p.is_function in
-    let is_known : known_before x.home x.function p.stated s.top.at ≡ Some (p.known, x.types) = subst (λ (f : Frame). known_before x.home x.function p.stated f.at ≡ Some (p.known, x.types)) same p.is_known in
+    let is_known : known_before x.home x.function p.stated s.top.at ≡ Some (p.known, x.types) =
+    subst (λ (f : Frame). known_before x.home x.function p.stated f.at ≡ Some (p.known, x.types)) same p.is_known in
     record {
       home = x.home;
       function = x.function;

@@ -1,20 +1,11 @@
 -- An address of 16 bytes is in its range.
-use Rattle.std.proofs.Common.{◌≡◌, ℕ, zero, suc, ◌+◌, ◌-◌, ◌*◌, ◌^◌, ◌<◌, ◌≤◌, true, List, [], ◌∷◌, length, refl, ap, subst, ◌∙◌, arith}
-use Rattle.std.specs.Prelude.{slice_index, IsTrue, ◌==◌, ◌&&◌}
-use Rattle.std.specs.List.{list_all}
+use Rattle.mv_interpreter.proofs.Typing.Common.{◌≡◌, ℕ, zero, suc, ◌+◌, ◌-◌, ◌*◌, ◌^◌, ◌<◌, ◌≤◌, true, List, [], ◌∷◌, length, refl, ap, subst, ◌∙◌, arith, IsTrue, ◌==◌, ◌&&◌, list_all, first_so, second_so, ltb-true, lt-ltb, Address, Module, each, in_range, SoundStore, StoreAccepted}
+use Rattle.std.specs.Prelude.{slice_index}
 use Rattle.std.specs.Int.{sum_through, byte_worth}
-use Rattle.std.specs.Cmp.{first_so, second_so}
-use Rattle.std.proofs.lemmas.Bool.{ltb-true, lt-ltb}
 use Rattle.std.proofs.lemmas.Nat.{pow-add}
 use Rattle.std.proofs.Math.Nat.{mul-le-mul_right}
-use Rattle.mv_move_types.specs.declared.token.LeafKind.TheVariants.{Address}
-use Rattle.mv_move_types.specs.Module.{Module}
 use Rattle.mv_move_types.specs.Numbers.{big_endian}
 use Rattle.mv_module_text.specs.Fits.{is_byte, is_index, constant_fits, token_fits}
-use Rattle.mv_linker.proofs.Found.{each}
-use Rattle.mv_interpreter.specs.Typing.HasType.{in_range}
-use Rattle.mv_interpreter.specs.Typing.Facts.{SoundStore}
-use Rattle.mv_interpreter.specs.Typing.Accepted.{StoreAccepted}
 use Rattle.mv_interpreter.proofs.Typing.Operands.{on_test}
 use Rattle.mv_interpreter.proofs.Typing.Store.{AddressesFit, sound_store}
 

@@ -1,30 +1,11 @@
 -- A run that the ledger admits is a typed call.
-use Rattle.std.proofs.Common.{◌≡◌, ℕ, ◌^◌, true, List, [], ◌∷◌, ◌++◌, length, refl, subst, Option, Some, None, Result, Ok}
-use Rattle.std.specs.Prelude.{slice_get, IsTrue, ◌&&◌, nat_le, nat_lt, ok_or}
-use Rattle.std.specs.List.{list_all}
-use Rattle.std.specs.Cmp.{first_so, second_so}
-use Rattle.mv_move_types.specs.declared.token.LeafKind.{LeafKind}
-use Rattle.mv_move_types.specs.declared.token.LeafKind.TheVariants.{Boolean, Number, Address, Signer}
-use Rattle.mv_move_types.specs.declared.token.ValueType.TheVariants.{OfLeaf, OfStruct}
-use Rattle.mv_move_types.specs.declared.token.Token.{Token}
-use Rattle.mv_move_types.specs.declared.token.Token.TheVariants.{Plain, Reference as ReferenceTo, MutableReference as MutableReferenceTo}
+use Rattle.mv_interpreter.proofs.Typing.Common.{◌≡◌, ℕ, ◌^◌, true, List, [], ◌∷◌, ◌++◌, length, refl, subst, Option, Some, None, Result, Ok, slice_get, IsTrue, ◌&&◌, nat_le, nat_lt, ok_or, list_all, first_so, second_so, LeafKind, Boolean, Number, Address, Signer, OfLeaf, OfStruct, Token, Plain, ReferenceTo, MutableReferenceTo, Module, FunctionDefinition, Value, Leaf, Struct, Ref, same_kind, module_place, FunctionCall, address_fits, function_definition_fits, instruction_fits, below, function_in, instruction_in, local_count, token_in, function_is_typed, ends_well, on_some, each, there_below, then_found, in_range, HasToken, HaveTokens, ModuleAccepted, StoreAccepted}
 use Rattle.mv_move_types.specs.Results.{◌>>=◌}
-use Rattle.mv_move_types.specs.Module.{Module, FunctionDefinition, parameter_tokens}
-use Rattle.mv_machine.specs.Value.{Value, Leaf, Struct, Ref}
-use Rattle.mv_move_types.specs.Tokens.{same_kind}
-use Rattle.mv_move_types.specs.Named.{module_place}
+use Rattle.mv_move_types.specs.Module.{parameter_tokens}
 use Rattle.mv_move_types.specs.Named.{function_place}
-use Rattle.mv_machine.specs.Run.{FunctionCall}
 use Rattle.mv_machine.specs.Ledger.{LedgerState, RunRequest, modules_of, are_arguments, with_signer, admitted}
-use Rattle.mv_module_text.specs.Fits.{address_fits, function_definition_fits, instruction_fits}
-use Rattle.mv_bounds.specs.Bounds.{below, function_handle_in, function_in, instruction_in, local_count, token_in}
-use Rattle.mv_type_states.specs.TypesHold.{function_is_typed}
-use Rattle.mv_cfg.specs.Blocks.{ends_well}
+use Rattle.mv_bounds.specs.Bounds.{function_handle_in}
 use Rattle.mv_machine.proofs.Laws.{on_need}
-use Rattle.mv_linker.proofs.Found.{on_some, each, there_below, then_found}
-use Rattle.mv_interpreter.specs.Typing.HasType.{in_range}
-use Rattle.mv_interpreter.specs.Typing.StateTyped.{HasToken, HaveTokens}
-use Rattle.mv_interpreter.specs.Typing.Accepted.{ModuleAccepted, StoreAccepted}
 use Rattle.mv_interpreter.proofs.Typing.Tests.{same_kind-is}
 use Rattle.mv_interpreter.proofs.Typing.Operands.{of_leaf}
 use Rattle.mv_interpreter.proofs.Typing.Advances.{start_typed}
@@ -68,19 +49,24 @@ module _ (modules : List Module) (home : Module) where
   arguments_typed (MutableReferenceTo t ∷ ts) (v ∷ vs) h r = absurd cc
 
 -- a function of an accepted store, called with arguments of its parameters' types
-pub call_typed : (modules : List Module) → StoreAccepted modules → (place index : ℕ) (home : Module) (d : FunctionDefinition) (tokens : List Token) (arguments : List Value) → slice_get modules place ≡ Some home → slice_get home.functions index ≡ Some d →
-    parameter_tokens home d ≡ Some tokens → HaveTokens modules Nowhere home arguments tokens → CallTyped modules (record { function = record { place = place; index = index }; arguments = arguments })
+pub call_typed : (modules : List Module) → StoreAccepted modules
+    → (place index : ℕ) (home : Module) (d : FunctionDefinition) (tokens : List Token) (arguments : List Value) → slice_get modules place ≡ Some home
+    → slice_get home.functions index ≡ Some d → parameter_tokens home d ≡ Some tokens → HaveTokens modules Nowhere home arguments tokens
+    → CallTyped modules (record { function = record { place = place; index = index }; arguments = arguments })
 call_typed modules store place index home d tokens arguments home_at d_at tokens_are typed =
     on_some (slice_get home.function_handles d.handle) _ tokens tokens_are (λ handle handle_is e1.
     let a : ModuleAccepted home = store.each place home home_at in
     let inside = each (function_in home) home.functions index d a.bounds.functions d_at in
-    let inside3 = first_so (below d.handle home.function_handles && below d.locals home.signatures && list_all (λ i. below i home.structs) d.acquires) (list_all (instruction_in home (local_count home d) (length d.code)) d.code) inside in
+    let inside3 = first_so (below d.handle home.function_handles && below d.locals home.signatures && list_all (λ i. below i home.structs) d.acquires)
+    (list_all (instruction_in home (local_count home d) (length d.code)) d.code) inside in
     let inside2 = first_so (below d.handle home.function_handles && below d.locals home.signatures) (list_all (λ i. below i home.structs) d.acquires) inside3 in
     let others = there_below home.signatures d.locals (second_so (below d.handle home.function_handles) (below d.locals home.signatures) inside2) in
-    let code_inside = second_so (below d.handle home.function_handles && below d.locals home.signatures && list_all (λ i. below i home.structs) d.acquires) (list_all (instruction_in home (local_count home d) (length d.code)) d.code) inside in
+    let code_inside = second_so (below d.handle home.function_handles && below d.locals home.signatures && list_all (λ i. below i home.structs) d.acquires)
+    (list_all (instruction_in home (local_count home d) (length d.code)) d.code) inside in
     let written = each (function_definition_fits home.version) home.functions index d a.text.functions d_at in
     let handle_in = each (function_handle_in home) home.function_handles d.handle handle a.bounds.function_handles handle_is in
-    let results = there_below home.signatures handle.results (second_so (below handle.module home.module_handles && below handle.name home.identifiers && below handle.parameters home.signatures) (below handle.results home.signatures) handle_in) in
+    let results = there_below home.signatures handle.results (second_so
+    (below handle.module home.module_handles && below handle.name home.identifiers && below handle.parameters home.signatures) (below handle.results home.signatures) handle_in) in
     let result_names = tokens_there home a.bounds results.0 (each (list_all (token_in home)) home.signatures handle.results results.0 a.bounds.signatures results.1) in
     record {
       home = home;
@@ -91,14 +77,19 @@ call_typed modules store place index home d tokens arguments home_at d_at tokens
       is_home = home_at;
       is_function = d_at;
       are_others = others.1;
-      are_tokens = then_found (slice_get home.function_handles d.handle) _ handle (Some (tokens ++ others.0)) handle_is (then_found (slice_get home.signatures handle.parameters) _ tokens (Some (tokens ++ others.0)) e1 (then_found (slice_get home.signatures d.locals) _ others.0 (Some (tokens ++ others.0)) others.1 refl));
-      are_results = then_found (slice_get home.function_handles d.handle) _ handle (Some result_names.0) handle_is (then_found (slice_get home.signatures handle.results) _ results.0 (Some result_names.0) results.1 result_names.1);
+      are_tokens = then_found (slice_get home.function_handles d.handle) _ handle (Some (tokens ++ others.0)) handle_is
+          (then_found (slice_get home.signatures handle.parameters) _ tokens (Some (tokens ++ others.0)) e1
+          (then_found (slice_get home.signatures d.locals) _ others.0 (Some (tokens ++ others.0)) others.1 refl));
+      are_results = then_found (slice_get home.function_handles d.handle) _ handle (Some result_names.0) handle_is
+          (then_found (slice_get home.signatures handle.results) _ results.0 (Some result_names.0) results.1 result_names.1);
       arguments = typed;
-      starts = start_typed home d (each (function_is_typed home) home.functions index d a.types d_at) (each (λ (d : FunctionDefinition). ends_well d.code) home.functions index d a.flow d_at) code_inside (second_so _ (list_all (instruction_fits home.version) d.code) written);
+      starts = start_typed home d (each (function_is_typed home) home.functions index d a.types d_at)
+          (each (λ (d : FunctionDefinition). ends_well d.code) home.functions index d a.flow d_at) code_inside (second_so _ (list_all (instruction_fits home.version) d.code) written);
     })
 
 -- a run that is admitted is a typed call, if its sender is an address and its arguments are in their ranges
-pub admitted_typed : (s : LedgerState) (r : RunRequest) (call : FunctionCall) → StoreAccepted (modules_of s) → IsTrue (address_fits r.sender) → Ranged r.arguments → admitted s r ≡ Ok call → CallTyped (modules_of s) call
+pub admitted_typed : (s : LedgerState) (r : RunRequest) (call : FunctionCall) → StoreAccepted (modules_of s) → IsTrue (address_fits r.sender)
+    → Ranged r.arguments → admitted s r ≡ Ok call → CallTyped (modules_of s) call
 unfolding admitted
 admitted_typed s r call store sender ranged e =
     on_need (nat_le r.budget 10000000) _ _ call e (λ few e1.

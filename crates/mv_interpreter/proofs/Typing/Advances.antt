@@ -1,24 +1,17 @@
 -- A typed instruction leads to typed instructions.
-use Rattle.std.proofs.Common.{◌≡◌, ℕ, zero, suc, ◌+◌, ◌-◌, ◌<◌, ◌≤◌, Bool, true, false, List, [], ◌∷◌, ◌++◌, length, take, drop, refl, sym, ap, subst, ◌∙◌, Option, Some, None, ltb, arith, ◌⊎◌, inl, inr}
-use Rattle.std.specs.Prelude.{slice_get, slice_range, IsTrue, nat_lt, nat_le, ◌||◌, ◌==◌}
-use Rattle.std.specs.List.{list_all, list_any}
-use Rattle.std.specs.Option.{option_map_or}
-use Rattle.std.proofs.lemmas.Bool.{ltb-true, ltb-false, lt-ltb, eqb-true, and_from, eq-eqb}
-use Rattle.std.proofs.lemmas.Option.{same_Some}
-use Rattle.mv_move_types.specs.declared.instruction.Instruction.{Instruction}
-use Rattle.mv_move_types.specs.declared.instruction.Instruction.TheVariants.{Ret, BrTrue, BrFalse, Branch, Abort}
-use Rattle.mv_move_types.specs.Module.{Module, FunctionDefinition}
+use Rattle.mv_interpreter.proofs.Typing.Common.{◌≡◌, ℕ, zero, suc, ◌+◌, ◌-◌, ◌<◌, ◌≤◌, Bool, true, false, List, [], ◌∷◌, ◌++◌, length, take, drop, refl, sym, ap, subst, ◌∙◌, Option, Some, None, arith, ◌⊎◌, inl, inr, slice_get, IsTrue, nat_lt, nat_le, ◌||◌, ◌==◌, list_all, option_map_or, ltb-true, lt-ltb, eqb-true, and_from, eq-eqb, same_Some, Instruction, Ret, Module, FunctionDefinition, Types, function_is_typed, ends_well, instruction_in, local_count, instruction_fits, TypesAt, each, Advance}
+use Rattle.std.specs.Prelude.{slice_range}
+use Rattle.std.specs.List.{list_any}
+use Rattle.mv_move_types.specs.declared.instruction.Instruction.TheVariants.{BrTrue, BrFalse, Branch, Abort}
 use Rattle.mv_cfg.specs.Blocks.{BasicBlock, blocks, starts_from}
 use Rattle.mv_move_types.specs.Flow.{ends_block, targets, successors}
-use Rattle.mv_type_states.specs.TypeRules.{Types, types_after}
-use Rattle.mv_type_states.specs.TypesHold.{types_through, block_is_typed, function_is_typed}
-use Rattle.mv_cfg.specs.Blocks.{ends_well, may_be_last}
-use Rattle.mv_bounds.specs.Bounds.{instruction_in, local_count}
-use Rattle.mv_module_text.specs.Fits.{instruction_fits}
-use Rattle.mv_type_states.specs.TypesAt.{TypesAt}
-use Rattle.mv_linker.proofs.Found.{each, some_passes, there_at}
-use Rattle.mv_interpreter.specs.Typing.Facts.{AllAt, Advance}
+use Rattle.mv_type_states.specs.TypeRules.{types_after}
+use Rattle.mv_type_states.specs.TypesHold.{types_through, block_is_typed}
+use Rattle.mv_cfg.specs.Blocks.{may_be_last}
+use Rattle.mv_linker.proofs.Found.{some_passes, there_at}
+use Rattle.mv_interpreter.specs.Typing.Facts.{AllAt}
 use Rattle.mv_interpreter.proofs.Typing.FlowFacts.{range_split, through_step, through_apart, through_join, through_one, Among, Rising, rising_bounds, starts_rise, targets_begin, ended_begin, BlockFacts, block_facts, begins_block}
+use Rattle.mv_interpreter.proofs.Lists.{below-or-at}
 
 -- where control goes on at the next instruction
 pub one_successor : (at : ℕ) (c : Instruction) → ends_block c ≡ false → successors at c ≡ (at + 1) ∷ []
@@ -46,7 +39,9 @@ through_all None h = absurd (differ h)
 through_all (Some []) h = refl
 through_all (Some (x ∷ xs)) h = let long : suc (length xs) ≡ 0 = eqb-true (suc (length xs)) 0 h in absurd (omega (arith, long))
 
-module _ (m : Module) (d : FunctionDefinition) (typed : IsTrue (function_is_typed m d)) (ends : IsTrue (ends_well d.code)) (inside : IsTrue (list_all (instruction_in m (local_count m d) (length d.code)) d.code)) (fits : IsTrue (list_all (instruction_fits m.version) d.code)) where
+module _ (m : Module) (d : FunctionDefinition) (typed : IsTrue (function_is_typed m d)) (ends : IsTrue (ends_well d.code))
+    (inside : IsTrue (list_all (instruction_in m (local_count m d) (length d.code)) d.code))
+    (fits : IsTrue (list_all (instruction_fits m.version) d.code)) where
   abbrev starts : List ℕ
   starts = starts_from d.code 0 true d.code
 
@@ -95,20 +90,14 @@ module _ (m : Module) (d : FunctionDefinition) (typed : IsTrue (function_is_type
       ended : ends_block c ≡ true → may_be_last c ≡ false → Among (at + 1) starts
       ended h not_last = beyond not_last
 
+      first_or_rest : (t : ℕ) → ((t == t) || false) ≡ true
+      first_or_rest t = ap (λ b. b || false) (eq-eqb t t refl)
+
       by_case : (c : Instruction) → instruction_in m (local_count m d) (length d.code) c ≡ true → ((t : ℕ) → list_any (λ x. x == t) (targets c) ≡ true → t < length d.code → Among t starts) →
           (ends_block c ≡ true → may_be_last c ≡ false → Among (at + 1) starts) → (may_be_last c ≡ false → Among (at + 1) starts) → AllBegin (successors at c)
       by_case (BrTrue t) i to_target ended beyond = (to_target t (first_or_rest t) (ltb-true t (length d.code) i), (beyond refl, tt))
-        where
-          first_or_rest : (t : ℕ) → ((t == t) || false) ≡ true
-          first_or_rest t = ap (λ b. b || false) (eq-eqb t t refl)
       by_case (BrFalse t) i to_target ended beyond = (to_target t (first_or_rest t) (ltb-true t (length d.code) i), (beyond refl, tt))
-        where
-          first_or_rest : (t : ℕ) → ((t == t) || false) ≡ true
-          first_or_rest t = ap (λ b. b || false) (eq-eqb t t refl)
       by_case (Branch t) i to_target ended beyond = (to_target t (first_or_rest t) (ltb-true t (length d.code) i), tt)
-        where
-          first_or_rest : (t : ℕ) → ((t == t) || false) ≡ true
-          first_or_rest t = ap (λ b. b || false) (eq-eqb t t refl)
       by_case Ret i to_target ended beyond = tt
       by_case Abort i to_target ended beyond = tt
       by_case _ i to_target ended beyond = (beyond refl, tt)
@@ -133,7 +122,8 @@ module _ (m : Module) (d : FunctionDefinition) (typed : IsTrue (function_is_type
       let c = there_at d.code at (omega (arith, high, short)) in
       let whole = range_split d.code b.first at (b.last + 1) c.0 low (omega (arith, high)) c.1 in
       let front = range_split d.code b.first at (at + 1) c.0 low (omega arith) c.1 in
-      let front_is : slice_range d.code b.first (at + 1) ≡ slice_range d.code b.first at ++ c.0 ∷ [] = front.1 ∙ ap (λ (xs : List Instruction). slice_range d.code b.first at ++ c.0 ∷ xs) (front.2 refl) in
+      let front_is : slice_range d.code b.first (at + 1) ≡ slice_range d.code b.first at ++ c.0 ∷ [] =
+      front.1 ∙ ap (λ (xs : List Instruction). slice_range d.code b.first at ++ c.0 ∷ xs) (front.2 refl) in
       let block_typed : block_is_typed m d b ≡ true = each (block_is_typed m d) (blocks d.code) t.place b typed t.is_block in
       let all = through_all (types_through m d (slice_range d.code b.first (b.last + 1)) []) block_typed in
       let all_parts : types_through m d (slice_range d.code b.first at ++ c.0 ∷ whole.0) [] ≡ Some [] = subst (λ (xs : List Instruction). types_through m d xs [] ≡ Some []) whole.1 all in
@@ -148,22 +138,18 @@ module _ (m : Module) (d : FunctionDefinition) (typed : IsTrue (function_is_type
         is_block = t.is_block;
         not_before = omega (arith, low);
         not_behind = omega (arith, inner);
-        carried = subst (λ (xs : List Instruction). types_through m d xs [] ≡ Some step.0) (sym front_is) (through_join m d (slice_range d.code b.first at) (c.0 ∷ []) [] types step.0 t.carried (through_one m d c.0 types step.0 step.1 step.2));
+        carried = subst (λ (xs : List Instruction). types_through m d xs [] ≡ Some step.0) (sym front_is)
+            (through_join m d (slice_range d.code b.first at) (c.0 ∷ []) [] types step.0 t.carried (through_one m d c.0 types step.0 step.1 step.2));
       })
       (λ last. let none : whole.0 ≡ [] = whole.2 (omega (arith, last)) in
       same_Some step.0 [] (subst (λ (xs : List Instruction). types_through m d xs step.0 ≡ Some []) none step.3))
       (λ inner h. f.alone (at + 1) (omega (arith, low)) (omega (arith, inner)) (ended_begin d.code 0 at (at + 1) true c.0 d.code c.1 h (omega (arith, inner, short)) (omega arith)))
-      (at_last_or at b.last high)
+      (below-or-at at b.last high)
     where
-      at_last_or : (a b : ℕ) → a ≤ b → (a < b) ⊎ (a ≡ b)
-      at_last_or a b h = by_case (ltb a b) refl
-        where
-          by_case : (f : Bool) → ltb a b ≡ f → (a < b) ⊎ (a ≡ b)
-          by_case true e = inl (ltb-true a b e)
-          by_case false e = let g : b ≤ a = ltb-false a b e in inr (omega (arith, h, g))
-
-      by_place : (b : BasicBlock) → BlockFacts d.code starts 0 b → (c : Instruction) (after : Types) → slice_get d.code at ≡ Some c → types_after m d c types ≡ Some after → nat_le (length after) 128 ≡ true → instruction_fits m.version c ≡ true →
-          (at < b.last → TypesAt m d (at + 1) after) → (at ≡ b.last → after ≡ []) → (at < b.last → ends_block c ≡ true → ⊥) → (at < b.last) ⊎ (at ≡ b.last) → Advance m d at types
+      by_place : (b : BasicBlock) → BlockFacts d.code starts 0 b → (c : Instruction) (after : Types) → slice_get d.code at ≡ Some c
+          → types_after m d c types ≡ Some after → nat_le (length after) 128 ≡ true → instruction_fits m.version c ≡ true
+          → (at < b.last → TypesAt m d (at + 1) after) → (at ≡ b.last → after ≡ []) → (at < b.last → ends_block c ≡ true → ⊥)
+          → (at < b.last) ⊎ (at ≡ b.last) → Advance m d at types
       by_place b f c after e rule small fit inner last within (inl p) =
           let shut : ends_block c ≡ false = never (ends_block c) (within p) in
           let one : successors at c ≡ (at + 1) ∷ [] = one_successor at c shut in

@@ -1,35 +1,21 @@
 -- What the store says of the functions that a module's handles name.
-use Rattle.std.proofs.Common.{◌≡◌, ℕ, Bool, true, false, List, [], ◌∷◌, ◌++◌, length, refl, sym, ap, ap₂, subst, ◌∙◌, Option, Some, None, Ok}
-use Rattle.std.specs.Prelude.{slice_get, ok_or, ◌&&◌, ◌||◌, ◌==◌, option_and_then}
-use Rattle.std.specs.List.{list_all}
-use Rattle.std.specs.Option.{option_map_or}
-use Rattle.std.specs.Cmp.{first_so, second_so}
-use Rattle.std.proofs.lemmas.Option.{same_Some}
-use Rattle.std.proofs.lemmas.Bool.{and_from, eq-eqb}
+use Rattle.mv_interpreter.proofs.Typing.Common.{◌≡◌, ℕ, Bool, true, false, List, [], ◌∷◌, ◌++◌, length, refl, sym, ap, ap₂, subst, ◌∙◌, Option, Some, None, Ok, slice_get, ok_or, ◌&&◌, ◌||◌, ◌==◌, option_and_then, list_all, option_map_or, first_so, second_so, same_Some, and_from, eq-eqb, Token, ◌>>=◌, ◌>>◌, need, for_each, Module, FunctionDefinition, Faults, LinkageFault, entry, tag_named, Tag, module_place, below, function_in, instruction_in, local_count, function_is_typed, ends_well, function_definition_fits, instruction_fits, token_named, tokens_named, structs_are_there, Here, on_some, each, there_below, then_found, ModuleAccepted, StoreAccepted}
 use Rattle.mv_move_types.specs.declared.tables.FunctionHandle.{FunctionHandle}
-use Rattle.mv_move_types.specs.declared.token.Token.{Token}
-use Rattle.mv_move_types.specs.Options.{◌>>=◌}
-use Rattle.mv_move_types.specs.Results.{◌>>◌, need, for_each}
 use Rattle.mv_move_types.specs.Names.{ModuleName, same_module}
-use Rattle.mv_move_types.specs.Module.{Module, FunctionDefinition, module_name, own_name}
-use Rattle.mv_machine.specs.Typing.{Faults, LinkageFault, entry, linked, tag_named}
-use Rattle.mv_move_types.specs.Tags.{Tag, same_tags}
-use Rattle.mv_move_types.specs.Named.{module_place, module_named, is_module}
-use Rattle.mv_bounds.specs.Bounds.{below, function_in, instruction_in, local_count}
-use Rattle.mv_type_states.specs.TypesHold.{function_is_typed}
-use Rattle.mv_cfg.specs.Blocks.{ends_well}
-use Rattle.mv_module_text.specs.Fits.{function_definition_fits, instruction_fits}
+use Rattle.mv_move_types.specs.Module.{module_name, own_name}
+use Rattle.mv_machine.specs.Typing.{linked}
+use Rattle.mv_move_types.specs.Tags.{same_tags}
+use Rattle.mv_move_types.specs.Named.{module_named, is_module}
 use Rattle.mv_move_types.specs.Named.{have_one_name}
-use Rattle.mv_linker.specs.TypesByName.{token_named, tokens_named, signature_named, same_signature}
-use Rattle.mv_linker.specs.Links.{function_named, function_fits, function_is_there, structs_are_there}
-use Rattle.mv_machine.specs.Step.{Here, signature_tags}
+use Rattle.mv_linker.specs.TypesByName.{signature_named, same_signature}
+use Rattle.mv_linker.specs.Links.{function_named, function_fits, function_is_there}
+use Rattle.mv_machine.specs.Step.{signature_tags}
 use Rattle.mv_machine.specs.StepControl.{Callee, callee}
 use Rattle.mv_move_types.specs.Named.{function_place, is_public}
 use Rattle.mv_linker.proofs.NameLemmas.{same_module-is, same_module-same}
 use Rattle.mv_linker.proofs.TagTests.{same_tags-is, same_tags-same}
-use Rattle.mv_linker.proofs.Found.{on_some, each, there_below, one_place, then_found}
+use Rattle.mv_linker.proofs.Found.{one_place}
 use Rattle.mv_interpreter.specs.Typing.Facts.{CallFacts}
-use Rattle.mv_interpreter.specs.Typing.Accepted.{ModuleAccepted, StoreAccepted}
 use Rattle.mv_interpreter.proofs.Typing.Advances.{start_typed}
 use Rattle.mv_interpreter.proofs.Typing.Names.{tag_is_found}
 use Rattle.mv_interpreter.proofs.Typing.OwnDefinitions.{then_ok}
@@ -47,7 +33,8 @@ on_and_then f None y e go = absurd cc
 on_and_then f (Some x) y e go = go x refl e
 
 -- the tags of a signature's types are found
-tags_of_module : (modules : List Module) (m : Module) → structs_are_there modules m 0 m.struct_handles ≡ true → (ts : List Token) (tags : List Tag) → tokens_named m ts ≡ Some tags → for_each (tag_named modules m) ts ≡ Ok tags
+tags_of_module : (modules : List Module) (m : Module) → structs_are_there modules m 0 m.struct_handles ≡ true → (ts : List Token) (tags : List Tag)
+    → tokens_named m ts ≡ Some tags → for_each (tag_named modules m) ts ≡ Ok tags
 tags_of_module modules m links [] tags e = ap Ok (same_Some [] tags e)
 tags_of_module modules m links (t ∷ ts) tags e =
     on_some (token_named m t) _ tags e (λ tag tag_is e1.
@@ -56,7 +43,8 @@ tags_of_module modules m links (t ∷ ts) tags e =
     let others : for_each (tag_named modules m) ts ≡ Ok rest = tags_of_module modules m links ts rest rest_is in
     rw (first, others) (ap Ok (same_Some (tag ∷ rest) tags e2))))
 
-signature_found : (modules : List Module) (m : Module) → structs_are_there modules m 0 m.struct_handles ≡ true → (i : ℕ) (tags : List Tag) → signature_named m i ≡ Some tags → signature_tags modules m i ≡ Ok tags
+signature_found : (modules : List Module) (m : Module) → structs_are_there modules m 0 m.struct_handles ≡ true → (i : ℕ) (tags : List Tag)
+    → signature_named m i ≡ Some tags → signature_tags modules m i ≡ Ok tags
 unfolding signature_tags
 signature_found modules m links i tags e =
     on_some (slice_get m.signatures i) (tokens_named m) tags e (λ ts ts_is e1.
@@ -69,31 +57,37 @@ same_named m i n j e go =
     on_found (same_tags a) (signature_named n j) e1 (λ b b_is e2.
     go a a_is (b_is ∙ ap Some (sym (same_tags-is a b e2)))))
 
-pub call_facts : (h : Here) → StoreAccepted h.modules → slice_get h.modules h.state.top.function.place ≡ Some h.home → (i : ℕ) (handle : FunctionHandle) (parameters results : List Token) → slice_get h.home.function_handles i ≡ Some handle →
-    slice_get h.home.signatures handle.parameters ≡ Some parameters → slice_get h.home.signatures handle.results ≡ Some results → CallFacts h i handle parameters results
+pub call_facts : (h : Here) → StoreAccepted h.modules → slice_get h.modules h.state.top.function.place ≡ Some h.home
+    → (i : ℕ) (handle : FunctionHandle) (parameters results : List Token) → slice_get h.home.function_handles i ≡ Some handle
+    → slice_get h.home.signatures handle.parameters ≡ Some parameters → slice_get h.home.signatures handle.results ≡ Some results
+    → CallFacts h i handle parameters results
 unfolding callee
 call_facts h store home_at i handle parameters results handle_at parameters_at results_at =
     let m : Module = h.home in
     let all = each (λ m. list_all (function_is_there h.modules m) m.function_handles) h.modules h.state.top.function.place m store.links.functions home_at in
     let fine = each (function_is_there h.modules m) m.function_handles i handle all handle_at in
     let own_links = each (λ m. structs_are_there h.modules m 0 m.struct_handles) h.modules h.state.top.function.place m store.links.structs home_at in
-    on_found (λ n. option_map_or (λ name. option_map_or (function_fits m handle n) (function_named n name) false) (slice_get m.identifiers handle.name) false) (module_name m handle.module >>= module_named h.modules) fine (λ n n_is f1.
+    on_found (λ n. option_map_or (λ name. option_map_or (function_fits m handle n) (function_named n name) false) (slice_get m.identifiers handle.name) false)
+    (module_name m handle.module >>= module_named h.modules) fine (λ n n_is f1.
     on_some (module_name m handle.module) (module_named h.modules) n n_is (λ home_name home_name_is n_named.
     on_and_then (slice_get h.modules) (module_place h.modules home_name) n n_named (λ place place_is n_at.
     on_found (λ name. option_map_or (function_fits m handle n) (function_named n name) false) (slice_get m.identifiers handle.name) f1 (λ name name_is f2.
     on_found (function_fits m handle n) (function_named n name) f2 (λ d d_is f3.
     on_some (function_place n name) (slice_get n.functions) d d_is (λ index index_is d_at.
-    on_found (λ (own : FunctionHandle). same_signature m handle.parameters n own.parameters && same_signature m handle.results n own.results) (slice_get n.function_handles d.handle) (second_so (is_public d || have_one_name m n) _ f3) (λ own own_is f4.
+    on_found (λ (own : FunctionHandle). same_signature m handle.parameters n own.parameters && same_signature m handle.results n own.results)
+    (slice_get n.function_handles d.handle) (second_so (is_public d || have_one_name m n) _ f3) (λ own own_is f4.
     same_named m handle.parameters n own.parameters (first_so (same_signature m handle.parameters n own.parameters) (same_signature m handle.results n own.results) f4) (λ ptags p_is q_is.
     same_named m handle.results n own.results (second_so (same_signature m handle.parameters n own.parameters) (same_signature m handle.results n own.results) f4) (λ rtags r_is s_is.
     on_some (slice_get n.signatures own.parameters) (tokens_named n) ptags q_is (λ own_parameters own_parameters_at own_parameters_named.
     let a : ModuleAccepted n = store.each place n n_at in
     let links = each (λ m. structs_are_there h.modules m 0 m.struct_handles) h.modules place n store.links.structs n_at in
     let inside = each (function_in n) n.functions index d a.bounds.functions d_at in
-    let inside3 = first_so (below d.handle n.function_handles && below d.locals n.signatures && list_all (λ i. below i n.structs) d.acquires) (list_all (instruction_in n (local_count n d) (length d.code)) d.code) inside in
+    let inside3 = first_so (below d.handle n.function_handles && below d.locals n.signatures && list_all (λ i. below i n.structs) d.acquires)
+    (list_all (instruction_in n (local_count n d) (length d.code)) d.code) inside in
     let inside2 = first_so (below d.handle n.function_handles && below d.locals n.signatures) (list_all (λ i. below i n.structs) d.acquires) inside3 in
     let others = there_below n.signatures d.locals (second_so (below d.handle n.function_handles) (below d.locals n.signatures) inside2) in
-    let code_inside = second_so (below d.handle n.function_handles && below d.locals n.signatures && list_all (λ i. below i n.structs) d.acquires) (list_all (instruction_in n (local_count n d) (length d.code)) d.code) inside in
+    let code_inside = second_so (below d.handle n.function_handles && below d.locals n.signatures && list_all (λ i. below i n.structs) d.acquires)
+    (list_all (instruction_in n (local_count n d) (length d.code)) d.code) inside in
     let written = each (function_definition_fits n.version) n.functions index d a.text.functions d_at in
     let c : Callee = record { function = record { place = place; index = index }; home = n; definition = d; parameters = ptags; results = rtags } in
     let allowed : ((place == h.state.top.function.place) || is_public d) ≡ true = may_call n d place n_at (first_so (is_public d || have_one_name m n) _ f3) in
@@ -116,22 +110,27 @@ call_facts h store home_at i handle parameters results handle_at parameters_at r
           (then_ok (entry n.function_handles d.handle) _ own c (ap (λ (x : Option FunctionHandle). ok_or x (Faults LinkageFault)) own_is)
           (then_ok (signature_tags h.modules n own.parameters) _ ptags c (signature_found h.modules n links own.parameters ptags q_is)
           (then_ok (signature_tags h.modules n own.results) _ rtags c (signature_found h.modules n links own.results rtags s_is)
-          (passes (same_tags ptags ptags && same_tags rtags rtags) ((place == h.state.top.function.place) || is_public d) c (and_from _ _ (same_tags-same ptags) (same_tags-same rtags)) allowed))))))))))));
+          (passes (same_tags ptags ptags && same_tags rtags rtags) ((place == h.state.top.function.place) || is_public d) c
+          (and_from _ _ (same_tags-same ptags) (same_tags-same rtags)) allowed))))))))))));
       parameter_tags = own_parameters_are;
       result_names = own_results_are;
       is_home = n_at;
       is_function = d_at;
       are_others = others.1;
-      are_tokens = then_found (slice_get n.function_handles d.handle) _ own (Some (own_parameters ++ others.0)) own_is (then_found (slice_get n.signatures own.parameters) _ own_parameters (Some (own_parameters ++ others.0)) own_parameters_at (then_found (slice_get n.signatures d.locals) _ others.0 (Some (own_parameters ++ others.0)) others.1 refl));
+      are_tokens = then_found (slice_get n.function_handles d.handle) _ own (Some (own_parameters ++ others.0)) own_is
+          (then_found (slice_get n.signatures own.parameters) _ own_parameters (Some (own_parameters ++ others.0)) own_parameters_at
+          (then_found (slice_get n.signatures d.locals) _ others.0 (Some (own_parameters ++ others.0)) others.1 refl));
       own_parameter_tags = own_parameters_named;
       own_results = then_found (slice_get n.function_handles d.handle) _ own (Some rtags) own_is s_is;
-      starts = start_typed n d (each (function_is_typed n) n.functions index d a.types d_at) (each (λ (d : FunctionDefinition). ends_well d.code) n.functions index d a.flow d_at) code_inside (second_so _ (list_all (instruction_fits n.version) d.code) written);
+      starts = start_typed n d (each (function_is_typed n) n.functions index d a.types d_at)
+          (each (λ (d : FunctionDefinition). ends_well d.code) n.functions index d a.flow d_at) code_inside (second_so _ (list_all (instruction_fits n.version) d.code) written);
     }))))))))))
   where
     passes : (a b : Bool) (c : Callee) → a ≡ true → b ≡ true → (need a (Faults LinkageFault) >> (need b (Faults LinkageFault) >> Ok c)) ≡ Ok c
     passes a b c p q = ap₂ (λ (x y : Bool). need x (Faults LinkageFault) >> (need y (Faults LinkageFault) >> Ok c)) p q
 
-    may_call : (n : Module) (d : FunctionDefinition) (place : ℕ) → slice_get h.modules place ≡ Some n → (is_public d || have_one_name h.home n) ≡ true → ((place == h.state.top.function.place) || is_public d) ≡ true
+    may_call : (n : Module) (d : FunctionDefinition) (place : ℕ) → slice_get h.modules place ≡ Some n → (is_public d || have_one_name h.home n) ≡ true
+        → ((place == h.state.top.function.place) || is_public d) ≡ true
     may_call n d place n_at e = by_case (is_public d) (have_one_name h.home n) refl e
       where
         or_right : (a : Bool) → (a || true) ≡ true

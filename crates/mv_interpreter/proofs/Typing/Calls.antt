@@ -1,33 +1,22 @@
 -- The rows of Call and Ret.
-use Rattle.std.proofs.Common.{◌≡◌, ℕ, ◌+◌, ◌<◌, ◌≤◌, Bool, true, false, cond, List, [], ◌∷◌, ◌++◌, map, replicate, length, reverse, refl, sym, ap, subst, ◌∙◌, Option, Some, None, Result, Ok, Err, eqb, arith}
-use Rattle.std.specs.Prelude.{slice_get, not, ok_or, flat_map}
-use Rattle.std.specs.List.{list_all, list_any}
-use Rattle.std.proofs.lemmas.Bool.{eqb-true, ne_eqb}
+use Rattle.mv_interpreter.proofs.Typing.Common.{◌≡◌, ℕ, ◌+◌, ◌<◌, ◌≤◌, Bool, true, false, cond, List, [], ◌∷◌, ◌++◌, map, length, reverse, refl, sym, ap, subst, ◌∙◌, Option, Some, None, Result, Ok, Err, eqb, arith, slice_get, not, ok_or, list_all, eqb-true, ne_eqb, same_Some, Token, Ret, ◌>>=ᵣ◌, need, for_each, Module, Root, Local, Stored, Value, Leaf, Struct, Ref, Frame, State, frames, root_value, local_in, local_value, references, local_references, Faults, LinkageFault, LostFault, FrozenFault, tag_named, have_tags, entry, Tag, LeafTag, StructTag, ReferenceTag, Types, tokens_named, Here, operands, Roots, Rooted, HaveTypes, TypesAt, on_some, HaveTokens, LocalsHaveTokens, Numbered, AreWaiting, StateTyped, TurnTyped, Row, Avoid}
+use Rattle.std.proofs.Common.{replicate}
+use Rattle.std.specs.Prelude.{flat_map}
+use Rattle.std.specs.List.{list_any}
 use Rattle.std.proofs.lemmas.List.{append-nil}
-use Rattle.std.proofs.lemmas.Option.{same_Some}
 use Rattle.mv_move_types.specs.declared.tables.FunctionHandle.{FunctionHandle}
-use Rattle.mv_move_types.specs.declared.token.Token.{Token}
-use Rattle.mv_move_types.specs.declared.instruction.Instruction.TheVariants.{Call, Ret}
-use Rattle.mv_move_types.specs.Results.{◌>>=◌ as ◌>>=ᵣ◌, need, for_each}
-use Rattle.mv_move_types.specs.Module.{Module}
-use Rattle.mv_machine.specs.Value.{Root, Local, Stored, Value, Leaf, Struct, Ref}
-use Rattle.mv_machine.specs.State.{Frame, State, frames, root_value, local_in, local_value}
-use Rattle.mv_machine.specs.Live.{reference_of, references, local_references, frame_references}
-use Rattle.mv_machine.specs.Typing.{Faults, LinkageFault, LostFault, FrozenFault, tag_named, have_tags, entry}
-use Rattle.mv_move_types.specs.Tags.{Tag, LeafTag, StructTag, ReferenceTag}
-use Rattle.mv_type_states.specs.TypeRules.{Types, of_call, of_return}
+use Rattle.mv_move_types.specs.declared.instruction.Instruction.TheVariants.{Call}
+use Rattle.mv_machine.specs.Live.{reference_of, frame_references}
+use Rattle.mv_type_states.specs.TypeRules.{of_call, of_return}
 use Rattle.mv_move_types.specs.Tokens.{same_tokens}
-use Rattle.mv_linker.specs.TypesByName.{tokens_named}
-use Rattle.mv_machine.specs.Step.{Here, return_results, signature_tags, leaves, holds_frame, may_drop, operands, entered_frame}
+use Rattle.mv_machine.specs.Step.{return_results, signature_tags, leaves, holds_frame, may_drop, entered_frame}
 use Rattle.mv_machine.specs.StepControl.{Callee, callee, call}
-use Rattle.mv_interpreter.specs.Typing.HasType.{Roots, Rooted, HaveTypes, LentHaveTypes, fields_by_name}
-use Rattle.mv_type_states.specs.TypesAt.{TypesAt}
+use Rattle.mv_interpreter.specs.Typing.HasType.{LentHaveTypes, fields_by_name}
 use Rattle.mv_type_states.proofs.Tokens.{lists_equal}
-use Rattle.mv_linker.proofs.Found.{on_some}
-use Rattle.mv_interpreter.specs.Typing.StateTyped.{HaveTokens, LocalsHaveTokens, Numbered, IsWaiting, AreWaiting, StateTyped, TurnTyped}
-use Rattle.mv_interpreter.specs.Typing.Facts.{Row, CallFacts}
-use Rattle.mv_interpreter.specs.Typing.Unreached.{Avoid, BelowAvoid, Leaving}
-use Rattle.mv_interpreter.proofs.Typing.Parts.{Part, known, met, tested, lost}
+use Rattle.mv_interpreter.specs.Typing.StateTyped.{IsWaiting}
+use Rattle.mv_interpreter.specs.Typing.Facts.{CallFacts}
+use Rattle.mv_interpreter.specs.Typing.Unreached.{BelowAvoid, Leaving}
+use Rattle.mv_interpreter.proofs.Typing.Parts.{Part, known, passes, tested, lost}
 use Rattle.mv_interpreter.proofs.Typing.Operands.{on_test, takes_gives-is, joined, turned, take_operands}
 use Rattle.mv_interpreter.proofs.Typing.Keep.{Kept, ValueAvoids, Nothing, avoid_nothing, below_avoids_nothing, keep_value, keep_stack, keep_locals, keep_below}
 use Rattle.mv_interpreter.proofs.Typing.Roots.{tokens_have_tags, typed_have_tags}
@@ -68,7 +57,8 @@ module _ (modules : List Module) (look : Roots) where
   lent_types (Ref r ∷ vs) (t ∷ ts) h = (h.0, lent_types vs ts h.1)
 
   -- the locals of a frame that is entered
-  pub entered_locals : (home : Module) (vs : List Value) (ts others : List Token) → HaveTokens modules look home vs ts → LocalsHaveTokens modules look home (map Some vs ++ replicate (length others) None) (ts ++ others)
+  pub entered_locals : (home : Module) (vs : List Value) (ts others : List Token) → HaveTokens modules look home vs ts
+      → LocalsHaveTokens modules look home (map Some vs ++ replicate (length others) None) (ts ++ others)
   entered_locals home [] [] [] h = tt
   entered_locals home [] [] (t ∷ others) h = (tt, entered_locals home [] [] others tt)
   entered_locals home [] (t ∷ ts) others h = absurd h
@@ -101,13 +91,18 @@ module _ (h : Here) (k : ℕ) (types after : Types) (row : Row h (Call k) types 
           none_some : None ≡ Some r.value → ⊥
           none_some e = cc
 
-  enters : (handle : FunctionHandle) (parameters results : List Token) → slice_get h.home.function_handles k ≡ Some handle → slice_get h.home.signatures handle.parameters ≡ Some parameters → slice_get h.home.signatures handle.results ≡ Some results → (f : CallFacts h k handle parameters results) (under : Types) (arguments rest : List Value) → types ≡ reverse parameters ++ under → after ≡ reverse results ++ under →
-      HaveTokens h.modules (root_value h.state) h.home arguments parameters → HaveTokens h.modules (root_value h.state) h.home rest under → StateTyped h.modules (called h.state f.callee_is arguments rest (length f.others))
+  enters : (handle : FunctionHandle) (parameters results : List Token) → slice_get h.home.function_handles k ≡ Some handle
+      → slice_get h.home.signatures handle.parameters ≡ Some parameters → slice_get h.home.signatures handle.results ≡ Some results
+      → (f : CallFacts h k handle parameters results) (under : Types) (arguments rest : List Value) → types ≡ reverse parameters ++ under
+      → after ≡ reverse results ++ under → HaveTokens h.modules (root_value h.state) h.home arguments parameters
+      → HaveTokens h.modules (root_value h.state) h.home rest under
+      → StateTyped h.modules (called h.state f.callee_is arguments rest (length f.others))
   enters handle parameters results handle_is parameters_are results_are f under arguments rest before following arguments_typed rest_typed =
       let c : Callee = f.callee_is in
       let look' : Roots = root_value (called h.state c arguments rest (length f.others)) in
       let kept = kept_called c arguments rest (length f.others) in
-      let tagged = keep_types h.modules (root_value h.state) look' kept arguments c.parameters (tokens_have_tags h.modules h.state h.home arguments parameters c.parameters arguments_typed f.parameter_tags) in
+      let tagged = keep_types h.modules (root_value h.state) look' kept arguments c.parameters
+      (tokens_have_tags h.modules h.state h.home arguments parameters c.parameters arguments_typed f.parameter_tags) in
       let own_arguments = have_tokens h.modules look' c.home arguments f.own_parameters c.parameters tagged f.own_parameter_tags in
       let waiting : IsWaiting h.modules look' (map reference_of arguments) c.results (waiting_frame h.state.top rest) = record {
         home = h.home;
@@ -169,8 +164,9 @@ module _ (h : Here) (k : ℕ) (types after : Types) (row : Row h (Call k) types 
       let long : length parameters ≡ length f.callee_is.parameters = sym (names_length h.home parameters f.callee_is.parameters f.parameter_tags) in
       let typed = tokens_have_tags h.modules h.state h.home taken.arguments parameters f.callee_is.parameters taken.arguments_typed f.parameter_tags in
       known (TurnTyped h.modules) (callee h k) _ f.callee_is f.is_found
-      (known (TurnTyped h.modules) (operands (length f.callee_is.parameters) h.state.top.stack) _ (taken.arguments, taken.rest) (subst (λ (n : ℕ). operands n h.state.top.stack ≡ Ok (taken.arguments, taken.rest)) long taken.is_taken)
-      (met (TurnTyped h.modules) (have_tags h.state taken.arguments f.callee_is.parameters) _ _ (typed_have_tags (fields_by_name h.modules) h.state taken.arguments f.callee_is.parameters typed)
+      (known (TurnTyped h.modules) (operands (length f.callee_is.parameters) h.state.top.stack) _ (taken.arguments, taken.rest)
+      (subst (λ (n : ℕ). operands n h.state.top.stack ≡ Ok (taken.arguments, taken.rest)) long taken.is_taken)
+      (passes (TurnTyped h.modules) (have_tags h.state taken.arguments f.callee_is.parameters) _ _ (typed_have_tags (fields_by_name h.modules) h.state taken.arguments f.callee_is.parameters typed)
       (known (TurnTyped h.modules) (entry f.callee_is.home.signatures f.callee_is.definition.locals) _ f.others (ap (λ (x : Option (List Token)). ok_or x (Faults LinkageFault)) f.are_others)
       (enters handle parameters results handle_is parameters_are results_are f parts.0 taken.arguments taken.rest parts.1 parts.2 taken.arguments_typed taken.rest_typed)))))))
 
@@ -203,8 +199,10 @@ module _ (h : Here) (types after : Types) (row : Row h Ret types after) where
           let there : local_in h.state.below m k ≡ Some r.value = subst (λ (x : Bool). cond x (local_value h.state.top k) (local_in h.state.below m k) ≡ Some r.value) p r.is_there in
           record { value = r.value; is_there = subst (λ (gs : List Frame). local_in gs m k ≡ Some r.value) e there; is_of = r.is_of }
 
-  leave : (fs : List Frame) (results : List Token) (arguments rest : List Value) → h.state.below ≡ fs → types ≡ reverse results ++ [] → tokens_named h.home results ≡ Some row.stands.results → operands (length results) h.state.top.stack ≡ Ok (arguments, rest) →
-      AreWaiting h.modules (root_value h.state) h.state.top.entered_with row.stands.results fs → Numbered h.state.top.number fs → Avoid gone (references h.state.top.stack) → BelowAvoid gone [] fs → Part (TurnTyped h.modules) (leaves h arguments fs)
+  leave : (fs : List Frame) (results : List Token) (arguments rest : List Value) → h.state.below ≡ fs → types ≡ reverse results ++ []
+      → tokens_named h.home results ≡ Some row.stands.results → operands (length results) h.state.top.stack ≡ Ok (arguments, rest)
+      → AreWaiting h.modules (root_value h.state) h.state.top.entered_with row.stands.results fs → Numbered h.state.top.number fs
+      → Avoid gone (references h.state.top.stack) → BelowAvoid gone [] fs → Part (TurnTyped h.modules) (leaves h arguments fs)
   leave [] results arguments rest below_is same named taken_is w n free below_free = row.stands.storage
   leave (f ∷ fs) results arguments rest below_is same named taken_is w n free below_free =
       let stack : List Value = reverse arguments ++ f.stack in
@@ -213,7 +211,8 @@ module _ (h : Here) (types after : Types) (row : Row h Ret types after) where
       let kept = kept_returned f fs stack below_is in
       let c = w.0 in
       let all : HaveTokens h.modules look' h.home h.state.top.stack (reverse results ++ []) =
-      subst (λ (ts : Types). HaveTokens h.modules look' h.home h.state.top.stack ts) same (keep_stack h.modules (root_value h.state) look' gone kept h.home h.state.top.stack types free row.stands.stack) in
+      subst (λ (ts : Types). HaveTokens h.modules look' h.home h.state.top.stack ts) same
+      (keep_stack h.modules (root_value h.state) look' gone kept h.home h.state.top.stack types free row.stands.stack) in
       let taken = take_operands h.modules look' h.home h.state.top.stack results [] all in
       let arguments_are : taken.arguments ≡ arguments = pair_first taken.arguments arguments taken.rest rest (operands (length results) h.state.top.stack) taken.is_taken taken_is in
       let typed : HaveTokens h.modules look' h.home arguments results = subst (λ (vs : List Value). HaveTokens h.modules look' h.home vs results) arguments_are taken.arguments_typed in
@@ -256,18 +255,21 @@ module _ (h : Here) (types after : Types) (row : Row h Ret types after) where
       let long : length results ≡ length row.stands.results = sym (names_length h.home results row.stands.results named) in
       known (TurnTyped h.modules) (entry h.home.function_handles h.function.handle) _ handle (ap (λ (x : Option FunctionHandle). ok_or x (Faults LinkageFault)) handle_is)
       (known (TurnTyped h.modules) (entry h.home.signatures handle.results >>=ᵣ for_each (tag_named h.modules h.home)) _ row.stands.results (tags_are handle results results_are named)
-      (known (TurnTyped h.modules) (operands (length row.stands.results) h.state.top.stack) _ (taken.arguments, taken.rest) (subst (λ (n : ℕ). operands n h.state.top.stack ≡ Ok (taken.arguments, taken.rest)) long taken.is_taken)
-      (met (TurnTyped h.modules) (eqb (length taken.rest) 0) _ _ (nothing_left h.modules look h.home taken.rest taken.rest_typed)
-      (met (TurnTyped h.modules) (have_tags h.state taken.arguments row.stands.results) _ _ (typed_have_tags (fields_by_name h.modules) h.state taken.arguments row.stands.results typed)
+      (known (TurnTyped h.modules) (operands (length row.stands.results) h.state.top.stack) _ (taken.arguments, taken.rest)
+      (subst (λ (n : ℕ). operands n h.state.top.stack ≡ Ok (taken.arguments, taken.rest)) long taken.is_taken)
+      (passes (TurnTyped h.modules) (eqb (length taken.rest) 0) _ _ (nothing_left h.modules look h.home taken.rest taken.rest_typed)
+      (passes (TurnTyped h.modules) (have_tags h.state taken.arguments row.stands.results) _ _ (typed_have_tags (fields_by_name h.modules) h.state taken.arguments row.stands.results typed)
       (tested (TurnTyped h.modules) (need (list_all (may_drop h) h.state.top.locals) (Faults LostFault)) _ (lost (list_all (may_drop h) h.state.top.locals))
-      (tested (TurnTyped h.modules) (need (not (list_any (holds_frame h.state.top.number) (references taken.arguments ++ flat_map frame_references h.state.below))) (Faults FrozenFault)) _ (never_frozen (not (list_any (holds_frame h.state.top.number) (references taken.arguments ++ flat_map frame_references h.state.below))))
+      (tested (TurnTyped h.modules) (need (not (list_any (holds_frame h.state.top.number) (references taken.arguments ++ flat_map frame_references h.state.below)))
+      (Faults FrozenFault)) _ (never_frozen (not (list_any (holds_frame h.state.top.number) (references taken.arguments ++ flat_map frame_references h.state.below))))
       (leave h.state.below results taken.arguments taken.rest refl types_are named taken.is_taken row.stands.below row.stands.numbered.1 free.0 free.1))))))))))
     where
       never_frozen : (b : Bool) → Part (λ x. Unit {0}) (need b (Faults FrozenFault))
       never_frozen true = tt
       never_frozen false = tt
 
-      names : (handle : FunctionHandle) (results : List Token) → slice_get h.home.function_handles h.function.handle ≡ Some handle → slice_get h.home.signatures handle.results ≡ Some results → tokens_named h.home results ≡ Some row.stands.results
+      names : (handle : FunctionHandle) (results : List Token) → slice_get h.home.function_handles h.function.handle ≡ Some handle
+          → slice_get h.home.signatures handle.results ≡ Some results → tokens_named h.home results ≡ Some row.stands.results
       names handle results e g =
           on_some (slice_get h.home.function_handles h.function.handle) _ row.stands.results row.stands.are_results (λ other other_is e1.
           let one : other ≡ handle = same_Some other handle (sym other_is ∙ e) in
@@ -275,6 +277,9 @@ module _ (h : Here) (types after : Types) (row : Row h Ret types after) where
           let two : ts ≡ results = same_Some ts results (sym ts_are ∙ ap (λ (x : FunctionHandle). slice_get h.home.signatures x.results) one ∙ g) in
           subst (λ (x : List Token). tokens_named h.home x ≡ Some row.stands.results) two e2))
 
-      tags_are : (handle : FunctionHandle) (results : List Token) → slice_get h.home.signatures handle.results ≡ Some results → tokens_named h.home results ≡ Some row.stands.results → (entry h.home.signatures handle.results >>=ᵣ for_each (tag_named h.modules h.home)) ≡ Ok row.stands.results
+      tags_are : (handle : FunctionHandle) (results : List Token) → slice_get h.home.signatures handle.results ≡ Some results
+          → tokens_named h.home results ≡ Some row.stands.results
+          → (entry h.home.signatures handle.results >>=ᵣ for_each (tag_named h.modules h.home)) ≡ Ok row.stands.results
       tags_are handle results g named =
-          subst (λ (x : Option (List Token)). (ok_or x (Faults LinkageFault) >>=ᵣ for_each (tag_named h.modules h.home)) ≡ Ok row.stands.results) (sym g) (tags_found h row.facts results row.stands.results named)
+          subst (λ (x : Option (List Token)). (ok_or x (Faults LinkageFault) >>=ᵣ for_each (tag_named h.modules h.home)) ≡ Ok row.stands.results)
+          (sym g) (tags_found h row.facts results row.stands.results named)

@@ -1,29 +1,18 @@
 -- Rows of operands alone: numbers, bools, constants.
-use Rattle.std.proofs.Common.{◌≡◌, ℕ, ◌+◌, ◌-◌, ◌*◌, ◌/◌, ◌%◌, ◌^◌, ◌<◌, ◌≤◌, Bool, true, false, List, [], ◌∷◌, refl, sym, ap, ◌∙◌, subst, Some, Ok, eqb, arith}
-use Rattle.std.specs.Prelude.{IsTrue, nat_lt, nat_le, not, bit_and, bit_or, bit_xor}
-use Rattle.std.proofs.lemmas.Bool.{lt-ltb, ltb-true}
+use Rattle.mv_interpreter.proofs.Typing.Common.{◌≡◌, ℕ, ◌+◌, ◌-◌, ◌*◌, ◌^◌, ◌<◌, ◌≤◌, Bool, true, false, List, [], ◌∷◌, refl, sym, ap, ◌∙◌, subst, Some, Ok, eqb, arith, IsTrue, nat_lt, nat_le, not, lt-ltb, ltb-true, same_Some, Boolean, Number, Address, Signer, OfLeaf, OfStruct, Token, Plain, ReferenceTo, MutableReferenceTo, Module, Value, Leaf, Types, boolean, takes_gives, taken, top_type, truth, on_some, Roots, HasToken, HaveTokens}
+use Rattle.std.proofs.Common.{◌/◌, ◌%◌}
+use Rattle.std.specs.Prelude.{bit_and, bit_or, bit_xor}
 use Rattle.std.proofs.Math.Nat.{div-le_self}
 use Rattle.std.proofs.Math.Pow.{pow_pos}
 use Rattle.std.proofs.lemmas.Nat.{or_lt, xor_lt, and_le_l}
-use Rattle.std.proofs.lemmas.Option.{same_Some}
 use Rattle.mv_move_types.specs.declared.token.Width.{Width}
 use Rattle.mv_move_types.specs.declared.token.Width.TheVariants.{U8}
-use Rattle.mv_move_types.specs.declared.token.LeafKind.TheVariants.{Boolean, Number, Address, Signer}
-use Rattle.mv_move_types.specs.declared.token.ValueType.TheVariants.{OfLeaf, OfStruct}
-use Rattle.mv_move_types.specs.declared.token.Token.{Token}
-use Rattle.mv_move_types.specs.declared.token.Token.TheVariants.{Plain, Reference as ReferenceTo, MutableReference as MutableReferenceTo}
-use Rattle.mv_move_types.specs.Module.{Module}
-use Rattle.mv_machine.specs.Value.{Value, Leaf}
 use Rattle.mv_move_types.specs.Tokens.{width_bits, same_width}
-use Rattle.mv_type_states.specs.TypeRules.{Types, number, boolean, top_width, takes_gives, of_two_numbers, taken, of_shift, of_cast, top_type, width_of}
+use Rattle.mv_type_states.specs.TypeRules.{number, top_width, of_two_numbers, of_shift, of_cast, width_of}
 use Rattle.mv_machine.specs.Numbers.{Operator, fitting, sum_of, difference_of, product_of, remainder_of, quotient_of, shifted_left, shifted_right}
 use Rattle.mv_machine.specs.StepNumbers.{binary, comparison, shift, cast, logic, negation}
-use Rattle.mv_machine.specs.StepParts.{truth}
-use Rattle.mv_linker.proofs.Found.{on_some}
-use Rattle.mv_interpreter.specs.Typing.HasType.{Roots}
-use Rattle.mv_interpreter.specs.Typing.StateTyped.{HasToken, HaveTokens}
 use Rattle.mv_interpreter.proofs.Typing.Tests.{same_width-same}
-use Rattle.mv_interpreter.proofs.Typing.Parts.{Part, some, met}
+use Rattle.mv_interpreter.proofs.Typing.Parts.{Part, some, passes}
 use Rattle.mv_interpreter.proofs.Typing.Operands.{takes_gives-is, taken-is, top_type-is, leaf, of_leaf}
 
 -- ---- operators keep their width
@@ -115,8 +104,27 @@ right_keeps w x y h = by_case (nat_lt y (width_bits w)) refl
         rw e (lt-fits w (x / 2 ^ y) (omega (arith, l, m)))
     by_case false e = rw e tt
 
--- ---- the rules
+-- a type whose number has a width
+pub top_width-is : (types : Types) (w : Width) → top_width types ≡ Some w → (below : Types) × (types ≡ number w ∷ below)
+top_width-is (Plain (OfLeaf (Number v)) ∷ below) w e = (below, ap (λ (u : Width). number u ∷ below) (same_Some v w e))
+top_width-is [] w e = absurd cc
+top_width-is (Plain (OfLeaf Boolean) ∷ below) w e = absurd cc
+top_width-is (Plain (OfLeaf Address) ∷ below) w e = absurd cc
+top_width-is (Plain (OfLeaf Signer) ∷ below) w e = absurd cc
+top_width-is (Plain (OfStruct h) ∷ below) w e = absurd cc
+top_width-is (ReferenceTo t ∷ below) w e = absurd cc
+top_width-is (MutableReferenceTo t ∷ below) w e = absurd cc
 
+pub width_of-is : (t : Token) (w : Width) → width_of t ≡ Some w → t ≡ number w
+width_of-is (Plain (OfLeaf (Number v))) w e = ap number (same_Some v w e)
+width_of-is (Plain (OfLeaf Boolean)) w e = absurd cc
+width_of-is (Plain (OfLeaf Address)) w e = absurd cc
+width_of-is (Plain (OfLeaf Signer)) w e = absurd cc
+width_of-is (Plain (OfStruct h)) w e = absurd cc
+width_of-is (ReferenceTo t) w e = absurd cc
+width_of-is (MutableReferenceTo t) w e = absurd cc
+
+-- ---- the rules
 module _ (modules : List Module) (look : Roots) (home : Module) where
   -- two numbers of one width
   pub record TwoNumbers (stack : List Value) (w : Width) (below : Types) : Type 0 where
@@ -144,7 +152,8 @@ module _ (modules : List Module) (look : Roots) (home : Module) where
         typed = h.1.1;
       }
 
-  pub of_two_numbers-is : (given : Width → Token) (types after : Types) → of_two_numbers given types ≡ Some after → (w : Width) × (below : Types) × (types ≡ number w ∷ number w ∷ below) × (after ≡ given w ∷ below)
+  pub of_two_numbers-is : (given : Width → Token) (types after : Types) → of_two_numbers given types ≡ Some after
+      → (w : Width) × (below : Types) × (types ≡ number w ∷ number w ∷ below) × (after ≡ given w ∷ below)
   of_two_numbers-is given types after e =
       on_some (top_width types) (λ w. takes_gives (number w ∷ number w ∷ []) (given w ∷ []) types) after e (λ w w_is e1.
       let parts = takes_gives-is (number w ∷ number w ∷ []) (given w ∷ []) types after e1 in
@@ -158,7 +167,7 @@ module _ (modules : List Module) (look : Roots) (home : Module) where
       let w : Width = parts.0 in
       let n = two_numbers stack w parts.1 (subst (λ (ts : Types). HaveTokens modules look home stack ts) parts.2 h) in
       subst (λ (s : List Value). Part (λ (s : List Value). HaveTokens modules look home s after) (binary operator s)) (sym n.are)
-      (met (λ (s : List Value). HaveTokens modules look home s after) (same_width w w) _ _ (same_width-same w)
+      (passes (λ (s : List Value). HaveTokens modules look home s after) (same_width w w) _ _ (same_width-same w)
       (some (λ (s : List Value). HaveTokens modules look home s after) (Fits w) (operator w n.left n.right) _ (keeps w n.left n.right n.left_fits n.right_fits) (λ m fits.
       subst (λ (ts : Types). HaveTokens modules look home (Leaf (Number w) m ∷ n.rest) ts) (sym parts.3) (of_leaf modules look home (Number w) m fits, n.typed))))
 
@@ -178,18 +187,8 @@ module _ (modules : List Module) (look : Roots) (home : Module) where
       let w : Width = parts.0 in
       let n = two_numbers stack w parts.1 (subst (λ (ts : Types). HaveTokens modules look home stack ts) parts.2 h) in
       subst (λ (s : List Value). Part (Typed after) (comparison test s)) (sym n.are)
-      (met (Typed after) (same_width w w) _ _ (same_width-same w)
+      (passes (Typed after) (same_width w w) _ _ (same_width-same w)
       (subst (λ (ts : Types). HaveTokens modules look home (truth (test n.left n.right) ∷ n.rest) ts) (sym parts.3) (of_truth (test n.left n.right), n.typed)))
-
-  top_width-is : (types : Types) (w : Width) → top_width types ≡ Some w → (below : Types) × (types ≡ number w ∷ below)
-  top_width-is (Plain (OfLeaf (Number v)) ∷ below) w e = (below, ap (λ (u : Width). number u ∷ below) (same_Some v w e))
-  top_width-is [] w e = absurd cc
-  top_width-is (Plain (OfLeaf Boolean) ∷ below) w e = absurd cc
-  top_width-is (Plain (OfLeaf Address) ∷ below) w e = absurd cc
-  top_width-is (Plain (OfLeaf Signer) ∷ below) w e = absurd cc
-  top_width-is (Plain (OfStruct h) ∷ below) w e = absurd cc
-  top_width-is (ReferenceTo t ∷ below) w e = absurd cc
-  top_width-is (MutableReferenceTo t ∷ below) w e = absurd cc
 
   pub shift_typed : (operator : Operator) → KeepsLeft operator → (stack : List Value) (types after : Types) → HaveTokens modules look home stack types → of_shift types ≡ Some after →
       Part (λ (s : List Value). HaveTokens modules look home s after) (shift operator stack)
@@ -213,15 +212,6 @@ module _ (modules : List Module) (look : Roots) (home : Module) where
           (some (Typed after) (Fits w) (operator w x.number y.number) _ (keeps w x.number y.number x.fits) (λ m fits.
           subst (λ (ts : Types). HaveTokens modules look home (Leaf (Number w) m ∷ rest) ts) (sym same) (of_leaf modules look home (Number w) m fits, k.1.1))))
 
-  width_of-is : (t : Token) (w : Width) → width_of t ≡ Some w → t ≡ number w
-  width_of-is (Plain (OfLeaf (Number v))) w e = ap number (same_Some v w e)
-  width_of-is (Plain (OfLeaf Boolean)) w e = absurd cc
-  width_of-is (Plain (OfLeaf Address)) w e = absurd cc
-  width_of-is (Plain (OfLeaf Signer)) w e = absurd cc
-  width_of-is (Plain (OfStruct h)) w e = absurd cc
-  width_of-is (ReferenceTo t) w e = absurd cc
-  width_of-is (MutableReferenceTo t) w e = absurd cc
-
   pub cast_typed : (w : Width) (stack : List Value) (types after : Types) → HaveTokens modules look home stack types → of_cast w types ≡ Some after →
       Part (λ (s : List Value). HaveTokens modules look home s after) (cast w stack)
   unfolding cast
@@ -239,8 +229,9 @@ module _ (modules : List Module) (look : Roots) (home : Module) where
           (some (Typed after) (Fits w) (fitting w x.number) _ (fitting_fits w x.number) (λ m fits.
           subst (λ (ts : Types). HaveTokens modules look home (Leaf (Number w) m ∷ rest) ts) (sym same) (of_leaf modules look home (Number w) m fits, k.1)))
 
-  pub logic_typed : (operator : Bool → Bool → Bool) (stack : List Value) (types after : Types) → HaveTokens modules look home stack types → takes_gives (boolean ∷ boolean ∷ []) (boolean ∷ []) types ≡ Some after →
-      Part (λ (s : List Value). HaveTokens modules look home s after) (logic operator stack)
+  pub logic_typed : (operator : Bool → Bool → Bool) (stack : List Value) (types after : Types) → HaveTokens modules look home stack types
+      → takes_gives (boolean ∷ boolean ∷ []) (boolean ∷ []) types ≡ Some after
+      → Part (λ (s : List Value). HaveTokens modules look home s after) (logic operator stack)
   unfolding logic
   logic_typed operator stack types after h e =
       let parts = takes_gives-is (boolean ∷ boolean ∷ []) (boolean ∷ []) types after e in
@@ -254,7 +245,8 @@ module _ (modules : List Module) (look : Roots) (home : Module) where
           let x = leaf modules look home a Boolean k.1.0 in
           subst (λ (c : Value). Part (Typed after) (logic operator (c ∷ a ∷ rest))) (sym y.is_leaf)
           (subst (λ (c : Value). Part (Typed after) (logic operator (Leaf Boolean y.number ∷ c ∷ rest))) (sym x.is_leaf)
-          (subst (λ (ts : Types). HaveTokens modules look home (truth (operator (not (eqb x.number 0)) (not (eqb y.number 0))) ∷ rest) ts) (sym same) (of_truth (operator (not (eqb x.number 0)) (not (eqb y.number 0))), k.1.1)))
+          (subst (λ (ts : Types). HaveTokens modules look home (truth (operator (not (eqb x.number 0)) (not (eqb y.number 0))) ∷ rest) ts)
+          (sym same) (of_truth (operator (not (eqb x.number 0)) (not (eqb y.number 0))), k.1.1)))
 
   pub negation_typed : (stack : List Value) (types after : Types) → HaveTokens modules look home stack types → takes_gives (boolean ∷ []) (boolean ∷ []) types ≡ Some after →
       Part (λ (s : List Value). HaveTokens modules look home s after) (negation stack)

@@ -1,38 +1,17 @@
 -- A storage that the ledger calls fine is typed, and a typed one is fine.
-use Rattle.std.proofs.Common.{◌≡◌, ℕ, true, false, List, [], ◌∷◌, map, refl, sym, ap, subst, ◌∙◌, Option, Some}
-use Rattle.std.specs.Prelude.{slice_get, IsTrue, ◌&&◌}
-use Rattle.std.specs.List.{list_all}
-use Rattle.std.specs.Option.{option_map_or}
-use Rattle.std.specs.Cmp.{first_so, second_so}
-use Rattle.std.proofs.lemmas.Option.{same_Some}
-use Rattle.std.proofs.lemmas.Bool.{and_from}
-use Rattle.mv_move_types.specs.declared.token.LeafKind.{LeafKind}
-use Rattle.mv_move_types.specs.declared.token.LeafKind.TheVariants.{Boolean, Number, Address, Signer}
-use Rattle.mv_move_types.specs.declared.token.ValueType.TheVariants.{OfLeaf, OfStruct}
-use Rattle.mv_move_types.specs.declared.token.Token.{Token}
-use Rattle.mv_move_types.specs.declared.token.Token.TheVariants.{Plain, Reference as ReferenceTo, MutableReference as MutableReferenceTo}
-use Rattle.mv_move_types.specs.declared.token.Abilities.{Abilities}
+use Rattle.mv_interpreter.proofs.Typing.Common.{◌≡◌, ℕ, true, false, List, [], ◌∷◌, map, refl, sym, ap, subst, ◌∙◌, Option, Some, slice_get, IsTrue, ◌&&◌, list_all, option_map_or, first_so, second_so, same_Some, and_from, LeafKind, Boolean, Number, Address, Signer, OfLeaf, OfStruct, Token, Plain, ReferenceTo, MutableReferenceTo, Abilities, StructName, Module, struct_name, Field, Value, Leaf, Struct, Ref, Values, NoMore, More, same_kind, Storage, Tag, LeafTag, StructTag, module_place, address_fits, below, token_named, tokens_named, on_some, each, then_found, in_range, IsOf, AreOf, EntryTyped, StorageTyped, ModuleAccepted, StoreAccepted}
 use Rattle.mv_move_types.specs.Options.{find_index}
-use Rattle.mv_move_types.specs.Names.{StructName, same_struct}
-use Rattle.mv_move_types.specs.Module.{Module, StructDefinition, struct_name, name_at}
-use Rattle.mv_move_types.specs.declared.tables.Field.{Field}
-use Rattle.mv_machine.specs.Value.{Value, Leaf, Struct, Ref, Values, NoMore, More}
-use Rattle.mv_move_types.specs.Tokens.{same_kind}
-use Rattle.mv_machine.specs.State.{Entry, Storage}
-use Rattle.mv_move_types.specs.Tags.{Tag, LeafTag, StructTag}
-use Rattle.mv_move_types.specs.Named.{is_struct, module_place, module_named}
-use Rattle.mv_module_text.specs.Fits.{address_fits}
+use Rattle.mv_move_types.specs.Names.{same_struct}
+use Rattle.mv_move_types.specs.Module.{StructDefinition, name_at}
+use Rattle.mv_machine.specs.State.{Entry}
+use Rattle.mv_move_types.specs.Named.{is_struct, module_named}
 use Rattle.mv_machine.specs.Typed.{leaf_fits}
-use Rattle.mv_bounds.specs.Bounds.{below, struct_in, field_in}
+use Rattle.mv_bounds.specs.Bounds.{struct_in, field_in}
 use Rattle.mv_signatures.specs.Signatures.{may_be_field}
-use Rattle.mv_linker.specs.TypesByName.{token_named, tokens_named}
 use Rattle.mv_move_types.specs.Named.{definition_of}
 use Rattle.mv_machine.specs.Typed.{is_of_type, are_of_types, is_of_struct, abilities_at, is_fine_entry, is_fine_storage}
 use Rattle.mv_linker.proofs.NameLemmas.{same_struct-is, same_struct-same}
-use Rattle.mv_linker.proofs.Found.{on_some, each, then_found}
-use Rattle.mv_interpreter.specs.Typing.HasType.{in_range, fields_by_name, IsOf, AreOf}
-use Rattle.mv_interpreter.specs.Typing.StateTyped.{EntryTyped, StorageTyped}
-use Rattle.mv_interpreter.specs.Typing.Accepted.{ModuleAccepted, StoreAccepted}
+use Rattle.mv_interpreter.specs.Typing.HasType.{fields_by_name}
 use Rattle.mv_interpreter.proofs.Typing.Tests.{same_kind-is, same_kind-same}
 use Rattle.mv_interpreter.proofs.Typing.Names.{tokens_there}
 use Rattle.mv_interpreter.proofs.Typing.OwnDefinitions.{field_tokens}
@@ -68,7 +47,8 @@ leaf_ranges Signer n h = absurd cc
 
 module _ (modules : List Module) (store : StoreAccepted modules) where
   -- the table's entry of a defined struct
-  by_name : (name : StructName) (d : Module × List Field) → definition_of modules name ≡ Some d → (tags : List Tag) → tokens_named d.0 (map (λ (f : Field). f.token) d.1) ≡ Some tags → fields_by_name modules name ≡ Some tags
+  by_name : (name : StructName) (d : Module × List Field) → definition_of modules name ≡ Some d → (tags : List Tag)
+      → tokens_named d.0 (map (λ (f : Field). f.token) d.1) ≡ Some tags → fields_by_name modules name ≡ Some tags
   unfolding fields_by_name
   by_name name d e tags named = then_found (definition_of modules name) _ d (Some tags) e named
 
@@ -85,9 +65,11 @@ module _ (modules : List Module) (store : StoreAccepted modules) where
         (same_kind-is j k (first_so (same_kind j k) (leaf_fits k n) h), subst (λ (x : LeafKind). IsTrue (in_range x n)) (sym (same_kind-is j k (first_so (same_kind j k) (leaf_fits k n) h))) (leaf_ranges k n (second_so (same_kind j k) (leaf_fits k n) h)))
     of_type m (Plain (OfStruct i)) (Struct name fields) tag h e =
         let same : option_map_or (λ own. same_struct own name) (struct_name m i) false ≡ true =
-        first_so (option_map_or (λ own. same_struct own name) (struct_name m i) false) (option_map_or (λ (d : Module × List Field). are_of_types modules d.0 d.1 fields) (definition_of modules name) false) h in
+        first_so (option_map_or (λ own. same_struct own name) (struct_name m i) false)
+        (option_map_or (λ (d : Module × List Field). are_of_types modules d.0 d.1 fields) (definition_of modules name) false) h in
         let typed : option_map_or (λ (d : Module × List Field). are_of_types modules d.0 d.1 fields) (definition_of modules name) false ≡ true =
-        second_so (option_map_or (λ own. same_struct own name) (struct_name m i) false) (option_map_or (λ (d : Module × List Field). are_of_types modules d.0 d.1 fields) (definition_of modules name) false) h in
+        second_so (option_map_or (λ own. same_struct own name) (struct_name m i) false)
+        (option_map_or (λ (d : Module × List Field). are_of_types modules d.0 d.1 fields) (definition_of modules name) false) h in
         let parts = found_definition name fields typed in
         let all : AreOf (fields_by_name modules) fields parts.1.tags = of_types parts.0.0 parts.0.1 fields parts.1.tags parts.3 parts.1.are_tags in
         on_found (λ own. same_struct own name) (struct_name m i) same (λ own own_is is_name.
@@ -105,7 +87,8 @@ module _ (modules : List Module) (store : StoreAccepted modules) where
     of_type m (MutableReferenceTo t) (Struct name fields) tag h e = absurd cc
     of_type m (MutableReferenceTo t) (Ref r) tag h e = absurd cc
 
-    of_types : (m : Module) (fs : List Field) (vs : Values) (tags : List Tag) → are_of_types modules m fs vs ≡ true → tokens_named m (map (λ (f : Field). f.token) fs) ≡ Some tags → AreOf (fields_by_name modules) vs tags
+    of_types : (m : Module) (fs : List Field) (vs : Values) (tags : List Tag) → are_of_types modules m fs vs ≡ true
+        → tokens_named m (map (λ (f : Field). f.token) fs) ≡ Some tags → AreOf (fields_by_name modules) vs tags
     of_types m [] NoMore tags h e = subst (AreOf (fields_by_name modules) NoMore) (same_Some [] tags e) tt
     of_types m [] (More v vs) tags h e = absurd cc
     of_types m (f ∷ fs) NoMore tags h e = absurd cc
@@ -132,7 +115,8 @@ module _ (modules : List Module) (store : StoreAccepted modules) where
       of_own name (Leaf j n) h = absurd cc
       of_own name (Ref r) h = absurd cc
       of_own name (Struct own fields) h =
-          let parts = found_definition own fields (second_so (same_struct name own) (option_map_or (λ (d : Module × List Field). are_of_types modules d.0 d.1 fields) (definition_of modules own) false) h) in (
+          let parts = found_definition own fields (second_so (same_struct name own)
+          (option_map_or (λ (d : Module × List Field). are_of_types modules d.0 d.1 fields) (definition_of modules own) false) h) in (
             sym (same_struct-is name own (first_so (same_struct name own) (option_map_or (λ (d : Module × List Field). are_of_types modules d.0 d.1 fields) (definition_of modules own) false) h)),
             parts.1.tags,
             by_name own parts.0 parts.2 parts.1.tags parts.1.are_tags,
@@ -142,11 +126,13 @@ module _ (modules : List Module) (store : StoreAccepted modules) where
   -- a storage that the ledger calls fine is typed
   pub fine_storage : (es : Storage) → IsTrue (is_fine_storage modules es) → StorageTyped modules es
   fine_storage [] h = tt
-  fine_storage (e ∷ es) h = (fine_entry e (first_so (is_fine_entry modules e) (list_all (is_fine_entry modules) es) h), fine_storage es (second_so (is_fine_entry modules e) (list_all (is_fine_entry modules) es) h))
+  fine_storage (e ∷ es) h =
+      (fine_entry e (first_so (is_fine_entry modules e) (list_all (is_fine_entry modules) es) h), fine_storage es (second_so (is_fine_entry modules e) (list_all (is_fine_entry modules) es) h))
 
   -- ---- and back
 
-  defined_by_name : (name : StructName) (tags : List Tag) → fields_by_name modules name ≡ Some tags → (d : Module × List Field) × (definition_of modules name ≡ Some d) × (tokens_named d.0 (map (λ (f : Field). f.token) d.1) ≡ Some tags)
+  defined_by_name : (name : StructName) (tags : List Tag) → fields_by_name modules name ≡ Some tags
+      → (d : Module × List Field) × (definition_of modules name ≡ Some d) × (tokens_named d.0 (map (λ (f : Field). f.token) d.1) ≡ Some tags)
   unfolding fields_by_name
   defined_by_name name tags e = on_some (definition_of modules name) _ tags e (λ d d_is e1. (d, d_is, e1))
 
@@ -165,13 +151,16 @@ module _ (modules : List Module) (store : StoreAccepted modules) where
     to_type : (m : Module) (t : Token) (v : Value) (tag : Tag) → may_be_field t ≡ true → token_named m t ≡ Some tag → IsOf (fields_by_name modules) v tag → is_of_type modules m t v ≡ true
     to_type m (Plain (OfLeaf k)) (Leaf j n) tag b e h =
         let is : IsOf (fields_by_name modules) (Leaf j n) (LeafTag k) = subst (λ (x : Tag). IsOf (fields_by_name modules) (Leaf j n) x) (sym (same_Some (LeafTag k) tag e)) h in
-        and_from (same_kind j k) (leaf_fits k n) (subst (λ (x : LeafKind). same_kind x k ≡ true) (sym is.0) (same_kind-same k)) (leaf_fits_back k n b (subst (λ (x : LeafKind). IsTrue (in_range x n)) is.0 is.1))
+        and_from (same_kind j k) (leaf_fits k n) (subst (λ (x : LeafKind). same_kind x k ≡ true) (sym is.0) (same_kind-same k))
+        (leaf_fits_back k n b (subst (λ (x : LeafKind). IsTrue (in_range x n)) is.0 is.1))
     to_type m (Plain (OfStruct i)) (Struct name fields) tag b e h =
         on_some (struct_name m i) (λ n. Some (StructTag n)) tag e (λ own own_is e1.
-        let is : IsOf (fields_by_name modules) (Struct name fields) (StructTag own) = subst (λ (x : Tag). IsOf (fields_by_name modules) (Struct name fields) x) (sym (same_Some (StructTag own) tag e1)) h in
+        let is : IsOf (fields_by_name modules) (Struct name fields) (StructTag own) =
+        subst (λ (x : Tag). IsOf (fields_by_name modules) (Struct name fields) x) (sym (same_Some (StructTag own) tag e1)) h in
         let d = defined_by_name name is.1 is.2 in
         let all : are_of_types modules d.0.0 d.0.1 fields ≡ true = to_types d.0.0 d.0.1 fields is.1 (definition_defined modules store name d.0 d.1).may_be d.2 is.3 in
-        and_from _ _ (subst (λ (x : Option StructName). option_map_or (λ own. same_struct own name) x false ≡ true) (sym own_is) (subst (λ (x : StructName). same_struct own x ≡ true) (sym is.0) (same_struct-same own)))
+        and_from _ _ (subst (λ (x : Option StructName). option_map_or (λ own. same_struct own name) x false ≡ true)
+        (sym own_is) (subst (λ (x : StructName). same_struct own x ≡ true) (sym is.0) (same_struct-same own)))
         (tested_by name fields d.0 d.1 all))
     to_type m (Plain (OfLeaf k)) (Struct name fields) tag b e h = absurd (subst (λ (x : Tag). IsOf (fields_by_name modules) (Struct name fields) x) (sym (same_Some (LeafTag k) tag e)) h)
     to_type m (Plain t) (Ref r) tag b e h = absurd h
@@ -181,8 +170,8 @@ module _ (modules : List Module) (store : StoreAccepted modules) where
     to_type m (ReferenceTo t) v tag b e h = absurd cc
     to_type m (MutableReferenceTo t) v tag b e h = absurd cc
 
-    to_types : (m : Module) (fs : List Field) (vs : Values) (tags : List Tag) → list_all (λ (f : Field). may_be_field f.token) fs ≡ true → tokens_named m (map (λ (f : Field). f.token) fs) ≡ Some tags → AreOf (fields_by_name modules) vs tags →
-        are_of_types modules m fs vs ≡ true
+    to_types : (m : Module) (fs : List Field) (vs : Values) (tags : List Tag) → list_all (λ (f : Field). may_be_field f.token) fs ≡ true
+        → tokens_named m (map (λ (f : Field). f.token) fs) ≡ Some tags → AreOf (fields_by_name modules) vs tags → are_of_types modules m fs vs ≡ true
     to_types m [] NoMore tags b e h = refl
     to_types m [] (More v vs) tags b e h = absurd (subst (AreOf (fields_by_name modules) (More v vs)) (sym (same_Some [] tags e)) h)
     to_types m (f ∷ fs) NoMore tags b e h =
@@ -199,7 +188,8 @@ module _ (modules : List Module) (store : StoreAccepted modules) where
 
   typed_entry : (e : Entry) → EntryTyped modules e → is_fine_entry modules e ≡ true
   typed_entry e t =
-      and_from _ _ (and_from _ _ t.fits (subst (λ (x : Option StructName). option_map_or (λ name. is_of_struct modules name e.value) x false ≡ true) (sym t.is_named) (is_own t.name e.value t.typed))) t.has_key
+      and_from _ _ (and_from _ _ t.fits (subst (λ (x : Option StructName). option_map_or (λ name. is_of_struct modules name e.value) x false ≡ true)
+      (sym t.is_named) (is_own t.name e.value t.typed))) t.has_key
     where
       is_own : (name : StructName) (v : Value) → IsOf (fields_by_name modules) v (StructTag name) → is_of_struct modules name v ≡ true
       is_own name (Leaf j n) h = absurd h

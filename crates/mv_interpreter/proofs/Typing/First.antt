@@ -1,27 +1,21 @@
 -- The first state of a run is typed, and so the whole run meets no fault of types, links or dangling references.
-use Rattle.std.proofs.Common.{◌≡◌, ℕ, List, [], ◌++◌, length, refl, Some, None, Ok, arith}
-use Rattle.mv_move_types.specs.Module.{Module}
-use Rattle.mv_machine.specs.State.{Storage, State, root_value}
-use Rattle.mv_machine.specs.Live.{references}
+use Rattle.mv_interpreter.proofs.Typing.Common.{◌≡◌, ℕ, List, [], ◌++◌, length, refl, Ok, arith, Module, Storage, State, root_value, references, FunctionCall, Roots, StateTyped, StorageTyped}
 use Rattle.mv_machine.specs.Step.{entered_frame}
-use Rattle.mv_machine.specs.Run.{FunctionCall, first_state}
-use Rattle.mv_interpreter.specs.Typing.HasType.{Roots}
-use Rattle.mv_interpreter.specs.Typing.StateTyped.{StateTyped, StorageTyped}
+use Rattle.mv_machine.specs.Run.{first_state}
 pub use Rattle.mv_interpreter.specs.Typing.CallTyped.{Nowhere, CallTyped}
 use Rattle.mv_interpreter.proofs.Typing.Keep.{Kept, Nothing, avoid_nothing, keep_stack}
 use Rattle.mv_interpreter.proofs.Typing.Calls.{entered_locals}
+use Rattle.std.proofs.lemmas.Option.{none-some}
 
 -- the state that a call begins with
 abbrev pub begun : Storage → FunctionCall → ℕ → State
 begun storage call others = record { top = entered_frame 0 call.function call.arguments others; below = []; storage = storage; steps = 0; tally = []; entered = 1 }
 
 from_nowhere : (modules : List Module) (look : Roots) → Kept modules Nowhere look Nothing
-from_nowhere modules look root t far r = absurd (never r.is_there)
-  where
-    never : None ≡ Some r.value → ⊥
-    never e = cc
+from_nowhere modules look root t far r = absurd (none-some r.value r.is_there)
 
-pub first_typed : (modules : List Module) (storage : Storage) (call : FunctionCall) (c : CallTyped modules call) → StorageTyped modules storage → StateTyped modules (begun storage call (length c.others))
+pub first_typed : (modules : List Module) (storage : Storage) (call : FunctionCall) (c : CallTyped modules call) → StorageTyped modules storage
+    → StateTyped modules (begun storage call (length c.others))
 first_typed modules storage call c stored =
     let look : Roots = root_value (begun storage call (length c.others)) in
     let arguments = keep_stack modules Nowhere look Nothing (from_nowhere modules look) c.home call.arguments c.parameters (avoid_nothing (references call.arguments)) c.arguments in

@@ -1,15 +1,10 @@
 -- Blocks: where they begin and end, and how types are carried through them.
-use Rattle.std.proofs.Common.{◌≡◌, ℕ, zero, suc, ◌+◌, ◌-◌, ◌<◌, ◌≤◌, Bool, true, false, cond, List, [], ◌∷◌, ◌++◌, length, take, drop, refl, sym, ap, subst, Some, None, eqb, arith, ◌⊎◌, inl, inr}
-use Rattle.std.specs.Prelude.{slice_get, slice_range, nat_le, ◌||◌}
-use Rattle.std.proofs.lemmas.Bool.{eqb-true, eqb-false}
-use Rattle.std.proofs.lemmas.Option.{same_Some}
-use Rattle.mv_move_types.specs.declared.instruction.Instruction.{Instruction}
-use Rattle.mv_move_types.specs.Module.{Module, FunctionDefinition}
+use Rattle.mv_interpreter.proofs.Typing.Common.{◌≡◌, ℕ, zero, suc, ◌+◌, ◌-◌, ◌<◌, ◌≤◌, Bool, true, false, cond, List, [], ◌∷◌, ◌++◌, length, take, drop, refl, sym, ap, subst, Some, None, eqb, arith, ◌⊎◌, inl, inr, slice_get, nat_le, ◌||◌, eqb-true, eqb-false, same_Some, Instruction, Module, FunctionDefinition, Types, on_some}
+use Rattle.std.specs.Prelude.{slice_range}
 use Rattle.mv_cfg.specs.Blocks.{BasicBlock, blocks_at, block_between, starts_from, is_target}
 use Rattle.mv_move_types.specs.Flow.{ends_block}
-use Rattle.mv_type_states.specs.TypeRules.{Types, types_after}
+use Rattle.mv_type_states.specs.TypeRules.{types_after}
 use Rattle.mv_type_states.specs.TypesHold.{types_through}
-use Rattle.mv_linker.proofs.Found.{on_some}
 
 -- ---- lists
 
@@ -29,7 +24,8 @@ get_drop [] (suc a) n k c e g = absurd cc
 get_drop (x ∷ xs) (suc a) n zero c e g = absurd (omega (arith, e))
 get_drop (x ∷ xs) (suc a) n (suc k) c e g = let lower : k ≡ a + n = omega (arith, e) in get_drop xs a n k c lower g
 
-pub range_split : {A : Type 0} (xs : List A) (a at b : ℕ) (c : A) → a ≤ at → at < b → slice_get xs at ≡ Some c → (rest : List A) × (slice_range xs a b ≡ slice_range xs a at ++ c ∷ rest) × (b ≡ at + 1 → rest ≡ [])
+pub range_split : {A : Type 0} (xs : List A) (a at b : ℕ) (c : A) → a ≤ at → at < b → slice_get xs at ≡ Some c
+    → (rest : List A) × (slice_range xs a b ≡ slice_range xs a at ++ c ∷ rest) × (b ≡ at + 1 → rest ≡ [])
 range_split xs a at b c low high e =
     let n : ℕ = at - a in
     let r : ℕ = b - at - 1 in
@@ -51,7 +47,8 @@ through_step m d i is' ts r e =
     by_case after after_is true p e1 = (after, after_is, p, e1)
     by_case after after_is false p e1 = absurd cc
 
-pub through_apart : (m : Module) (d : FunctionDefinition) (xs ys : List Instruction) (ts r : Types) → types_through m d (xs ++ ys) ts ≡ Some r → (mid : Types) × (types_through m d xs ts ≡ Some mid) × (types_through m d ys mid ≡ Some r)
+pub through_apart : (m : Module) (d : FunctionDefinition) (xs ys : List Instruction) (ts r : Types) → types_through m d (xs ++ ys) ts ≡ Some r
+    → (mid : Types) × (types_through m d xs ts ≡ Some mid) × (types_through m d ys mid ≡ Some r)
 through_apart m d [] ys ts r e = (ts, refl, e)
 through_apart m d (x ∷ xs) ys ts r e =
     let s = through_step m d x (xs ++ ys) ts r e in
@@ -61,7 +58,8 @@ through_apart m d (x ∷ xs) ys ts r e =
     joined : (after mid : Types) → types_after m d x ts ≡ Some after → nat_le (length after) 128 ≡ true → types_through m d xs after ≡ Some mid → types_through m d (x ∷ xs) ts ≡ Some mid
     joined after mid p q k = rw (p, q) k
 
-pub through_join : (m : Module) (d : FunctionDefinition) (xs ys : List Instruction) (ts mid r : Types) → types_through m d xs ts ≡ Some mid → types_through m d ys mid ≡ Some r → types_through m d (xs ++ ys) ts ≡ Some r
+pub through_join : (m : Module) (d : FunctionDefinition) (xs ys : List Instruction) (ts mid r : Types) → types_through m d xs ts ≡ Some mid
+    → types_through m d ys mid ≡ Some r → types_through m d (xs ++ ys) ts ≡ Some r
 through_join m d [] ys ts mid r e g = subst (λ (x : Types). types_through m d ys x ≡ Some r) (sym (same_Some ts mid e)) g
 through_join m d (x ∷ xs) ys ts mid r e g =
     let s = through_step m d x xs ts mid e in
@@ -71,7 +69,8 @@ through_join m d (x ∷ xs) ys ts mid r e g =
     joined : (after : Types) → types_after m d x ts ≡ Some after → nat_le (length after) 128 ≡ true → types_through m d (xs ++ ys) after ≡ Some r → types_through m d (x ∷ (xs ++ ys)) ts ≡ Some r
     joined after p q k = rw (p, q) k
 
-pub through_one : (m : Module) (d : FunctionDefinition) (i : Instruction) (ts after : Types) → types_after m d i ts ≡ Some after → nat_le (length after) 128 ≡ true → types_through m d (i ∷ []) ts ≡ Some after
+pub through_one : (m : Module) (d : FunctionDefinition) (i : Instruction) (ts after : Types) → types_after m d i ts ≡ Some after
+    → nat_le (length after) 128 ≡ true → types_through m d (i ∷ []) ts ≡ Some after
 through_one m d i ts after e g = rw (e, g) refl
 
 -- ---- where blocks begin
@@ -133,7 +132,8 @@ targets_begin code i j b (c ∷ cs) h low high = by_case (eqb i j) refl (λ l g.
         let far : i ≡ j → ⊥ = eqb-false i j e in
         later (b || is_target code i) i j (starts_from code (i + 1) (ends_block c) cs) (ih (omega (arith, low, far)) (omega (arith, high)))
 
-pub ended_begin : (code : List Instruction) (i k j : ℕ) (b : Bool) (c : Instruction) (cs : List Instruction) → slice_get cs k ≡ Some c → ends_block c ≡ true → suc k < length cs → j ≡ i + suc k → Among j (starts_from code i b cs)
+pub ended_begin : (code : List Instruction) (i k j : ℕ) (b : Bool) (c : Instruction) (cs : List Instruction) → slice_get cs k ≡ Some c
+    → ends_block c ≡ true → suc k < length cs → j ≡ i + suc k → Among j (starts_from code i b cs)
 unfolding Among
 ended_begin code i k j b c [] e h l at = absurd cc
 ended_begin code i zero j b c (x ∷ []) e h l at = absurd (omega (arith, l))
@@ -155,7 +155,8 @@ pub record BlockFacts (code : List Instruction) (starts : List ℕ) (low : ℕ) 
   pub alone : (j : ℕ) → b.first < j → j ≤ b.last → Among j starts → ⊥
   pub ends : (b.last + 1 ≡ length code) ⊎ Among (b.last + 1) starts
 
-pub block_facts : (code : List Instruction) (starts : List ℕ) (low k : ℕ) (b : BasicBlock) → Rising low (length code) starts → slice_get (blocks_at code starts) k ≡ Some b → BlockFacts code starts low b
+pub block_facts : (code : List Instruction) (starts : List ℕ) (low k : ℕ) (b : BasicBlock) → Rising low (length code) starts
+    → slice_get (blocks_at code starts) k ≡ Some b → BlockFacts code starts low b
 unfolding Rising Among
 block_facts code [] low k b r e = absurd cc
 block_facts code (i ∷ []) low (suc k) b r e = absurd cc

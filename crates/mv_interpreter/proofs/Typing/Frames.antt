@@ -1,15 +1,8 @@
 -- A write to a local of some frame: what the locals of all frames hold then.
-use Rattle.std.proofs.Common.{◌≡◌, ℕ, zero, suc, ◌<◌, ◌≤◌, Bool, true, false, cond, List, [], ◌∷◌, map, refl, sym, ap, ap₂, subst, ◌∙◌, Option, Some, None, eqb, arith}
-use Rattle.std.specs.Prelude.{slice_get, slice_set, option_and_then}
-use Rattle.std.proofs.lemmas.Bool.{eqb-true, ne_eqb}
-use Rattle.std.proofs.lemmas.Option.{same_Some}
-use Rattle.mv_move_types.specs.declared.token.Token.{Token}
-use Rattle.mv_move_types.specs.Module.{Module}
-use Rattle.mv_machine.specs.Value.{Reference, Value, Leaf, Struct, Ref}
-use Rattle.mv_machine.specs.State.{Frame, local_value, local_in, with_local}
-use Rattle.mv_move_types.specs.Tags.{Tag, LeafTag, StructTag, ReferenceTag}
-use Rattle.mv_interpreter.specs.Typing.HasType.{Table, Roots, IsOf, HasType, fields_by_name}
-use Rattle.mv_interpreter.specs.Typing.StateTyped.{HasToken, LocalHasToken, LocalsHaveTokens, Numbered, AreWaiting}
+use Rattle.mv_interpreter.proofs.Typing.Common.{◌≡◌, ℕ, zero, suc, ◌<◌, ◌≤◌, Bool, true, false, cond, List, [], ◌∷◌, map, refl, sym, ap, ap₂, subst, ◌∙◌, Option, Some, None, eqb, arith, slice_get, option_and_then, eqb-true, ne_eqb, same_Some, Token, Module, Reference, Value, Leaf, Struct, Ref, Frame, local_value, local_in, Tag, LeafTag, StructTag, ReferenceTag, Table, Roots, IsOf, HasType, HasToken, LocalHasToken, LocalsHaveTokens, Numbered, AreWaiting}
+use Rattle.std.specs.Prelude.{slice_set}
+use Rattle.mv_machine.specs.State.{with_local}
+use Rattle.mv_interpreter.specs.Typing.HasType.{fields_by_name}
 use Rattle.mv_interpreter.proofs.Typing.Within.{one_type}
 use Rattle.mv_interpreter.proofs.Typing.Roots.{set_same, set_other, is_plain}
 use Rattle.mv_interpreter.proofs.Typing.Keep.{waits_with}
@@ -60,7 +53,8 @@ module _ (table : Table) (n l : ℕ) (old new : Value) (base : Tag) (old_typed :
           let at_l : local_value f l ≡ Some v = subst (λ (x : ℕ). local_value f x ≡ Some v) (sym same) e in
           let value : v ≡ old = same_Some v old (sym at_l ∙ there) in
           let tag : base ≡ t = one_type table old base t old_typed (subst (λ (x : Value). IsOf table x t) value typed) in
-          let set_at : slice_get (slice_set f.locals l (Some new)) k ≡ Some (Some new) = subst (λ (x : ℕ). slice_get (slice_set f.locals l (Some new)) x ≡ Some (Some new)) same (set_same f.locals l (Some old) (Some new) (held_entry f l old there)) in
+          let set_at : slice_get (slice_set f.locals l (Some new)) k ≡ Some (Some new) =
+          subst (λ (x : ℕ). slice_get (slice_set f.locals l (Some new)) x ≡ Some (Some new)) same (set_same f.locals l (Some old) (Some new) (held_entry f l old there)) in
           (new, rw set_at refl, subst (λ (x : Tag). IsOf table new x) tag new_typed)
 
   -- in all frames
@@ -105,7 +99,8 @@ module _ (modules : List Module) (n l : ℕ) (old new : Value) (base : Tag) (old
       record { tag = h.tag; names = h.names; typed = is_plain (fields_by_name modules) look new h.tag (subst (λ (x : Tag). IsOf (fields_by_name modules) new x) same new_typed) }
 
   -- the locals of a frame after the write
-  locals_written : (home : Module) (vs : List (Option Value)) (ts : List Token) (k : ℕ) → slice_get vs k ≡ Some (Some old) → LocalsHaveTokens modules look home vs ts → LocalsHaveTokens modules look home (slice_set vs k (Some new)) ts
+  locals_written : (home : Module) (vs : List (Option Value)) (ts : List Token) (k : ℕ) → slice_get vs k ≡ Some (Some old)
+      → LocalsHaveTokens modules look home vs ts → LocalsHaveTokens modules look home (slice_set vs k (Some new)) ts
   locals_written home [] ts k e h = absurd cc
   locals_written home (v ∷ vs) [] k e h = absurd h
   locals_written home (v ∷ vs) (t ∷ ts) zero e h = (replaced_typed home t (subst (λ (x : Option Value). LocalHasToken modules look home x t) (same_Some v (Some old) e) h.0), h.1)
@@ -127,11 +122,13 @@ module _ (modules : List Module) (n l : ℕ) (old new : Value) (base : Tag) (old
       by_case false p = record { locals = f.locals; is_frame = written_other n l new f p; typed = h }
 
   -- waiting frames after the write, which finds its local there or above
-  pub below_written : (bound : ℕ) (lent : List (Option Reference)) (given : List Tag) (fs : List Frame) → Numbered bound fs → local_in fs n l ≡ Some old → AreWaiting modules look lent given fs → AreWaiting modules look lent given (map (with_local n l new) fs)
+  pub below_written : (bound : ℕ) (lent : List (Option Reference)) (given : List Tag) (fs : List Frame) → Numbered bound fs
+      → local_in fs n l ≡ Some old → AreWaiting modules look lent given fs → AreWaiting modules look lent given (map (with_local n l new) fs)
   below_written bound lent given [] h there w = tt
   below_written bound lent given (f ∷ fs) h there w = by_case (λ there. below_written f.number f.entered_with w.0.own_results fs h.1 there w.1) (eqb f.number n) refl
     where
-      by_case : (local_in fs n l ≡ Some old → AreWaiting modules look f.entered_with w.0.own_results (map (with_local n l new) fs)) → (a : Bool) → eqb f.number n ≡ a → AreWaiting modules look lent given (map (with_local n l new) (f ∷ fs))
+      by_case : (local_in fs n l ≡ Some old → AreWaiting modules look f.entered_with w.0.own_results (map (with_local n l new) fs)) → (a : Bool)
+          → eqb f.number n ≡ a → AreWaiting modules look lent given (map (with_local n l new) (f ∷ fs))
       by_case ih true p =
           let here : local_value f l ≡ Some old = subst (λ (x : Bool). cond x (local_value f l) (local_in fs n l) ≡ Some old) p there in
           let frame : f.number ≡ n = eqb-true f.number n p in

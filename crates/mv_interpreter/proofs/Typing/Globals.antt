@@ -1,47 +1,26 @@
 -- Rows of the storage.
-use Rattle.std.proofs.Common.{◌≡◌, ℕ, ◌+◌, Bool, true, false, List, [], ◌∷◌, refl, sym, ap, subst, ◌∙◌, Option, Some, None, Ok}
-use Rattle.std.specs.Prelude.{slice_get, ok_or, is_some, not, IsTrue}
-use Rattle.std.specs.Option.{option_map_or}
-use Rattle.std.proofs.lemmas.Option.{same_Some}
-use Rattle.mv_move_types.specs.declared.tables.Key.{Key}
-use Rattle.mv_move_types.specs.declared.token.LeafKind.TheVariants.{Address, Signer}
-use Rattle.mv_move_types.specs.declared.token.ValueType.{ValueType}
-use Rattle.mv_move_types.specs.declared.token.ValueType.TheVariants.{OfLeaf, OfStruct}
-use Rattle.mv_move_types.specs.declared.token.Token.{Token}
-use Rattle.mv_move_types.specs.declared.token.Token.TheVariants.{Plain, Reference as ReferenceTo}
-use Rattle.mv_move_types.specs.declared.instruction.Instruction.{Instruction}
+use Rattle.mv_interpreter.proofs.Typing.Common.{◌≡◌, ℕ, ◌+◌, Bool, true, false, List, [], ◌∷◌, refl, sym, ap, subst, ◌∙◌, Option, Some, None, Ok, slice_get, ok_or, not, IsTrue, option_map_or, same_Some, Key, Address, Signer, ValueType, OfLeaf, OfStruct, Token, Plain, ReferenceTo, Instruction, Abilities, StructName, Root, Local, Stored, Reference, Value, Leaf, Struct, Ref, Storage, root_value, stored_at, with_stored, same_key, references, Faults, DanglingFault, has_tag, Tag, LeafTag, StructTag, ReferenceTag, Types, boolean, takes_gives, address_fits, value_type_named, token_named, Here, OwnStruct, operand, as_reference, follow, with_stack, goes_on, untouched, truth, gives, in_range, Table, Roots, IsOf, Rooted, AtOnce, HasType, TypesAt, on_some, then_found, same_key-to, HasToken, HaveTokens, TurnTyped, StorageTyped, Row, Facts, Avoid, Unreached}
+use Rattle.std.specs.Prelude.{is_some}
 use Rattle.mv_move_types.specs.Results.{◌>>=◌}
 use Rattle.mv_move_types.specs.Module.{struct_abilities, name_at}
-use Rattle.mv_move_types.specs.declared.token.Abilities.{Abilities}
-use Rattle.mv_move_types.specs.Names.{StructName}
 use Rattle.mv_machine.specs.declared.Kind.TheVariants.{Exists as AlreadyThere, Missing}
-use Rattle.mv_machine.specs.Value.{Root, Local, Stored, Reference, Value, Leaf, Struct, Ref}
-use Rattle.mv_machine.specs.State.{Storage, root_value, stored_at, with_stored, without_stored, same_key}
-use Rattle.mv_machine.specs.Live.{references}
-use Rattle.mv_machine.specs.Typing.{Faults, Aborts, DanglingFault, has_tag}
-use Rattle.mv_move_types.specs.Tags.{Tag, LeafTag, StructTag, ReferenceTag}
-use Rattle.mv_type_states.specs.TypeRules.{Types, address, boolean, keyed_type, of_global, of_move_to, takes_gives}
-use Rattle.mv_module_text.specs.Fits.{address_fits}
+use Rattle.mv_machine.specs.State.{without_stored}
+use Rattle.mv_machine.specs.Typing.{Aborts}
+use Rattle.mv_type_states.specs.TypeRules.{address, keyed_type, of_global, of_move_to}
 use Rattle.mv_machine.specs.Typed.{abilities_at}
-use Rattle.mv_linker.specs.TypesByName.{value_type_named, token_named}
-use Rattle.mv_machine.specs.Step.{Here, OwnStruct, keyed_struct, move_to, key_at, operand, as_reference, as_signer, follow, with_stack, with_storage, goes_on}
+use Rattle.mv_machine.specs.Step.{keyed_struct, move_to, key_at, as_signer, with_storage}
 use Rattle.mv_machine.specs.StepGlobals.{exists, borrow_global, move_from}
-use Rattle.mv_machine.specs.StepParts.{untouched, truth, gives}
-use Rattle.mv_interpreter.specs.Typing.HasType.{in_range, Table, Roots, IsOf, Rooted, AtOnce, HasType, fields_by_name}
-use Rattle.mv_type_states.specs.TypesAt.{TypesAt}
-use Rattle.mv_linker.proofs.Found.{on_some, then_found}
-use Rattle.mv_storage.proofs.Keys.{same_key-to}
-use Rattle.mv_interpreter.specs.Typing.StateTyped.{HasToken, HaveTokens, TurnTyped, StorageTyped}
-use Rattle.mv_interpreter.specs.Typing.Facts.{Row, Facts}
-use Rattle.mv_interpreter.specs.Typing.Unreached.{Avoid, Unreached, Unlent}
-use Rattle.mv_interpreter.proofs.Typing.Parts.{Part, known, met, tried, tested, frozen}
-use Rattle.mv_interpreter.proofs.Typing.Operands.{on_test, takes_gives-is, one, leaf}
+use Rattle.mv_interpreter.specs.Typing.HasType.{fields_by_name}
+use Rattle.mv_interpreter.specs.Typing.Unreached.{Unlent}
+use Rattle.mv_interpreter.proofs.Typing.Parts.{Part, known, passes, tried, tested, frozen}
+use Rattle.mv_interpreter.proofs.Typing.Operands.{on_test, takes_gives-is, one_operand, leaf}
 use Rattle.mv_interpreter.proofs.Typing.Keep.{Kept, Nothing, avoid_nothing, none_to_nothing, keep_stack, keep_locals, keep_below}
 use Rattle.mv_interpreter.proofs.Typing.Roots.{place_of, typed_has_tag}
-use Rattle.mv_interpreter.proofs.Typing.Stays.{gives_typed, moved}
+use Rattle.mv_interpreter.proofs.Typing.Stays.{gives_typed, moved, top_typed}
 use Rattle.mv_interpreter.proofs.Typing.Families.{of_truth}
 use Rattle.mv_interpreter.proofs.Typing.Storage.{stored_other, unstored_other, stored_typed, typed_with, typed_without}
 use Rattle.mv_interpreter.proofs.Typing.References.{immutable}
+use Rattle.std.proofs.lemmas.Option.{none-some}
 
 -- an own struct with key
 pub record KeyedFacts (h : Here) (k : ℕ) (u : ValueType) : Type 0 where
@@ -61,7 +40,8 @@ keyed_facts h facts home_at k u e =
     let abilities : a ≡ own.struct.abilities = same_Some a own.struct.abilities (sym a_is ∙ own.abilities) in
     let key : own.struct.abilities.key ≡ true = subst (λ (x : Abilities). x.key ≡ true) abilities able in
     let name : value_type_named h.home (OfStruct d.handle) ≡ Some (StructTag own.struct.name) = rw own.is_named refl in
-    let abilities_are : abilities_at h.modules h.state.top.function.place k ≡ Some a = then_found (slice_get h.modules h.state.top.function.place) _ h.home (Some a) home_at (then_found (slice_get h.home.structs k) _ d (Some a) d_is a_is) in
+    let abilities_are : abilities_at h.modules h.state.top.function.place k ≡ Some a =
+    then_found (slice_get h.modules h.state.top.function.place) _ h.home (Some a) home_at (then_found (slice_get h.home.structs k) _ d (Some a) d_is a_is) in
     record { struct = own.struct; is_found = rw (own.is_found, key) refl; names = subst (λ (x : ValueType). value_type_named h.home x ≡ Some (StructTag own.struct.name)) same name; key = own.key; has_key = subst (λ (x : Option Abilities). IsTrue (option_map_or (λ a. a.key) x false)) (sym abilities_are) able })))
 
 module _ (h : Here) (i : Instruction) (types after : Types) (row : Row h i types after) (next : TypesAt h.home h.function (h.state.top.at + 1) after) where
@@ -78,7 +58,7 @@ module _ (h : Here) (i : Instruction) (types after : Types) (row : Row h i types
   at_address : (k : ℕ) (given : Token) → takes_gives (address ∷ []) (given ∷ []) types ≡ Some after → AtAddress k given
   at_address k given e =
       let parts = takes_gives-is (address ∷ []) (given ∷ []) types after e in
-      let top = one h.modules (root_value h.state) h.home h.state.top.stack address parts.0 (subst (λ (ts : Types). HaveTokens h.modules (root_value h.state) h.home h.state.top.stack ts) parts.1 row.stands.stack) in
+      let top = top_typed h i types after row address parts.0 parts.1 in
       let x = leaf h.modules (root_value h.state) h.home top.0 Address top.3 in
       record { a = x.number; rest = top.1; below = parts.0; are = top.2 ∙ ap (λ (v : Value). v ∷ top.1) x.is_leaf; all = parts.1; typed = top.4; given_is = parts.2 }
 
@@ -119,7 +99,8 @@ module _ (h : Here) (i : Instruction) (types after : Types) (row : Row h i types
       by_case u f x None there = tt
       by_case u f x (Some v) there =
           gives_typed h i types after (Ok (Ref (record { is_mutable = m; place = record { root = Stored (key_at h k x.a); path = [] } }) ∷ x.rest)) row next
-          (subst (λ (ts : Types). HaveTokens h.modules (root_value h.state) h.home (Ref (record { is_mutable = m; place = record { root = Stored (key_at h k x.a); path = [] } }) ∷ x.rest) ts) (sym x.given_is) (
+          (subst (λ (ts : Types). HaveTokens h.modules (root_value h.state) h.home
+          (Ref (record { is_mutable = m; place = record { root = Stored (key_at h k x.a); path = [] } }) ∷ x.rest) ts) (sym x.given_is) (
             record {
               tag = ReferenceTag m (StructTag f.struct.name);
               names = names u (StructTag f.struct.name) f.names;
@@ -129,8 +110,10 @@ module _ (h : Here) (i : Instruction) (types after : Types) (row : Row h i types
           ))
 
   -- the state with another storage and these operands
-  restored : (gone : Root → Type 0) (storage : Storage) (stack : List Value) → Kept h.modules (root_value h.state) (root_value (with_storage h.state storage)) gone → Unreached gone h.state →
-      StorageTyped h.modules storage → HaveTokens h.modules (root_value (with_storage h.state storage)) h.home stack after → Part (TurnTyped h.modules) (goes_on (with_stack (with_storage h.state storage) stack))
+  restored : (gone : Root → Type 0) (storage : Storage) (stack : List Value)
+      → Kept h.modules (root_value h.state) (root_value (with_storage h.state storage)) gone → Unreached gone h.state → StorageTyped h.modules storage
+      → HaveTokens h.modules (root_value (with_storage h.state storage)) h.home stack after
+      → Part (TurnTyped h.modules) (goes_on (with_stack (with_storage h.state storage) stack))
   restored gone storage stack kept free stored typed =
       moved h i types after row (h.state.top.at + 1) h.state.top.locals stack h.state.below storage h.state.tally next row.stands.numbered.1
       (keep_locals h.modules (root_value h.state) (root_value (with_storage h.state storage)) gone kept h.home h.state.top.locals row.stands.tokens free.0.0 row.stands.locals)
@@ -180,10 +163,7 @@ module _ (h : Here) (i : Instruction) (types after : Types) (row : Row h i types
       by_case false p = record { value = r.value; is_there = stored_other h.state.storage key other v p ∙ r.is_there; is_of = r.is_of }
       by_case true p =
           let there : stored_at h.state.storage key ≡ Some r.value = subst (λ (x : Key). stored_at h.state.storage x ≡ Some r.value) (sym (same_key-to key other p)) r.is_there in
-          absurd (none_some (sym none ∙ there))
-        where
-          none_some : None ≡ Some r.value → ⊥
-          none_some e = cc
+          absurd (none-some r.value (sym none ∙ there))
 
   signer_leaf : (table : Table) (v : Value) → IsOf table v (LeafTag Signer) → (n : ℕ) × (v ≡ Leaf Signer n) × IsTrue (address_fits n)
   signer_leaf table (Leaf k n) e = (n, ap (λ x. Leaf x n) e.0, subst (λ x. IsTrue (in_range x n)) e.0 e.1)
@@ -198,8 +178,8 @@ module _ (h : Here) (i : Instruction) (types after : Types) (row : Row h i types
       let table = fields_by_name h.modules in
       let look : Roots = root_value h.state in
       let parts = takes_gives-is (ReferenceTo (OfLeaf Signer) ∷ Plain u ∷ []) [] types after e1 in
-      let top = one h.modules look h.home h.state.top.stack (Plain u) (ReferenceTo (OfLeaf Signer) ∷ parts.0) (subst (λ (ts : Types). HaveTokens h.modules look h.home h.state.top.stack ts) parts.1 row.stands.stack) in
-      let under = one h.modules look h.home top.1 (ReferenceTo (OfLeaf Signer)) parts.0 top.4 in
+      let top = top_typed h i types after row (Plain u) (ReferenceTo (OfLeaf Signer) ∷ parts.0) parts.1 in
+      let under = one_operand h.modules look h.home top.1 (ReferenceTo (OfLeaf Signer)) parts.0 top.4 in
       let ref = immutable h.modules look h.home under.0 (OfLeaf Signer) under.3 in
       let r : Reference = ref.reference in
       let signer_tag : ref.tag ≡ LeafTag Signer = same_Some ref.tag (LeafTag Signer) (sym ref.names) in
@@ -210,9 +190,9 @@ module _ (h : Here) (i : Instruction) (types after : Types) (row : Row h i types
       known (TurnTyped h.modules) (keyed_struct h k) _ f.struct f.is_found
       (known (TurnTyped h.modules) (operand h.state.top.stack) _ (top.0, top.1) (ap operand top.2)
       (known (TurnTyped h.modules) (operand top.1) _ (under.0, under.1) (ap operand under.2)
-      (met (TurnTyped h.modules) (has_tag h.state top.0 (StructTag f.struct.name)) _ _ (typed_has_tag table h.state top.0 (StructTag f.struct.name) value_is)
+      (passes (TurnTyped h.modules) (has_tag h.state top.0 (StructTag f.struct.name)) _ _ (typed_has_tag table h.state top.0 (StructTag f.struct.name) value_is)
       (known (TurnTyped h.modules) (as_reference under.0) _ r (ap as_reference ref.is_reference)
-      (met (TurnTyped h.modules) (not r.is_mutable) _ _ (ap not ref.mutable)
+      (passes (TurnTyped h.modules) (not r.is_mutable) _ _ (ap not ref.mutable)
       (known (TurnTyped h.modules) (follow h.state r) _ there.0 (ap (λ (x : Option Value). ok_or x (Faults DanglingFault)) there.1)
       (known (TurnTyped h.modules) (as_signer there.0) _ signer.0 (ap as_signer signer.1)
       (tried (TurnTyped h.modules) (not (is_some (stored_at h.state.storage (key_at h k signer.0)))) (Aborts AlreadyThere 0) _ tt (λ free.

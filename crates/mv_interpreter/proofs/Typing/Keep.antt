@@ -1,15 +1,9 @@
 -- What stays typed when something changes at the roots.
-use Rattle.std.proofs.Common.{List, [], ◌∷◌, Option, Some, None}
+use Rattle.mv_interpreter.proofs.Typing.Common.{List, [], ◌∷◌, Option, Some, None, Token, Module, Root, Reference, Value, Leaf, Struct, Ref, Frame, State, references, local_references, Tag, LeafTag, StructTag, ReferenceTag, Roots, Rooted, PointsTo, HasType, HasToken, HaveTokens, LocalsHaveTokens, AreWaiting, Avoid, Unreached}
 use Rattle.std.specs.Prelude.{filter_map}
-use Rattle.mv_move_types.specs.declared.token.Token.{Token}
-use Rattle.mv_move_types.specs.Module.{Module}
-use Rattle.mv_machine.specs.Value.{Root, Reference, Value, Leaf, Struct, Ref}
-use Rattle.mv_machine.specs.State.{Frame, State}
-use Rattle.mv_machine.specs.Live.{references, local_references}
-use Rattle.mv_move_types.specs.Tags.{Tag, LeafTag, StructTag, ReferenceTag}
-use Rattle.mv_interpreter.specs.Typing.HasType.{Roots, Rooted, PointsTo, HasType, LentHaveTypes, fields_by_name}
-use Rattle.mv_interpreter.specs.Typing.StateTyped.{HasToken, HaveTokens, LocalsHaveTokens, IsWaiting, AreWaiting}
-use Rattle.mv_interpreter.specs.Typing.Unreached.{Avoid, FrameAvoids, BelowAvoid, Unreached}
+use Rattle.mv_interpreter.specs.Typing.HasType.{LentHaveTypes, fields_by_name}
+use Rattle.mv_interpreter.specs.Typing.StateTyped.{IsWaiting}
+use Rattle.mv_interpreter.specs.Typing.Unreached.{FrameAvoids, BelowAvoid}
 
 -- nothing is gone
 abbrev pub Nothing : Root → Type 0
@@ -38,7 +32,8 @@ first_avoids gone (Struct name fields) vs h = (tt, h)
 first_avoids gone (Ref r) vs h = (h.0, h.1)
 
 -- a waiting frame with other locals, where its values have their types at other roots
-abbrev pub waits_with : (modules : List Module) (look look' : Roots) (lent : List (Option Reference)) (given : List Tag) (f : Frame) (w : IsWaiting modules look lent given f) (locals : List (Option Value)) → LocalsHaveTokens modules look' w.home locals w.tokens → HaveTokens modules look' w.home f.stack w.under
+abbrev pub waits_with : (modules : List Module) (look look' : Roots) (lent : List (Option Reference)) (given : List Tag) (f : Frame) (w : IsWaiting modules look lent given f) (locals : List (Option Value))
+    → LocalsHaveTokens modules look' w.home locals w.tokens → HaveTokens modules look' w.home f.stack w.under
     → LentHaveTypes (fields_by_name modules) look' lent w.parameter_tags → IsWaiting modules look' lent given (record f { locals = locals })
 waits_with modules look look' lent given f w locals held stack arguments = record {
   home = w.home;
@@ -110,16 +105,19 @@ module _ (modules : List Module) (look look' : Roots) (gone : Root → Type 0) (
         let both = first_local_avoids v vs a in
         (keep_token v t both.0 h.0, keep_locals vs ts both.1 h.1)
 
-  pub keep_lent : (rs : List (Option Reference)) (ts : List Tag) → Avoid gone (filter_map (λ r. r) rs) → LentHaveTypes (fields_by_name modules) look rs ts → LentHaveTypes (fields_by_name modules) look' rs ts
+  pub keep_lent : (rs : List (Option Reference)) (ts : List Tag) → Avoid gone (filter_map (λ r. r) rs)
+      → LentHaveTypes (fields_by_name modules) look rs ts → LentHaveTypes (fields_by_name modules) look' rs ts
   keep_lent [] [] a h = h
   keep_lent [] (t ∷ ts) a h = h
   keep_lent (r ∷ rs) [] a h = h
   keep_lent (None ∷ rs) (t ∷ ts) a h = (h.0, keep_lent rs ts a h.1)
   keep_lent (Some r ∷ rs) (t ∷ ts) a h = (keep_value (Ref r) t a.0 h.0, keep_lent rs ts a.1 h.1)
 
-  pub keep_waiting : (lent : List (Option Reference)) (given : List Tag) (f : Frame) → Avoid gone (filter_map (λ r. r) lent) → FrameAvoids gone f → IsWaiting modules look lent given f → IsWaiting modules look' lent given f
+  pub keep_waiting : (lent : List (Option Reference)) (given : List Tag) (f : Frame) → Avoid gone (filter_map (λ r. r) lent) → FrameAvoids gone f
+      → IsWaiting modules look lent given f → IsWaiting modules look' lent given f
   keep_waiting lent given f a b w =
-      waits_with modules look look' lent given f w f.locals (keep_locals w.home f.locals w.tokens b.0 w.locals) (keep_stack w.home f.stack w.under b.1 w.stack) (keep_lent lent w.parameter_tags a w.arguments)
+      waits_with modules look look' lent given f w f.locals (keep_locals w.home f.locals w.tokens b.0 w.locals)
+      (keep_stack w.home f.stack w.under b.1 w.stack) (keep_lent lent w.parameter_tags a w.arguments)
 
   pub keep_below : (lent : List (Option Reference)) (given : List Tag) (fs : List Frame) → BelowAvoid gone lent fs → AreWaiting modules look lent given fs → AreWaiting modules look' lent given fs
   unfolding keep_waiting

@@ -1,38 +1,19 @@
 -- Rows of locals.
-use Rattle.std.proofs.Common.{◌≡◌, ℕ, ◌+◌, Bool, true, false, List, [], ◌∷◌, refl, sym, ap, subst, ◌∙◌, Option, Some, None, Ok, eqb, ◌⊎◌, inl, inr}
-use Rattle.std.specs.Prelude.{slice_get, not, ok_or}
-use Rattle.std.proofs.lemmas.Bool.{eqb-true, eqb-false}
-use Rattle.std.proofs.lemmas.Option.{same_Some}
-use Rattle.mv_move_types.specs.declared.token.ValueType.{ValueType}
-use Rattle.mv_move_types.specs.declared.token.Token.{Token}
-use Rattle.mv_move_types.specs.declared.token.Token.TheVariants.{Plain, Reference as ReferenceTo, MutableReference as MutableReferenceTo}
-use Rattle.mv_move_types.specs.declared.instruction.Instruction.{Instruction}
-use Rattle.mv_move_types.specs.Options.{◌>>=◌}
-use Rattle.mv_move_types.specs.Results.{◌>>=◌ as ◌>>=ᵣ◌, need}
-use Rattle.mv_move_types.specs.Module.{Module, local_tokens}
-use Rattle.mv_machine.specs.Value.{Root, Local, Stored, Value, Leaf, Struct, Ref}
-use Rattle.mv_machine.specs.State.{State, root_value}
-use Rattle.mv_machine.specs.Live.{references}
-use Rattle.mv_machine.specs.Typing.{Faults, LinkageFault, LostFault, entry}
-use Rattle.mv_move_types.specs.Tags.{Tag, ReferenceTag}
-use Rattle.mv_type_states.specs.TypeRules.{Types, of_copy, of_borrow_local, plain_of, taken}
+use Rattle.mv_interpreter.proofs.Typing.Common.{◌≡◌, ℕ, ◌+◌, Bool, true, false, List, [], ◌∷◌, refl, sym, ap, subst, ◌∙◌, Option, Some, None, Ok, eqb, ◌⊎◌, inl, inr, slice_get, not, ok_or, eqb-true, eqb-false, same_Some, ValueType, Token, Plain, ReferenceTo, MutableReferenceTo, Instruction, ◌>>=◌, ◌>>=ᵣ◌, need, Module, Root, Local, Stored, Value, Leaf, Struct, Ref, State, root_value, references, Faults, LinkageFault, LostFault, entry, Tag, ReferenceTag, Types, plain_of, taken, token_named, value_type_named, Here, goes_on, with_stack, operand, untouched, Roots, IsOf, Rooted, AtOnce, HasType, TypesAt, on_some, HasToken, HaveTokens, LocalHasToken, TurnTyped, Row, Avoid, Unreached}
+use Rattle.mv_move_types.specs.Module.{local_tokens}
+use Rattle.mv_type_states.specs.TypeRules.{of_copy, of_borrow_local}
 use Rattle.mv_move_types.specs.Module.{local_type}
 use Rattle.mv_abilities.specs.Abilities.{token_abilities}
-use Rattle.mv_linker.specs.TypesByName.{token_named, value_type_named}
-use Rattle.mv_machine.specs.Step.{Here, held, move_local, borrow_local, local_place, local_tag, goes_on, with_stack, may_drop, operand}
+use Rattle.mv_machine.specs.Step.{held, move_local, borrow_local, local_place, local_tag, may_drop}
 use Rattle.mv_machine.specs.StepLocals.{copy_local, store_local, with_own_local}
-use Rattle.mv_machine.specs.StepParts.{can_copy, untouched}
-use Rattle.mv_interpreter.specs.Typing.HasType.{Roots, IsOf, Rooted, AtOnce, HasType, fields_by_name}
-use Rattle.mv_type_states.specs.TypesAt.{TypesAt}
-use Rattle.mv_linker.proofs.Found.{on_some}
-use Rattle.mv_interpreter.specs.Typing.StateTyped.{HasToken, HaveTokens, LocalHasToken, TurnTyped}
-use Rattle.mv_interpreter.specs.Typing.Facts.{Row}
-use Rattle.mv_interpreter.specs.Typing.Unreached.{Avoid, Unreached, Unborrowed}
-use Rattle.mv_interpreter.proofs.Typing.Parts.{Part, known, some, met, tried, tested, lost, frozen}
-use Rattle.mv_interpreter.proofs.Typing.Operands.{on_test, taken-is, one}
+use Rattle.mv_machine.specs.StepParts.{can_copy}
+use Rattle.mv_interpreter.specs.Typing.HasType.{fields_by_name}
+use Rattle.mv_interpreter.specs.Typing.Unreached.{Unborrowed}
+use Rattle.mv_interpreter.proofs.Typing.Parts.{Part, known, some, passes, tried, tested, lost, frozen}
+use Rattle.mv_interpreter.proofs.Typing.Operands.{on_test, taken-is}
 use Rattle.mv_interpreter.proofs.Typing.Keep.{Kept, Nothing, none_to_nothing, keep_stack, keep_locals, keep_below}
 use Rattle.mv_interpreter.proofs.Typing.Roots.{named_plain, plain_is, typed_has_tag, local_at, local_set, other_roots, own_root}
-use Rattle.mv_interpreter.proofs.Typing.Stays.{stays_at, moved}
+use Rattle.mv_interpreter.proofs.Typing.Stays.{stays_at, moved, top_typed}
 
 -- two roots are one or not
 pub root_is : (root : Root) (n l : ℕ) → (root ≡ Local n l) ⊎ (root ≡ Local n l → ⊥)
@@ -52,7 +33,9 @@ pub record StaysBut (modules : List Module) (s : State) (look' : Roots) : Type 1
 
 module _ (modules : List Module) (s : State) (l : ℕ) (new : Option Value) where
   -- at a root that never was a place of a typed reference nothing is gone
-  kept_all : (old : Option Value) → slice_get s.top.locals l ≡ Some old → ((v : Value) (t : Tag) → old ≡ Some v → IsOf (fields_by_name modules) v t → ⊥) → Kept modules (root_value s) (root_value (with_own_local s l new)) Nothing
+  kept_all : (old : Option Value) → slice_get s.top.locals l ≡ Some old
+      → ((v : Value) (t : Tag) → old ≡ Some v → IsOf (fields_by_name modules) v t → ⊥)
+      → Kept modules (root_value s) (root_value (with_own_local s l new)) Nothing
   kept_all old there never root t far h = by_case (root_is root s.top.number l)
     where
       by_case : (root ≡ Local s.top.number l) ⊎ (root ≡ Local s.top.number l → ⊥) → Rooted (fields_by_name modules) (root_value (with_own_local s l new)) root t
@@ -99,9 +82,12 @@ module _ (h : Here) (i : Instruction) (types after : Types) (row : Row h i types
   unfolding held
   held_typed l t d = by_case d.value d.holds d.typed
     where
-      by_case : (v : Option Value) → slice_get h.state.top.locals l ≡ Some v → LocalHasToken h.modules (root_value h.state) h.home v t → Part (λ v. HasToken h.modules (root_value h.state) h.home v t × (slice_get h.state.top.locals l ≡ Some (Some v))) (held h l)
+      by_case : (v : Option Value) → slice_get h.state.top.locals l ≡ Some v → LocalHasToken h.modules (root_value h.state) h.home v t
+          → Part (λ v. HasToken h.modules (root_value h.state) h.home v t × (slice_get h.state.top.locals l ≡ Some (Some v))) (held h l)
       by_case None e k = rw e tt
-      by_case (Some v) e k = subst (λ (x : Option (Option Value)). Part (λ v. HasToken h.modules (root_value h.state) h.home v t × (slice_get h.state.top.locals l ≡ Some (Some v))) (ok_or x (Faults LinkageFault) >>=ᵣ λ local. ok_or local (Faults LostFault))) (sym e) (k, e)
+      by_case (Some v) e k =
+          subst (λ (x : Option (Option Value)). Part (λ v. HasToken h.modules (root_value h.state) h.home v t × (slice_get h.state.top.locals l ≡ Some (Some v)))
+          (ok_or x (Faults LinkageFault) >>=ᵣ λ local. ok_or local (Faults LostFault))) (sym e) (k, e)
 
   pub copies : (l : ℕ) → of_copy h.home h.function l types ≡ Some after → Part (TurnTyped h.modules) (copy_local h l)
   unfolding copy_local
@@ -111,7 +97,8 @@ module _ (h : Here) (i : Instruction) (types after : Types) (row : Row h i types
       on_test a.copy (t ∷ types) after e2 (λ able same.
       some (TurnTyped h.modules) _ (held h l) _ (held_typed l t (declared l t t_is)) (λ v typed.
       tried (TurnTyped h.modules) (can_copy h v) _ _ tt (λ copied.
-      stays_at h i types after (v ∷ h.state.top.stack) (h.state.top.at + 1) row (subst (λ (ts : Types). HaveTokens h.modules (root_value h.state) h.home (v ∷ h.state.top.stack) ts) same (typed.0, row.stands.stack)) next)))))
+      stays_at h i types after (v ∷ h.state.top.stack) (h.state.top.at + 1) row
+      (subst (λ (ts : Types). HaveTokens h.modules (root_value h.state) h.home (v ∷ h.state.top.stack) ts) same (typed.0, row.stands.stack)) next)))))
 
   -- the state with a local changed and these operands
   pub changed : (l : ℕ) (t : Token) (new : Option Value) (stack : List Value) → (b : StaysBut h.modules h.state (root_value (with_own_local h.state l new))) → Declared l t →
@@ -126,7 +113,8 @@ module _ (h : Here) (i : Instruction) (types after : Types) (row : Row h i types
       row.stands.storage
 
   -- what the local holds stays typed where the local is changed
-  kept_local : (l : ℕ) (t : Token) (v : Value) (look' : Roots) → (b : StaysBut h.modules h.state look') → Declared l t → slice_get h.state.top.locals l ≡ Some (Some v) → HasToken h.modules look' h.home v t
+  kept_local : (l : ℕ) (t : Token) (v : Value) (look' : Roots) → (b : StaysBut h.modules h.state look') → Declared l t
+      → slice_get h.state.top.locals l ≡ Some (Some v) → HasToken h.modules look' h.home v t
   kept_local l t v look' b d there =
       let all = keep_locals h.modules (root_value h.state) look' b.gone b.kept h.home h.state.top.locals row.stands.tokens b.avoids.0.0 row.stands.locals in
       let found = local_at h.modules look' h.home h.state.top.locals row.stands.tokens l t all d.is_type in
@@ -155,7 +143,7 @@ module _ (h : Here) (i : Instruction) (types after : Types) (row : Row h i types
       on_some (local_type h.home h.function l) (λ t. taken (t ∷ []) types) after e (λ t t_is e1.
       let d = declared l t t_is in
       let all : types ≡ t ∷ after = taken-is (t ∷ []) types after e1 in
-      let top = one h.modules (root_value h.state) h.home h.state.top.stack t after (subst (λ (ts : Types). HaveTokens h.modules (root_value h.state) h.home h.state.top.stack ts) all row.stands.stack) in
+      let top = top_typed h i types after row t after all in
       let taken_is : operand h.state.top.stack ≡ Ok (top.0, top.1) = ap operand top.2 in
       let look' : Roots = root_value (with_own_local h.state l (Some top.0)) in
       let b = stays_but h.modules h.state l (Some top.0) d.value d.holds free in
@@ -164,7 +152,7 @@ module _ (h : Here) (i : Instruction) (types after : Types) (row : Row h i types
       known (TurnTyped h.modules) (operand h.state.top.stack) _ (top.0, top.1) taken_is
       (known (TurnTyped h.modules) (entry h.state.top.locals l) _ d.value (subst (λ (x : Option (Option Value)). ok_or x (Faults LinkageFault) ≡ Ok d.value) (sym d.holds) refl)
       (known (TurnTyped h.modules) (local_tag h l) _ top.3.tag (local_tag-is l t top.3.tag d top.3.names)
-      (met (TurnTyped h.modules) _ _ _ (typed_has_tag (fields_by_name h.modules) h.state top.0 top.3.tag top.3.typed)
+      (passes (TurnTyped h.modules) _ _ _ (typed_has_tag (fields_by_name h.modules) h.state top.0 top.3.tag top.3.typed)
       (tested (TurnTyped h.modules) (need (may_drop h d.value) (Faults LostFault)) _ (lost (may_drop h d.value)) (
       tested (TurnTyped h.modules) (untouched (with_stack h.state top.1) (local_place h l)) _ (frozen (with_stack h.state top.1) (local_place h l)) (
       changed l t (Some top.0) top.1 b d kept.0 kept.1)))))))
@@ -185,8 +173,9 @@ module _ (h : Here) (i : Instruction) (types after : Types) (row : Row h i types
     },
   )
 
-  pub borrows : (is_mutable : Bool) (given : ValueType → Token) → ((t : ValueType) (tag : Tag) → value_type_named h.home t ≡ Some tag → token_named h.home (given t) ≡ Some (ReferenceTag is_mutable tag)) →
-      (l : ℕ) → of_borrow_local given h.home h.function l types ≡ Some after → Part (TurnTyped h.modules) (borrow_local is_mutable h l)
+  pub borrows : (is_mutable : Bool) (given : ValueType → Token)
+      → ((t : ValueType) (tag : Tag) → value_type_named h.home t ≡ Some tag → token_named h.home (given t) ≡ Some (ReferenceTag is_mutable tag))
+      → (l : ℕ) → of_borrow_local given h.home h.function l types ≡ Some after → Part (TurnTyped h.modules) (borrow_local is_mutable h l)
   unfolding borrow_local
   borrows is_mutable given names l e =
       on_some (local_type h.home h.function l) _ after e (λ t t_is e1.
@@ -195,7 +184,8 @@ module _ (h : Here) (i : Instruction) (types after : Types) (row : Row h i types
       let d : Declared l (Plain u) = declared l (Plain u) (subst (λ (x : Token). local_type h.home h.function l ≡ Some x) plain t_is) in
       some (TurnTyped h.modules) _ (held h l) _ (held_typed l (Plain u) d) (λ v typed.
       known (TurnTyped h.modules) (local_tag h l) _ typed.0.tag (local_tag-is l (Plain u) typed.0.tag d typed.0.names)
-      (met (TurnTyped h.modules) _ _ _ (ap not (named_plain h.home u typed.0.tag typed.0.names))
+      (passes (TurnTyped h.modules) _ _ _ (ap not (named_plain h.home u typed.0.tag typed.0.names))
       (stays_at h i types after (Ref (record { is_mutable = is_mutable; place = local_place h l }) ∷ h.state.top.stack) (h.state.top.at + 1) row
-      (subst (λ (ts : Types). HaveTokens h.modules (root_value h.state) h.home (Ref (record { is_mutable = is_mutable; place = local_place h l }) ∷ h.state.top.stack) ts) (same_Some (given u ∷ types) after e2)
+      (subst (λ (ts : Types). HaveTokens h.modules (root_value h.state) h.home (Ref (record { is_mutable = is_mutable; place = local_place h l }) ∷ h.state.top.stack) ts)
+      (same_Some (given u ∷ types) after e2)
       (record { tag = ReferenceTag is_mutable typed.0.tag; names = names u typed.0.tag typed.0.names; typed = to_local is_mutable l v u typed.1 typed.0 }, row.stands.stack)) next)))))

@@ -1,30 +1,12 @@
 -- Types that an accepted module names are there in the store.
-use Rattle.std.proofs.Common.{◌≡◌, ℕ, zero, suc, ◌+◌, Bool, true, false, List, [], ◌∷◌, refl, sym, ap, subst, ◌∙◌, Option, Some, None, Result, Ok, arith}
-use Rattle.std.specs.Prelude.{slice_get, ok_or, ◌&&◌}
-use Rattle.std.specs.Bool.{beq}
-use Rattle.std.specs.List.{list_all}
-use Rattle.std.specs.Option.{option_map_or}
-use Rattle.std.specs.Cmp.{first_so, second_so, booleans_Decides}
-use Rattle.std.proofs.lemmas.Bool.{and_from}
-use Rattle.std.proofs.lemmas.Option.{same_Some}
+use Rattle.mv_interpreter.proofs.Typing.Common.{◌≡◌, ℕ, zero, suc, ◌+◌, Bool, true, false, List, [], ◌∷◌, refl, sym, ap, subst, ◌∙◌, Option, Some, None, Result, Ok, arith, slice_get, ok_or, ◌&&◌, beq, list_all, option_map_or, first_so, second_so, and_from, same_Some, ValueType, OfLeaf, OfStruct, Token, Plain, ReferenceTo, MutableReferenceTo, Abilities, ◌>>=◌, ◌>>=ᵣ◌, ◌>>◌, need, StructName, Module, struct_name, Failure, Faults, LinkageFault, tag_named, Tag, LeafTag, StructTag, ReferenceTag, below, token_in, structs_are_there, value_type_named, token_named, tokens_named, on_some, each, there_below}
+use Rattle.std.specs.Cmp.{booleans_Decides}
 use Rattle.mv_move_types.specs.declared.tables.StructHandle.{StructHandle}
-use Rattle.mv_move_types.specs.declared.token.ValueType.{ValueType}
-use Rattle.mv_move_types.specs.declared.token.ValueType.TheVariants.{OfLeaf, OfStruct}
-use Rattle.mv_move_types.specs.declared.token.Token.{Token}
-use Rattle.mv_move_types.specs.declared.token.Token.TheVariants.{Plain, Reference as ReferenceTo, MutableReference as MutableReferenceTo}
-use Rattle.mv_move_types.specs.declared.token.Abilities.{Abilities}
-use Rattle.mv_move_types.specs.Options.{◌>>=◌}
-use Rattle.mv_move_types.specs.Results.{◌>>=◌ as ◌>>=ᵣ◌, ◌>>◌, need}
-use Rattle.mv_move_types.specs.Names.{StructName}
-use Rattle.mv_move_types.specs.Module.{Module, struct_name}
-use Rattle.mv_machine.specs.Typing.{Failure, Faults, LinkageFault, struct_tag, value_type_tag, tag_named}
-use Rattle.mv_move_types.specs.Tags.{Tag, LeafTag, StructTag, ReferenceTag}
+use Rattle.mv_machine.specs.Typing.{struct_tag, value_type_tag}
 use Rattle.mv_move_types.specs.Named.{declared}
 use Rattle.mv_move_types.specs.AbilitySets.{same_abilities}
-use Rattle.mv_bounds.specs.Bounds.{InBounds, below, token_in, value_type_in, struct_handle_in}
-use Rattle.mv_linker.specs.Links.{struct_is_there, structs_are_there}
-use Rattle.mv_linker.specs.TypesByName.{value_type_named, token_named, tokens_named}
-use Rattle.mv_linker.proofs.Found.{on_some, each, there_below}
+use Rattle.mv_bounds.specs.Bounds.{InBounds, value_type_in, struct_handle_in}
+use Rattle.mv_linker.specs.Links.{struct_is_there}
 use Rattle.mv_linker.proofs.OwnDefinitions.{module_there, struct_name_by}
 use Rattle.mv_interpreter.specs.Typing.Facts.{Named}
 
@@ -62,17 +44,20 @@ same_abilities-turned a b h =
     let h3 : (beq a.copy b.copy && beq a.drop b.drop && beq a.store b.store) ≡ true = first_so (beq a.copy b.copy && beq a.drop b.drop && beq a.store b.store) (beq a.key b.key) h in
     let h2 : (beq a.copy b.copy && beq a.drop b.drop) ≡ true = first_so (beq a.copy b.copy && beq a.drop b.drop) (beq a.store b.store) h3 in
     and_from _ _ (and_from _ _ (and_from _ _ (turn a.copy b.copy (first_so (beq a.copy b.copy) (beq a.drop b.drop) h2)) (turn a.drop b.drop (second_so (beq a.copy b.copy) (beq a.drop b.drop) h2)))
-    (turn a.store b.store (second_so (beq a.copy b.copy && beq a.drop b.drop) (beq a.store b.store) h3))) (turn a.key b.key (second_so (beq a.copy b.copy && beq a.drop b.drop && beq a.store b.store) (beq a.key b.key) h))
+    (turn a.store b.store (second_so (beq a.copy b.copy && beq a.drop b.drop) (beq a.store b.store) h3)))
+    (turn a.key b.key (second_so (beq a.copy b.copy && beq a.drop b.drop && beq a.store b.store) (beq a.key b.key) h))
   where
     turn : (x y : Bool) → beq x y ≡ true → beq y x ≡ true
     turn x y e = (booleans_Decides y x).1 (sym ((booleans_Decides x y).0 e))
 
 module _ (modules : List Module) (m : Module) (links : structs_are_there modules m 0 m.struct_handles ≡ true) where
-  pub handle_there : (base k : ℕ) (ss : List StructHandle) (s : StructHandle) (h : ℕ) → structs_are_there modules m base ss ≡ true → slice_get ss k ≡ Some s → h ≡ base + k → struct_is_there modules m h s ≡ true
+  pub handle_there : (base k : ℕ) (ss : List StructHandle) (s : StructHandle) (h : ℕ) → structs_are_there modules m base ss ≡ true
+      → slice_get ss k ≡ Some s → h ≡ base + k → struct_is_there modules m h s ≡ true
   handle_there base k [] s h e g at = absurd cc
   handle_there base zero (x ∷ ss) s h e g at =
       let same : base ≡ h = omega (arith, at) in
-      subst (λ (n : ℕ). struct_is_there modules m n s ≡ true) same (subst (λ (y : StructHandle). struct_is_there modules m base y ≡ true) (same_Some x s g) (first_so (struct_is_there modules m base x) (structs_are_there modules m (base + 1) ss) e))
+      subst (λ (n : ℕ). struct_is_there modules m n s ≡ true) same
+      (subst (λ (y : StructHandle). struct_is_there modules m base y ≡ true) (same_Some x s g) (first_so (struct_is_there modules m base x) (structs_are_there modules m (base + 1) ss) e))
   handle_there base (suc k) (x ∷ ss) s h e g at =
       handle_there (base + 1) k ss s h (second_so (struct_is_there modules m base x) (structs_are_there modules m (base + 1) ss) e) g (omega (arith, at))
 
@@ -84,14 +69,16 @@ module _ (modules : List Module) (m : Module) (links : structs_are_there modules
       subst (λ (x : Option StructName). option_map_or (λ name. option_map_or (same_abilities handle.abilities) (declared modules name) false) x false ≡ true) e fine in
       by_case handle handle_is (declared modules name) refl known)
     where
-      by_case : (handle : StructHandle) → slice_get m.struct_handles h ≡ Some handle → (a : Option Abilities) → declared modules name ≡ a → option_map_or (same_abilities handle.abilities) a false ≡ true → struct_tag modules m h ≡ Ok (StructTag name)
+      by_case : (handle : StructHandle) → slice_get m.struct_handles h ≡ Some handle → (a : Option Abilities) → declared modules name ≡ a
+          → option_map_or (same_abilities handle.abilities) a false ≡ true → struct_tag modules m h ≡ Ok (StructTag name)
       by_case handle handle_is None p q = absurd (differ q)
         where
           differ : false ≡ true → ⊥
           differ e = cc
       by_case handle handle_is (Some a) p q =
           let turned : same_abilities a handle.abilities ≡ true = same_abilities-turned handle.abilities a q in
-          subst (λ (x : Option StructHandle). (ok_or x (Faults LinkageFault) >>=ᵣ λ handle. ok_or (struct_name m h) (Faults LinkageFault) >>=ᵣ λ name. ok_or (declared modules name) (Faults LinkageFault) >>=ᵣ λ abilities. need (same_abilities abilities handle.abilities) (Faults LinkageFault) >> Ok (StructTag name)) ≡ Ok (StructTag name)) (sym handle_is)
+          subst (λ (x : Option StructHandle). (ok_or x (Faults LinkageFault) >>=ᵣ λ handle. ok_or (struct_name m h) (Faults LinkageFault) >>=ᵣ λ name. ok_or (declared modules name)
+          (Faults LinkageFault) >>=ᵣ λ abilities. need (same_abilities abilities handle.abilities) (Faults LinkageFault) >> Ok (StructTag name)) ≡ Ok (StructTag name)) (sym handle_is)
           (subst (λ (x : Option StructName). (ok_or x (Faults LinkageFault) >>=ᵣ λ name. ok_or (declared modules name) (Faults LinkageFault) >>=ᵣ λ abilities. need (same_abilities abilities handle.abilities) (Faults LinkageFault) >> Ok (StructTag name)) ≡ Ok (StructTag name)) (sym e)
           (subst (λ (x : Option Abilities). (ok_or x (Faults LinkageFault) >>=ᵣ λ abilities. need (same_abilities abilities handle.abilities) (Faults LinkageFault) >> Ok (StructTag name)) ≡ Ok (StructTag name)) (sym p)
           (subst (λ (b : Bool). (need b (Faults LinkageFault) >> Ok (StructTag name)) ≡ Ok (StructTag name)) (sym turned) refl)))

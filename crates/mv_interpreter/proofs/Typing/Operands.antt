@@ -1,26 +1,13 @@
 -- Operands by their types: what the rules of types say of the stack, and what the stack then is.
-use Rattle.std.proofs.Common.{◌≡◌, ℕ, suc, Bool, true, false, List, [], ◌∷◌, ◌++◌, length, take, drop, reverse, refl, sym, ap, ap₂, ◌∙◌, subst, Some, Ok, leb, arith, length-append}
-use Rattle.std.specs.Prelude.{IsTrue}
+use Rattle.mv_interpreter.proofs.Typing.Common.{◌≡◌, ℕ, suc, Bool, true, false, List, [], ◌∷◌, ◌++◌, length, take, drop, reverse, refl, sym, ap, ap₂, ◌∙◌, subst, Some, Ok, arith, IsTrue, same_Some, LeafKind, ValueType, OfLeaf, Token, Plain, Module, Value, Leaf, Struct, Ref, LeafTag, taken, takes_gives, top_type, operands, Roots, in_range, HasType, HasToken, HaveTokens, on_some}
+use Rattle.std.proofs.Common.{leb, length-append}
 use Rattle.std.proofs.lemmas.List.{length-reverse, reverse-append, reverse-reverse, take-append-drop}
 use Rattle.std.proofs.Math.Seq.{take-append_seam, drop-append_seam}
 use Rattle.std.proofs.lemmas.Bool.{le-leb}
-use Rattle.std.proofs.lemmas.Option.{same_Some}
-use Rattle.mv_move_types.specs.declared.token.LeafKind.{LeafKind}
-use Rattle.mv_move_types.specs.declared.token.ValueType.{ValueType}
-use Rattle.mv_move_types.specs.declared.token.ValueType.TheVariants.{OfLeaf}
-use Rattle.mv_move_types.specs.declared.token.Token.{Token}
-use Rattle.mv_move_types.specs.declared.token.Token.TheVariants.{Plain}
-use Rattle.mv_move_types.specs.Module.{Module}
-use Rattle.mv_machine.specs.Value.{Value, Leaf, Struct, Ref}
-use Rattle.mv_move_types.specs.Tags.{LeafTag}
 use Rattle.mv_move_types.specs.Tokens.{same_value_type, same_tokens}
-use Rattle.mv_type_states.specs.TypeRules.{taken, takes_gives, top_type}
-use Rattle.mv_machine.specs.Step.{operands}
-use Rattle.mv_interpreter.specs.Typing.HasType.{Roots, in_range, fields_by_name, HasType}
-use Rattle.mv_interpreter.specs.Typing.StateTyped.{HasToken, HaveTokens}
+use Rattle.mv_interpreter.specs.Typing.HasType.{fields_by_name}
 use Rattle.std.specs.Bool.{then_some}
 use Rattle.mv_type_states.proofs.Tokens.{tokens_equal, lists_equal}
-use Rattle.mv_linker.proofs.Found.{on_some}
 
 -- ---- tests of types
 
@@ -75,13 +62,15 @@ module _ (modules : List Module) (look : Roots) (home : Module) where
   pub of_leaf : (k : LeafKind) (n : ℕ) → IsTrue (in_range k n) → HasToken modules look home (Leaf k n) (Plain (OfLeaf k))
   of_leaf k n h = record { tag = LeafTag k; names = refl; typed = (refl, h) }
 
-  -- the topmost operand
-  pub one : (stack : List Value) (t : Token) (ts : List Token) → HaveTokens modules look home stack (t ∷ ts) → (v : Value) × (vs : List Value) × (stack ≡ v ∷ vs) × HasToken modules look home v t × HaveTokens modules look home vs ts
-  one [] t ts h = absurd h
-  one (v ∷ vs) t ts h = (v, vs, refl, h.0, h.1)
+  -- one operand is on top
+  pub one_operand : (stack : List Value) (t : Token) (ts : List Token) → HaveTokens modules look home stack (t ∷ ts)
+      → (v : Value) × (vs : List Value) × (stack ≡ v ∷ vs) × HasToken modules look home v t × HaveTokens modules look home vs ts
+  one_operand [] t ts h = absurd h
+  one_operand (v ∷ vs) t ts h = (v, vs, refl, h.0, h.1)
 
   -- operands above others
-  pub apart : (vs : List Value) (as' bs : List Token) → HaveTokens modules look home vs (as' ++ bs) → (xs : List Value) × (ys : List Value) × (vs ≡ xs ++ ys) × (length xs ≡ length as') × HaveTokens modules look home xs as' × HaveTokens modules look home ys bs
+  pub apart : (vs : List Value) (as' bs : List Token) → HaveTokens modules look home vs (as' ++ bs)
+      → (xs : List Value) × (ys : List Value) × (vs ≡ xs ++ ys) × (length xs ≡ length as') × HaveTokens modules look home xs as' × HaveTokens modules look home ys bs
   apart vs [] bs h = ([], vs, refl, refl, tt, h)
   apart [] (a ∷ as') bs h = absurd h
   apart (v ∷ vs) (a ∷ as') bs h =

@@ -1,30 +1,17 @@
 -- What the store says of the own module's structs.
-use Rattle.std.proofs.Common.{◌≡◌, ℕ, Bool, true, List, [], ◌∷◌, map, refl, ap, subst, ◌∙◌, Option, Some, Result, Ok}
-use Rattle.std.specs.Prelude.{slice_get, ok_or, not}
-use Rattle.std.specs.List.{list_all}
-use Rattle.std.specs.Cmp.{first_so, second_so}
-use Rattle.std.proofs.lemmas.Bool.{and_from}
-use Rattle.std.proofs.lemmas.Option.{same_Some}
+use Rattle.mv_interpreter.proofs.Typing.Common.{◌≡◌, ℕ, Bool, true, List, [], ◌∷◌, map, refl, ap, subst, ◌∙◌, Option, Some, Result, Ok, slice_get, ok_or, not, list_all, first_so, second_so, and_from, same_Some, Token, Plain, ReferenceTo, MutableReferenceTo, ◌>>=ᵣ◌, ◌>>◌, need, StructName, Module, struct_name, Field, Faults, LinkageFault, entry, Tag, below, token_in, tokens_named, token_named, Here, OwnStruct, is_reference_tag, on_some, each, there_below, then_found, ModuleAccepted, StoreAccepted}
 use Rattle.mv_move_types.specs.declared.tables.StructHandle.{StructHandle}
-use Rattle.mv_move_types.specs.declared.token.Token.{Token}
-use Rattle.mv_move_types.specs.declared.token.Token.TheVariants.{Plain, Reference as ReferenceTo, MutableReference as MutableReferenceTo}
-use Rattle.mv_move_types.specs.Results.{◌>>=◌ as ◌>>=ᵣ◌, ◌>>◌, need}
-use Rattle.mv_move_types.specs.Names.{ModuleName, StructName}
-use Rattle.mv_move_types.specs.Module.{Module, StructDefinition, own_name, struct_name}
-use Rattle.mv_move_types.specs.declared.tables.Field.{Field}
-use Rattle.mv_machine.specs.Typing.{Faults, LinkageFault, entry, linked}
-use Rattle.mv_move_types.specs.Tags.{Tag}
+use Rattle.mv_move_types.specs.Names.{ModuleName}
+use Rattle.mv_move_types.specs.Module.{StructDefinition, own_name}
+use Rattle.mv_machine.specs.Typing.{linked}
 use Rattle.mv_move_types.specs.Named.{definition_of}
-use Rattle.mv_bounds.specs.Bounds.{below, struct_in, field_in, token_in}
+use Rattle.mv_bounds.specs.Bounds.{struct_in, field_in}
 use Rattle.mv_signatures.specs.Signatures.{may_be_field}
-use Rattle.mv_linker.specs.TypesByName.{tokens_named, token_named}
-use Rattle.mv_machine.specs.Step.{Here, OwnStruct, own_struct, is_reference_tag}
+use Rattle.mv_machine.specs.Step.{own_struct}
 use Rattle.mv_linker.proofs.NameLemmas.{same_module-same}
-use Rattle.mv_linker.proofs.Found.{on_some, each, there_below, then_found}
 use Rattle.mv_linker.proofs.OwnDefinitions.{own-definition, owns-structs}
 use Rattle.mv_interpreter.specs.Typing.HasType.{fields_by_name}
 use Rattle.mv_interpreter.specs.Typing.Facts.{OwnFacts, are_plain}
-use Rattle.mv_interpreter.specs.Typing.Accepted.{ModuleAccepted, StoreAccepted}
 use Rattle.mv_interpreter.proofs.Typing.Roots.{named_plain}
 use Rattle.mv_interpreter.proofs.Typing.Names.{tokens_there}
 
@@ -35,9 +22,12 @@ then_ok r f x y e g = ap (λ s. s >>=ᵣ f) e ∙ g
 -- what the fields' types are of
 pub field_tokens : (m : Module) (fs : List Field) → list_all (field_in m) fs ≡ true → list_all (token_in m) (map (λ (f : Field). f.token) fs) ≡ true
 field_tokens m [] e = refl
-field_tokens m (f ∷ fs) e = and_from _ _ (second_so (below f.name m.identifiers) (token_in m f.token) (first_so (field_in m f) (list_all (field_in m) fs) e)) (field_tokens m fs (second_so (field_in m f) (list_all (field_in m) fs) e))
+field_tokens m (f ∷ fs) e =
+    and_from _ _ (second_so (below f.name m.identifiers) (token_in m f.token) (first_so (field_in m f) (list_all (field_in m) fs) e))
+    (field_tokens m fs (second_so (field_in m f) (list_all (field_in m) fs) e))
 
-fields_plain : (m : Module) (fs : List Field) (tags : List Tag) → list_all (λ (f : Field). may_be_field f.token) fs ≡ true → tokens_named m (map (λ (f : Field). f.token) fs) ≡ Some tags → are_plain tags ≡ true
+fields_plain : (m : Module) (fs : List Field) (tags : List Tag) → list_all (λ (f : Field). may_be_field f.token) fs ≡ true
+    → tokens_named m (map (λ (f : Field). f.token) fs) ≡ Some tags → are_plain tags ≡ true
 fields_plain m [] tags h e = subst (λ (x : List Tag). are_plain x ≡ true) (same_Some [] tags e) refl
 fields_plain m (f ∷ fs) tags h e =
     on_some (token_named m f.token) _ tags e (λ tag tag_is e1.
@@ -51,7 +41,8 @@ fields_plain m (f ∷ fs) tags h e =
     plain (ReferenceTo u) tag p q = absurd cc
     plain (MutableReferenceTo u) tag p q = absurd cc
 
-pub own_facts : (h : Here) → StoreAccepted h.modules → slice_get h.modules h.state.top.function.place ≡ Some h.home → (i : ℕ) (d : StructDefinition) → slice_get h.home.structs i ≡ Some d → OwnFacts h i d
+pub own_facts : (h : Here) → StoreAccepted h.modules → slice_get h.modules h.state.top.function.place ≡ Some h.home → (i : ℕ) (d : StructDefinition)
+    → slice_get h.home.structs i ≡ Some d → OwnFacts h i d
 unfolding own_struct fields_by_name
 own_facts h store home_at i d d_at =
     let m : Module = h.home in

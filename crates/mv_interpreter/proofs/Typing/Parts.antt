@@ -1,13 +1,9 @@
 -- The parts of a rule, one after the other: each gives a value of which something holds, or fails harmlessly.
-use Rattle.std.proofs.Common.{◌≡◌, Bool, true, false, refl, sym, subst, Result, Ok, Err}
-use Rattle.mv_move_types.specs.Results.{◌>>=◌, ◌>>◌, need}
-use Rattle.mv_machine.specs.Typing.{Failure, Faults, LostFault, FrozenFault}
+use Rattle.mv_interpreter.proofs.Typing.Common.{◌≡◌, Bool, true, false, refl, sym, subst, Result, Ok, Err, ◌>>◌, need, Failure, Faults, LostFault, FrozenFault, State, untouched, not}
+use Rattle.mv_move_types.specs.Results.{◌>>=◌}
 use Rattle.mv_interpreter.specs.Typing.StateTyped.{Harmless}
 use Rattle.mv_machine.specs.Value.{Place}
-use Rattle.mv_machine.specs.State.{State}
 use Rattle.mv_machine.specs.Live.{live, is_frozen_by}
-use Rattle.mv_machine.specs.StepParts.{untouched}
-use Rattle.std.specs.Prelude.{not}
 
 -- a part gives a value of which P holds, or fails harmlessly
 abbrev pub Part : {A : Type 0} → (A → Type 0) → Result A Failure → Type 0
@@ -26,8 +22,8 @@ module _ {A B : Type 0} (P : B → Type 0) where
 
 module _ {B : Type 0} (P : B → Type 0) where
   -- a test that passes
-  pub met : (b : Bool) (e : Failure) (r : Result B Failure) → b ≡ true → Part P r → Part P (need b e >> r)
-  met b e r h go = subst (λ c. Part P (need c e >> r)) (sym h) go
+  pub passes : (b : Bool) (e : Failure) (r : Result B Failure) → b ≡ true → Part P r → Part P (need b e >> r)
+  passes b e r h go = subst (λ c. Part P (need c e >> r)) (sym h) go
 
   -- a test that passes, or a harmless failure
   pub tried : (b : Bool) (e : Failure) (r : Result B Failure) → Harmless e → (b ≡ true → Part P r) → Part P (need b e >> r)

@@ -1,39 +1,19 @@
 -- Rows of references that change nothing: fields, reads, freezing.
-use Rattle.std.proofs.Common.{◌≡◌, ℕ, zero, suc, ◌+◌, Bool, true, false, List, [], ◌∷◌, map, refl, sym, ap, subst, ◌∙◌, Option, Some, Ok}
-use Rattle.std.specs.Prelude.{slice_get, ok_or, option_map}
-use Rattle.std.proofs.lemmas.Option.{slice_get-map, same_Some}
-use Rattle.mv_move_types.specs.declared.token.ValueType.{ValueType}
-use Rattle.mv_move_types.specs.declared.token.ValueType.TheVariants.{OfStruct}
-use Rattle.mv_move_types.specs.declared.token.Token.{Token}
-use Rattle.mv_move_types.specs.declared.token.Token.TheVariants.{Plain, Reference as ReferenceTo, MutableReference as MutableReferenceTo}
-use Rattle.mv_move_types.specs.declared.instruction.Instruction.{Instruction}
-use Rattle.mv_move_types.specs.Options.{◌>>=◌}
-use Rattle.mv_move_types.specs.Names.{StructName}
-use Rattle.mv_move_types.specs.Results.{need}
-use Rattle.mv_move_types.specs.Module.{Module}
-use Rattle.mv_move_types.specs.declared.tables.Field.{Field}
-use Rattle.mv_machine.specs.Value.{Reference, Value, Leaf, Struct, Ref, Values, list_of}
-use Rattle.mv_machine.specs.State.{root_value}
-use Rattle.mv_machine.specs.Typing.{Faults, LostFault, DanglingFault}
-use Rattle.mv_move_types.specs.Tags.{Tag, StructTag, ReferenceTag}
-use Rattle.mv_type_states.specs.TypeRules.{Types, top_type, target_of, mutable_target_of, plain_of, field_types, of_mutable_field, of_immutable_field, of_read, of_freeze}
+use Rattle.mv_interpreter.proofs.Typing.Common.{◌≡◌, ℕ, zero, suc, ◌+◌, Bool, true, false, List, [], ◌∷◌, map, refl, sym, ap, subst, ◌∙◌, Option, Some, Ok, slice_get, ok_or, option_map, same_Some, ValueType, OfStruct, Token, Plain, ReferenceTo, MutableReferenceTo, Instruction, ◌>>=◌, StructName, need, Module, Field, Reference, Value, Leaf, Struct, Ref, Values, root_value, Faults, LostFault, DanglingFault, Tag, StructTag, ReferenceTag, Types, top_type, plain_of, token_named, tokens_named, value_type_named, Here, OwnStruct, follow, as_reference, operand, Table, Roots, IsOf, AreOf, PointsTo, HasType, TypesAt, on_some, HasToken, HaveTokens, TurnTyped, Row, Facts}
+use Rattle.std.proofs.lemmas.Option.{slice_get-map}
+use Rattle.mv_machine.specs.Value.{list_of}
+use Rattle.mv_type_states.specs.TypeRules.{target_of, mutable_target_of, field_types, of_mutable_field, of_immutable_field, of_read, of_freeze}
 use Rattle.mv_move_types.specs.Tokens.{same_value_type}
 use Rattle.mv_abilities.specs.Abilities.{value_type_abilities}
-use Rattle.mv_linker.specs.TypesByName.{token_named, tokens_named, value_type_named}
-use Rattle.mv_machine.specs.Step.{Here, OwnStruct, follow, as_reference, operand}
 use Rattle.mv_machine.specs.StepReferences.{extended, own_field, borrow_field, read_reference, freeze, lends}
 use Rattle.mv_machine.specs.StepParts.{as_fields, can_copy}
-use Rattle.mv_interpreter.specs.Typing.HasType.{Table, Roots, IsOf, AreOf, PointsTo, HasType, fields_by_name}
-use Rattle.mv_type_states.specs.TypesAt.{TypesAt}
+use Rattle.mv_interpreter.specs.Typing.HasType.{fields_by_name}
 use Rattle.mv_linker.proofs.NameLemmas.{same_struct-same}
-use Rattle.mv_linker.proofs.Found.{on_some}
-use Rattle.mv_interpreter.specs.Typing.StateTyped.{HasToken, HaveTokens, TurnTyped}
-use Rattle.mv_interpreter.specs.Typing.Facts.{Row, Facts}
 use Rattle.mv_interpreter.proofs.Typing.Within.{leads_on}
-use Rattle.mv_interpreter.proofs.Typing.Parts.{Part, known, met, tested, lost}
-use Rattle.mv_interpreter.proofs.Typing.Operands.{on_test, takes_gives-is, top_type-is, same_value_type-is, one}
+use Rattle.mv_interpreter.proofs.Typing.Parts.{Part, known, passes, tested, lost}
+use Rattle.mv_interpreter.proofs.Typing.Operands.{on_test, takes_gives-is, top_type-is, same_value_type-is}
 use Rattle.mv_interpreter.proofs.Typing.Roots.{place_of, is_plain}
-use Rattle.mv_interpreter.proofs.Typing.Stays.{gives_typed}
+use Rattle.mv_interpreter.proofs.Typing.Stays.{gives_typed, top_typed}
 use Rattle.mv_interpreter.proofs.Typing.Locals.{plain_of-is}
 
 -- a value of a reference's type
@@ -51,7 +31,8 @@ module _ (modules : List Module) (look : Roots) (home : Module) where
   by_tag (Struct name fields) m u tag e h = absurd h
   by_tag (Ref r) m u tag e h = record { reference = r; tag = tag; is_reference = refl; mutable = h.0; names = e; points = h.1 }
 
-  named_reference : (v : Value) (m : Bool) (u : ValueType) (whole : Tag) → (value_type_named home u >>= λ tag. Some (ReferenceTag m tag)) ≡ Some whole → HasType (fields_by_name modules) look v whole → IsReference modules look home v m u
+  named_reference : (v : Value) (m : Bool) (u : ValueType) (whole : Tag) → (value_type_named home u >>= λ tag. Some (ReferenceTag m tag)) ≡ Some whole
+      → HasType (fields_by_name modules) look v whole → IsReference modules look home v m u
   named_reference v m u whole e h =
       on_some (value_type_named home u) (λ tag. Some (ReferenceTag m tag)) whole e (λ tag tag_is e1.
       by_tag v m u tag tag_is (subst (λ (x : Tag). HasType (fields_by_name modules) look v x) (sym (same_Some (ReferenceTag m tag) whole e1)) h))
@@ -85,7 +66,8 @@ pub mutable_names : (home : Module) (t : ValueType) (tag : Tag) → value_type_n
 mutable_names home t tag e = rw e refl
 
 -- the fields of a value of a struct
-pub struct_fields : (table : Table) (w : Value) (name : StructName) → IsOf table w (StructTag name) → (fields : Values) × (ts : List Tag) × (as_fields name w ≡ Ok (list_of fields)) × (table name ≡ Some ts) × AreOf table fields ts
+pub struct_fields : (table : Table) (w : Value) (name : StructName) → IsOf table w (StructTag name)
+    → (fields : Values) × (ts : List Tag) × (as_fields name w ≡ Ok (list_of fields)) × (table name ≡ Some ts) × AreOf table fields ts
 struct_fields table (Leaf k n) name h = absurd h
 struct_fields table (Ref r) name h = absurd h
 struct_fields table (Struct own fields) name h = (
@@ -100,7 +82,8 @@ struct_fields table (Struct own fields) name h = (
     own_fields = rw (same_struct-same own) refl
 
 -- the tag of one type of a list
-pub tokens_at : (m : Module) (ts : List Token) (tags : List Tag) (k : ℕ) (t : Token) → tokens_named m ts ≡ Some tags → slice_get ts k ≡ Some t → (tag : Tag) × (token_named m t ≡ Some tag) × (slice_get tags k ≡ Some tag)
+pub tokens_at : (m : Module) (ts : List Token) (tags : List Tag) (k : ℕ) (t : Token) → tokens_named m ts ≡ Some tags → slice_get ts k ≡ Some t
+    → (tag : Tag) × (token_named m t ≡ Some tag) × (slice_get tags k ≡ Some tag)
 tokens_at m [] tags k t e g = absurd cc
 tokens_at m (u ∷ ts) tags zero t e g =
     on_some (token_named m u) _ tags e (λ tag tag_is e1.
@@ -134,7 +117,8 @@ field_facts h facts i x e =
     let own = facts.own handle.definition d d_is in
     let whole : (OfStruct d.handle, plain) ≡ x = same_Some (OfStruct d.handle, plain) x e4 in
     let fields_at : slice_get own.struct.fields handle.position ≡ Some field = subst (λ (fs : List Field). slice_get fs handle.position ≡ Some field) (sym own.fields) field_is in
-    let mapped : slice_get (map (λ (f : Field). f.token) d.fields) handle.position ≡ Some field.token = slice_get-map (λ (f : Field). f.token) d.fields handle.position ∙ ap (option_map (λ (f : Field). f.token)) field_is in
+    let mapped : slice_get (map (λ (f : Field). f.token) d.fields) handle.position ≡ Some field.token =
+    slice_get-map (λ (f : Field). f.token) d.fields handle.position ∙ ap (option_map (λ (f : Field). f.token)) field_is in
     let at = tokens_at h.home (map (λ (f : Field). f.token) d.fields) own.tags handle.position field.token own.are_tags mapped in
     subst (λ (y : ValueType × ValueType). FieldFacts h i y.0 y.1) whole (record {
       found = own.struct;
@@ -150,15 +134,18 @@ field_facts h facts i x e =
 
 module _ (h : Here) (i : Instruction) (types after : Types) (row : Row h i types after) (next : TypesAt h.home h.function (h.state.top.at + 1) after) where
   -- a field of what a reference leads to
-  lent_field : (wants : Bool) (k : ℕ) (u plain : ValueType) (f : FieldFacts h k u plain) (given : ValueType → Token) →
-      ((t : ValueType) (tag : Tag) → value_type_named h.home t ≡ Some tag → token_named h.home (given t) ≡ Some (ReferenceTag wants tag)) →
-      (stack : List Value) (v : Value) (rest : List Value) (below : Types) (m : Bool) → h.state.top.stack ≡ v ∷ rest → IsReference h.modules (root_value h.state) h.home v m u → ((r : Reference) → r.is_mutable ≡ m → lends wants r ≡ true) →
-      HaveTokens h.modules (root_value h.state) h.home rest below → after ≡ given plain ∷ below → Part (TurnTyped h.modules) (borrow_field wants h k)
+  lent_field : (wants : Bool) (k : ℕ) (u plain : ValueType) (f : FieldFacts h k u plain) (given : ValueType → Token)
+      → ((t : ValueType) (tag : Tag) → value_type_named h.home t ≡ Some tag → token_named h.home (given t) ≡ Some (ReferenceTag wants tag))
+      → (stack : List Value) (v : Value) (rest : List Value) (below : Types) (m : Bool) → h.state.top.stack ≡ v ∷ rest
+      → IsReference h.modules (root_value h.state) h.home v m u → ((r : Reference) → r.is_mutable ≡ m → lends wants r ≡ true)
+      → HaveTokens h.modules (root_value h.state) h.home rest below → after ≡ given plain ∷ below
+      → Part (TurnTyped h.modules) (borrow_field wants h k)
   unfolding borrow_field
   lent_field wants k u plain f given names stack v rest below m are ref lent typed same =
       let r : Reference = ref.reference in
       let tag_same : ref.tag ≡ StructTag f.found.name = same_Some ref.tag (StructTag f.found.name) (sym ref.names ∙ f.struct_names) in
-      let points : PointsTo (fields_by_name h.modules) (root_value h.state) r (StructTag f.found.name) = subst (λ (t : Tag). PointsTo (fields_by_name h.modules) (root_value h.state) r t) tag_same ref.points in
+      let points : PointsTo (fields_by_name h.modules) (root_value h.state) r (StructTag f.found.name) =
+      subst (λ (t : Tag). PointsTo (fields_by_name h.modules) (root_value h.state) r t) tag_same ref.points in
       let there = place_of (fields_by_name h.modules) h.state r (StructTag f.found.name) points in
       let fields = struct_fields (fields_by_name h.modules) there.0 f.found.name there.2 in
       let new : Reference = record { is_mutable = wants; place = extended r.place f.position } in
@@ -168,23 +155,20 @@ module _ (h : Here) (i : Instruction) (types after : Types) (row : Row h i types
       known (TurnTyped h.modules) (own_field h k) _ (f.found, f.position) f.is_found
       (known (TurnTyped h.modules) (operand h.state.top.stack) _ (v, rest) (ap operand are)
       (known (TurnTyped h.modules) (as_reference v) _ r (ap as_reference ref.is_reference)
-      (met (TurnTyped h.modules) (lends wants r) _ _ (lent r ref.mutable)
+      (passes (TurnTyped h.modules) (lends wants r) _ _ (lent r ref.mutable)
       (known (TurnTyped h.modules) (follow h.state r) _ there.0 (ap (λ (x : Option Value). ok_or x (Faults DanglingFault)) there.1)
       (known (TurnTyped h.modules) (as_fields f.found.name there.0) _ (list_of fields.0) fields.2
       (gives_typed h i types after (Ok (Ref new ∷ rest)) row next
       (subst (λ (ts : Types). HaveTokens h.modules (root_value h.state) h.home (Ref new ∷ rest) ts) (sym same) (new_typed, typed))))))))
-
-  -- the topmost operand by its type
-  top_typed : (t : Token) (below : Types) → types ≡ t ∷ below → (v : Value) × (vs : List Value) × (h.state.top.stack ≡ v ∷ vs) × HasToken h.modules (root_value h.state) h.home v t × HaveTokens h.modules (root_value h.state) h.home vs below
-  top_typed t below same = one h.modules (root_value h.state) h.home h.state.top.stack t below (subst (λ (ts : Types). HaveTokens h.modules (root_value h.state) h.home h.state.top.stack ts) same row.stands.stack)
 
   pub mutable_field : (k : ℕ) → of_mutable_field h.home k types ≡ Some after → Part (TurnTyped h.modules) (borrow_field true h k)
   mutable_field k e =
       on_some (field_types h.home k) _ after e (λ x x_is e1.
       let f = field_facts h row.facts k x x_is in
       let parts = takes_gives-is (MutableReferenceTo x.0 ∷ []) (MutableReferenceTo x.1 ∷ []) types after e1 in
-      let top = top_typed (MutableReferenceTo x.0) parts.0 parts.1 in
-      lent_field true k x.0 x.1 f MutableReferenceTo (mutable_names h.home) h.state.top.stack top.0 top.1 parts.0 true top.2 (mutable_one h.modules (root_value h.state) h.home top.0 x.0 top.3) (λ r is. is) top.4 parts.2)
+      let top = top_typed h i types after row (MutableReferenceTo x.0) parts.0 parts.1 in
+      lent_field true k x.0 x.1 f MutableReferenceTo (mutable_names h.home) h.state.top.stack top.0 top.1 parts.0 true top.2
+      (mutable_one h.modules (root_value h.state) h.home top.0 x.0 top.3) (λ r is. is) top.4 parts.2)
 
   pub immutable_field : (k : ℕ) → of_immutable_field h.home k types ≡ Some after → Part (TurnTyped h.modules) (borrow_field false h k)
   immutable_field k e =
@@ -193,7 +177,7 @@ module _ (h : Here) (i : Instruction) (types after : Types) (row : Row h i types
       on_some (target_of t.0) _ after e2 (λ u u_is e3.
       on_test (same_value_type u x.0) (ReferenceTo x.1 ∷ t.1) after e3 (λ same given.
       let f = field_facts h row.facts k x x_is in
-      let top = top_typed t.0 t.1 (top_type-is types t t_is) in
+      let top = top_typed h i types after row t.0 t.1 (top_type-is types t t_is) in
       let ref = either h.modules (root_value h.state) h.home top.0 t.0 u u_is top.3 in
       let ref_there = subst (λ (y : ValueType). IsReference h.modules (root_value h.state) h.home top.0 ref.0 y) (same_value_type-is u x.0 same) ref.1 in
       lent_field false k x.0 x.1 f ReferenceTo (immutable_names h.home) h.state.top.stack top.0 top.1 t.1 ref.0 top.2 ref_there (λ r is. refl) top.4 (sym given)))))
@@ -206,7 +190,7 @@ module _ (h : Here) (i : Instruction) (types after : Types) (row : Row h i types
       on_some (value_type_abilities h.home u) _ after e2 (λ a a_is e3.
       on_test a.copy (Plain u ∷ t.1) after e3 (λ able given.
       let P : List Value → Type 0 = λ stack. HaveTokens h.modules (root_value h.state) h.home stack after in
-      let top = top_typed t.0 t.1 (top_type-is types t t_is) in
+      let top = top_typed h i types after row t.0 t.1 (top_type-is types t t_is) in
       let ref = either h.modules (root_value h.state) h.home top.0 t.0 u u_is top.3 in
       let r : Reference = ref.1.reference in
       let there = place_of (fields_by_name h.modules) h.state r ref.1.tag ref.1.points in
@@ -223,15 +207,16 @@ module _ (h : Here) (i : Instruction) (types after : Types) (row : Row h i types
       on_some (top_type types) _ after e (λ t t_is e1.
       on_some (mutable_target_of t.0) _ after e1 (λ u u_is e2.
       let P : List Value → Type 0 = λ stack. HaveTokens h.modules (root_value h.state) h.home stack after in
-      let top = top_typed t.0 t.1 (top_type-is types t t_is) in
-      let ref = mutable_one h.modules (root_value h.state) h.home top.0 u (subst (λ (x : Token). HasToken h.modules (root_value h.state) h.home top.0 x) (mutable_target-is h.modules (root_value h.state) h.home t.0 u u_is) top.3) in
+      let top = top_typed h i types after row t.0 t.1 (top_type-is types t t_is) in
+      let ref = mutable_one h.modules (root_value h.state) h.home top.0 u
+      (subst (λ (x : Token). HasToken h.modules (root_value h.state) h.home top.0 x) (mutable_target-is h.modules (root_value h.state) h.home t.0 u u_is) top.3) in
       let r : Reference = ref.reference in
       let there = place_of (fields_by_name h.modules) h.state r ref.tag ref.points in
       let new : Reference = record { is_mutable = false; place = r.place } in
       let new_points : PointsTo (fields_by_name h.modules) (root_value h.state) new ref.tag = record { base = ref.points.base; root = ref.points.root; leads = ref.points.leads } in
       known P (operand h.state.top.stack) _ (top.0, top.1) (ap operand top.2)
       (known P (as_reference top.0) _ r (ap as_reference ref.is_reference)
-      (met P r.is_mutable _ _ ref.mutable
+      (passes P r.is_mutable _ _ ref.mutable
       (known P (follow h.state r) _ there.0 (ap (λ (x : Option Value). ok_or x (Faults DanglingFault)) there.1)
       (subst (λ (ts : Types). HaveTokens h.modules (root_value h.state) h.home (Ref new ∷ top.1) ts) (same_Some (ReferenceTo u ∷ t.1) after e2)
       (of_reference h.modules (root_value h.state) h.home false ReferenceTo (immutable_names h.home) new u ref.tag refl ref.names new_points, top.4)))))))

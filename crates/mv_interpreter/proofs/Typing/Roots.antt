@@ -1,24 +1,13 @@
 -- What stands at the roots after a local is changed, and what a typed value's tag is.
-use Rattle.std.proofs.Common.{◌≡◌, ℕ, zero, suc, Bool, true, false, List, [], ◌∷◌, refl, sym, ap, subst, ◌∙◌, Option, Some, eqb}
-use Rattle.std.specs.Prelude.{slice_get, slice_set, option_map, option_and_then}
-use Rattle.std.specs.Option.{option_map_or}
-use Rattle.std.proofs.lemmas.Bool.{eqb-true, eqb-false, ne_eqb, and_from, eq-eqb}
-use Rattle.std.proofs.lemmas.Option.{same_Some}
-use Rattle.mv_move_types.specs.declared.token.ValueType.{ValueType}
-use Rattle.mv_move_types.specs.declared.token.ValueType.TheVariants.{OfLeaf, OfStruct}
-use Rattle.mv_move_types.specs.declared.token.Token.{Token}
-use Rattle.mv_move_types.specs.Module.{Module, struct_name}
-use Rattle.mv_machine.specs.Value.{Root, Local, Stored, Reference, Value, Leaf, Struct, Ref, value_at}
-use Rattle.mv_machine.specs.State.{State, root_value, place_value}
-use Rattle.mv_move_types.specs.Tags.{Tag, LeafTag, StructTag, ReferenceTag, same_tag}
-use Rattle.mv_machine.specs.Typing.{tag_of, has_tag, have_tags, plain_tag}
-use Rattle.mv_linker.specs.TypesByName.{value_type_named, token_named, tokens_named}
-use Rattle.mv_machine.specs.Step.{is_reference_tag}
+use Rattle.mv_interpreter.proofs.Typing.Common.{◌≡◌, ℕ, zero, suc, Bool, true, false, List, [], ◌∷◌, refl, sym, ap, subst, ◌∙◌, Option, Some, eqb, slice_get, option_map, option_and_then, option_map_or, eqb-true, eqb-false, ne_eqb, and_from, eq-eqb, same_Some, ValueType, OfLeaf, OfStruct, Token, Module, struct_name, Root, Local, Stored, Reference, Value, Leaf, Struct, Ref, State, root_value, Tag, LeafTag, StructTag, ReferenceTag, tag_of, has_tag, have_tags, value_type_named, token_named, tokens_named, is_reference_tag, on_some, Table, Roots, IsOf, PointsTo, HasType, HaveTypes, HaveTokens, LocalHasToken, LocalsHaveTokens}
+use Rattle.std.specs.Prelude.{slice_set}
+use Rattle.mv_machine.specs.Value.{value_at}
+use Rattle.mv_machine.specs.State.{place_value}
+use Rattle.mv_move_types.specs.Tags.{same_tag}
+use Rattle.mv_machine.specs.Typing.{plain_tag}
 use Rattle.mv_machine.specs.StepLocals.{with_own_local}
 use Rattle.mv_linker.proofs.TagTests.{same_tag-same}
-use Rattle.mv_linker.proofs.Found.{on_some}
-use Rattle.mv_interpreter.specs.Typing.HasType.{Table, Roots, IsOf, PointsTo, HasType, HaveTypes, fields_by_name}
-use Rattle.mv_interpreter.specs.Typing.StateTyped.{HaveTokens, LocalHasToken, LocalsHaveTokens}
+use Rattle.mv_interpreter.specs.Typing.HasType.{fields_by_name}
 use Rattle.mv_interpreter.proofs.Typing.Within.{tag_is, read_within}
 
 -- ---- tags
@@ -69,7 +58,8 @@ named_plain m (OfStruct h) tag e =
     subst (λ (x : Tag). is_reference_tag x ≡ false) (same_Some (StructTag name) tag e1) refl)
 
 -- values of types have their types' tags
-pub tokens_have_tags : (modules : List Module) (s : State) (home : Module) (vs : List Value) (ts : List Token) (tags : List Tag) → HaveTokens modules (root_value s) home vs ts → tokens_named home ts ≡ Some tags → HaveTypes (fields_by_name modules) (root_value s) vs tags
+pub tokens_have_tags : (modules : List Module) (s : State) (home : Module) (vs : List Value) (ts : List Token) (tags : List Tag)
+    → HaveTokens modules (root_value s) home vs ts → tokens_named home ts ≡ Some tags → HaveTypes (fields_by_name modules) (root_value s) vs tags
 tokens_have_tags modules s home [] [] tags h e = subst (λ (x : List Tag). HaveTypes (fields_by_name modules) (root_value s) [] x) (same_Some [] tags e) tt
 tokens_have_tags modules s home [] (t ∷ ts) tags h e = absurd h
 tokens_have_tags modules s home (v ∷ vs) [] tags h e = absurd h
@@ -98,8 +88,8 @@ module _ (modules : List Module) (look : Roots) (home : Module) where
   local_at (v ∷ vs) (u ∷ ts) zero t h e = (v, refl, subst (λ (x : Token). LocalHasToken modules look home v x) (same_Some u t e) h.0)
   local_at (v ∷ vs) (u ∷ ts) (suc l) t h e = local_at vs ts l t h.1 e
 
-  pub local_set : (vs : List (Option Value)) (ts : List Token) (l : ℕ) (t : Token) (new : Option Value) → LocalsHaveTokens modules look home vs ts → slice_get ts l ≡ Some t → LocalHasToken modules look home new t →
-      LocalsHaveTokens modules look home (slice_set vs l new) ts
+  pub local_set : (vs : List (Option Value)) (ts : List Token) (l : ℕ) (t : Token) (new : Option Value) → LocalsHaveTokens modules look home vs ts
+      → slice_get ts l ≡ Some t → LocalHasToken modules look home new t → LocalsHaveTokens modules look home (slice_set vs l new) ts
   local_set [] [] l t new h e k = h
   local_set [] (u ∷ ts) l t new h e k = absurd h
   local_set (v ∷ vs) [] l t new h e k = absurd h

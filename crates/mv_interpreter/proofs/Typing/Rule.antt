@@ -1,29 +1,16 @@
 -- Each instruction by its row, a step, and a whole run.
-use Rattle.std.proofs.Common.{ℕ, ◌+◌, true, false, List, length, refl, ap, Option, Result, Ok}
-use Rattle.std.specs.Prelude.{slice_get, not, ok_or, nat_lt, nat_le, ◌==◌, bit_and, bit_or, bit_xor, ◌^◌, ◌||◌, ◌&&◌}
-use Rattle.std.specs.List.{list_all}
-use Rattle.std.specs.Cmp.{second_so}
+use Rattle.mv_interpreter.proofs.Typing.Common.{ℕ, ◌+◌, true, false, List, length, refl, ap, Option, Result, Ok, slice_get, not, ok_or, nat_lt, nat_le, ◌==◌, ◌||◌, ◌&&◌, list_all, second_so, Boolean, Number, ReferenceTo, MutableReferenceTo, Instruction, Ret, Module, FunctionDefinition, Value, State, root_value, Failure, Faults, TypeFault, LinkageFault, entry, Types, Here, gives, TypesAt, HaveTokens, StateTyped, TurnTyped, Row, Advance, SoundStore}
+use Rattle.std.specs.Prelude.{bit_and, bit_or, bit_xor, ◌^◌}
 use Rattle.mv_move_types.specs.declared.token.Width.TheVariants.{U8, U16, U32, U64, U128}
-use Rattle.mv_move_types.specs.declared.token.LeafKind.TheVariants.{Boolean, Number}
-use Rattle.mv_move_types.specs.declared.token.Token.TheVariants.{Reference as ReferenceTo, MutableReference as MutableReferenceTo}
-use Rattle.mv_move_types.specs.declared.instruction.Instruction.{Instruction}
-use Rattle.mv_move_types.specs.declared.instruction.Instruction.TheVariants.{Pop, Ret, BrTrue, BrFalse, Branch, LdU64, LdConst, LdTrue, LdFalse, CopyLoc, MoveLoc, StLoc, MutBorrowLoc, ImmBorrowLoc, MutBorrowField, ImmBorrowField, Call, Pack, Unpack, ReadRef, WriteRef, Add, Sub, Mul, Mod, Div, BitOr, BitAnd, Xor, Or, And, Not, Eq, Neq, Lt, Gt, Le, Ge, Abort, Nop, Exists, MutBorrowGlobal, ImmBorrowGlobal, MoveFrom, MoveTo, FreezeRef, Shl, Shr, LdU8, LdU128, CastU8, CastU64, CastU128, LdU16, LdU32, CastU16, CastU32}
-use Rattle.mv_move_types.specs.Module.{Module, FunctionDefinition}
-use Rattle.mv_machine.specs.Value.{Value}
-use Rattle.mv_machine.specs.State.{State, root_value}
-use Rattle.mv_machine.specs.Typing.{Failure, Faults, TypeFault, LinkageFault, entry}
+use Rattle.mv_move_types.specs.declared.instruction.Instruction.TheVariants.{Pop, BrTrue, BrFalse, Branch, LdU64, LdConst, LdTrue, LdFalse, CopyLoc, MoveLoc, StLoc, MutBorrowLoc, ImmBorrowLoc, MutBorrowField, ImmBorrowField, Call, Pack, Unpack, ReadRef, WriteRef, Add, Sub, Mul, Mod, Div, BitOr, BitAnd, Xor, Or, And, Not, Eq, Neq, Lt, Gt, Le, Ge, Abort, Nop, Exists, MutBorrowGlobal, ImmBorrowGlobal, MoveFrom, MoveTo, FreezeRef, Shl, Shr, LdU8, LdU128, CastU8, CastU64, CastU128, LdU16, LdU32, CastU16, CastU32}
 use Rattle.mv_machine.specs.Numbers.{sum_of, difference_of, product_of, remainder_of, quotient_of, shifted_left, shifted_right}
 use Rattle.mv_move_types.specs.Flow.{successors}
-use Rattle.mv_type_states.specs.TypeRules.{Types, types_after}
-use Rattle.mv_machine.specs.Step.{Here, rule, step}
-use Rattle.mv_machine.specs.StepParts.{gives}
+use Rattle.mv_type_states.specs.TypeRules.{types_after}
+use Rattle.mv_machine.specs.Step.{rule, step}
 use Rattle.mv_machine.specs.StepLocals.{pop}
 use Rattle.mv_machine.specs.StepReferences.{read_reference}
-use Rattle.mv_type_states.specs.TypesAt.{TypesAt}
-use Rattle.mv_interpreter.specs.Typing.StateTyped.{HaveTokens, StateTyped, TurnTyped}
-use Rattle.mv_interpreter.specs.Typing.Facts.{Row, Advance, SoundStore}
 use Rattle.mv_interpreter.specs.Typing.Unreached.{Guarded, StepGuarded}
-use Rattle.mv_interpreter.proofs.Typing.Parts.{Part, known, met}
+use Rattle.mv_interpreter.proofs.Typing.Parts.{Part, known, passes}
 use Rattle.mv_interpreter.proofs.Typing.Stays.{gives_typed, here_of, advance_of, row_of}
 use Rattle.mv_interpreter.proofs.Typing.Families.{binary_typed, comparison_typed, shift_typed, cast_typed, logic_typed, negation_typed, sum_keeps, difference_keeps, product_keeps, remainder_keeps, quotient_keeps, or_keeps, and_keeps, xor_keeps, left_keeps, right_keeps}
 use Rattle.mv_interpreter.proofs.Typing.Locals.{copies, moves, stores, borrows}
@@ -64,22 +51,31 @@ rule_typed h (Unpack k) ts after row g = unpacks h (Unpack k) ts after row row.l
 rule_typed h ReadRef ts after row g = stack_row h ReadRef ts after row row.leads.0 (read_reference h h.state.top.stack) (reads h ReadRef ts after row row.leads.0 row.rule)
 rule_typed h WriteRef ts after row g = writes h WriteRef ts after row row.leads.0 row.rule
 rule_typed h Add ts after row g = stack_row h Add ts after row row.leads.0 _ (binary_typed h.modules (root_value h.state) h.home sum_of sum_keeps h.state.top.stack ts after row.stands.stack row.rule)
-rule_typed h Sub ts after row g = stack_row h Sub ts after row row.leads.0 _ (binary_typed h.modules (root_value h.state) h.home difference_of difference_keeps h.state.top.stack ts after row.stands.stack row.rule)
-rule_typed h Mul ts after row g = stack_row h Mul ts after row row.leads.0 _ (binary_typed h.modules (root_value h.state) h.home product_of product_keeps h.state.top.stack ts after row.stands.stack row.rule)
-rule_typed h Mod ts after row g = stack_row h Mod ts after row row.leads.0 _ (binary_typed h.modules (root_value h.state) h.home remainder_of remainder_keeps h.state.top.stack ts after row.stands.stack row.rule)
-rule_typed h Div ts after row g = stack_row h Div ts after row row.leads.0 _ (binary_typed h.modules (root_value h.state) h.home quotient_of quotient_keeps h.state.top.stack ts after row.stands.stack row.rule)
-rule_typed h BitOr ts after row g = stack_row h BitOr ts after row row.leads.0 _ (binary_typed h.modules (root_value h.state) h.home (λ w x y. Ok (bit_or x y)) or_keeps h.state.top.stack ts after row.stands.stack row.rule)
-rule_typed h BitAnd ts after row g = stack_row h BitAnd ts after row row.leads.0 _ (binary_typed h.modules (root_value h.state) h.home (λ w x y. Ok (bit_and x y)) and_keeps h.state.top.stack ts after row.stands.stack row.rule)
-rule_typed h Xor ts after row g = stack_row h Xor ts after row row.leads.0 _ (binary_typed h.modules (root_value h.state) h.home (λ w x y. Ok (bit_xor x y)) xor_keeps h.state.top.stack ts after row.stands.stack row.rule)
+rule_typed h Sub ts after row g =
+    stack_row h Sub ts after row row.leads.0 _ (binary_typed h.modules (root_value h.state) h.home difference_of difference_keeps h.state.top.stack ts after row.stands.stack row.rule)
+rule_typed h Mul ts after row g =
+    stack_row h Mul ts after row row.leads.0 _ (binary_typed h.modules (root_value h.state) h.home product_of product_keeps h.state.top.stack ts after row.stands.stack row.rule)
+rule_typed h Mod ts after row g =
+    stack_row h Mod ts after row row.leads.0 _ (binary_typed h.modules (root_value h.state) h.home remainder_of remainder_keeps h.state.top.stack ts after row.stands.stack row.rule)
+rule_typed h Div ts after row g =
+    stack_row h Div ts after row row.leads.0 _ (binary_typed h.modules (root_value h.state) h.home quotient_of quotient_keeps h.state.top.stack ts after row.stands.stack row.rule)
+rule_typed h BitOr ts after row g =
+    stack_row h BitOr ts after row row.leads.0 _ (binary_typed h.modules (root_value h.state) h.home (λ w x y. Ok (bit_or x y)) or_keeps h.state.top.stack ts after row.stands.stack row.rule)
+rule_typed h BitAnd ts after row g =
+    stack_row h BitAnd ts after row row.leads.0 _ (binary_typed h.modules (root_value h.state) h.home (λ w x y. Ok (bit_and x y)) and_keeps h.state.top.stack ts after row.stands.stack row.rule)
+rule_typed h Xor ts after row g =
+    stack_row h Xor ts after row row.leads.0 _ (binary_typed h.modules (root_value h.state) h.home (λ w x y. Ok (bit_xor x y)) xor_keeps h.state.top.stack ts after row.stands.stack row.rule)
 rule_typed h Or ts after row g = stack_row h Or ts after row row.leads.0 _ (logic_typed h.modules (root_value h.state) h.home ◌||◌ h.state.top.stack ts after row.stands.stack row.rule)
 rule_typed h And ts after row g = stack_row h And ts after row row.leads.0 _ (logic_typed h.modules (root_value h.state) h.home ◌&&◌ h.state.top.stack ts after row.stands.stack row.rule)
 rule_typed h Not ts after row g = stack_row h Not ts after row row.leads.0 _ (negation_typed h.modules (root_value h.state) h.home h.state.top.stack ts after row.stands.stack row.rule)
 rule_typed h Eq ts after row g = stack_row h Eq ts after row row.leads.0 _ (equalities h Eq ts after row (λ same. same) row.rule)
 rule_typed h Neq ts after row g = stack_row h Neq ts after row row.leads.0 _ (equalities h Neq ts after row not row.rule)
 rule_typed h Lt ts after row g = stack_row h Lt ts after row row.leads.0 _ (comparison_typed h.modules (root_value h.state) h.home nat_lt h.state.top.stack ts after row.stands.stack row.rule)
-rule_typed h Gt ts after row g = stack_row h Gt ts after row row.leads.0 _ (comparison_typed h.modules (root_value h.state) h.home (λ x y. nat_lt y x) h.state.top.stack ts after row.stands.stack row.rule)
+rule_typed h Gt ts after row g =
+    stack_row h Gt ts after row row.leads.0 _ (comparison_typed h.modules (root_value h.state) h.home (λ x y. nat_lt y x) h.state.top.stack ts after row.stands.stack row.rule)
 rule_typed h Le ts after row g = stack_row h Le ts after row row.leads.0 _ (comparison_typed h.modules (root_value h.state) h.home nat_le h.state.top.stack ts after row.stands.stack row.rule)
-rule_typed h Ge ts after row g = stack_row h Ge ts after row row.leads.0 _ (comparison_typed h.modules (root_value h.state) h.home (λ x y. nat_le y x) h.state.top.stack ts after row.stands.stack row.rule)
+rule_typed h Ge ts after row g =
+    stack_row h Ge ts after row row.leads.0 _ (comparison_typed h.modules (root_value h.state) h.home (λ x y. nat_le y x) h.state.top.stack ts after row.stands.stack row.rule)
 rule_typed h Abort ts after row g = aborts h Abort ts after row row.rule
 rule_typed h Nop ts after row g = goes h Nop ts after row (h.state.top.at + 1) row.rule row.leads.0
 rule_typed h (Exists k) ts after row g = tells h (Exists k) ts after row row.leads.0 k row.rule
@@ -88,8 +84,10 @@ rule_typed h (ImmBorrowGlobal k) ts after row g = borrows_global h (ImmBorrowGlo
 rule_typed h (MoveFrom k) ts after row g = takes_out h (MoveFrom k) ts after row row.leads.0 k row.rule g
 rule_typed h (MoveTo k) ts after row g = puts_in h (MoveTo k) ts after row row.leads.0 k row.rule
 rule_typed h FreezeRef ts after row g = stack_row h FreezeRef ts after row row.leads.0 _ (freezes h FreezeRef ts after row row.leads.0 row.rule)
-rule_typed h Shl ts after row g = stack_row h Shl ts after row row.leads.0 _ (shift_typed h.modules (root_value h.state) h.home shifted_left left_keeps h.state.top.stack ts after row.stands.stack row.rule)
-rule_typed h Shr ts after row g = stack_row h Shr ts after row row.leads.0 _ (shift_typed h.modules (root_value h.state) h.home shifted_right right_keeps h.state.top.stack ts after row.stands.stack row.rule)
+rule_typed h Shl ts after row g =
+    stack_row h Shl ts after row row.leads.0 _ (shift_typed h.modules (root_value h.state) h.home shifted_left left_keeps h.state.top.stack ts after row.stands.stack row.rule)
+rule_typed h Shr ts after row g =
+    stack_row h Shr ts after row row.leads.0 _ (shift_typed h.modules (root_value h.state) h.home shifted_right right_keeps h.state.top.stack ts after row.stands.stack row.rule)
 rule_typed h (LdU8 n) ts after row g = loads h (LdU8 n) ts after row (Number U8) n row.leads.0 row.rule row.fits
 rule_typed h (LdU128 n) ts after row g = loads h (LdU128 n) ts after row (Number U128) n row.leads.0 row.rule row.fits
 rule_typed h CastU8 ts after row g = stack_row h CastU8 ts after row row.leads.0 _ (cast_typed h.modules (root_value h.state) h.home U8 h.state.top.stack ts after row.stands.stack row.rule)
@@ -110,7 +108,7 @@ step_typed modules s store typed guarded =
     known (TurnTyped modules) (entry modules s.top.function.place) _ typed.home (ap (λ (x : Option Module). ok_or x (Faults LinkageFault)) typed.is_home)
     (known (TurnTyped modules) (entry typed.home.functions s.top.function.index) _ typed.function (ap (λ (x : Option FunctionDefinition). ok_or x (Faults LinkageFault)) typed.is_function)
     (known (TurnTyped modules) (ok_or (slice_get typed.function.code s.top.at) (Faults TypeFault)) _ a.instruction (ap (λ (x : Option Instruction). ok_or x (Faults TypeFault)) a.is_there)
-    (met (TurnTyped modules) (list_all (λ t. nat_lt t (length typed.function.code)) (successors s.top.at a.instruction)) _ _ a.inside
+    (passes (TurnTyped modules) (list_all (λ t. nat_lt t (length typed.function.code)) (successors s.top.at a.instruction)) _ _ a.inside
     (rule_typed h a.instruction typed.types a.after row (guarded typed.home typed.function a.instruction typed.is_home typed.is_function a.is_there)))))
 
 -- the count of steps is no matter of types

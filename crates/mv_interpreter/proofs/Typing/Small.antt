@@ -1,39 +1,21 @@
 -- The small rows: loads, constants, Pop, Eq, branches, Abort, Nop.
-use Rattle.std.proofs.Common.{◌≡◌, ℕ, ◌+◌, Bool, true, false, cond, List, [], ◌∷◌, refl, sym, ap, subst, ◌∙◌, Option, Some, Ok, eqb}
-use Rattle.std.specs.Prelude.{slice_get, not, ok_or, IsTrue, ◌&&◌}
-use Rattle.std.specs.Bool.{beq}
-use Rattle.std.proofs.lemmas.Option.{same_Some}
+use Rattle.mv_interpreter.proofs.Typing.Common.{◌≡◌, ℕ, ◌+◌, Bool, true, false, cond, List, [], ◌∷◌, refl, sym, ap, subst, ◌∙◌, Option, Some, Ok, eqb, slice_get, not, ok_or, IsTrue, ◌&&◌, beq, same_Some, LeafKind, Boolean, Number, OfLeaf, Token, Plain, Instruction, need, Value, Leaf, root_value, Faults, TypeFault, LinkageFault, LostFault, tag_of, has_tag, entry, Tag, Types, boolean, top_type, plain_of, taken, token_named, Here, operand, is_reference_tag, truth, HasType, in_range, TypesAt, on_some, HasToken, HaveTokens, TurnTyped, Row}
 use Rattle.mv_move_types.specs.declared.token.Width.TheVariants.{U64}
-use Rattle.mv_move_types.specs.declared.token.LeafKind.{LeafKind}
-use Rattle.mv_move_types.specs.declared.token.LeafKind.TheVariants.{Boolean, Number}
-use Rattle.mv_move_types.specs.declared.token.ValueType.TheVariants.{OfLeaf}
-use Rattle.mv_move_types.specs.declared.token.Token.{Token}
-use Rattle.mv_move_types.specs.declared.token.Token.TheVariants.{Plain}
-use Rattle.mv_move_types.specs.declared.instruction.Instruction.{Instruction}
-use Rattle.mv_move_types.specs.Results.{need}
 use Rattle.mv_move_types.specs.Module.{Constant}
-use Rattle.mv_machine.specs.Value.{Value, Leaf, same_value}
-use Rattle.mv_machine.specs.State.{root_value}
+use Rattle.mv_machine.specs.Value.{same_value}
 use Rattle.mv_move_types.specs.Numbers.{leaf_number}
-use Rattle.mv_machine.specs.Typing.{Faults, TypeFault, LinkageFault, LostFault, tag_of, has_tag, entry}
-use Rattle.mv_move_types.specs.Tags.{Tag}
-use Rattle.mv_type_states.specs.TypeRules.{Types, boolean, number, top_type, plain_of, taken, of_pop, of_equality, of_constant}
+use Rattle.mv_type_states.specs.TypeRules.{number, of_pop, of_equality, of_constant}
 use Rattle.mv_abilities.specs.Abilities.{token_abilities}
-use Rattle.mv_linker.specs.TypesByName.{token_named}
-use Rattle.mv_machine.specs.Step.{Here, operand, is_reference_tag}
 use Rattle.mv_machine.specs.StepLocals.{pop}
 use Rattle.mv_machine.specs.StepNumbers.{equality, constant, constant_value}
 use Rattle.mv_machine.specs.StepControl.{branch_if, abort}
-use Rattle.mv_machine.specs.StepParts.{pushes, can_drop, truth, goes_to}
-use Rattle.mv_interpreter.specs.Typing.HasType.{HasType, in_range, fields_by_name}
-use Rattle.mv_type_states.specs.TypesAt.{TypesAt}
-use Rattle.mv_linker.proofs.Found.{on_some}
-use Rattle.mv_interpreter.specs.Typing.StateTyped.{HasToken, HaveTokens, TurnTyped}
-use Rattle.mv_interpreter.specs.Typing.Facts.{Row, ConstantFacts}
-use Rattle.mv_interpreter.proofs.Typing.Parts.{Part, known, met, tested, lost}
-use Rattle.mv_interpreter.proofs.Typing.Operands.{on_test, taken-is, top_type-is, one, leaf, of_leaf}
+use Rattle.mv_machine.specs.StepParts.{pushes, can_drop, goes_to}
+use Rattle.mv_interpreter.specs.Typing.HasType.{fields_by_name}
+use Rattle.mv_interpreter.specs.Typing.Facts.{ConstantFacts}
+use Rattle.mv_interpreter.proofs.Typing.Parts.{Part, known, passes, tested, lost}
+use Rattle.mv_interpreter.proofs.Typing.Operands.{on_test, taken-is, top_type-is, one_operand, leaf, of_leaf}
 use Rattle.mv_interpreter.proofs.Typing.Roots.{named_plain, typed_tag, typed_has_tag}
-use Rattle.mv_interpreter.proofs.Typing.Stays.{stays_at}
+use Rattle.mv_interpreter.proofs.Typing.Stays.{stays_at, top_typed}
 use Rattle.mv_interpreter.proofs.Typing.Locals.{plain_of-is}
 use Rattle.mv_interpreter.proofs.Typing.Families.{of_truth}
 
@@ -41,16 +23,15 @@ pub constant_is : (t : Token) (kind : LeafKind) (bytes : List ℕ) (n : ℕ) →
 constant_is t kind bytes n e g = subst (λ (x : Token). constant_value x bytes ≡ Ok (Leaf kind n)) (sym e) (rw g refl)
 
 module _ (h : Here) (i : Instruction) (types after : Types) (row : Row h i types after) where
-  top_of : (t : Token) (below : Types) → types ≡ t ∷ below → (v : Value) × (vs : List Value) × (h.state.top.stack ≡ v ∷ vs) × HasToken h.modules (root_value h.state) h.home v t × HaveTokens h.modules (root_value h.state) h.home vs below
-  top_of t below same = one h.modules (root_value h.state) h.home h.state.top.stack t below (subst (λ (ts : Types). HaveTokens h.modules (root_value h.state) h.home h.state.top.stack ts) same row.stands.stack)
-
   -- one more operand
-  pub pushes_typed : (v : Value) (t : Token) → TypesAt h.home h.function (h.state.top.at + 1) after → Some (t ∷ types) ≡ Some after → HasToken h.modules (root_value h.state) h.home v t → Part (TurnTyped h.modules) (pushes h v)
+  pub pushes_typed : (v : Value) (t : Token) → TypesAt h.home h.function (h.state.top.at + 1) after → Some (t ∷ types) ≡ Some after
+      → HasToken h.modules (root_value h.state) h.home v t → Part (TurnTyped h.modules) (pushes h v)
   pushes_typed v t next e typed =
       stays_at h i types after (v ∷ h.state.top.stack) (h.state.top.at + 1) row
       (subst (λ (ts : Types). HaveTokens h.modules (root_value h.state) h.home (v ∷ h.state.top.stack) ts) (same_Some (t ∷ types) after e) (typed, row.stands.stack)) next
 
-  pub loads : (k : LeafKind) (n : ℕ) → TypesAt h.home h.function (h.state.top.at + 1) after → Some (Plain (OfLeaf k) ∷ types) ≡ Some after → IsTrue (in_range k n) → Part (TurnTyped h.modules) (pushes h (Leaf k n))
+  pub loads : (k : LeafKind) (n : ℕ) → TypesAt h.home h.function (h.state.top.at + 1) after → Some (Plain (OfLeaf k) ∷ types) ≡ Some after
+      → IsTrue (in_range k n) → Part (TurnTyped h.modules) (pushes h (Leaf k n))
   loads k n next e fits = pushes_typed (Leaf k n) (Plain (OfLeaf k)) next e (of_leaf h.modules (root_value h.state) h.home k n fits)
 
   pub constants : (c : ℕ) → TypesAt h.home h.function (h.state.top.at + 1) after → of_constant h.home c types ≡ Some after → Part (TurnTyped h.modules) (constant h c)
@@ -70,12 +51,13 @@ module _ (h : Here) (i : Instruction) (types after : Types) (row : Row h i types
       on_some (token_abilities h.home t.0) _ after e1 (λ a a_is e2.
       on_test a.drop t.1 after e2 (λ able given.
       let P : List Value → Type 0 = λ stack. HaveTokens h.modules (root_value h.state) h.home stack after in
-      let top = top_of t.0 t.1 (top_type-is types t t_is) in
+      let top = top_typed h i types after row t.0 t.1 (top_type-is types t t_is) in
       known P (operand h.state.top.stack) _ (top.0, top.1) (ap operand top.2)
       (tested P (need (can_drop h top.0) (Faults LostFault)) _ (lost (can_drop h top.0))
       (subst (λ (ts : Types). HaveTokens h.modules (root_value h.state) h.home top.1 ts) given top.4)))))
 
-  pub equalities : (answer : Bool → Bool) → of_equality h.home types ≡ Some after → Part (λ (stack : List Value). HaveTokens h.modules (root_value h.state) h.home stack after) (equality h answer h.state.top.stack)
+  pub equalities : (answer : Bool → Bool) → of_equality h.home types ≡ Some after
+      → Part (λ (stack : List Value). HaveTokens h.modules (root_value h.state) h.home stack after) (equality h answer h.state.top.stack)
   unfolding equality
   equalities answer e =
       on_some (top_type types) _ after e (λ t t_is e1.
@@ -85,8 +67,9 @@ module _ (h : Here) (i : Instruction) (types after : Types) (row : Row h i types
       on_test a.drop (boolean ∷ below) after e4 (λ able given.
       let P : List Value → Type 0 = λ stack. HaveTokens h.modules (root_value h.state) h.home stack after in
       let table = fields_by_name h.modules in
-      let top = top_of t.0 t.1 (top_type-is types t t_is) in
-      let under = one h.modules (root_value h.state) h.home top.1 t.0 below (subst (λ (ts : Types). HaveTokens h.modules (root_value h.state) h.home top.1 ts) (taken-is (t.0 ∷ []) t.1 below below_is) top.4) in
+      let top = top_typed h i types after row t.0 t.1 (top_type-is types t t_is) in
+      let under = one_operand h.modules (root_value h.state) h.home top.1 t.0 below
+      (subst (λ (ts : Types). HaveTokens h.modules (root_value h.state) h.home top.1 ts) (taken-is (t.0 ∷ []) t.1 below below_is) top.4) in
       let tag : Tag = under.3.tag in
       let same : top.3.tag ≡ tag = same_Some top.3.tag tag (sym top.3.names ∙ under.3.names) in
       let right : HasType table (root_value h.state) top.0 tag = subst (λ (x : Tag). HasType table (root_value h.state) top.0 x) same top.3.typed in
@@ -94,15 +77,17 @@ module _ (h : Here) (i : Instruction) (types after : Types) (row : Row h i types
       known P (operand h.state.top.stack) _ (top.0, top.1) (ap operand top.2)
       (known P (operand top.1) _ (under.0, under.1) (ap operand under.2)
       (known P (ok_or (tag_of h.state under.0) (Faults TypeFault)) _ tag (ap (λ (x : Option Tag). ok_or x (Faults TypeFault)) (typed_tag table h.state under.0 tag under.3.typed))
-      (met P (has_tag h.state top.0 tag) _ _ (typed_has_tag table h.state top.0 tag right)
-      (met P (not (is_reference_tag tag)) _ _ (ap not plain)
+      (passes P (has_tag h.state top.0 tag) _ _ (typed_has_tag table h.state top.0 tag right)
+      (passes P (not (is_reference_tag tag)) _ _ (ap not plain)
       (tested P (need (can_drop h under.0 && can_drop h top.0) (Faults LostFault)) _ (lost (can_drop h under.0 && can_drop h top.0))
-      (subst (λ (ts : Types). HaveTokens h.modules (root_value h.state) h.home (truth (answer (same_value under.0 top.0)) ∷ under.1) ts) given (of_truth h.modules (root_value h.state) h.home (answer (same_value under.0 top.0)), under.4))))))))))))
+      (subst (λ (ts : Types). HaveTokens h.modules (root_value h.state) h.home (truth (answer (same_value under.0 top.0)) ∷ under.1) ts) given
+      (of_truth h.modules (root_value h.state) h.home (answer (same_value under.0 top.0)), under.4))))))))))))
 
-  pub branches : (wanted : Bool) (target : ℕ) → taken (boolean ∷ []) types ≡ Some after → TypesAt h.home h.function target after → TypesAt h.home h.function (h.state.top.at + 1) after → Part (TurnTyped h.modules) (branch_if wanted h target)
+  pub branches : (wanted : Bool) (target : ℕ) → taken (boolean ∷ []) types ≡ Some after → TypesAt h.home h.function target after
+      → TypesAt h.home h.function (h.state.top.at + 1) after → Part (TurnTyped h.modules) (branch_if wanted h target)
   unfolding branch_if
   branches wanted target e there next =
-      let top = top_of boolean after (taken-is (boolean ∷ []) types after e) in
+      let top = top_typed h i types after row boolean after (taken-is (boolean ∷ []) types after e) in
       let x = leaf h.modules (root_value h.state) h.home top.0 Boolean top.3 in
       known (TurnTyped h.modules) (operand h.state.top.stack) _ (Leaf Boolean x.number, top.1) (ap operand (top.2 ∙ ap (λ (v : Value). v ∷ top.1) x.is_leaf))
       (stays_at h i types after top.1 (cond (beq (not (eqb x.number 0)) wanted) target (h.state.top.at + 1)) row top.4 (by_case (beq (not (eqb x.number 0)) wanted)))
@@ -112,11 +97,13 @@ module _ (h : Here) (i : Instruction) (types after : Types) (row : Row h i types
       by_case false = next
 
   pub goes : (target : ℕ) → Some types ≡ Some after → TypesAt h.home h.function target after → Part (TurnTyped h.modules) (goes_to target h.state)
-  goes target e there = stays_at h i types after h.state.top.stack target row (subst (λ (ts : Types). HaveTokens h.modules (root_value h.state) h.home h.state.top.stack ts) (same_Some types after e) row.stands.stack) there
+  goes target e there =
+      stays_at h i types after h.state.top.stack target row (subst
+      (λ (ts : Types). HaveTokens h.modules (root_value h.state) h.home h.state.top.stack ts) (same_Some types after e) row.stands.stack) there
 
   pub aborts : taken (number U64 ∷ []) types ≡ Some after → Part (TurnTyped h.modules) (abort h)
   unfolding abort
   aborts e =
-      let top = top_of (number U64) after (taken-is (number U64 ∷ []) types after e) in
+      let top = top_typed h i types after row (number U64) after (taken-is (number U64 ∷ []) types after e) in
       let x = leaf h.modules (root_value h.state) h.home top.0 (Number U64) top.3 in
       known (TurnTyped h.modules) (operand h.state.top.stack) _ (Leaf (Number U64) x.number, top.1) (ap operand (top.2 ∙ ap (λ (v : Value). v ∷ top.1) x.is_leaf)) tt

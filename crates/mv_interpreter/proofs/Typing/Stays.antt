@@ -1,17 +1,9 @@
 -- The row at which a typed state stands, and the typed state that a rule leads to in the same frame.
-use Rattle.std.proofs.Common.{ℕ, ◌+◌, List, Option, Result, Ok, Err}
-use Rattle.mv_move_types.specs.declared.instruction.Instruction.{Instruction}
-use Rattle.mv_move_types.specs.Module.{Module}
-use Rattle.mv_machine.specs.Value.{Value}
-use Rattle.mv_machine.specs.State.{Storage, Event, Frame, State, root_value}
-use Rattle.mv_machine.specs.Typing.{Failure}
-use Rattle.mv_type_states.specs.TypeRules.{Types}
-use Rattle.mv_machine.specs.Step.{Here}
-use Rattle.mv_machine.specs.StepParts.{with_top, gives}
-use Rattle.mv_type_states.specs.TypesAt.{TypesAt}
-use Rattle.mv_interpreter.specs.Typing.StateTyped.{HaveTokens, LocalsHaveTokens, Numbered, AreWaiting, StorageTyped, StateTyped, TurnTyped}
-use Rattle.mv_interpreter.specs.Typing.Facts.{Row, SoundStore, Advance}
+use Rattle.mv_interpreter.proofs.Typing.Common.{ℕ, ◌+◌, List, Option, Result, Ok, Err, Instruction, Module, Value, Storage, Frame, State, root_value, Failure, Types, Here, gives, TypesAt, HaveTokens, LocalsHaveTokens, Numbered, AreWaiting, StorageTyped, StateTyped, TurnTyped, Row, SoundStore, Advance, ◌≡◌, ◌∷◌, subst, Token, HasToken}
+use Rattle.mv_machine.specs.State.{Event}
+use Rattle.mv_machine.specs.StepParts.{with_top}
 use Rattle.mv_interpreter.proofs.Typing.Parts.{Part}
+use Rattle.mv_interpreter.proofs.Typing.Operands.{one_operand}
 
 -- the state with these locals, operands and frames below, this storage and this tally, at this instruction of the frame at work
 abbrev pub moved_to : State → ℕ → List (Option Value) → List Value → List Frame → Storage → List Event → State
@@ -19,9 +11,12 @@ moved_to s target locals stack below storage tally =
     record s { top = record (s.top) { at = target; locals = locals; stack = stack }; below = below; storage = storage; tally = tally }
 
 -- it is typed where its parts are
-pub moved : (h : Here) (i : Instruction) (types after : Types) (row : Row h i types after) (target : ℕ) (locals : List (Option Value)) (stack : List Value) (below : List Frame) (storage : Storage) (tally : List Event) → TypesAt h.home h.function target after → Numbered h.state.top.number below →
-    LocalsHaveTokens h.modules (root_value (moved_to h.state target locals stack below storage tally)) h.home locals row.stands.tokens → HaveTokens h.modules (root_value (moved_to h.state target locals stack below storage tally)) h.home stack after →
-    AreWaiting h.modules (root_value (moved_to h.state target locals stack below storage tally)) h.state.top.entered_with row.stands.results below → StorageTyped h.modules storage → StateTyped h.modules (moved_to h.state target locals stack below storage tally)
+pub moved : (h : Here) (i : Instruction) (types after : Types) (row : Row h i types after) (target : ℕ) (locals : List (Option Value)) (stack : List Value) (below : List Frame) (storage : Storage) (tally : List Event)
+    → TypesAt h.home h.function target after → Numbered h.state.top.number below
+    → LocalsHaveTokens h.modules (root_value (moved_to h.state target locals stack below storage tally)) h.home locals row.stands.tokens
+    → HaveTokens h.modules (root_value (moved_to h.state target locals stack below storage tally)) h.home stack after
+    → AreWaiting h.modules (root_value (moved_to h.state target locals stack below storage tally)) h.state.top.entered_with row.stands.results below
+    → StorageTyped h.modules storage → StateTyped h.modules (moved_to h.state target locals stack below storage tally)
 moved h i types after row target locals stack below storage tally next numbered held typed waiting stored = record {
   home = h.home;
   function = h.function;
@@ -42,9 +37,17 @@ moved h i types after row target locals stack below storage tally next numbered 
   };
 }
 
+-- the operand on top, where the row's types have one
+pub top_typed : (h : Here) (i : Instruction) (types after : Types) → Row h i types after → (t : Token) (below : Types) → types ≡ t ∷ below
+    → (v : Value) × (vs : List Value) × (h.state.top.stack ≡ v ∷ vs) × HasToken h.modules (root_value h.state) h.home v t × HaveTokens h.modules (root_value h.state) h.home vs below
+top_typed h i types after row t below same =
+    one_operand h.modules (root_value h.state) h.home h.state.top.stack t below
+    (subst (λ (ts : Types). HaveTokens h.modules (root_value h.state) h.home h.state.top.stack ts) same row.stands.stack)
+
 -- the state with these operands, at this instruction
-pub stays_at : (h : Here) (i : Instruction) (types after : Types) (stack : List Value) (target : ℕ) → Row h i types after → HaveTokens h.modules (root_value h.state) h.home stack after → TypesAt h.home h.function target after →
-    StateTyped h.modules (with_top h.state (record (h.state.top) { stack = stack; at = target }))
+pub stays_at : (h : Here) (i : Instruction) (types after : Types) (stack : List Value) (target : ℕ) → Row h i types after
+    → HaveTokens h.modules (root_value h.state) h.home stack after → TypesAt h.home h.function target after
+    → StateTyped h.modules (with_top h.state (record (h.state.top) { stack = stack; at = target }))
 stays_at h i types after stack target row typed next =
     moved h i types after row target h.state.top.locals stack h.state.below h.state.storage h.state.tally next row.stands.numbered.1 row.stands.locals typed row.stands.below row.stands.storage
 
@@ -62,7 +65,8 @@ abbrev pub advance_of : (modules : List Module) (s : State) → SoundStore modul
 advance_of modules s store typed = store.advance s.top.function.place s.top.function.index s.top.at typed.home typed.function typed.types typed.is_home typed.is_function typed.are_types
 
 -- the row of its instruction
-pub row_of : (modules : List Module) (s : State) (store : SoundStore modules) (typed : StateTyped modules s) → Row (here_of modules s typed) (advance_of modules s store typed).instruction typed.types (advance_of modules s store typed).after
+pub row_of : (modules : List Module) (s : State) (store : SoundStore modules) (typed : StateTyped modules s)
+    → Row (here_of modules s typed) (advance_of modules s store typed).instruction typed.types (advance_of modules s store typed).after
 row_of modules s store typed =
     let a : Advance typed.home typed.function s.top.at typed.types = advance_of modules s store typed in
     record {

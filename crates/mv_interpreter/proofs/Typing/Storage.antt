@@ -1,12 +1,7 @@
 -- Look-ups in a storage that was changed.
-use Rattle.std.proofs.Common.{◌≡◌, Bool, true, false, cond, List, [], ◌∷◌, refl, sym, subst, Some}
-use Rattle.std.proofs.lemmas.Option.{same_Some}
-use Rattle.mv_move_types.specs.declared.tables.Key.{Key}
-use Rattle.mv_move_types.specs.Module.{Module}
-use Rattle.mv_machine.specs.Value.{Value}
-use Rattle.mv_machine.specs.State.{Entry, Storage, same_key, key_before, stored_at, with_stored, without_stored}
-use Rattle.mv_storage.proofs.Keys.{same_key-to, same_key-refl}
-use Rattle.mv_interpreter.specs.Typing.StateTyped.{EntryTyped, StorageTyped}
+use Rattle.mv_interpreter.proofs.Typing.Common.{◌≡◌, Bool, true, false, cond, List, [], ◌∷◌, refl, sym, subst, Some, same_Some, Key, Module, Value, Storage, same_key, stored_at, with_stored, same_key-to, EntryTyped, StorageTyped}
+use Rattle.mv_machine.specs.State.{Entry, key_before, without_stored}
+use Rattle.mv_storage.proofs.Keys.{same_key-refl}
 
 -- an entry of this key and value
 abbrev pub entry_of : Key → Value → Entry
@@ -22,16 +17,18 @@ stored_same (e ∷ es) key v = by_case (stored_same es key v) (same_key e.key ke
     by_case ih false true p q = rw (p, q, same_key-refl key) refl
     by_case ih false false p q = rw (p, q, p) ih
 
+-- a key that is like one that is unlike another
+unlike : (own key other : Key) → same_key key other ≡ false → same_key own key ≡ true → same_key own other ≡ false
+unlike own key other far p = subst (λ (k : Key). same_key k other ≡ false) (sym (same_key-to own key p)) far
+
 -- at another key
 pub stored_other : (es : Storage) (key other : Key) (v : Value) → same_key key other ≡ false → stored_at (with_stored es key v) other ≡ stored_at es other
 stored_other [] key other v far = rw far refl
 stored_other (e ∷ es) key other v far = by_case (stored_other es key other v far) (same_key e.key key) (key_before key e.key) refl refl
   where
-    at_entry : same_key e.key key ≡ true → same_key e.key other ≡ false
-    at_entry p = subst (λ (k : Key). same_key k other ≡ false) (sym (same_key-to e.key key p)) far
-
-    by_case : stored_at (with_stored es key v) other ≡ stored_at es other → (a b : Bool) → same_key e.key key ≡ a → key_before key e.key ≡ b → stored_at (with_stored (e ∷ es) key v) other ≡ stored_at (e ∷ es) other
-    by_case ih true b p q = rw (p, far, at_entry p) refl
+    by_case : stored_at (with_stored es key v) other ≡ stored_at es other → (a b : Bool) → same_key e.key key ≡ a → key_before key e.key ≡ b
+        → stored_at (with_stored (e ∷ es) key v) other ≡ stored_at (e ∷ es) other
+    by_case ih true b p q = rw (p, far, unlike e.key key other far p) refl
     by_case ih false true p q = rw (p, q, far) refl
     by_case ih false false p q = rw (p, q, ih) refl
 
@@ -39,11 +36,8 @@ pub unstored_other : (es : Storage) (key other : Key) → same_key key other ≡
 unstored_other [] key other far = refl
 unstored_other (e ∷ es) key other far = by_case (unstored_other es key other far) (same_key e.key key) refl
   where
-    at_entry : same_key e.key key ≡ true → same_key e.key other ≡ false
-    at_entry p = subst (λ (k : Key). same_key k other ≡ false) (sym (same_key-to e.key key p)) far
-
     by_case : stored_at (without_stored es key) other ≡ stored_at es other → (a : Bool) → same_key e.key key ≡ a → stored_at (without_stored (e ∷ es) key) other ≡ stored_at (e ∷ es) other
-    by_case ih true p = rw (p, at_entry p) refl
+    by_case ih true p = rw (p, unlike e.key key other far p) refl
     by_case ih false p = rw (p, ih) refl
 
 module _ (modules : List Module) where

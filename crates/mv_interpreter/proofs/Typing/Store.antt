@@ -1,30 +1,13 @@
 -- An accepted store gives what the rows rest on.
-use Rattle.std.proofs.Common.{◌≡◌, ℕ, suc, ◌+◌, ◌*◌, ◌^◌, ◌<◌, Bool, true, List, [], ◌∷◌, ◌++◌, length, refl, ap, subst, ◌∙◌, Option, Some, None, arith}
-use Rattle.std.specs.Prelude.{slice_get, IsTrue, ◌&&◌, ◌==◌, is_some, nat_lt, slice_index}
-use Rattle.std.specs.List.{list_all}
-use Rattle.std.specs.Cmp.{first_so, second_so}
-use Rattle.std.proofs.lemmas.Bool.{ltb-true, lt-ltb, eqb-true, and_from}
+use Rattle.mv_interpreter.proofs.Typing.Common.{◌≡◌, ℕ, suc, ◌+◌, ◌*◌, ◌^◌, ◌<◌, Bool, true, List, [], ◌∷◌, ◌++◌, length, refl, ap, subst, ◌∙◌, Option, Some, None, arith, slice_get, IsTrue, ◌&&◌, ◌==◌, nat_lt, list_all, first_so, second_so, ltb-true, lt-ltb, eqb-true, and_from, same_Some, LeafKind, Boolean, Number, Address, Signer, OfLeaf, OfStruct, Token, Plain, ReferenceTo, MutableReferenceTo, Module, FunctionDefinition, token_in, function_in, below, instruction_in, local_count, function_is_typed, ends_well, function_definition_fits, instruction_fits, structs_are_there, Here, on_some, each, in_range, SoundStore, ModuleAccepted, StoreAccepted}
+use Rattle.std.specs.Prelude.{is_some, slice_index}
 use Rattle.std.proofs.lemmas.Nat.{pow-add}
-use Rattle.std.proofs.lemmas.Option.{same_Some}
-use Rattle.mv_move_types.specs.declared.token.LeafKind.{LeafKind}
-use Rattle.mv_move_types.specs.declared.token.LeafKind.TheVariants.{Boolean, Number, Address, Signer}
-use Rattle.mv_move_types.specs.declared.token.ValueType.TheVariants.{OfLeaf, OfStruct}
-use Rattle.mv_move_types.specs.declared.token.Token.{Token}
-use Rattle.mv_move_types.specs.declared.token.Token.TheVariants.{Plain, Reference as ReferenceTo, MutableReference as MutableReferenceTo}
-use Rattle.mv_move_types.specs.Module.{Module, Constant, FunctionDefinition, local_tokens}
+use Rattle.mv_move_types.specs.Module.{Constant, local_tokens}
 use Rattle.mv_move_types.specs.Tokens.{width_bits}
 use Rattle.mv_move_types.specs.Numbers.{leaf_number, little_endian}
-use Rattle.mv_bounds.specs.Bounds.{token_in, function_in, below, instruction_in, local_count}
 use Rattle.mv_signatures.specs.Signatures.{is_constant}
-use Rattle.mv_type_states.specs.TypesHold.{function_is_typed}
-use Rattle.mv_cfg.specs.Blocks.{ends_well}
-use Rattle.mv_module_text.specs.Fits.{constant_fits, is_byte, token_fits, is_index, function_definition_fits, instruction_fits}
-use Rattle.mv_linker.specs.Links.{structs_are_there}
-use Rattle.mv_machine.specs.Step.{Here}
-use Rattle.mv_linker.proofs.Found.{on_some, each}
-use Rattle.mv_interpreter.specs.Typing.HasType.{in_range}
-use Rattle.mv_interpreter.specs.Typing.Facts.{Named, ConstantFacts, SoundStore}
-use Rattle.mv_interpreter.specs.Typing.Accepted.{ModuleAccepted, StoreAccepted}
+use Rattle.mv_module_text.specs.Fits.{constant_fits, is_byte, token_fits, is_index}
+use Rattle.mv_interpreter.specs.Typing.Facts.{Named, ConstantFacts}
 use Rattle.mv_interpreter.proofs.Typing.Operands.{on_test}
 use Rattle.mv_interpreter.proofs.Typing.Advances.{advances}
 use Rattle.mv_interpreter.proofs.Typing.Names.{token_there, tag_is_found}
@@ -64,9 +47,12 @@ little_bound (b ∷ bs) h =
 
 -- the address of 16 bytes fits: what is left to show of a constant
 abbrev pub AddressesFit : List Module → Type 0
-AddressesFit modules = (place i : ℕ) (m : Module) (c : Constant) (n : ℕ) → slice_get modules place ≡ Some m → slice_get m.constants i ≡ Some c → leaf_number Address c.bytes ≡ Some n → IsTrue (in_range Address n)
+AddressesFit modules =
+    (place i : ℕ) (m : Module) (c : Constant) (n : ℕ) → slice_get modules place ≡ Some m → slice_get m.constants i ≡ Some c → leaf_number Address c.bytes ≡ Some n → IsTrue (in_range Address n)
 
-constant_facts : (m : Module) (a : ModuleAccepted m) → ((i : ℕ) (c : Constant) (n : ℕ) → slice_get m.constants i ≡ Some c → leaf_number Address c.bytes ≡ Some n → IsTrue (in_range Address n)) → (i : ℕ) (c : Constant) → slice_get m.constants i ≡ Some c → ConstantFacts c
+constant_facts : (m : Module) (a : ModuleAccepted m)
+    → ((i : ℕ) (c : Constant) (n : ℕ) → slice_get m.constants i ≡ Some c → leaf_number Address c.bytes ≡ Some n → IsTrue (in_range Address n))
+    → (i : ℕ) (c : Constant) → slice_get m.constants i ≡ Some c → ConstantFacts c
 constant_facts m a addresses i c c_at = by_token c.token c.bytes refl (each is_constant m.constants i c a.signed.constants c_at) bytes (λ n e. addresses i c n c_at e)
   where
     written : constant_fits m.version c ≡ true
@@ -75,7 +61,8 @@ constant_facts m a addresses i c c_at = by_token c.token c.bytes refl (each is_c
     bytes : list_all is_byte c.bytes ≡ true
     bytes = second_so (token_fits m.version c.token && is_index (length c.bytes)) (list_all is_byte c.bytes) written
 
-    fits : (kind : LeafKind) (n : ℕ) → leaf_number kind c.bytes ≡ Some n → list_all is_byte c.bytes ≡ true → ((n : ℕ) → leaf_number Address c.bytes ≡ Some n → IsTrue (in_range Address n)) → IsTrue (in_range kind n)
+    fits : (kind : LeafKind) (n : ℕ) → leaf_number kind c.bytes ≡ Some n → list_all is_byte c.bytes ≡ true
+        → ((n : ℕ) → leaf_number Address c.bytes ≡ Some n → IsTrue (in_range Address n)) → IsTrue (in_range kind n)
     fits Boolean n e b f =
         on_test ((length c.bytes == 1) && nat_lt (slice_index c.bytes 0) 2) (slice_index c.bytes 0) n e (λ test same.
         subst (λ (x : ℕ). nat_lt x 2 ≡ true) same (second_so (length c.bytes == 1) (nat_lt (slice_index c.bytes 0) 2) test))
@@ -87,11 +74,13 @@ constant_facts m a addresses i c c_at = by_token c.token c.bytes refl (each is_c
     fits Address n e b f = f n e
     fits Signer n e b f = absurd cc
 
-    by_kind : (kind : LeafKind) (r : Option ℕ) → c.token ≡ Plain (OfLeaf kind) → leaf_number kind c.bytes ≡ r → is_some r ≡ true → list_all is_byte c.bytes ≡ true → ((n : ℕ) → leaf_number Address c.bytes ≡ Some n → IsTrue (in_range Address n)) → ConstantFacts c
+    by_kind : (kind : LeafKind) (r : Option ℕ) → c.token ≡ Plain (OfLeaf kind) → leaf_number kind c.bytes ≡ r → is_some r ≡ true
+        → list_all is_byte c.bytes ≡ true → ((n : ℕ) → leaf_number Address c.bytes ≡ Some n → IsTrue (in_range Address n)) → ConstantFacts c
     by_kind kind None t e h b f = absurd cc
     by_kind kind (Some n) t e h b f = record { kind = kind; number = n; is_leaf = t; is_number = e; fits = fits kind n e b f }
 
-    by_token : (t : Token) (bs : List ℕ) → c.token ≡ t → is_constant (record { token = t; bytes = c.bytes }) ≡ true → list_all is_byte c.bytes ≡ true → ((n : ℕ) → leaf_number Address c.bytes ≡ Some n → IsTrue (in_range Address n)) → ConstantFacts c
+    by_token : (t : Token) (bs : List ℕ) → c.token ≡ t → is_constant (record { token = t; bytes = c.bytes }) ≡ true → list_all is_byte c.bytes ≡ true
+        → ((n : ℕ) → leaf_number Address c.bytes ≡ Some n → IsTrue (in_range Address n)) → ConstantFacts c
     by_token (Plain (OfLeaf kind)) bs e h b f = by_kind kind (leaf_number kind c.bytes) e refl h b f
     by_token (Plain (OfStruct k)) bs e h b f = absurd cc
     by_token (ReferenceTo t) bs e h b f = absurd cc
@@ -114,7 +103,9 @@ sound_store modules store addresses = record {
   advance = λ place index at m d types m_at d_at typed.
       let a : ModuleAccepted m = store.each place m m_at in
       let inside = each (function_in m) m.functions index d a.bounds.functions d_at in
-      let code_inside = second_so (below d.handle m.function_handles && below d.locals m.signatures && list_all (λ i. below i m.structs) d.acquires) (list_all (instruction_in m (local_count m d) (length d.code)) d.code) inside in
+      let code_inside = second_so (below d.handle m.function_handles && below d.locals m.signatures && list_all (λ i. below i m.structs) d.acquires)
+      (list_all (instruction_in m (local_count m d) (length d.code)) d.code) inside in
       let written = each (function_definition_fits m.version) m.functions index d a.text.functions d_at in
-      advances m d (each (function_is_typed m) m.functions index d a.types d_at) (each (λ (d : FunctionDefinition). ends_well d.code) m.functions index d a.flow d_at) code_inside (second_so _ (list_all (instruction_fits m.version) d.code) written) at types typed;
+      advances m d (each (function_is_typed m) m.functions index d a.types d_at) (each (λ (d : FunctionDefinition). ends_well d.code) m.functions index d a.flow d_at) code_inside
+      (second_so _ (list_all (instruction_fits m.version) d.code) written) at types typed;
 }

@@ -1,35 +1,19 @@
 -- Rows of struct values, and lists of values by their tags.
-use Rattle.std.proofs.Common.{◌≡◌, ℕ, suc, ◌+◌, Bool, true, false, List, [], ◌∷◌, ◌++◌, map, length, reverse, refl, sym, ap, subst, ◌∙◌, Some, Ok}
-use Rattle.std.specs.Prelude.{slice_get, not}
+use Rattle.mv_interpreter.proofs.Typing.Common.{◌≡◌, ℕ, suc, ◌+◌, Bool, true, false, List, [], ◌∷◌, ◌++◌, map, length, reverse, refl, sym, ap, subst, ◌∙◌, Some, Ok, slice_get, not, first_so, second_so, same_Some, OfStruct, Token, Plain, Instruction, for_each, Module, Field, Value, Struct, Values, NoMore, More, root_value, Tag, StructTag, tag_named, have_tags, Types, token_named, tokens_named, value_type_named, Here, OwnStruct, operand, operands, with_stack, goes_on, is_reference_tag, Roots, IsOf, AreOf, HasType, HaveTypes, TypesAt, on_some, HasToken, HaveTokens, TurnTyped, Row, Facts}
 use Rattle.std.proofs.lemmas.List.{length-map}
-use Rattle.std.specs.Cmp.{first_so, second_so}
-use Rattle.std.proofs.lemmas.Option.{same_Some}
-use Rattle.mv_move_types.specs.declared.token.ValueType.TheVariants.{OfStruct}
-use Rattle.mv_move_types.specs.declared.token.Token.{Token}
-use Rattle.mv_move_types.specs.declared.token.Token.TheVariants.{Plain}
-use Rattle.mv_move_types.specs.declared.instruction.Instruction.{Instruction}
-use Rattle.mv_move_types.specs.Results.{for_each}
-use Rattle.mv_move_types.specs.Module.{Module}
-use Rattle.mv_move_types.specs.declared.tables.Field.{Field}
-use Rattle.mv_machine.specs.Value.{Value, Struct, Values, NoMore, More, list_of, fields_of}
-use Rattle.mv_machine.specs.State.{root_value}
-use Rattle.mv_move_types.specs.Tags.{Tag, StructTag}
-use Rattle.mv_machine.specs.Typing.{tag_named, have_tags}
-use Rattle.mv_type_states.specs.TypeRules.{Types, of_pack, of_unpack}
-use Rattle.mv_linker.specs.TypesByName.{token_named, tokens_named, value_type_named}
-use Rattle.mv_machine.specs.Step.{Here, OwnStruct, own_struct, pack, operand, operands, with_stack, goes_on, is_reference_tag}
+use Rattle.mv_machine.specs.Value.{list_of, fields_of}
+use Rattle.mv_type_states.specs.TypeRules.{of_pack, of_unpack}
+use Rattle.mv_machine.specs.Step.{own_struct, pack}
 use Rattle.mv_machine.specs.StepStructs.{unpack, tallied}
 use Rattle.mv_machine.specs.StepParts.{as_fields}
-use Rattle.mv_interpreter.specs.Typing.HasType.{Roots, IsOf, AreOf, HasType, HaveTypes, fields_by_name}
-use Rattle.mv_type_states.specs.TypesAt.{TypesAt}
-use Rattle.mv_linker.proofs.Found.{on_some}
-use Rattle.mv_interpreter.specs.Typing.StateTyped.{HasToken, HaveTokens, TurnTyped}
-use Rattle.mv_interpreter.specs.Typing.Facts.{Row, Facts, are_plain}
-use Rattle.mv_interpreter.proofs.Typing.Parts.{Part, known, met}
-use Rattle.mv_interpreter.proofs.Typing.Operands.{takes_gives-is, one, joined, turned, take_operands}
+use Rattle.mv_interpreter.specs.Typing.HasType.{fields_by_name}
+use Rattle.mv_interpreter.specs.Typing.Facts.{are_plain}
+use Rattle.mv_interpreter.proofs.Typing.Parts.{Part, known, passes}
+use Rattle.mv_interpreter.proofs.Typing.Operands.{takes_gives-is, joined, turned, take_operands}
 use Rattle.mv_interpreter.proofs.Typing.Roots.{is_plain, plain_is, tokens_have_tags, typed_have_tags}
 use Rattle.mv_interpreter.proofs.Typing.References.{struct_fields}
-use Rattle.mv_interpreter.proofs.Typing.Stays.{moved}
+use Rattle.mv_interpreter.proofs.Typing.Stays.{moved, top_typed}
+use Rattle.std.proofs.lemmas.Bool.{not-true}
 
 -- the tags of a list of types are found
 pub tags_found : (h : Here) → Facts h → (ts : List Token) (tags : List Tag) → tokens_named h.home ts ≡ Some tags → for_each (tag_named h.modules h.home) ts ≡ Ok tags
@@ -42,7 +26,8 @@ tags_found h facts (t ∷ ts) tags e =
     rw (first, others) (ap Ok (same_Some (tag ∷ rest) tags e2))))
 
 -- and those of fields
-pub field_tags_found : (h : Here) → Facts h → (fs : List Field) (tags : List Tag) → tokens_named h.home (map (λ (f : Field). f.token) fs) ≡ Some tags → for_each (λ (f : Field). tag_named h.modules h.home f.token) fs ≡ Ok tags
+pub field_tags_found : (h : Here) → Facts h → (fs : List Field) (tags : List Tag) → tokens_named h.home (map (λ (f : Field). f.token) fs) ≡ Some tags
+    → for_each (λ (f : Field). tag_named h.modules h.home f.token) fs ≡ Ok tags
 field_tags_found h facts [] tags e = ap Ok (same_Some [] tags e)
 field_tags_found h facts (f ∷ fs) tags e =
     on_some (token_named h.home f.token) _ tags e (λ tag tag_is e1.
@@ -60,7 +45,8 @@ names_length m (t ∷ ts) tags e =
 
 module _ (modules : List Module) (look : Roots) where
   -- values of tags are of the types that a module names so
-  pub have_tokens : (home : Module) (vs : List Value) (ts : List Token) (tags : List Tag) → HaveTypes (fields_by_name modules) look vs tags → tokens_named home ts ≡ Some tags → HaveTokens modules look home vs ts
+  pub have_tokens : (home : Module) (vs : List Value) (ts : List Token) (tags : List Tag) → HaveTypes (fields_by_name modules) look vs tags
+      → tokens_named home ts ≡ Some tags → HaveTokens modules look home vs ts
   have_tokens home vs [] tags h e = nothing vs (subst (λ (x : List Tag). HaveTypes (fields_by_name modules) look vs x) (sym (same_Some [] tags e)) h)
     where
       nothing : (vs : List Value) → HaveTypes (fields_by_name modules) look vs [] → HaveTokens modules look home vs []
@@ -73,7 +59,8 @@ module _ (modules : List Module) (look : Roots) where
   have_tokens home (v ∷ vs) (t ∷ ts) tags h e =
       on_some (token_named home t) _ tags e (λ tag tag_is e1.
       on_some (tokens_named home ts) (λ rest. Some (tag ∷ rest)) tags e1 (λ rest rest_is e2.
-      let both : HaveTypes (fields_by_name modules) look (v ∷ vs) (tag ∷ rest) = subst (λ (x : List Tag). HaveTypes (fields_by_name modules) look (v ∷ vs) x) (sym (same_Some (tag ∷ rest) tags e2)) h in
+      let both : HaveTypes (fields_by_name modules) look (v ∷ vs) (tag ∷ rest) =
+      subst (λ (x : List Tag). HaveTypes (fields_by_name modules) look (v ∷ vs) x) (sym (same_Some (tag ∷ rest) tags e2)) h in
       (record { tag = tag; names = tag_is; typed = both.0 }, have_tokens home vs ts rest both.1 rest_is)))
 
   -- the values of fields
@@ -82,11 +69,7 @@ module _ (modules : List Module) (look : Roots) where
   fields_typed [] (t ∷ ts) p h = absurd h
   fields_typed (v ∷ vs) [] p h = absurd h
   fields_typed (v ∷ vs) (t ∷ ts) p h =
-      (plain_is (fields_by_name modules) look v t (opposite (is_reference_tag t) (first_so (not (is_reference_tag t)) (are_plain ts) p)) h.0, fields_typed vs ts (second_so (not (is_reference_tag t)) (are_plain ts) p) h.1)
-    where
-      opposite : (b : Bool) → not b ≡ true → b ≡ false
-      opposite true e = absurd cc
-      opposite false e = refl
+      (plain_is (fields_by_name modules) look v t (not-true (is_reference_tag t) (first_so (not (is_reference_tag t)) (are_plain ts) p)) h.0, fields_typed vs ts (second_so (not (is_reference_tag t)) (are_plain ts) p) h.1)
 
   pub typed_fields : (fields : Values) (tags : List Tag) → AreOf (fields_by_name modules) fields tags → HaveTypes (fields_by_name modules) look (list_of fields) tags
   typed_fields NoMore [] h = tt
@@ -96,9 +79,11 @@ module _ (modules : List Module) (look : Roots) where
 
 module _ (h : Here) (i : Instruction) (types after : Types) (row : Row h i types after) (next : TypesAt h.home h.function (h.state.top.at + 1) after) where
   -- one more in the tally, and these operands
-  tallies : (is_pack : Bool) (struct : OwnStruct) (stack : List Value) → HaveTokens h.modules (root_value h.state) h.home stack after → Part (TurnTyped h.modules) (goes_on (tallied is_pack struct (with_stack h.state stack)))
+  tallies : (is_pack : Bool) (struct : OwnStruct) (stack : List Value) → HaveTokens h.modules (root_value h.state) h.home stack after
+      → Part (TurnTyped h.modules) (goes_on (tallied is_pack struct (with_stack h.state stack)))
   tallies is_pack struct stack typed =
-      moved h i types after row (h.state.top.at + 1) h.state.top.locals stack h.state.below h.state.storage (tallied is_pack struct h.state).tally next row.stands.numbered.1 row.stands.locals typed row.stands.below row.stands.storage
+      moved h i types after row (h.state.top.at + 1) h.state.top.locals stack h.state.below h.state.storage
+      (tallied is_pack struct h.state).tally next row.stands.numbered.1 row.stands.locals typed row.stands.below row.stands.storage
 
   pub packs : (k : ℕ) → of_pack h.home k types ≡ Some after → Part (TurnTyped h.modules) (pack h k)
   unfolding pack
@@ -110,7 +95,8 @@ module _ (h : Here) (i : Instruction) (types after : Types) (row : Row h i types
       let look : Roots = root_value h.state in
       let taken = take_operands h.modules look h.home h.state.top.stack wanted parts.0 (subst (λ (ts : Types). HaveTokens h.modules look h.home h.state.top.stack ts) parts.1 row.stands.stack) in
       let long : length wanted ≡ length own.struct.fields = length-map d.fields (λ (f : Field). f.token) ∙ ap length (sym own.fields) in
-      let taken_is : operands (length own.struct.fields) h.state.top.stack ≡ Ok (taken.arguments, taken.rest) = subst (λ (n : ℕ). operands n h.state.top.stack ≡ Ok (taken.arguments, taken.rest)) long taken.is_taken in
+      let taken_is : operands (length own.struct.fields) h.state.top.stack ≡ Ok (taken.arguments, taken.rest) =
+      subst (λ (n : ℕ). operands n h.state.top.stack ≡ Ok (taken.arguments, taken.rest)) long taken.is_taken in
       let tags_are : for_each (λ (f : Field). tag_named h.modules h.home f.token) own.struct.fields ≡ Ok own.tags =
       subst (λ (fs : List Field). for_each (λ (f : Field). tag_named h.modules h.home f.token) fs ≡ Ok own.tags) (sym own.fields) (field_tags_found h row.facts d.fields own.tags own.are_tags) in
       let typed = tokens_have_tags h.modules h.state h.home taken.arguments wanted own.tags taken.arguments_typed own.are_tags in
@@ -121,7 +107,7 @@ module _ (h : Here) (i : Instruction) (types after : Types) (row : Row h i types
       known (TurnTyped h.modules) (own_struct h k) _ own.struct own.is_found
       (known (TurnTyped h.modules) (operands (length own.struct.fields) h.state.top.stack) _ (taken.arguments, taken.rest) taken_is
       (known (TurnTyped h.modules) (for_each (λ (f : Field). tag_named h.modules h.home f.token) own.struct.fields) _ own.tags tags_are
-      (met (TurnTyped h.modules) (have_tags h.state taken.arguments own.tags) _ _ (typed_have_tags (fields_by_name h.modules) h.state taken.arguments own.tags typed)
+      (passes (TurnTyped h.modules) (have_tags h.state taken.arguments own.tags) _ _ (typed_have_tags (fields_by_name h.modules) h.state taken.arguments own.tags typed)
       (tallies true own.struct (new ∷ taken.rest) (subst (λ (ts : Types). HaveTokens h.modules look h.home (new ∷ taken.rest) ts) (sym parts.2) (new_typed, taken.rest_typed)))))))
 
   pub unpacks : (k : ℕ) → of_unpack h.home k types ≡ Some after → Part (TurnTyped h.modules) (unpack h k)
@@ -133,7 +119,7 @@ module _ (h : Here) (i : Instruction) (types after : Types) (row : Row h i types
       let parts = takes_gives-is (Plain (OfStruct d.handle) ∷ []) wanted types after e1 in
       let look : Roots = root_value h.state in
       let table = fields_by_name h.modules in
-      let top = one h.modules look h.home h.state.top.stack (Plain (OfStruct d.handle)) parts.0 (subst (λ (ts : Types). HaveTokens h.modules look h.home h.state.top.stack ts) parts.1 row.stands.stack) in
+      let top = top_typed h i types after row (Plain (OfStruct d.handle)) parts.0 parts.1 in
       let names : value_type_named h.home (OfStruct d.handle) ≡ Some (StructTag own.struct.name) = rw own.is_named refl in
       let tag : top.3.tag ≡ StructTag own.struct.name = same_Some top.3.tag (StructTag own.struct.name) (sym top.3.names ∙ names) in
       let value_is : IsOf table top.0 (StructTag own.struct.name) = subst (λ (t : Tag). HasType table look top.0 t) tag top.3.typed in

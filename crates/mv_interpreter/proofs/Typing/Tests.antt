@@ -1,13 +1,8 @@
 -- What the tests of numbers, bytes and kinds mean.
-use Rattle.std.proofs.Common.{◌≡◌, Bool, true}
-use Rattle.std.specs.Bool.{beq}
+use Rattle.mv_interpreter.proofs.Typing.Common.{◌≡◌, Bool, true, beq, LeafKind, Number, same_kind, OfLeaf, Plain}
 use Rattle.std.specs.Cmp.{booleans_Decides}
 use Rattle.mv_move_types.specs.declared.token.Width.{Width}
-use Rattle.mv_move_types.specs.declared.token.LeafKind.{LeafKind}
-use Rattle.mv_move_types.specs.declared.token.LeafKind.TheVariants.{Number}
-use Rattle.mv_move_types.specs.Tokens.{same_kind, same_width}
-use Rattle.mv_move_types.specs.declared.token.ValueType.TheVariants.{OfLeaf}
-use Rattle.mv_move_types.specs.declared.token.Token.TheVariants.{Plain}
+use Rattle.mv_move_types.specs.Tokens.{same_width}
 use Rattle.mv_type_states.proofs.Tokens.{tokens_equal, token_same}
 
 pub same_width-same : (w : Width) → same_width w w ≡ true

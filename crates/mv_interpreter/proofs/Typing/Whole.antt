@@ -1,14 +1,8 @@
 -- The whole: a run over an accepted store, which a predicate watches all along, meets no fault.
-use Rattle.std.proofs.Common.{◌≡◌, ℕ, zero, suc, ◌+◌, Bool, true, false, List, length, refl, sym, subst, Result, Ok, Err}
-use Rattle.std.specs.Prelude.{nat_lt}
-use Rattle.mv_move_types.specs.Module.{Module}
-use Rattle.mv_machine.specs.State.{Storage, State, frames}
-use Rattle.mv_machine.specs.Typing.{Failure, Faults, Aborts, TypeFault, LinkageFault, LostFault, DanglingFault, FrozenFault}
+use Rattle.mv_interpreter.proofs.Typing.Common.{◌≡◌, ℕ, zero, suc, ◌+◌, Bool, true, false, List, length, refl, sym, subst, Result, Ok, Err, nat_lt, Module, Storage, State, frames, Failure, Faults, TypeFault, LinkageFault, LostFault, DanglingFault, FrozenFault, FunctionCall, StateTyped, StorageTyped, TurnTyped, SoundStore, StoreAccepted}
+use Rattle.mv_machine.specs.Typing.{Aborts}
 use Rattle.mv_machine.specs.Step.{Turn, Goes, Returns, step}
-use Rattle.mv_machine.specs.Run.{FunctionCall, run, outcome_from, turns, follows, goes_with}
-use Rattle.mv_interpreter.specs.Typing.StateTyped.{StateTyped, StorageTyped, TurnTyped}
-use Rattle.mv_interpreter.specs.Typing.Facts.{SoundStore}
-use Rattle.mv_interpreter.specs.Typing.Accepted.{StoreAccepted}
+use Rattle.mv_machine.specs.Run.{run, outcome_from, turns, follows, goes_with}
 use Rattle.mv_interpreter.specs.Typing.Watched.{Clean, Watches, Faultless}
 use Rattle.mv_interpreter.specs.Typing.Laws.{StepTyped, EveryStepIsTyped}
 use Rattle.mv_interpreter.proofs.Typing.Parts.{Part}
@@ -45,16 +39,19 @@ run_safe modules P (suc n) s store watches typed p = by_step (step modules s) re
     by_bool true t ih = tt
     by_bool false t ih = ih
 
-    by_step : (r : Result Turn Failure) → step modules s ≡ r → Safe (TurnTyped modules) r → ((s : State) → SoundStore modules → Watches modules P → StateTyped modules s → P s → Faultless modules (turns modules n s)) →
-        Faultless modules (follows (turns modules n) (s.steps + 1) r)
-    by_step (Ok (Goes t)) e h ih = by_bool (nat_lt 256 (length (frames t))) t (ih (record t { steps = s.steps + 1 }) store watches (counted_typed modules t (s.steps + 1) h) (watches.guides.goes_on s t (s.steps + 1) p typed e))
+    by_step : (r : Result Turn Failure) → step modules s ≡ r → Safe (TurnTyped modules) r
+        → ((s : State) → SoundStore modules → Watches modules P → StateTyped modules s → P s → Faultless modules (turns modules n s))
+        → Faultless modules (follows (turns modules n) (s.steps + 1) r)
+    by_step (Ok (Goes t)) e h ih =
+        by_bool (nat_lt 256 (length (frames t))) t (ih (record t { steps = s.steps + 1 }) store watches (counted_typed modules t (s.steps + 1) h) (watches.guides.goes_on s t (s.steps + 1) p typed e))
     by_step (Ok (Returns t)) e h ih = h
     by_step (Err (Aborts kind k)) e h ih = tt
     by_step (Err (Faults fault)) e h ih = absurd h
 
 -- a run of a typed call over an accepted store and a typed storage, which a predicate watches, meets no fault at all
-pub accepted_run_safe : (modules : List Module) (P : State → Type 0) (storage : Storage) (call : FunctionCall) (budget : ℕ) → StoreAccepted modules → Watches modules P → (c : CallTyped modules call) → StorageTyped modules storage →
-    P (begun storage call (length c.others)) → Faultless modules (run modules storage call budget)
+pub accepted_run_safe : (modules : List Module) (P : State → Type 0) (storage : Storage) (call : FunctionCall) (budget : ℕ) → StoreAccepted modules
+    → Watches modules P → (c : CallTyped modules call) → StorageTyped modules storage → P (begun storage call (length c.others))
+    → Faultless modules (run modules storage call budget)
 unfolding run
 accepted_run_safe modules P storage call budget store watches c stored p =
     subst (λ (r : Result State Failure). Faultless modules (outcome_from modules budget r)) (sym (first_is modules storage call c))

@@ -1,12 +1,8 @@
 -- Places within values: what is of a type is there along each path that its type has, and stays of its type after a write.
-use Rattle.std.proofs.Common.{◌≡◌, ℕ, zero, suc, List, [], ◌∷◌, ◌++◌, refl, sym, ap, subst, Some}
-use Rattle.std.specs.Prelude.{slice_get, option_map, option_and_then}
-use Rattle.std.proofs.lemmas.Option.{same_Some}
-use Rattle.mv_move_types.specs.Names.{StructName}
-use Rattle.mv_machine.specs.Value.{Value, Leaf, Struct, Ref, Values, NoMore, More, field, with_field, with_field_of, value_at, with_value_at}
-use Rattle.mv_move_types.specs.Tags.{Tag, LeafTag, StructTag, ReferenceTag}
+use Rattle.mv_interpreter.proofs.Typing.Common.{◌≡◌, ℕ, zero, suc, List, [], ◌∷◌, ◌++◌, refl, sym, ap, subst, Some, slice_get, option_map, option_and_then, same_Some, StructName, Value, Leaf, Struct, Ref, Values, NoMore, More, Tag, LeafTag, StructTag, ReferenceTag, Table, IsOf, AreOf, AtOnce}
+use Rattle.mv_machine.specs.Value.{field, with_field, with_field_of, value_at, with_value_at}
 use Rattle.mv_machine.specs.Typing.{plain_tag}
-use Rattle.mv_interpreter.specs.Typing.HasType.{Table, IsOf, AreOf, Leads, AtOnce, Through}
+use Rattle.mv_interpreter.specs.Typing.HasType.{Leads, Through}
 
 module _ (table : Table) where
   -- a value of a type has that tag
@@ -73,7 +69,8 @@ module _ (table : Table) where
       )
 
   -- a path that goes on by a field
-  pub leads_on : (t u : Tag) (path : List ℕ) (s : StructName) (ts : List Tag) (f : ℕ) → Leads table t path (StructTag s) → table s ≡ Some ts → slice_get ts f ≡ Some u → Leads table t (path ++ f ∷ []) u
+  pub leads_on : (t u : Tag) (path : List ℕ) (s : StructName) (ts : List Tag) (f : ℕ) → Leads table t path (StructTag s) → table s ≡ Some ts
+      → slice_get ts f ≡ Some u → Leads table t (path ++ f ∷ []) u
   leads_on t u path s ts f l e d = along t path (StructTag s) l refl
     where
       along : (t : Tag) (path : List ℕ) (m : Tag) → Leads table t path m → m ≡ StructTag s → Leads table t (path ++ f ∷ []) u

@@ -1,38 +1,21 @@
 -- The row of a write through a reference.
-use Rattle.std.proofs.Common.{◌≡◌, ℕ, ◌+◌, Bool, true, false, cond, List, [], ◌∷◌, map, refl, sym, ap, subst, ◌∙◌, Option, Some, eqb, arith}
-use Rattle.std.specs.Prelude.{ok_or, option_map, option_and_then}
-use Rattle.std.proofs.lemmas.Bool.{eqb-true}
-use Rattle.std.proofs.lemmas.Option.{same_Some}
-use Rattle.mv_move_types.specs.declared.tables.Key.{Key}
-use Rattle.mv_move_types.specs.declared.token.Token.{Token}
-use Rattle.mv_move_types.specs.declared.token.Token.TheVariants.{Plain, MutableReference as MutableReferenceTo}
-use Rattle.mv_move_types.specs.declared.instruction.Instruction.{Instruction}
-use Rattle.mv_move_types.specs.Results.{need}
-use Rattle.mv_machine.specs.Value.{Root, Local, Stored, Place, Reference, Value, with_value_at}
-use Rattle.mv_machine.specs.State.{Frame, State, frames, root_value, local_in, local_value, with_local, with_root, with_place, stored_at, with_stored, same_key}
-use Rattle.mv_machine.specs.Typing.{Faults, TypeFault, LostFault, DanglingFault, has_tag, tag_of}
-use Rattle.mv_move_types.specs.Tags.{Tag, StructTag}
-use Rattle.mv_type_states.specs.TypeRules.{Types, top_type, mutable_target_of, of_write, taken}
+use Rattle.mv_interpreter.proofs.Typing.Common.{◌≡◌, ℕ, ◌+◌, Bool, true, false, cond, List, [], ◌∷◌, map, refl, sym, ap, subst, ◌∙◌, Option, Some, eqb, arith, ok_or, option_map, option_and_then, eqb-true, same_Some, Key, Token, Plain, MutableReferenceTo, Instruction, need, Root, Local, Stored, Reference, Value, Frame, State, frames, root_value, local_in, local_value, stored_at, with_stored, same_key, Faults, TypeFault, LostFault, DanglingFault, has_tag, tag_of, Tag, StructTag, Types, top_type, taken, Here, operand, as_reference, follow, with_stack, goes_on, untouched, Roots, IsOf, Rooted, HasType, TypesAt, HaveTokens, LocalsHaveTokens, TurnTyped, Numbered, AreWaiting, EntryTyped, Row, references, local_references, on_some, same_key-to}
+use Rattle.mv_machine.specs.Value.{Place, with_value_at}
+use Rattle.mv_machine.specs.State.{with_local, with_root, with_place}
+use Rattle.mv_type_states.specs.TypeRules.{mutable_target_of, of_write}
 use Rattle.mv_abilities.specs.Abilities.{value_type_abilities}
-use Rattle.mv_machine.specs.Step.{Here, operand, as_reference, follow, with_stack, goes_on}
 use Rattle.mv_machine.specs.StepReferences.{write_reference}
-use Rattle.mv_machine.specs.StepParts.{can_drop, untouched}
-use Rattle.mv_interpreter.specs.Typing.HasType.{Roots, IsOf, Rooted, HasType, fields_by_name}
-use Rattle.mv_type_states.specs.TypesAt.{TypesAt}
-use Rattle.mv_interpreter.specs.Typing.StateTyped.{HaveTokens, LocalsHaveTokens, TurnTyped, Numbered, AreWaiting, EntryTyped}
-use Rattle.mv_interpreter.specs.Typing.Facts.{Row}
+use Rattle.mv_machine.specs.StepParts.{can_drop}
+use Rattle.mv_interpreter.specs.Typing.HasType.{fields_by_name}
 use Rattle.mv_interpreter.proofs.Typing.Within.{one_type, write_within}
-use Rattle.mv_interpreter.proofs.Typing.Parts.{Part, known, met, tested, lost, frozen}
-use Rattle.mv_interpreter.proofs.Typing.Operands.{on_test, taken-is, top_type-is, one}
+use Rattle.mv_interpreter.proofs.Typing.Parts.{Part, known, passes, tested, lost, frozen}
+use Rattle.mv_interpreter.proofs.Typing.Operands.{on_test, taken-is, top_type-is, one_operand}
 use Rattle.mv_interpreter.proofs.Typing.Keep.{Kept, Nothing, avoid_nothing, below_avoids_nothing, keep_stack, keep_locals, keep_below}
 use Rattle.mv_interpreter.proofs.Typing.Roots.{place_of, typed_tag, typed_has_tag, is_plain, plain_is, named_plain}
 use Rattle.mv_interpreter.proofs.Typing.Frames.{written_below, written_in, frame_written, below_written}
 use Rattle.mv_interpreter.proofs.Typing.Storage.{entry_of, stored_same, stored_other, stored_typed, typed_with}
 use Rattle.mv_interpreter.proofs.Typing.References.{mutable_one, mutable_target-is}
-use Rattle.mv_machine.specs.Live.{references, local_references}
-use Rattle.mv_linker.proofs.Found.{on_some}
-use Rattle.mv_storage.proofs.Keys.{same_key-to}
-use Rattle.mv_interpreter.proofs.Typing.Stays.{moved}
+use Rattle.mv_interpreter.proofs.Typing.Stays.{moved, top_typed}
 
 -- the numbers stay
 pub numbers_stay : (n l : ℕ) (v : Value) (bound : ℕ) (fs : List Frame) → Numbered bound fs → Numbered bound (map (with_local n l v) fs)
@@ -44,7 +27,8 @@ numbers_stay n l v bound (f ∷ fs) h = by_case (eqb f.number n) refl (numbers_s
     by_case false p ih = rw p (h.0, ih)
 
 module _ (h : Here) (i : Instruction) (types after : Types) (row : Row h i types after) (next : TypesAt h.home h.function (h.state.top.at + 1) after) (old new : Value) (base : Tag)
-    (old_typed : IsOf (fields_by_name h.modules) old base) (new_typed : IsOf (fields_by_name h.modules) new base) (rest : List Value) (rest_typed : HaveTokens h.modules (root_value h.state) h.home rest after) where
+    (old_typed : IsOf (fields_by_name h.modules) old base) (new_typed : IsOf (fields_by_name h.modules) new base)
+    (rest : List Value) (rest_typed : HaveTokens h.modules (root_value h.state) h.home rest after) where
   -- the state with this frame at work and a local written below it
   abbrev over : ℕ → ℕ → Frame → State
   over n l f = record (h.state) { top = f; below = map (with_local n l new) h.state.below }
@@ -52,13 +36,16 @@ module _ (h : Here) (i : Instruction) (types after : Types) (row : Row h i types
   abbrev lower_top : Frame
   lower_top = record (h.state.top) { stack = rest }
 
-  below_all : (n l : ℕ) (look : Roots) → local_in (frames h.state) n l ≡ Some old → AreWaiting h.modules look h.state.top.entered_with row.stands.results h.state.below → AreWaiting h.modules look h.state.top.entered_with row.stands.results (map (with_local n l new) h.state.below)
+  below_all : (n l : ℕ) (look : Roots) → local_in (frames h.state) n l ≡ Some old
+      → AreWaiting h.modules look h.state.top.entered_with row.stands.results h.state.below
+      → AreWaiting h.modules look h.state.top.entered_with row.stands.results (map (with_local n l new) h.state.below)
   below_all n l look there w = by_case (eqb h.state.top.number n) refl
     where
       by_case : (a : Bool) → eqb h.state.top.number n ≡ a → AreWaiting h.modules look h.state.top.entered_with row.stands.results (map (with_local n l new) h.state.below)
       by_case true p =
           let same : h.state.top.number ≡ n = eqb-true h.state.top.number n p in
-          subst (λ (fs : List Frame). AreWaiting h.modules look h.state.top.entered_with row.stands.results fs) (sym (written_below n l new h.state.top.number h.state.below row.stands.numbered.1 (omega (arith, same)))) w
+          subst (λ (fs : List Frame). AreWaiting h.modules look h.state.top.entered_with row.stands.results fs)
+          (sym (written_below n l new h.state.top.number h.state.below row.stands.numbered.1 (omega (arith, same)))) w
       by_case false p =
           let below : local_in h.state.below n l ≡ Some old = subst (λ (x : Bool). cond x (local_value h.state.top l) (local_in h.state.below n l) ≡ Some old) p there in
           below_written h.modules n l old new base old_typed new_typed look h.state.top.number h.state.top.entered_with row.stands.results h.state.below row.stands.numbered.1 below w
@@ -69,10 +56,13 @@ module _ (h : Here) (i : Instruction) (types after : Types) (row : Row h i types
       let look' : Roots = root_value (over n l top) in
       let kl = keep_locals h.modules (root_value h.state) look' Nothing kept h.home h.state.top.locals row.stands.tokens (avoid_nothing (local_references h.state.top.locals)) row.stands.locals in
       let ks = keep_stack h.modules (root_value h.state) look' Nothing kept h.home rest after (avoid_nothing (references rest)) rest_typed in
-      let kb = keep_below h.modules (root_value h.state) look' Nothing kept h.state.top.entered_with row.stands.results h.state.below (below_avoids_nothing h.state.top.entered_with h.state.below) row.stands.below in
+      let kb = keep_below h.modules (root_value h.state) look' Nothing kept h.state.top.entered_with row.stands.results h.state.below
+      (below_avoids_nothing h.state.top.entered_with h.state.below) row.stands.below in
       let fw = frame_written h.modules n l old new base old_typed new_typed look' lower_top h.state.below h.home row.stands.tokens there kl in
-      let build : LocalsHaveTokens h.modules (root_value (over n l (record lower_top { locals = fw.locals }))) h.home fw.locals row.stands.tokens → HaveTokens h.modules (root_value (over n l (record lower_top { locals = fw.locals }))) h.home rest after →
-      AreWaiting h.modules (root_value (over n l (record lower_top { locals = fw.locals }))) h.state.top.entered_with row.stands.results (map (with_local n l new) h.state.below) → Part (TurnTyped h.modules) (goes_on (over n l (record lower_top { locals = fw.locals })))
+      let build : LocalsHaveTokens h.modules (root_value (over n l (record lower_top { locals = fw.locals }))) h.home fw.locals row.stands.tokens → HaveTokens h.modules
+      (root_value (over n l (record lower_top { locals = fw.locals }))) h.home rest after →
+      AreWaiting h.modules (root_value (over n l (record lower_top { locals = fw.locals }))) h.state.top.entered_with row.stands.results
+      (map (with_local n l new) h.state.below) → Part (TurnTyped h.modules) (goes_on (over n l (record lower_top { locals = fw.locals })))
       = built fw.locals in
       subst (λ (f : Frame). LocalsHaveTokens h.modules (root_value (over n l f)) h.home fw.locals row.stands.tokens → HaveTokens h.modules (root_value (over n l f)) h.home rest after →
       AreWaiting h.modules (root_value (over n l f)) h.state.top.entered_with row.stands.results (map (with_local n l new) h.state.below) → Part (TurnTyped h.modules) (goes_on (over n l f)))
@@ -84,21 +74,27 @@ module _ (h : Here) (i : Instruction) (types after : Types) (row : Row h i types
           let x = written_in (fields_by_name h.modules) n l old new base old_typed new_typed h.state.entered (lower_top ∷ h.state.below) m k r.value t row.stands.numbered there r.is_there r.is_of in
           record { value = x.0; is_there = x.1; is_of = x.2 }
 
-      built : (locals : List (Option Value)) → LocalsHaveTokens h.modules (root_value (over n l (record lower_top { locals = locals }))) h.home locals row.stands.tokens → HaveTokens h.modules (root_value (over n l (record lower_top { locals = locals }))) h.home rest after →
-          AreWaiting h.modules (root_value (over n l (record lower_top { locals = locals }))) h.state.top.entered_with row.stands.results (map (with_local n l new) h.state.below) → Part (TurnTyped h.modules) (goes_on (over n l (record lower_top { locals = locals })))
+      built : (locals : List (Option Value))
+          → LocalsHaveTokens h.modules (root_value (over n l (record lower_top { locals = locals }))) h.home locals row.stands.tokens
+          → HaveTokens h.modules (root_value (over n l (record lower_top { locals = locals }))) h.home rest after
+          → AreWaiting h.modules (root_value (over n l (record lower_top { locals = locals }))) h.state.top.entered_with row.stands.results (map (with_local n l new) h.state.below)
+          → Part (TurnTyped h.modules) (goes_on (over n l (record lower_top { locals = locals })))
       built locals a b c =
-          moved h i types after row (h.state.top.at + 1) locals rest (map (with_local n l new) h.state.below) h.state.storage h.state.tally next (numbers_stay n l new h.state.top.number h.state.below row.stands.numbered.1) a b c row.stands.storage
+          moved h i types after row (h.state.top.at + 1) locals rest (map (with_local n l new) h.state.below) h.state.storage h.state.tally next
+          (numbers_stay n l new h.state.top.number h.state.below row.stands.numbered.1) a b c row.stands.storage
 
   write_stored : (key : Key) → stored_at h.state.storage key ≡ Some old → Part (TurnTyped h.modules) (goes_on (with_root (with_stack h.state rest) (Stored key) new))
   write_stored key there =
       let s' : State = with_root (with_stack h.state rest) (Stored key) new in
       let entry = stored_typed h.modules h.state.storage key old row.stands.storage there in
       let same : base ≡ StructTag entry.name = one_type (fields_by_name h.modules) old base (StructTag entry.name) old_typed entry.typed in
-      let new_entry : EntryTyped h.modules (entry_of key new) = record { name = entry.name; fits = entry.fits; is_named = entry.is_named; has_key = entry.has_key; typed = subst (λ (t : Tag). IsOf (fields_by_name h.modules) new t) same new_typed } in
+      let new_entry : EntryTyped h.modules (entry_of key new) =
+      record { name = entry.name; fits = entry.fits; is_named = entry.is_named; has_key = entry.has_key; typed = subst (λ (t : Tag). IsOf (fields_by_name h.modules) new t) same new_typed } in
       moved h i types after row (h.state.top.at + 1) h.state.top.locals rest h.state.below s'.storage h.state.tally next row.stands.numbered.1
       (keep_locals h.modules (root_value h.state) (root_value s') Nothing kept h.home h.state.top.locals row.stands.tokens (avoid_nothing (local_references h.state.top.locals)) row.stands.locals)
       (keep_stack h.modules (root_value h.state) (root_value s') Nothing kept h.home rest after (avoid_nothing (references rest)) rest_typed)
-      (keep_below h.modules (root_value h.state) (root_value s') Nothing kept h.state.top.entered_with row.stands.results h.state.below (below_avoids_nothing h.state.top.entered_with h.state.below) row.stands.below)
+      (keep_below h.modules (root_value h.state) (root_value s') Nothing kept h.state.top.entered_with row.stands.results h.state.below
+      (below_avoids_nothing h.state.top.entered_with h.state.below) row.stands.below)
       (typed_with h.modules h.state.storage key new row.stands.storage new_entry)
     where
       kept : Kept h.modules (root_value h.state) (root_value (with_root (with_stack h.state rest) (Stored key) new)) Nothing
@@ -130,9 +126,10 @@ module _ (h : Here) (i : Instruction) (types after : Types) (row : Row h i types
       let table = fields_by_name h.modules in
       let look : Roots = root_value h.state in
       let all : types ≡ MutableReferenceTo u ∷ Plain u ∷ after =
-      top_type-is types t t_is ∙ ap (λ (x : Token). x ∷ t.1) (mutable_target-is h.modules look h.home t.0 u u_is) ∙ ap (λ (x : Types). MutableReferenceTo u ∷ x) (taken-is (Plain u ∷ []) t.1 below below_is) ∙ ap (λ (x : Types). MutableReferenceTo u ∷ Plain u ∷ x) given in
-      let top = one h.modules look h.home h.state.top.stack (MutableReferenceTo u) (Plain u ∷ after) (subst (λ (ts : Types). HaveTokens h.modules look h.home h.state.top.stack ts) all row.stands.stack) in
-      let under = one h.modules look h.home top.1 (Plain u) after top.4 in
+      top_type-is types t t_is ∙ ap (λ (x : Token). x ∷ t.1) (mutable_target-is h.modules look h.home t.0 u u_is) ∙ ap
+      (λ (x : Types). MutableReferenceTo u ∷ x) (taken-is (Plain u ∷ []) t.1 below below_is) ∙ ap (λ (x : Types). MutableReferenceTo u ∷ Plain u ∷ x) given in
+      let top = top_typed h i types after row (MutableReferenceTo u) (Plain u ∷ after) all in
+      let under = one_operand h.modules look h.home top.1 (Plain u) after top.4 in
       let ref = mutable_one h.modules look h.home top.0 u top.3 in
       let r : Reference = ref.reference in
       let there = place_of table h.state r ref.tag ref.points in
@@ -146,20 +143,24 @@ module _ (h : Here) (i : Instruction) (types after : Types) (row : Row h i types
       known (TurnTyped h.modules) (operand h.state.top.stack) _ (top.0, top.1) (ap operand top.2)
       (known (TurnTyped h.modules) (operand top.1) _ (under.0, under.1) (ap operand under.2)
       (known (TurnTyped h.modules) (as_reference top.0) _ r (ap as_reference ref.is_reference)
-      (met (TurnTyped h.modules) r.is_mutable _ _ ref.mutable
+      (passes (TurnTyped h.modules) r.is_mutable _ _ ref.mutable
       (known (TurnTyped h.modules) (follow h.state r) _ old (ap (λ (x : Option Value). ok_or x (Faults DanglingFault)) there.1)
-      (known (TurnTyped h.modules) (ok_or (tag_of h.state old) (Faults TypeFault)) _ ref.tag (ap (λ (x : Option Tag). ok_or x (Faults TypeFault)) (typed_tag table h.state old ref.tag (is_plain table look old ref.tag there.2)))
-      (met (TurnTyped h.modules) (has_tag h.state under.0 ref.tag) _ _ (typed_has_tag table h.state under.0 ref.tag new_has)
+      (known (TurnTyped h.modules) (ok_or (tag_of h.state old) (Faults TypeFault)) _ ref.tag
+      (ap (λ (x : Option Tag). ok_or x (Faults TypeFault)) (typed_tag table h.state old ref.tag (is_plain table look old ref.tag there.2)))
+      (passes (TurnTyped h.modules) (has_tag h.state under.0 ref.tag) _ _ (typed_has_tag table h.state under.0 ref.tag new_has)
       (tested (TurnTyped h.modules) (need (can_drop h old) (Faults LostFault)) _ (lost (can_drop h old))
       (tested (TurnTyped h.modules) (untouched (with_stack h.state under.1) r.place) _ (frozen (with_stack h.state under.1) r.place)
-      (known (TurnTyped h.modules) (ok_or (with_place (with_stack h.state under.1) r.place under.0) (Faults DanglingFault)) _ (with_root (with_stack h.state under.1) r.place.root whole.0) (ap (λ (x : Option State). ok_or x (Faults DanglingFault)) written)
+      (known (TurnTyped h.modules) (ok_or (with_place (with_stack h.state under.1) r.place under.0) (Faults DanglingFault)) _
+      (with_root (with_stack h.state under.1) r.place.root whole.0) (ap (λ (x : Option State). ok_or x (Faults DanglingFault)) written)
       (write_root h i types after row next ref.points.root.value whole.0 ref.points.base ref.points.root.is_of whole.2 under.1 under.4 r.place.root ref.points.root.is_there)))))))))))))))
     where
       stack_apart : (s : State) (rest : List Value) (root : Root) → root_value (with_stack s rest) root ≡ root_value s root
       stack_apart s rest (Local n l) = refl
       stack_apart s rest (Stored key) = refl
 
-      with_place_is : (s : State) (rest : List Value) (p : Place) (new old whole : Value) → root_value s p.root ≡ Some old → with_value_at old p.path new ≡ Some whole → with_place (with_stack s rest) p new ≡ Some (with_root (with_stack s rest) p.root whole)
+      with_place_is : (s : State) (rest : List Value) (p : Place) (new old whole : Value) → root_value s p.root ≡ Some old
+          → with_value_at old p.path new ≡ Some whole → with_place (with_stack s rest) p new ≡ Some (with_root (with_stack s rest) p.root whole)
       with_place_is s rest p new old whole there put =
-          subst (λ (x : Option Value). option_map (with_root (with_stack s rest) p.root) (option_and_then (λ o. with_value_at o p.path new) x) ≡ Some (with_root (with_stack s rest) p.root whole)) (sym (stack_apart s rest p.root ∙ there))
+          subst (λ (x : Option Value). option_map (with_root (with_stack s rest) p.root) (option_and_then (λ o. with_value_at o p.path new) x) ≡ Some
+          (with_root (with_stack s rest) p.root whole)) (sym (stack_apart s rest p.root ∙ there))
           (ap (option_map (with_root (with_stack s rest) p.root)) put)

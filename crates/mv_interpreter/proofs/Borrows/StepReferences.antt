@@ -1,0 +1,186 @@
+-- A step on references keeps the chain of frames: fields, FreezeRef, reads and writes.
+use Rattle.mv_interpreter.proofs.Borrows.Common.{◌≡◌, ℕ, ◌+◌, ◌-◌, List, [], ◌∷◌, ◌++◌, map, length, Bool, true, false, not, inl, refl, sym, ◌∙◌, ap, subst, Option, Some, None, Ok, slice_get, ok_or, ◌&&◌, ◌||◌, ◌==◌, filter, list_any, not-true, and_from, eq-eqb, same_Some, Temp, Instruction, need, ◌>>>◌, Reference, Value, Ref, Frame, place_value, reference_of, live, is_frozen_by, successors, Faults, TypeFault, LostFault, FrozenFault, entry, has_tag, Edge, Label, same_node, without, inherited, extended, Point, is_mutable, no_edge_out, no_mutable_from, edges_of, kind_at, label_from, Member, Turn, gives, with_top, with_stack, operand, can_drop, as_reference, as_fields, TheLabel, TheNode, AtTemp, Chain, home_of, Descending, begins, on_bind, ok-is, found-is, operand-is}
+use Rattle.mv_move_types.specs.declared.instruction.Instruction.TheVariants.{MutBorrowField, ImmBorrowField, ReadRef, WriteRef, FreezeRef}
+use Rattle.mv_machine.specs.State.{with_place}
+use Rattle.mv_machine.specs.Typing.{DanglingFault, tag_of}
+use Rattle.mv_edges.specs.Edges.{out_of, agrees}
+use Rattle.mv_borrow_graph.specs.BorrowRules.{edges_after, position_of, field_edges, top_temp}
+use Rattle.mv_machine.specs.StepParts.{can_copy, follow}
+use Rattle.mv_machine.specs.StepStructs.{OwnStruct, own_struct}
+use Rattle.mv_machine.specs.StepReferences.{borrow_field, write_reference, read_reference, freeze, own_field, lends}
+use Rattle.mv_borrow_graph.specs.Abstract.Places.{Agrees, AgreesWith, steps}
+use Rattle.mv_borrow_graph.specs.Abstract.Rows.{BorrowField, Need}
+use Rattle.mv_interpreter.proofs.Borrows.Same.{SameSeen, same-all, layer-same, write-same, plain-tagged}
+use Rattle.mv_interpreter.proofs.Borrows.Edges.{kind_of_node, free_mutable, then-some, none_any, node_of-inj, node-is, member_filter}
+use Rattle.mv_interpreter.proofs.Borrows.Kept.{Falls, falls-pushed, falls-popped, falls-same, kept-borrow-field, kept-freeze}
+use Rattle.mv_machine.proofs.Binds.{reference-is}
+use Rattle.mv_interpreter.proofs.Borrows.Operands.{on_result, on_passed, on_option}
+use Rattle.mv_interpreter.proofs.Borrows.Standing.{Standing, Among, at_top, under, ends, StandTop, Kept, dropped-calm, ref-top, typed}
+
+agrees-begins : (l : List ℕ) (i : ℕ) → AgreesWith l i → (begins l (i ∷ []) || begins (i ∷ []) l) ≡ true
+agrees-begins [] i a = refl
+agrees-begins (g ∷ l) i a = or-right (begins (g ∷ l) (i ∷ [])) (begins (i ∷ []) (g ∷ l)) (and_from (i == g) true (eq-eqb i g (sym a)) refl)
+  where
+    or-right : (x y : Bool) → y ≡ true → (x || y) ≡ true
+    or-right true y q = refl
+    or-right false y q = q
+
+label-path : (b : Bool) (path : List ℕ) → steps (label_from b path) ≡ path
+label-path true path = refl
+label-path false path = refl
+
+label-agrees : (i : ℕ) (x : TheLabel) (l : Label) → x ≡ label_from l.is_open l.path → Agrees x i → agrees i l ≡ true
+label-agrees i x l on a = agrees-begins l.path i (subst (λ z. AgreesWith z i) (ap steps on ∙ label-path l.is_open l.path) a)
+
+lends-is : (m : Bool) (r : Reference) → lends m r ≡ true → m ≡ true → r.is_mutable ≡ true
+lends-is true r k z = k
+lends-is false r k z = absurd cc
+
+module _ (this : Standing) where
+  open this use {depends, through, no_cycle, rest, h, types, es, stands, fits, inside}
+
+  -- the references on the stack, the topmost first
+  abbrev os : List (Option Reference)
+  os = map reference_of h.state.top.stack
+
+  abbrev p : Point
+  p = record { home = h.home; function = h.function; types = types }
+
+  abbrev place : ℕ
+  place = h.state.top.function.place
+
+  own-field-is : (i : ℕ) (x : OwnStruct × ℕ) → own_field h i ≡ Ok x → position_of p i ≡ Some x.1
+  unfolding own_field
+  own-field-is i x e =
+      on_bind (entry h.home.field_handles i) _ x e (λ handle handle_is e1.
+      on_bind (own_struct h handle.definition) _ x e1 (λ struct struct_is e2.
+      on_bind (entry struct.fields handle.position) _ x e2 (λ field field_is e3.
+      ap (λ o. o >>> λ hd. Some hd.position) (found-is (slice_get h.home.field_handles i) _ handle handle_is) ∙ ap (λ (z : OwnStruct × ℕ). Some z.1) (ok-is (struct, handle.position) x e3))))
+
+  out-edge : (n : ℕ) (x : TheLabel) (c : TheNode) (w : edges_of place es (AtTemp n) x c) → Member w.0 (out_of (Temp n) es)
+  out-edge n x c (e, m, from, on, to) = member_filter (λ d. same_node d.from (Temp n)) e es (node-is e.from (Temp n) (node_of-inj place e.from (Temp n) (sym from))) m
+
+  free-field : (i n : ℕ) → not (list_any (λ e. agrees i e.label) (out_of (Temp n) es)) ≡ true → Need (BorrowField true i) n (kind_at p) (edges_of place es)
+  free-field i n free x c w bars a =
+      none_any (λ e. agrees i e.label) (out_of (Temp n) es) (not-true _ free) w.0 (out-edge n x c w) (label-agrees i x w.0.label w.3 a)
+
+  free-field-mutable : (i n : ℕ) → not (list_any (λ e. is_mutable p e.to && agrees i e.label) (out_of (Temp n) es)) ≡ true → Need (BorrowField false i) n (kind_at p) (edges_of place es)
+  free-field-mutable i n free x c w bars a =
+      none_any (λ e. is_mutable p e.to && agrees i e.label) (out_of (Temp n) es) (not-true _ free) w.0 (out-edge n x c w)
+      (and_from (is_mutable p w.0.to) (agrees i w.0.label) (sym (kind_of_node p place w.0.to) ∙ ap (kind_at p) (sym w.4) ∙ bars) (label-agrees i x w.0.label w.3 a))
+
+  abbrev field_frame : Bool → ℕ → Reference → List Value → Frame
+  field_frame m i r s = record (h.state.top) { stack = Ref (record { is_mutable = m; place = record (r.place) { path = r.place.path ++ i ∷ [] } }) ∷ s; at = h.state.top.at + 1 }
+
+  field-by : (m : Bool) (i : ℕ) (r : Reference) (s : List Value) (es' : List Edge) → os ≡ Some r ∷ map reference_of s → (m ≡ true → r.is_mutable ≡ true)
+      → ((n : ℕ) → n ≡ length types - 1 → Need (BorrowField m i) n (kind_at p) (edges_of place es)) → es' ≡ field_edges p i es → StandTop this (field_frame m i r s) es'
+  field-by m i r s es' top lent need g =
+      subst (λ u. StandTop this (field_frame m i r s) u) (sym g)
+      (at_top this (λ n. without (Temp n) es ++ inherited (extended i) (Temp n) (Temp n) es) h.state.top.locals
+      (Some (record { is_mutable = m; place = record (r.place) { path = r.place.path ++ i ∷ [] } }) ∷ map reference_of s) (map reference_of s) (Some r) top
+      (kept-borrow-field depends through no_cycle h.function.acquires h.state.top rest h.state.top.locals os es stands m i r (map reference_of s) (kind_at p) (typed this) top lent
+      (need (length (map reference_of s)) (sym (under this (map reference_of s) (Some r) top)))))
+
+  borrow-field-by : (m : Bool) (ins : Instruction) (i f : ℕ) (y : Turn) (es' : List Edge) → Among (h.state.top.at + 1) (successors h.state.top.at ins) → borrow_field m h i ≡ Ok y
+      → position_of p i ≡ Some f → es' ≡ field_edges p f es
+      → ((n : ℕ) → n ≡ length types - 1 → Need (BorrowField m f) n (kind_at p) (edges_of place es)) → Kept this ins es' (Ok y)
+  unfolding borrow_field
+  borrow-field-by m ins i f y es' next e position g need =
+      on_result (own_field h i) _ y e (λ field field_is e1.
+      on_result (operand h.state.top.stack) _ y e1 (λ top top_is e2.
+      on_result (as_reference top.0) _ y e2 (λ r r_is e3.
+      on_passed (lends m r) (Faults TypeFault) _ y e3 (λ lent e4.
+      on_result (follow h.state r) _ y e4 (λ v v_is e5.
+      on_result (as_fields field.0.name v) _ y e5 (λ fields fields_is e6.
+      let same : field.1 ≡ f = same_Some field.1 f (sym (own-field-is i field field_is) ∙ position) in
+      ends this ins (with_top h.state (field_frame m field.1 r top.1)) y es' es' e6 refl (
+        subst (λ j. StandTop this (field_frame m j r top.1) es') (sym same)
+            (field-by m f r top.1 es' (ref-top this top r top_is r_is) (lends-is m r lent) need g),
+        (refl, refl, refl, same-all h.state.below, refl, next),
+      )))))))
+
+  pub step-field-mutable : (i : ℕ) (y : Turn) (es' : List Edge) → borrow_field true h i ≡ Ok y → edges_after p (MutBorrowField i) es ≡ Some es' → Kept this (MutBorrowField i) es' (Ok y)
+  unfolding edges_after
+  step-field-mutable i y es' e g =
+      on_option (position_of p i) _ es' g (λ f f_is g1.
+      let b = then-some (not (list_any (λ e. agrees f e.label) (out_of (top_temp p) es))) (field_edges p f es) es' g1 in
+      borrow-field-by true (MutBorrowField i) i f y es' (inl refl) e f_is b.1
+      (λ n is. free-field f n (subst (λ k. not (list_any (λ e. agrees f e.label) (out_of (Temp k) es)) ≡ true) (sym is) b.0)))
+
+  pub step-field-immutable : (i : ℕ) (y : Turn) (es' : List Edge) → borrow_field false h i ≡ Ok y → edges_after p (ImmBorrowField i) es ≡ Some es' → Kept this (ImmBorrowField i) es' (Ok y)
+  unfolding edges_after
+  step-field-immutable i y es' e g =
+      on_option (position_of p i) _ es' g (λ f f_is g1.
+      let b = then-some (not (list_any (λ e. is_mutable p e.to && agrees f e.label) (out_of (top_temp p) es))) (field_edges p f es) es' g1 in
+      borrow-field-by false (ImmBorrowField i) i f y es' (inl refl) e f_is b.1
+      (λ n is. free-field-mutable f n (subst (λ k. not (list_any (λ e. is_mutable p e.to && agrees f e.label) (out_of (Temp k) es)) ≡ true) (sym is) b.0)))
+
+  pub step-freeze : (y : Turn) (es' : List Edge) → gives h (freeze h h.state.top.stack) ≡ Ok y → edges_after p FreezeRef es ≡ Some es' → Kept this FreezeRef es' (Ok y)
+  unfolding freeze edges_after
+  step-freeze y es' e g =
+      on_result (freeze h h.state.top.stack) _ y e (λ s s_is e0.
+      on_result (operand h.state.top.stack) _ s s_is (λ top top_is q1.
+      on_result (as_reference top.0) _ s q1 (λ r r_is q2.
+      on_passed r.is_mutable (Faults TypeFault) _ s q2 (λ ok q3.
+      on_result (follow h.state r) _ s q3 (λ v v_is q4.
+      let b = then-some (no_mutable_from p (top_temp p) es) (filter (λ e. not (same_node e.from (top_temp p))) es) es' g in
+      ends this FreezeRef (with_top h.state (record (h.state.top) { stack = s; at = h.state.top.at + 1 })) y (filter (λ e. not (same_node e.from (top_temp p))) es) es' e0 (sym b.1) (
+        subst (λ u. StandTop this (record (h.state.top) { stack = u; at = h.state.top.at + 1 }) (filter (λ e. not (same_node e.from (top_temp p))) es))
+            (ok-is (Ref (record { is_mutable = false; place = r.place }) ∷ top.1) s q4)
+            (at_top this (λ n. filter (λ e. not (same_node e.from (Temp n))) es) h.state.top.locals
+            (Some (record { is_mutable = false; place = r.place }) ∷ map reference_of top.1) (map reference_of top.1) (Some r)
+            (ref-top this top r top_is r_is)
+            (kept-freeze depends through no_cycle h.function.acquires h.state.top rest h.state.top.locals os es stands r
+            (map reference_of top.1) (kind_at p) (typed this) (ref-top this top r top_is r_is)
+            (λ x c z k. free_mutable p place (Temp (length (map reference_of top.1))) es
+            (subst (λ n. no_mutable_from p (Temp n) es ≡ true) (under this (map reference_of top.1) (Some r) (ref-top this top r top_is r_is)) b.0) x c z k))),
+        (refl, refl, refl, same-all h.state.below, refl, inl refl),
+      ))))))
+
+  pub step-read : (y : Turn) (es' : List Edge) → gives h (read_reference h h.state.top.stack) ≡ Ok y → edges_after p ReadRef es ≡ Some es' → Kept this ReadRef es' (Ok y)
+  unfolding read_reference edges_after
+  step-read y es' e g =
+      on_result (read_reference h h.state.top.stack) _ y e (λ s s_is e0.
+      on_result (operand h.state.top.stack) _ s s_is (λ top top_is q1.
+      on_result (as_reference top.0) _ s q1 (λ r r_is q2.
+      on_result (follow h.state r) _ s q2 (λ v v_is q3.
+      on_passed (can_copy h v) (Faults LostFault) _ s q3 (λ ok q4.
+      let b = then-some (no_mutable_from p (top_temp p) es) (without (top_temp p) es) es' g in
+      ends this ReadRef (with_top h.state (record (h.state.top) { stack = s; at = h.state.top.at + 1 })) y (without (top_temp p) es) es' e0 (sym b.1) (
+        dropped-calm this top.0 top.1 s (h.state.top.at + 1) (operand-is h.state.top.stack top top_is)
+            (subst (λ (x : List Value). Falls (map reference_of top.1) (map reference_of x)) (ok-is (v ∷ top.1) s q4)
+            (falls-pushed (map reference_of top.1) (map reference_of top.1) (reference_of v)
+            (inside.led_to r top.1 v (operand-is h.state.top.stack top top_is ∙ ap (λ (u : Value). u ∷ top.1) (reference-is top.0 r r_is)) (found-is (place_value h.state r.place) _ v v_is))
+            (falls-same (map reference_of top.1)))),
+        (refl, refl, refl, same-all h.state.below, refl, inl refl),
+      ))))))
+
+  pub step-write : (y : Turn) (es' : List Edge) → Descending (h.state.top ∷ h.state.below) → write_reference h ≡ Ok y → edges_after p WriteRef es ≡ Some es' → Kept this WriteRef es' (Ok y)
+  unfolding write_reference edges_after
+  step-write y es' ordered e g =
+      on_result (operand h.state.top.stack) _ y e (λ top top_is e1.
+      on_result (operand top.1) _ y e1 (λ lower lower_is e2.
+      on_result (as_reference top.0) _ y e2 (λ r r_is e3.
+      on_passed r.is_mutable (Faults TypeFault) _ y e3 (λ mutable e4.
+      on_result (follow h.state r) _ y e4 (λ old old_is e5.
+      on_result (ok_or (tag_of h.state old) (Faults TypeFault)) _ y e5 (λ tag tag_is e6.
+      on_passed (has_tag h.state lower.0 tag) (Faults TypeFault) _ y e6 (λ fit e7.
+      on_passed (can_drop h old) (Faults LostFault) _ y e7 (λ drops e8.
+      on_passed (not (is_frozen_by (live (with_stack h.state lower.1)) r.place)) (Faults FrozenFault) _ y e8 (λ ok e9.
+      on_result (ok_or (with_place (with_stack h.state lower.1) r.place lower.0) (Faults DanglingFault)) _ y e9 (λ t t_is e10.
+      let old_none : reference_of old ≡ None =
+      inside.led_to r top.1 old (operand-is h.state.top.stack top top_is ∙ ap (λ (u : Value). u ∷ top.1) (reference-is top.0 r r_is)) (found-is (place_value h.state r.place) _ old old_is) in
+      let w = write-same (with_stack h.state lower.1) r.place old lower.0 t ordered (found-is (place_value h.state r.place) _ old old_is) old_none
+      (plain-tagged h.state old lower.0 tag old_none (found-is (tag_of h.state old) _ tag tag_is) fit) (found-is (with_place (with_stack h.state lower.1) r.place lower.0) _ t t_is) in
+      let b = then-some (no_edge_out (top_temp p) es) (without (top_temp p) es) es' g in
+      ends this WriteRef (with_top t (record (t.top) { at = t.top.at + 1 })) y (without (top_temp p) es) es' e10 (sym b.1) (
+        subst (λ u. Chain depends home_of (u ∷ rest))
+            (layer-same h.function.acquires [] (record (h.state.top) { stack = lower.1; at = h.state.top.at + 1 })
+            (record (t.top) { at = t.top.at + 1 }) (without (top_temp p) es) (same-on h.state.top t.top lower.1 w.0))
+            (dropped-calm this top.0 top.1 lower.1 (h.state.top.at + 1) (operand-is h.state.top.stack top top_is)
+            (falls-popped (map reference_of top.1) (map reference_of lower.1) (reference_of lower.0) (ap (map reference_of) (operand-is top.1 lower lower_is)))),
+        (w.0.number, w.0.function, w.0.entered_with, w.1, w.2, inl (ap (λ n. n + 1) w.0.at)),
+      )))))))))))
+    where
+      same-on : (f g : Frame) (s : List Value) → SameSeen (record f { stack = s }) g → SameSeen (record f { stack = s; at = f.at + 1 }) (record g { at = g.at + 1 })
+      same-on f g s x = record { number = x.number; function = x.function; entered_with = x.entered_with; at = ap (λ n. n + 1) x.at; stack = x.stack; locals = x.locals }
