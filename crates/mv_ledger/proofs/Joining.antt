@@ -33,20 +33,27 @@ placed-length old tss next [] (p ∷ ps) h = absurd h
 placed-length old tss next (m ∷ ms) [] h = absurd h
 placed-length old tss next (m ∷ ms) (p ∷ ps) h = ap suc (placed-length old tss (cond (is_published old m) next (next + 1)) ms ps h.2)
 
-module _ (old bundle : List PublishedModule) (tss : List (List Tally)) (placed : List Placed) (sender : Option ℕ) (store : IsStore old) (whole : IsStore (with_modules old bundle))
-    (join : MayJoin sender (tables_in old) (tables_in bundle) (tables_in (with_modules old bundle))) (at : ArePlacedFor (tables_in old) tss (length old) (tables_in bundle) placed)
-    (theirs : ArePlaced 0 tss) (scarce : AreScarce (tables_in old) tss) where
+-- a bundle that may join a whole store, and where each of its modules is to stand
+pub record IsPlacedBundle (old bundle : List PublishedModule) (tss : List (List Tally)) (placed : List Placed) (sender : Option ℕ) : Type 0 where
+  pub store : IsStore old
+  pub whole : IsStore (with_modules old bundle)
+  pub join : MayJoin sender (tables_in old) (tables_in bundle) (tables_in (with_modules old bundle))
+  pub at : ArePlacedFor (tables_in old) tss (length old) (tables_in bundle) placed
+  pub theirs : ArePlaced 0 tss
+  pub scarce : AreScarce (tables_in old) tss
+
+module _ (old bundle : List PublishedModule) (tss : List (List Tally)) (placed : List Placed) (sender : Option ℕ) (b : IsPlacedBundle old bundle tss placed sender) where
   spots : AreSpotted (had tss) old bundle placed
-  spots = all-spotted old bundle tss placed join.once at
+  spots = all-spotted old bundle tss placed b.join.once b.at
 
   pub joined-within : length tss ≡ length old → AreWithin (length tss) placed
-  joined-within long = subst (λ (n : ℕ). AreWithin n placed) (sym long) (spotted-within (had tss) (had-at tss theirs) old bundle placed spots)
+  joined-within long = subst (λ (n : ℕ). AreWithin n placed) (sym long) (spotted-within (had tss) (had-at tss b.theirs) old bundle placed spots)
 
   -- the test of room is one of the modules that there are then
   tested-room : (count : ℕ) (ps : List Placed) → count ≡ length old → ps ≡ placed → nat_lt 4096 (count + count_by (λ (p : Placed). nat_le count p.place) ps) ≡ nat_lt 4096 (length (with_modules old bundle))
   tested-room count ps count_is ps_is =
       ap₂ (λ (n : ℕ) (qs : List Placed). nat_lt 4096 (n + count_by (λ (p : Placed). nat_le n p.place) qs)) count_is ps_is
-      ∙ ap (λ (n : ℕ). nat_lt 4096 n) (sym (count-joined old bundle tss placed join.once at))
+      ∙ ap (λ (n : ℕ). nat_lt 4096 n) (sym (count-joined old bundle tss placed b.join.once b.at))
 
   pub room-for : (count : ℕ) (ps : List Placed) → count ≡ length old → ps ≡ placed → nat_lt 4096 (count + count_by (λ (p : Placed). nat_le count p.place) ps) ≡ false → length (with_modules old bundle) ≤ 4096
   room-for count ps count_is ps_is test = ltb-false 4096 (length (with_modules old bundle)) (sym (tested-room count ps count_is ps_is) ∙ test)
@@ -57,7 +64,7 @@ module _ (old bundle : List PublishedModule) (tss : List (List Tally)) (placed :
       absurd (omega (arith, more, room))
 
   each : EachIs (had tss) 0 (tables_in (with_modules old bundle)) (with_placed tss placed)
-  each = each-joined (had tss) old bundle tss placed spots (each-first (had tss) 0 (tables_in old) tss (had-found tss) scarce)
+  each = each-joined (had tss) old bundle tss placed spots (each-first (had tss) 0 (tables_in old) tss (had-found tss) b.scarce)
 
   module _ (new : List PublishedModule) (after : List (List Tally)) (new_is : new ≡ with_modules old bundle) (after_is : after ≡ with_placed tss placed) where
     pub after-length : length after ≡ length new
@@ -67,19 +74,19 @@ module _ (old bundle : List PublishedModule) (tss : List (List Tally)) (placed :
     pub after-scarce : All (IsNamed (tables_in old)) (all_of tss) → AreScarce (tables_in new) after
     after-scarce named =
         subst (λ (ps : List PublishedModule). AreScarce (tables_in ps) after) (sym new_is) (subst (λ (us : List (List Tally)). AreScarce (tables_in (with_modules old bundle)) us) (sym after_is)
-        (scarce-added old (with_modules old bundle) tss (with_placed tss placed) store whole (inherited old bundle join.compatible) theirs scarce named each))
+        (scarce-added old (with_modules old bundle) tss (with_placed tss placed) b.store b.whole (inherited old bundle b.join.compatible) b.theirs b.scarce named each))
 
     pub after-named : All (IsNamed (tables_in old)) (all_of tss) → All (IsNamed (tables_in new)) (all_of after)
     after-named named =
         subst (λ (ps : List PublishedModule). All (IsNamed (tables_in ps)) (all_of after)) (sym new_is) (subst (λ (us : List (List Tally)). All (IsNamed (tables_in (with_modules old bundle))) (all_of us)) (sym after_is)
-        (named-added old (with_modules old bundle) tss (with_placed tss placed) store whole (inherited old bundle join.compatible) theirs scarce named each))
+        (named-added old (with_modules old bundle) tss (with_placed tss placed) b.store b.whole (inherited old bundle b.join.compatible) b.theirs b.scarce named each))
 
     pub after-small : All (IsNamed (tables_in old)) (all_of tss) → (runs : ℕ) → All (IsSmall runs) (all_of tss) → All (IsSmall runs) (all_of after)
     after-small named runs small =
         subst (λ (us : List (List Tally)). All (IsSmall runs) (all_of us)) (sym after_is)
-        (small-added old (with_modules old bundle) tss (with_placed tss placed) store whole (inherited old bundle join.compatible) theirs scarce named each runs small)
+        (small-added old (with_modules old bundle) tss (with_placed tss placed) b.store b.whole (inherited old bundle b.join.compatible) b.theirs b.scarce named each runs small)
 
     pub after-tallied : All (IsNamed (tables_in old)) (all_of tss) → AddsTallies old new (all_of tss) (all_of after)
     after-tallied named =
         subst (λ (ps : List PublishedModule). AddsTallies old ps (all_of tss) (all_of after)) (sym new_is) (subst (λ (us : List (List Tally)). AddsTallies old (with_modules old bundle) (all_of tss) (all_of us)) (sym after_is)
-        (tallies-added old (with_modules old bundle) tss (with_placed tss placed) store whole (inherited old bundle join.compatible) theirs scarce named each))
+        (tallies-added old (with_modules old bundle) tss (with_placed tss placed) b.store b.whole (inherited old bundle b.join.compatible) b.theirs b.scarce named each))

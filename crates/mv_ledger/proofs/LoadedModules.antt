@@ -34,7 +34,7 @@ use Rattle.mv_ledger.specs.LoadedParts.{reason_of, AreJoined, AreNotJoined}
 use Rattle.mv_ledger.specs.Publishing.{AllPass, FailsAmong, IsRefusedAmong}
 use Rattle.mv_ledger.specs.Tallying.{AreWithin, ArePlacedFor, with_placed}
 use Rattle.mv_ledger.specs.View.{all_of, tallied, ArePlaced, AreCountable}
-use Rattle.mv_ledger.proofs.Joining.{placed-length, joined-within, after-length, after-scarce, after-named, after-tallied}
+use Rattle.mv_ledger.proofs.Joining.{IsPlacedBundle, placed-length, joined-within, after-length, after-scarce, after-named, after-tallied}
 use Rattle.mv_ledger.proofs.Places.{is_there, length-with, count-joined}
 use Rattle.mv_ledger.proofs.Stores.{one_name-turns}
 use Rattle.mv_ledger.proofs.Verifying.{as-many}
@@ -313,7 +313,8 @@ structs-of olds (s ∷ ss) = ap₂ (λ (x : StructName) (xs : List StructName). 
 -- each of more of them is placed among those that are there by then
 pub more-within : (before : List Offer) (old ps : List PublishedModule) (tss : List (List Tally)) (counters : List (List Count)) → AreJoined before old tss counters → (placed : List Placed) → ArePlacedFor (tables_in old) tss (length old) (tables_in ps) placed → ArePlaced 0 tss → MayFollow old ps
     → IsStore (with_modules old ps) → AreWithin (length tss) placed
-more-within before old ps tss counters joined placed at theirs join whole = joined-within old ps tss placed None joined.store whole join at theirs joined.scarce joined.placed
+more-within before old ps tss counters joined placed at theirs join whole =
+    joined-within old ps tss placed None (record { store = joined.store; whole = whole; join = join; at = at; theirs = theirs; scarce = joined.scarce }) joined.placed
 
 module _ (before offers : List Offer) (old ps : List PublishedModule) (tss : List (List Tally)) (counters : List (List Count)) (joined : AreJoined before old tss counters) (passed : AllPass offers ps) (placed : List Placed)
     (at : ArePlacedFor (tables_in old) tss (length old) (tables_in ps) placed) (theirs : ArePlaced 0 tss) (join : MayFollow old ps) (whole : IsStore (with_modules old ps)) (last : with_modules old ps ≡ old ++ ps) where
@@ -322,15 +323,16 @@ module _ (before offers : List Offer) (old ps : List PublishedModule) (tss : Lis
   more-joined store tallies now store_is tallies_are counts countable =
       let all : store ≡ old ++ ps = store_is ∙ last in
       let here : IsStore store = subst IsStore (sym store_is) whole in
+      let bundle : IsPlacedBundle old ps tss placed None = record { store = joined.store; whole = whole; join = join; at = at; theirs = theirs; scarce = joined.scarce } in
       record {
         passed = subst (AllPass (before ++ offers)) (sym all) (pass-both before offers old ps joined.passed passed);
         linked = record { once = here.once; links = here.links };
         store = here;
-        placed = after-length old ps tss placed None joined.store whole join at theirs joined.scarce store tallies store_is tallies_are;
-        scarce = after-scarce old ps tss placed None joined.store whole join at theirs joined.scarce store tallies store_is tallies_are joined.named;
-        named = after-named old ps tss placed None joined.store whole join at theirs joined.scarce store tallies store_is tallies_are joined.named;
+        placed = after-length old ps tss placed None bundle store tallies store_is tallies_are;
+        scarce = after-scarce old ps tss placed None bundle store tallies store_is tallies_are joined.named;
+        named = after-named old ps tss placed None bundle store tallies store_is tallies_are joined.named;
         tallied =
-            ap (map (λ (t : Tallied). t.struct)) (after-tallied old ps tss placed None joined.store whole join at theirs joined.scarce store tallies store_is tallies_are joined.named)
+            ap (map (λ (t : Tallied). t.struct)) (after-tallied old ps tss placed None bundle store tallies store_is tallies_are joined.named)
             ∙ structs-of (map (tallied (tables_in old)) (all_of tss)) (scarce_structs (tables_in store));
         clear = λ d. counts d ∙ joined.clear d;
         countable = countable;

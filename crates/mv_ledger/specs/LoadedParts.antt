@@ -1,7 +1,7 @@
 -- The parts of which the loading of a ledger is made, and how they stand to its text.
 --   head_from       how a text begins. read_head reads it
 --   BeginsWith      the bytes begin with this head
---   AreJoined       what a ledger has of its modules before its tallies are read. join_all gives it
+--   AreJoined       what a ledger has of its modules before its tallies are read. Joined::join_offers gives it
 --   IsJoined        the same of modules that join one group after the other
 --   AreNotJoined    why it has none
 --   body_from       what follows the modules: the tallies, which Tallies::read reads, and the values, which read_storage does

@@ -6,12 +6,11 @@ ghost use Rattle.mv_interpreter.specs.Flat.Agreement.{nameless};
 ghost use Rattle.mv_ledger.specs.View.{tallied};
 
 use crate::tallies::{Tallies, Tally};
-use crate::texts::{put_name, put_number};
+use crate::texts::{put_labelled, put_name};
 use mv_linker::{Store, StructName};
 use mv_move_types::Definition;
 use std::alloc::{AllocError, Global};
 use std::marker::Model;
-use std::vec::IntoIter;
 
 /// A struct, and how often its values were made and taken apart.
 #[derive(Drop)]
@@ -43,21 +42,6 @@ fn count_of<'s>(store: &'s Store, tally: &Tally) -> Counted<'s>
     }
 }
 
-/// The counts of these tallies.
-fn counts_of<'s>(
-    alloc: Global,
-    store: &'s Store,
-    tallies: &[Tally],
-) -> Result<Vec<Counted<'s>>, AllocError>
-    ensures { IfOk result (λ v. map counted_in v.items ≡ map (tallied (tables_in store.entry.now)) tallies.now) }
-{
-    let mut counts = Vec::new(alloc);
-    'each: for tally in tallies {
-        counts.push(count_of(store, tally))?;
-    }
-    Ok(counts)
-}
-
 /// The line of a struct's counts.
 pub fn count_text(alloc: Global, counted: &Counted<'_>) -> Result<Vec<u8>, AllocError>
     ensures { IfOk result (λ text. text.items ≡ count_line (stored_of (counted_in counted.now)) (counted_in counted.now)) }
@@ -65,41 +49,43 @@ pub fn count_text(alloc: Global, counted: &Counted<'_>) -> Result<Vec<u8>, Alloc
     let mut text = Vec::new(alloc);
     text.extend_from_slice(b"count ")?;
     put_name(&mut text, &counted.name)?;
-    text.extend_from_slice(b" stored ")?;
-    put_number(&mut text, counted.packs.saturating_sub(counted.unpacks))?;
-    text.extend_from_slice(b" packed ")?;
-    put_number(&mut text, counted.packs)?;
-    text.extend_from_slice(b" unpacked ")?;
-    put_number(&mut text, counted.unpacks)?;
+    put_labelled(
+        &mut text,
+        b" stored ",
+        counted.packs.saturating_sub(counted.unpacks),
+    )?;
+    put_labelled(&mut text, b" packed ", counted.packs)?;
+    put_labelled(&mut text, b" unpacked ", counted.unpacks)?;
     Ok(text)
 }
 
-/// The counts of all structs with neither copy nor drop, module by module: those of a module are made where its first one is
-/// asked for, and no byte of it is read. Its model is the list of those that are left.
+/// The counts of all structs with neither copy nor drop, module by module; no byte of a module is read. Its model is the list
+/// of those that are left.
 #[derive(Drop)]
 pub struct Counts<'a> {
     store: &'a Store,
     tallies: &'a Tallies,
     place: usize,
-    counts: IntoIter<Counted<'a>>,
+    left: &'a [Tally],
 }
 
 impl<'a> Model for Counts<'a> {
     ghost use Rattle.std.specs.Prelude.{List, ◌≡◌, ◌++◌, length, map};
-    ghost use Rattle.std.specs.Vec.Iter.{into_iter_items};
+    ghost use Rattle.mv_linker.specs.Link.{tables_in};
     ghost use Rattle.mv_machine.specs.Lines.{Tallied};
-    ghost use Rattle.mv_ledger.specs.Auditing.{counted_in, counts_from};
+    ghost use Rattle.mv_ledger.specs.Auditing.{counts_from};
+    ghost use Rattle.mv_ledger.specs.View.{tallied};
 
     ghost Value = { List Tallied };
 
-    ghost view = { λ c. map counted_in (into_iter_items c.counts) ++ counts_from c.store.now c.tallies.now c.place };
+    ghost view = { λ c. map (tallied (tables_in c.store.now)) c.left.now ++ counts_from c.store.now c.tallies.now c.place };
 
     ghost invariant = { λ c. length c.tallies.now ≡ length c.store.now };
 }
 
 impl<'a> Counts<'a> {
     /// The counts of these tallies, which stand module by module as the store's modules do.
-    pub fn new(alloc: Global, store: &'a Store, tallies: &'a Tallies) -> Self
+    pub fn new(store: &'a Store, tallies: &'a Tallies) -> Self
         requires { length tallies.now ≡ length store.now }
         ensures { result ≡ counts_from store.entry.now tallies.entry.now 0 }
     {
@@ -107,23 +93,23 @@ impl<'a> Counts<'a> {
             store,
             tallies,
             place: 0,
-            counts: Vec::new(alloc).into_iter(),
+            left: &[],
         }
     }
 
     /// The next count; none where all were had.
-    pub fn next(&mut self, alloc: Global) -> Result<Option<Counted<'a>>, AllocError>
-        ensures { IfOk result (λ counted. MatchOption counted ((self.old ≡ []) × (self.new ≡ [])) (λ c. self.old ≡ counted_in c ∷ self.new)) }
+    pub fn next(&mut self) -> Option<Counted<'a>>
+        ensures { MatchOption result ((self.old ≡ []) × (self.new ≡ [])) (λ c. self.old ≡ counted_in c ∷ self.new) }
     {
         'modules: loop {
-            if let Some(counted) = self.counts.next() {
-                return Ok(Some(counted));
+            if let [tally, left @ ..] = self.left {
+                self.left = left;
+                return Some(count_of(self.store, tally));
             }
             if self.place >= self.tallies.len() {
-                return Ok(None);
+                return None;
             }
-            let tallies = self.tallies.at(self.place);
-            self.counts = counts_of(alloc, self.store, tallies)?.into_iter();
+            self.left = self.tallies.at(self.place);
             self.place += 1;
         }
     }

@@ -111,8 +111,8 @@ pub fn json_of_tallies(
     // For the prover: the identifiers of published modules are letters, digits and `_`.
     let _modules = store.len();
     let mut objects = Vec::new(alloc);
-    let mut counts = Counts::new(alloc, store, tallies);
-    'each: while let Some(counted) = counts.next(alloc)? {
+    let mut counts = Counts::new(store, tallies);
+    'each: while let Some(counted) = counts.next() {
         objects.push(counts_value(alloc, &counted)?)?;
     }
     line_of(alloc, "audit", objects)

@@ -60,7 +60,7 @@ use std::marker::Model;
 use tallies::Tallies;
 
 /// What the ledger answers to a record.
-#[derive(Clone, Copy, PartialEq, Eq, Debug)]
+#[derive(Clone, Copy)]
 pub enum Reply {
     /// So many modules were published.
     Published(u64),

@@ -9,7 +9,7 @@ ghost use Rattle.mv_ledger.specs.View.{all_of, tallied};
 
 use crate::audit::{Counts, count_text};
 use crate::tallies::Tallies;
-use crate::texts::{definition_of, put_address, put_key, put_number, struct_at};
+use crate::texts::{definition_of, put_address, put_key, put_labelled, struct_at};
 use crate::values::put_value;
 use mv_linker::Store;
 use mv_move_types::Key;
@@ -41,8 +41,7 @@ fn end_text(alloc: Global, count: u64) -> Result<Vec<u8>, AllocError>
     ensures { IfOk result (λ text. text.items ≡ end_line count) }
 {
     let mut text = Vec::new(alloc);
-    text.extend_from_slice(b"end ")?;
-    put_number(&mut text, u128::from(count))?;
+    put_labelled(&mut text, b"end ", u128::from(count))?;
     Ok(text)
 }
 
@@ -101,7 +100,7 @@ impl<'a> Counting<'a> {
         ensures { IfOk result (λ r. audit_from self.entry.counts self.entry.told ≡ r.0.items ∷ lines_left r.1) }
     {
         let Counting { mut counts, told } = self;
-        match counts.next(alloc)? {
+        match counts.next() {
             Some(counted) => {
                 let line = count_text(alloc, &counted)?;
                 let told = told + 1;
@@ -161,7 +160,7 @@ impl<'a> Lines<'a> {
         Lines {
             alloc,
             left: Left::Counting(Counting {
-                counts: Counts::new(alloc, store, tallies),
+                counts: Counts::new(store, tallies),
                 told: 0,
             }),
         }

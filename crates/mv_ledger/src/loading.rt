@@ -19,7 +19,7 @@ use crate::Ledger;
 use body::read_body;
 use counts::are_tallied;
 use head::{Head, read_head};
-use modules::{Joined, join_all};
+use modules::Joined;
 use mv_module_text::Reader;
 use mv_move_types::Refusal;
 use mv_storage::Storage;
@@ -27,7 +27,7 @@ use std::alloc::{AllocError, Global};
 use thiserror::Error;
 
 /// Why bytes are not loaded.
-#[derive(Clone, Copy, PartialEq, Eq, Debug, Error)]
+#[derive(Clone, Copy, Debug, Error)]
 pub enum LoadError {
     /// They begin with no head and list of modules.
     #[error("load refused 1")]
@@ -115,7 +115,8 @@ fn load_after(alloc: Global, reader: &mut Reader<'_>, head: &Head<'_>) -> Result
     ensures loaded { (bytes : List ℕ) → BeginsWith bytes (head_of head.now) reader.old → IfOk result (λ l. IsLoaded bytes (state_of l)) }
     ensures refused { (bytes : List ℕ) → BeginsWith bytes (head_of head.now) reader.old → IfErr result (IsLoadRefusal bytes) }
 {
-    let mut joined = join_all(alloc, &head.offers)?;
+    let mut joined = Joined::new(alloc);
+    joined.join_offers(alloc, &head.offers)?;
     let storage = read_stored(alloc, reader, head, &mut joined)?;
     Ok(Ledger {
         alloc,

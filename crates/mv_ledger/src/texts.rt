@@ -19,6 +19,14 @@ pub fn put_number(text: &mut Vec<u8>, n: u128) -> Result<(), AllocError>
     text.extend_from_slice(digits.format(n).as_bytes())
 }
 
+/// Appends a label and a number to a text, which is in decimal.
+pub fn put_labelled(text: &mut Vec<u8>, label: &[u8], n: u128) -> Result<(), AllocError>
+    ensures { OnOk result (text.new.items ≡ text.old.items ++ (label.now ++ decimal n)) }
+{
+    text.extend_from_slice(label)?;
+    put_number(text, n)
+}
+
 /// Appends an address to a text, as 32 digits.
 pub fn put_address(text: &mut Vec<u8>, address: u128) -> Result<(), AllocError>
     ensures { OnOk result (text.new.items ≡ text.old.items ++ address_text address) }

@@ -44,7 +44,7 @@ fn are_behind(placed: &[Placed], count: usize) -> bool
 
 impl Joined {
     /// What a ledger has that has no modules.
-    fn new(alloc: Global) -> Self
+    pub fn new(alloc: Global) -> Self
         ensures { AreJoined [] result.store result.tallies result.counters }
     {
         Joined {
@@ -135,7 +135,7 @@ impl Joined {
     ///
     /// `Module`, where one of them fails one of phases 2 to 12; else `Link`, where they are not linked; `Memory`, where a growth
     /// was refused.
-    fn join_offers(&mut self, alloc: Global, offers: &[Offered<'_>]) -> Result<(), LoadError>
+    pub fn join_offers(&mut self, alloc: Global, offers: &[Offered<'_>]) -> Result<(), LoadError>
         requires few { length offers.now ≤ 4096 }
         requires empty { AreJoined [] self.old.store self.old.tallies self.old.counters }
         ensures joined { OnOk result (AreJoined (offers_of offers.now) self.new.store self.new.tallies self.new.counters) }
@@ -152,20 +152,4 @@ impl Joined {
         }
         Ok(())
     }
-}
-
-/// What a ledger has of modules that are offered to an empty one.
-///
-/// # Errors
-///
-/// `Module`, where one of them fails one of phases 2 to 12; else `Link`, where they are not linked; `Memory`, where a growth
-/// was refused.
-pub fn join_all(alloc: Global, offers: &[Offered<'_>]) -> Result<Joined, LoadError>
-    requires { length offers.now ≤ 4096 }
-    ensures joined { IfOk result (λ j. AreJoined (offers_of offers.now) j.store j.tallies j.counters) }
-    ensures refused { IfErr result (AreNotJoined (offers_of offers.now)) }
-{
-    let mut joined = Joined::new(alloc);
-    joined.join_offers(alloc, offers)?;
-    Ok(joined)
 }

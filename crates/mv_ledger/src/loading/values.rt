@@ -35,7 +35,7 @@ fn leaves(alloc: Global, reader: &mut Reader<'_>, kinds: &[LeafKind]) -> Result<
     let mut words = Vec::new(alloc);
     'each: for kind in kinds {
         let next = leaf(reader, *kind)?;
-        words.push(next).map_err(|_| Refusal::Memory)?;
+        words.push(next).map_err(AllocError::from)?;
     }
     Ok(words)
 }

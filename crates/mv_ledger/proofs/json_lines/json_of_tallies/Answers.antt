@@ -12,4 +12,4 @@ each-init c =
     (plain-tallies store c.len-modules.ensures.store (all_of c.args.tallies.now))
 
 pub each-preserved : goal.each-preserved
-each-preserved c = counted-more _ _ _ _ (rw c.in-Some.is at c.in_ok-counted.ensures) _ _ _ c.each.invariant c.in_ok-counts_value.ensures c.in_ok-push.ensures.items
+each-preserved c = counted-more _ _ _ _ c.in-Some.ensures _ _ _ c.each.invariant c.in_ok-counts_value.ensures c.in_ok-push.ensures.items

@@ -7,22 +7,22 @@ use Rattle.mv_ledger.specs.LoadedParts.{head_of, AreJoined, AreNotJoined}
 use Rattle.mv_ledger.proofs.Loaded.{fails-joined, head-few}
 use Rattle.mv_ledger.proofs.loading.load_after.Goals as goal
 
-pub join_all-requires : goal.join_all-requires
-join_all-requires c =
+pub join_offers-requires-clause-few : goal.join_offers-requires-clause-few
+join_offers-requires-clause-few c =
     let few : length (offers_of c.args.head.now.offers.items) ≤ 4096 = head-few c.requires.0 (head_of c.args.head.now) c.args.reader.now c.requires.1.are c.requires.1.begins in
     omega (arith, few, ap length c.deref.ensures.value, length-map c.args.head.now.offers.items offer_of)
 
-pub returns-in_err-joined-clause-refused : goal.returns-in_err-joined-clause-refused
-returns-in_err-joined-clause-refused c = λ bytes begun.
+pub returns-in_err-join_offers-clause-refused : goal.returns-in_err-join_offers-clause-refused
+returns-in_err-join_offers-clause-refused c = λ bytes begun.
     let p = err_from_is_err_and c.from_residual.result c.from_residual.ensures.1 in
     rw (p.1, p.2)
     (fails-joined bytes (head_of c.args.head.now) c.args.reader.now begun.are begun.begins
-    c.in_err-joined.field-0.0 (subst (λ (os : List Offered). AreNotJoined (offers_of os) c.in_err-joined.field-0.0) c.deref.ensures.value c.in_err-joined.ensures.refused))
+    c.in_err-join_offers.field-0.0 (subst (λ (os : List Offered). AreNotJoined (offers_of os) c.in_err-join_offers.field-0.0) c.deref.ensures.value c.in_err-join_offers.ensures.refused))
 
 pub read_stored-requires-clause-joined : goal.read_stored-requires-clause-joined
 read_stored-requires-clause-joined c =
-    let j = c.in_ok-joined.joined in
-    subst (λ (os : List Offered). AreJoined (offers_of os) j.store j.tallies j.counters) c.deref.ensures.value c.in_ok-joined.ensures.joined
+    let j = c.join_offers.new.self in
+    subst (λ (os : List Offered). AreJoined (offers_of os) j.store j.tallies j.counters) c.deref.ensures.value c.in_ok-join_offers.ensures.joined
 
 pub returns-in_err-storage-clause-refused : goal.returns-in_err-storage-clause-refused
 returns-in_err-storage-clause-refused c = λ bytes begun.

@@ -1,13 +1,15 @@
 use Rattle.std.proofs.Common.{◌++◌, ◌-◌, length, map}
-use Rattle.std.specs.Vec.Iter.{into_iter_items}
-use Rattle.mv_ledger.specs.Auditing.{counted_in, counts_from}
+use Rattle.mv_linker.specs.Link.{tables_in}
+use Rattle.mv_ledger.specs.Auditing.{counts_from}
+use Rattle.mv_ledger.specs.View.{tallied}
 use Rattle.mv_ledger.proofs.Audits.{IsReading}
 use Rattle.mv_ledger.proofs.audit.Counts.next.Given as goal
 
 abbrev pub invariant-modules : goal.invariant-modules
 invariant-modules l =
     let first = l.initial.self-inside in
-    IsReading (map counted_in (into_iter_items first.counts) ++ counts_from first.store.now first.tallies.now first.place) l.self-inside.store.now l.self-inside.tallies.now l.self-inside.place (into_iter_items l.self-inside.counts)
+    let now = l.self-inside in
+    IsReading (map (tallied (tables_in first.store.now)) first.left.now ++ counts_from first.store.now first.tallies.now first.place) now.store.now now.tallies.now now.place now.left.now
 
 abbrev pub decreases-modules : goal.decreases-modules
 decreases-modules l = length l.self-inside.tallies.now - l.self-inside.place
