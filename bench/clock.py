@@ -26,7 +26,7 @@ class Clock:
 
     def __init__(self, folder):
         self.folder = folder
-        self.program = folder / "crates/moveledger/out/moveledger"
+        self.program = folder / "crates/moveledger_program/out/moveledger_program"
         self.bench = folder / "crates/mv_bench/out/mv_bench"
         self.baseline = folder / "baseline"
 

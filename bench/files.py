@@ -48,7 +48,7 @@ def measured_modules():
 
 def certificate(folder, file):
     """The certificate that the program makes for a module."""
-    program = folder / "crates/moveledger/out/moveledger"
+    program = folder / "crates/moveledger_program/out/moveledger_program"
     out = subprocess.run([program, "prove", file], check=True, capture_output=True, text=True, cwd=folder).stdout
     return bytes.fromhex(out.strip())
 

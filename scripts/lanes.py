@@ -8,7 +8,7 @@ import shutil
 import subprocess
 import time
 
-ROOMS = "crates/moveledger/out/lanes"
+ROOMS = "crates/moveledger_program/out/lanes"
 PARTS = "src", "specs", "proofs"
 # A check loads its libraries and ends on one processor, so that there are more jobs than processors.
 JOBS_A_PROCESSOR = 1.5

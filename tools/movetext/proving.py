@@ -12,7 +12,7 @@ PHASES = {
 }
 
 TOP = os.path.dirname(os.path.dirname(os.path.dirname(os.path.realpath(__file__))))
-BUILT = os.path.join(TOP, "crates/moveledger/out/moveledger")
+BUILT = os.path.join(TOP, "crates/moveledger_program/out/moveledger_program")
 
 
 class NotProved(Exception):

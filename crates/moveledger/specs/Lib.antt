@@ -8,7 +8,6 @@ pub mod Progress
 pub mod Answered
 pub mod Line
 pub mod Status
-pub mod Keeping
 pub mod Saved
 pub mod Hexadecimal
 pub mod Checking

@@ -28,8 +28,3 @@ abbrev pub checked_line : Result (Unit {0}) Refusal → Option (List ℕ)
 checked_line (Ok done) = Some (line (codes "accepted"))
 checked_line (Err (Phase phase)) = Some (line (refused_text phase))
 checked_line (Err OutOfMemory) = None
-
--- how far a run is, from the beginning of the terminal's line
-abbrev pub meter_text : ℕ → ℕ → ℕ → List ℕ
-meter_text bytes total records =
-    13 ∷ decimal bytes ++ codes " of " ++ decimal total ++ codes " bytes, " ++ decimal records ++ codes " records"

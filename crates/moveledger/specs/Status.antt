@@ -7,8 +7,8 @@ use Rattle.moveledger.specs.declared.command.LineError.{LineError}
 use Rattle.moveledger.specs.declared.command.LineError.TheVariants as words
 use Rattle.moveledger.specs.declared.engine.EngineError.{EngineError}
 use Rattle.moveledger.specs.declared.engine.EngineError.TheVariants as error
-use Rattle.moveledger.specs.declared.keeping.KeepError.{KeepError}
-use Rattle.moveledger.specs.declared.keeping.KeepError.TheVariants as keep
+use Rattle.moveledger.specs.declared.saved.KeepError.{KeepError}
+use Rattle.moveledger.specs.declared.saved.KeepError.TheVariants as keep
 use Rattle.mv_analyser.specs.declared.ProveError.{ProveError}
 use Rattle.mv_analyser.specs.declared.ProveError.TheVariants as proof
 use Rattle.mv_move_types.specs.declared.refusal.Refusal.{Refusal}

@@ -6,16 +6,55 @@ ghost use Rattle.mv_ledger.specs.SavedText.{IsSavedText, Second};
 ghost use Rattle.mv_ledger.specs.View.{state_of};
 ghost use Rattle.moveledger.specs.Saved.{IsMigrated, IsNotLoaded};
 ghost use Rattle.moveledger.specs.Status.{end_after_keeping};
-ghost use Rattle.moveledger.specs.declared.keeping.KeepError.{KeepError};
+ghost use Rattle.moveledger.specs.declared.saved.KeepError.{KeepError};
 
 use crate::authoring::printed;
 use crate::inputs::all_bytes;
-use crate::keeping::KeepError;
 use crate::printing::load_refused_line;
 use crate::status::{End, end_of_keeping};
 use mv_ledger::{Ledger, LoadError};
-use std::alloc::Global;
-use std::io::{Read, Write};
+use std::alloc::{AllocError, Global};
+use std::io::{self, ErrorKind, Read, Write};
+use thiserror::Error;
+
+/// Why a text isn't kept.
+#[derive(Clone, Copy, Debug, PartialEq, Eq, Error)]
+pub enum KeepError {
+    /// The file can't be made, written, synced or put into its place.
+    #[error("fault: write")]
+    Write,
+    /// An allocation failed.
+    #[error("fault: memory")]
+    Memory,
+}
+
+impl From<AllocError> for KeepError {
+    ghost use Rattle.std.specs.Prelude.{◌≡◌};
+    ghost use Rattle.moveledger.specs.declared.saved.KeepError.TheVariants.{Memory};
+
+    ghost from_gives = { λ _ e. e ≡ Memory };
+
+    fn from(_: AllocError) -> Self {
+        KeepError::Memory
+    }
+}
+
+impl From<io::Error> for KeepError {
+    ghost use Rattle.std.specs.Prelude.{◌≡◌, ◌↔◌};
+    ghost use Rattle.std.specs.IoError.{error_kind};
+    ghost use Rattle.std.specs.declared.io.ErrorKind.TheVariants.{OutOfMemory};
+    ghost use Rattle.moveledger.specs.declared.saved.KeepError.TheVariants.{Memory};
+
+    ghost from_gives = { λ e fault. (fault ≡ Memory) ↔ (error_kind e ≡ OutOfMemory) };
+
+    fn from(e: io::Error) -> Self {
+        if e.kind() == ErrorKind::OutOfMemory {
+            KeepError::Memory
+        } else {
+            KeepError::Write
+        }
+    }
+}
 
 /// The ledger that a reader gives, of which so many bytes are expected. Where it isn't loaded, what there is to say of it is
 /// printed, and how that ended is the error.

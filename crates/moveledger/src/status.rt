@@ -7,7 +7,7 @@ ghost use Rattle.moveledger.specs.Status.{EndsSo, end_after, end_after_check, en
 use crate::answering::write_text;
 use crate::command::LineError;
 use crate::engine::EngineError;
-use crate::keeping::KeepError;
+use crate::saved::KeepError;
 use mv_analyser::ProveError;
 use mv_move_types::Refusal;
 use std::io::Write;

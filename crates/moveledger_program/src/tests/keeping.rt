@@ -1,6 +1,7 @@
 // A disk whose calls fail, one after the other: what stands in a file's place, and what is left beside it.
 
-use crate::keeping::{KeepError, keep};
+use crate::keeping::keep;
+use moveledger::KeepError;
 use std::alloc::{Allocator, Global};
 use std::cell::Cell;
 use std::fs::{Metadata, OpenFile, OpenOptions, Permissions};

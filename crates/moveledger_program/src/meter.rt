@@ -1,9 +1,9 @@
 // What a terminal shows of a run that takes long: how far it is.
 ghost use Rattle.std.specs.Prelude.{◌≡◌, ◌++◌, IfOk, codes, decimal, string_bytes};
-ghost use Rattle.moveledger.specs.Printing.{meter_text};
+ghost use Rattle.moveledger_program.specs.Meter.{meter_text};
 
-use crate::engine::EngineError;
-use crate::pacing::AfterRecord;
+use moveledger::AfterRecord;
+use moveledger::engine::EngineError;
 use std::alloc::{AllocError, Global};
 use std::cell::Cell;
 use std::io::{self, IsTerminal, Read, Write};

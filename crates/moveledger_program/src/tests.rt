@@ -9,8 +9,8 @@ mod line;
 mod rows;
 mod saved;
 
-use crate::engine::{EngineError, engine};
 use fakes::{Pieces, Room};
+use moveledger::engine::{EngineError, engine};
 use mv_ledger::Ledger;
 use rows::{Row, inputs, rows_of};
 use std::alloc::Global;
@@ -54,6 +54,11 @@ fn roomy(alloc: Global) -> Option<Room> {
         }),
         Err(_) => None,
     }
+}
+
+// What was printed.
+fn printed(writer: &Room) -> Result<&str, Fail> {
+    Ok(std::str::from_utf8(writer.taken.as_slice())?)
 }
 
 fn answered(reader: &mut Pieces<'_>, writer: &mut Room, ledger: &mut Ledger) -> Answer {

@@ -2,10 +2,10 @@
 
 use super::fakes::Room;
 use super::rows::{Row, rows_of};
-use super::{Answer, answered, room, same, whole};
-use crate::engine::EngineError;
-use crate::saved::{loaded, migrated};
-use crate::status::End;
+use super::{Answer, answered, printed, room, same, whole};
+use moveledger::engine::EngineError;
+use moveledger::status::End;
+use moveledger::{loaded, migrated};
 use std::alloc::Global;
 use std::process::Abort;
 use std::test::Fail;
@@ -18,11 +18,6 @@ fn ledgers() -> &'static str {
 /// The rows of ledgers and records.
 fn ledgers_and_records() -> &'static str {
     LOADED
-}
-
-/// What was printed.
-fn printed(writer: &Room) -> Result<&str, Fail> {
-    Ok(std::str::from_utf8(writer.taken.as_slice())?)
 }
 
 /// The text of today of a ledger, in hexadecimal, or the line of its refusal.

@@ -9,23 +9,9 @@
 //! ```
 #![tactic(auto)]
 
-mod answering;
-mod authoring;
-mod checking;
-mod command;
-mod engine;
-mod inputs;
 mod keeping;
 mod meter;
-mod modules;
-mod pacing;
-mod printing;
 mod program;
-mod proving;
-mod reading;
-mod reporting;
-mod saved;
-mod status;
 #[cfg(test)]
 mod tests;
 

@@ -1,21 +1,33 @@
 // What the commands of an author print: of a module, and of a module with the text of a certificate.
 
+use super::fakes::Room;
 use super::rows::{Row, rows_of};
-use crate::checking::check_text;
-use crate::printing::{checked_line, proved_line};
-use crate::proving::prove_text;
-use std::alloc::{AllocError, Global};
+use super::{printed, room, whole};
+use moveledger::status::End;
+use moveledger::{check_module, prove_module};
+use std::alloc::Global;
 use std::process::Abort;
 use std::test::Fail;
 
-/// What is printed of a module.
-fn proved(alloc: Global, module: &[u8]) -> Result<String, AllocError> {
-    proved_line(alloc, prove_text(alloc, module))
+/// Prints what there is to print of a module, and says how that ends.
+fn proved(alloc: Global, module: &[u8], writer: &mut Room) -> End {
+    prove_module(alloc, whole(module), writer)
 }
 
-/// What is printed of a module with a text.
-fn checked(alloc: Global, module: &[u8], text: &str) -> Result<String, AllocError> {
-    checked_line(alloc, check_text(alloc, module, text.as_bytes()))
+/// Prints what there is to print of a module with a text, and says how that ends.
+fn checked(alloc: Global, module: &[u8], text: &str, writer: &mut Room) -> End {
+    check_module(alloc, whole(module), whole(text.as_bytes()), writer)
+}
+
+/// How it ends where this is printed.
+fn end_of(line: &str) -> End {
+    if line == "too complex" {
+        return End::TooComplex;
+    }
+    match line.strip_prefix("refused ") {
+        None => End::Done,
+        Some(phase) => End::Refused(phase.parse::<u8>().unwrap_or(0)),
+    }
 }
 
 /// What is printed of a module with the line that was printed of it: it passes with its certificate, and what refuses it before
@@ -39,9 +51,10 @@ fn texts() -> &'static str {
     CHECKED
 }
 
-/// A line is what a row wants.
-fn is_wanted(rt: &impl Abort, line: &str, wanted: &str, shows: &str) {
+/// What is printed, and how that ends, is what a row wants.
+fn is_wanted(rt: &impl Abort, (line, end): (&str, End), wanted: &str, shows: &str) {
     assert_eq!(rt; line.strip_suffix('\n'), Some(wanted), "{shows}");
+    assert_eq!(rt; end, end_of(wanted), "{shows}");
 }
 
 /// A module with the line that was printed of it is answered as `printed_again` says.
@@ -53,19 +66,27 @@ fn is_checked(
     shows: &str,
 ) -> Result<(), Fail> {
     if let Some(again) = printed_again(line) {
-        let found = checked(alloc, module, line)?;
-        is_wanted(rt, found.as_str(), again, shows);
+        let mut writer = room(alloc);
+        let end = checked(alloc, module, line, &mut writer);
+        is_wanted(rt, (printed(&writer)?, end), again, shows);
     }
     Ok(())
+}
+
+/// What a row has of a module and its certificate.
+fn is_printed(rt: &impl Abort, alloc: Global, row: &Row) -> Result<(), Fail> {
+    let module = hex::decode(alloc, row.given)?;
+    let mut writer = room(alloc);
+    let end = proved(alloc, &module, &mut writer);
+    let line = printed(&writer)?;
+    is_wanted(rt, (line, end), row.wanted, row.shows);
+    is_checked(rt, alloc, &module, line, row.shows)
 }
 
 #[test]
 fn certificates_are_printed(rt: HostRuntime) -> Result<(), Fail> {
     for row in &rows_of(rt.alloc(), modules())? {
-        let module = hex::decode(rt.alloc(), row.given)?;
-        let line = proved(rt.alloc(), &module)?;
-        is_wanted(&rt, line.as_str(), row.wanted, row.shows);
-        is_checked(&rt, rt.alloc(), &module, line.as_str(), row.shows)?;
+        is_printed(&rt, rt.alloc(), row)?;
     }
     Ok(())
 }
@@ -76,8 +97,9 @@ fn is_answered(rt: &impl Abort, alloc: Global, row: &Row) -> Result<(), Fail> {
     let module = hex::decode(alloc, row.given)?;
     let text = text.replace(alloc, "\\r", "\r")?;
     let text = text.replace(alloc, "\\n", "\n")?;
-    let line = checked(alloc, &module, text.as_str())?;
-    is_wanted(rt, line.as_str(), answer, row.shows);
+    let mut writer = room(alloc);
+    let end = checked(alloc, &module, text.as_str(), &mut writer);
+    is_wanted(rt, (printed(&writer)?, end), answer, row.shows);
     Ok(())
 }
 

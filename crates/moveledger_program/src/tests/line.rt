@@ -1,9 +1,11 @@
 // The command line, and how the program ends. The words that are refused stand in scripts/try-exits.
 
-use crate::command::{Task, command};
-use crate::engine::EngineError;
-use crate::keeping::KeepError;
-use crate::status::{End, end_of, end_of_check, end_of_keeping, end_of_proof, fault_text, status};
+use moveledger::KeepError;
+use moveledger::command::{Task, command};
+use moveledger::engine::EngineError;
+use moveledger::status::{
+    End, end_of, end_of_check, end_of_keeping, end_of_proof, fault_text, status,
+};
 use mv_analyser::ProveError;
 use mv_move_types::Refusal;
 use std::alloc::Global;

@@ -2,14 +2,14 @@
 ghost use Rattle.std.specs.Prelude.{◌≡◌, ◌+◌, ◌-◌, ◌^◌, IfOk, IfSome, None, min, unwrap_or};
 ghost use Rattle.std.specs.Fs.{file_type, metadata_len, IsFile};
 
-use crate::authoring::{check_module, prove_module};
-use crate::command::{LineError, Task, command, not_text};
 use crate::keeping::keep;
 use crate::meter::{Counted, Meter, Report, Screen};
-use crate::pacing::{Gathering, Prompt};
-use crate::reporting::report;
-use crate::saved::{end_of_text, loaded, migrated, text_to_keep};
-use crate::status::{End, end_of_words, ended};
+use moveledger::command::{LineError, Task, command, not_text};
+use moveledger::status::{End, end_of_words, ended};
+use moveledger::{
+    Gathering, Prompt, check_module, end_of_text, loaded, migrated, prove_module, report,
+    text_to_keep,
+};
 use mv_ledger::Ledger;
 use std::env;
 use std::fs::{self, File, Metadata};

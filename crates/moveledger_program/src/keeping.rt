@@ -2,54 +2,15 @@
 ghost use Rattle.std.specs.Prelude.{◌≡◌, IfOk, OnOk, string_bytes};
 ghost use Rattle.std.specs.Io.KnownBytes.{Appends};
 ghost use Rattle.std.specs.Path.{path_bytes};
-ghost use Rattle.moveledger.specs.Keeping.{folder_of, new_name};
+ghost use Rattle.moveledger_program.specs.Keeping.{folder_of, new_name};
 
+use moveledger::KeepError;
 use std::alloc::{AllocError, Global};
 use std::fs::{self, File, Metadata, OpenFile, OpenOptions, Permissions};
 use std::io::{self, ErrorKind, Write};
 use std::os::unix::fs::{MetadataExt, OpenOptionsExt, PermissionsExt};
 use std::path::{Path, PathBuf};
 use std::rt::Files;
-use thiserror::Error;
-
-/// Why a text isn't kept.
-#[derive(Clone, Copy, Debug, PartialEq, Eq, Error)]
-pub enum KeepError {
-    /// The file can't be made, written, synced or put into its place.
-    #[error("fault: write")]
-    Write,
-    /// An allocation failed.
-    #[error("fault: memory")]
-    Memory,
-}
-
-impl From<AllocError> for KeepError {
-    ghost use Rattle.std.specs.Prelude.{◌≡◌};
-    ghost use Rattle.moveledger.specs.declared.keeping.KeepError.TheVariants.{Memory};
-
-    ghost from_gives = { λ _ e. e ≡ Memory };
-
-    fn from(_: AllocError) -> Self {
-        KeepError::Memory
-    }
-}
-
-impl From<io::Error> for KeepError {
-    ghost use Rattle.std.specs.Prelude.{◌≡◌, ◌↔◌};
-    ghost use Rattle.std.specs.IoError.{error_kind};
-    ghost use Rattle.std.specs.declared.io.ErrorKind.TheVariants.{OutOfMemory};
-    ghost use Rattle.moveledger.specs.declared.keeping.KeepError.TheVariants.{Memory};
-
-    ghost from_gives = { λ e fault. (fault ≡ Memory) ↔ (error_kind e ≡ OutOfMemory) };
-
-    fn from(e: io::Error) -> Self {
-        if e.kind() == ErrorKind::OutOfMemory {
-            KeepError::Memory
-        } else {
-            KeepError::Write
-        }
-    }
-}
 
 /// Where standard output is found by a name, to see what it is.
 const STANDARD_OUTPUT_FILE: &str = "/dev/stdout";

@@ -1,0 +1,35 @@
+//! The engine, the command line and the statuses of moveledger: all of it but the files, which the program above this crate opens.
+//!
+//! ```
+//! use moveledger::engine::{EngineError, engine};
+//! use mv_ledger::Ledger;
+//! use std::alloc::Global;
+//!
+//! /// How many records these bytes are. A new ledger answers them, and the report is put behind what the writer has.
+//! fn example(alloc: Global, mut records: &[u8], report: &mut Vec<u8>) -> Result<u64, EngineError> {
+//!     engine(&mut records, report, &mut Ledger::new(alloc))
+//! }
+//! ```
+#![tactic(auto)]
+
+mod answering;
+mod authoring;
+mod checking;
+pub mod command;
+pub mod engine;
+mod inputs;
+mod modules;
+mod pacing;
+mod printing;
+mod proving;
+mod reading;
+mod reporting;
+mod saved;
+pub mod status;
+
+pub use authoring::{check_module, prove_module};
+pub use checking::check_text;
+pub use pacing::{AfterRecord, Gathering, Prompt};
+pub use proving::prove_text;
+pub use reporting::report;
+pub use saved::{KeepError, end_of_text, loaded, migrated, text_to_keep};
