@@ -22,7 +22,7 @@ fn push_copies(alloc: Global, items: &mut Vec<Edge>, more: &[Edge]) -> Result<()
 }
 
 /// The edges of two ascending lists, in order, each once.
-fn merged(alloc: Global, a: &[Edge], b: &[Edge]) -> Result<Vec<Edge>, AllocError>
+pub(crate) fn merged(alloc: Global, a: &[Edge], b: &[Edge]) -> Result<Vec<Edge>, AllocError>
     requires left { IsTrue (are_ascending a.now) }
     requires right { IsTrue (are_ascending b.now) }
     ensures { IfOk result (λ v. v.items ≡ sorted (a.now ++ b.now)) }

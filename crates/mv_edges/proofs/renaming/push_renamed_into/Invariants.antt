@@ -1,5 +1,5 @@
-use Rattle.std.proofs.Common.{◌≡◌, ◌-◌, ◌<◌, ◌≤◌, ◌++◌, true, length, take, get_or}
-use Rattle.mv_edges.specs.Edges.{Edge, same_node, renamed, into}
+use Rattle.std.proofs.Common.{◌≡◌, ◌-◌, ◌≤◌, ◌++◌, length, take}
+use Rattle.mv_edges.specs.Edges.{renamed, into}
 use Rattle.mv_edges.proofs.renaming.push_renamed_into.Given as goal
 
 abbrev pub invariant-loop-place : goal.invariant-loop-place

@@ -1,5 +1,5 @@
-use Rattle.std.proofs.Common.{◌≡◌, ◌-◌, ◌<◌, ◌≤◌, ◌++◌, true, length, take, get_or}
-use Rattle.mv_edges.specs.Edges.{Edge, same_node, renamed, out_of}
+use Rattle.std.proofs.Common.{◌≡◌, ◌-◌, ◌≤◌, ◌++◌, length, take}
+use Rattle.mv_edges.specs.Edges.{renamed, out_of}
 use Rattle.mv_edges.proofs.renaming.push_renamed_out_of.Given as goal
 
 abbrev pub invariant-loop-place : goal.invariant-loop-place

@@ -1,5 +1,5 @@
-use Rattle.std.proofs.Common.{◌≡◌, ◌-◌, ◌<◌, ◌≤◌, true, length, take, get_or}
-use Rattle.mv_edges.specs.Edges.{Edge, same_node, inherited, changed}
+use Rattle.std.proofs.Common.{◌≡◌, ◌-◌, ◌≤◌, length, take}
+use Rattle.mv_edges.specs.Edges.{inherited, changed}
 use Rattle.mv_edges.proofs.edges.Edges.inherited.Given as goal
 
 abbrev pub invariant-loop-place : goal.invariant-loop-place
