@@ -6,6 +6,7 @@ pub mod KeptThere
 pub mod Laws
 pub mod Nodes
 pub mod Places
+pub mod Results
 pub mod Rising
 pub mod RowsThere
 pub mod Shifts
