@@ -18,7 +18,9 @@ TRIES = 3
 UPGRADES = 300
 FEW, MANY = 500, 2_000
 SHOWS, SHOWN = 20, 1_000
-EDGES = 1_024
+
+# What is stated of a block of a function with two parameters: 1,024 edges from the second one's value into the first one.
+STATED = b"\x01\x01\x01\x80\x08" + b"".join(bytes([1, 1, 0, 0, 2, a, b, 0]) for a in range(32) for b in range(32))
 
 
 class Program:
@@ -172,13 +174,30 @@ def many_own(count, own="H"):
     return m.bytes()
 
 
-def copying(times, below):
-    """A module with a function of one block, stated with 1,024 edges into its first parameter, which is copied and released so
-    often, above so many copies; and its certificate."""
+def stated(code, parameters="&u64; u64"):
+    """A module with a function of one block, stated with 1,024 edges into its first parameter; and its certificate."""
     m = Module()
-    m.function("f", "&u64; u64", "", "", "CopyLoc 0;" * below + "CopyLoc 0; Pop;" * times + "Pop;" * below + "MoveLoc 0; Pop; Ret", entry=False)
-    edges = b"".join(bytes([1, 1, 0, 0, 2, a, b, 0]) for a in range(32) for b in range(32))
-    return m.bytes(), b"\x01\x01\x01" + bytes([0x80, 0x08]) + edges
+    m.function("f", parameters, "", "", code + "MoveLoc 0; Pop; Ret", entry=False)
+    return m.bytes(), STATED
+
+
+def copying(times, below):
+    """The first parameter is copied and released so often, above so many copies."""
+    return stated("CopyLoc 0;" * below + "CopyLoc 0; Pop;" * times + "Pop;" * below)
+
+
+def moving(times, below):
+    """It is moved to the stack and back so often, above so many copies."""
+    return stated("CopyLoc 0;" * below + "MoveLoc 0; StLoc 0;" * times + "Pop;" * below)
+
+
+def calling(times, references):
+    """So many copies of it are handed to a function that returns as many, again and again."""
+    m = Module()
+    kinds = "; ".join(["&u64"] * references)
+    m.function("pick", kinds, kinds, "", "".join(f"MoveLoc {n};" for n in range(references)) + "Ret", entry=False)
+    m.function("f", "&u64; u64", "", "", "CopyLoc 0;" * references + "Call pick;" * times + "Pop;" * references + "MoveLoc 0; Pop; Ret", entry=False)
+    return m.bytes(), b"\x01" * (1 + references) + b"\x00" + STATED
 
 
 def tell_dearest(program):
@@ -186,28 +205,44 @@ def tell_dearest(program):
     ordinary = inputs.all_families(inputs.LARGE, 5).bytes()
     helping = program.published(inputs.helping().bytes())
     publishing = program.published(ordinary)
-    nothing = program.spent([helping])
-    mean = (program.spent([helping] + [publishing] * 10) - nothing) / 10 / len(publishing) * 1e6
+    mean = (program.spent([helping] + [publishing] * 10) - program.spent([helping])) / 10 / len(publishing) * 1e6
     print(f"costs: 1 MB of ordinary modules takes {mean * 1e3:.0f} ms", flush=True)
+
+    def counted(offered, before):
+        """The machine instructions for each byte of a record, or 0 where there is no valgrind."""
+        first, last = program.instructions(before), program.instructions([*before, offered])
+        return (last - first) / len(offered) if first is not None else 0
+
+    usual = counted(publishing, [helping])
     dear = []
 
     def tell_one(what, offered, before=()):
         answer = program.report([*before, offered]).decode().splitlines()[-1]
         assert " published " in answer, (what, answer)
         spent = program.spent([*before, offered]) - program.spent(before)
-        dear.append((spent / len(offered) * 1e6, what, spent, len(offered)))
+        dear.append((spent / len(offered) * 1e6, counted(offered, before), what, spent, len(offered)))
 
     for count in 8_000, 16_000:
         tell_one(f"16 modules of {count} constants", record(1, publish(*((many_constants(count, f"C{n}"), b"") for n in range(16)))))
     for count in 1_500, 3_000:
         home = record(1, publish((many_own(count), b"")))
         tell_one(f"10 modules that each name {count} structs of another", record(1, publish(*((many_foreign(count, f"F{n}"), b"") for n in range(10)))), [home])
-    for what, times, below in ("1,900 copies of a reference with 1,024 edges", 1_900, 0), ("800 copies of it above 126 others", 800, 126):
-        text, certificate = copying(times, below)
-        tell_one(what, record(1, publish((text, certificate))))
-    for per_megabyte, what, spent, size in sorted(dear, reverse=True):
-        print(f"costs: {what}, {size} bytes: {spent:.3f} s, {per_megabyte / mean:.0f} times the mean for as many bytes (aim: 100 or less)",
-              flush=True)
+    for what, made in (
+        ("1,900 copies of a reference with 1,024 edges", copying(1_900, 0)),
+        ("950 copies of it", copying(950, 0)),
+        ("800 copies of it above 126 others", copying(800, 126)),
+        ("1,900 moves of it to the stack and back", moving(1_900, 0)),
+        ("950 moves of it to the stack and back", moving(950, 0)),
+        ("40 moves of it above 125 copies, of 1,900 that fit", moving(40, 125)),
+        ("20 moves of it above 125 copies", moving(20, 125)),
+        ("100 calls with 8 copies of it that return as many, of 4,000 that fit", calling(100, 8)),
+        ("50 calls with 8 copies of it that return as many", calling(50, 8)),
+    ):
+        tell_one(what, record(1, publish(made)))
+    for per_megabyte, each, what, spent, size in sorted(dear, reverse=True):
+        instructions = f", {each / usual:.0f} times the machine instructions" if each else ""
+        print(f"costs: {what}, {size} bytes: {spent:.3f} s, {per_megabyte / mean:.0f} times the mean for as many bytes{instructions} "
+              f"(aim: 100 or less)", flush=True)
 
 
 def tell(program, folder):

@@ -1,8 +1,9 @@
 // What types and nodes are, and which nodes the references among types have.
 ghost use Rattle.std.specs.Prelude.{◌≡◌, ◌+◌, ◌≤◌, ◌^◌, ◌++◌, ◌∷◌, ◌||◌, [], not, length, IfOk, OnOk, if◌then◌else◌};
-ghost use Rattle.std.specs.List.{list_all};
+ghost use Rattle.std.specs.List.{list_all, list_any};
 ghost use Rattle.mv_move_types.specs.declared.borrow.Node.TheVariants.{Glob};
 ghost use Rattle.mv_borrow_graph.specs.BorrowRules.{is_mutable_token, is_reference_token, is_root_node, is_temp, no_edge_out, reference_nodes};
+ghost use Rattle.mv_borrow_graph.specs.Results.{is_immutable_token};
 ghost use Rattle.mv_borrow_graph.specs.Domain.{is_picked};
 
 use mv_edges::Edges;
@@ -27,6 +28,30 @@ pub fn is_reference(token: Token) -> bool
         Token::Reference(_) | Token::MutableReference(_) => true,
         Token::Plain(_) => false,
     }
+}
+
+/// Whether a type is an immutable reference.
+fn is_immutable_reference(token: Token) -> bool
+    ensures { result ≡ is_immutable_token token }
+{
+    match token {
+        Token::Reference(_) => true,
+        Token::Plain(_) | Token::MutableReference(_) => false,
+    }
+}
+
+/// Whether one of these types is a mutable reference.
+pub fn any_mutable(tokens: &[Token]) -> bool
+    ensures { result ≡ list_any is_mutable_token tokens.now }
+{
+    tokens.iter().any(|token| is_mutable_reference(*token))
+}
+
+/// Whether one of these types is an immutable reference.
+pub fn any_immutable(tokens: &[Token]) -> bool
+    ensures { result ≡ list_any is_immutable_token tokens.now }
+{
+    tokens.iter().any(|token| is_immutable_reference(*token))
 }
 
 /// Whether a node is an operand.

@@ -8,10 +8,10 @@ use Rattle.std.specs.Cmp.Lexicographic.{slice_cmp, bytes_decides}
 use Rattle.std.specs.List.{starts_with}
 use Rattle.std.proofs.lemmas.Bool.{and_parts, and_from, ltb-true}
 use Rattle.mv_move_types.specs.Paths.{begins}
-use Rattle.mv_edges.specs.Edges.{Edge, Label, agrees}
+use Rattle.mv_edges.specs.Edges.{Edge, Label, agrees, same_node, an_edge}
 use Rattle.mv_edges.specs.Ascending.{list_before, nodes_code, edge_before, edge_order}
 use Rattle.mv_edges.proofs.EdgeOrder.{edge_strict, same_edges}
-use Rattle.mv_edges.specs.Equality.{beq_decides}
+use Rattle.mv_edges.specs.Equality.{beq_decides, same_node_decides}
 
 -- `starts_with`
 pub starts_with_begins : (xs ys : List ℕ) → starts_with eqb ys xs ≡ begins xs ys
@@ -134,3 +134,19 @@ order_greater a b h = by_test (edge_before b a) refl
 -- equal edges compare alike
 pub order_of_views : (v x w y : Edge) → v ≡ x → w ≡ y → edge_order x y ≡ edge_order v w
 order_of_views v x w y h g = ap (λ z. edge_order z y) (sym h) ∙ ap (edge_order v) (sym g)
+
+-- edges with the same nodes tie by them
+pub order_of_same_nodes : (a b : Edge) → same_node a.from b.from ≡ true → same_node a.to b.to ≡ true → slice_cmp nat_cmp (nodes_code a) (nodes_code b) ≡ Equal
+order_of_same_nodes a b h g =
+    ap (slice_cmp nat_cmp (nodes_code a)) (sym same) ∙ (let code = nodes_code a in by_order (slice_cmp nat_cmp code code) (list_order_same code code ∙ (bytes_decides code code).1 refl))
+  where
+    same : nodes_code a ≡ nodes_code b
+    same =
+        let from : a.from ≡ b.from = (same_node_decides a.from b.from).0 h in
+        let to : a.to ≡ b.to = (same_node_decides a.to b.to).0 g in
+        λ i. nodes_code (an_edge (from i) a.label (to i))
+
+    by_order : (o : Ordering) → is_eq o ≡ true → o ≡ Equal
+    by_order Less e = absurd (true≢false (sym e))
+    by_order Equal e = refl
+    by_order Greater e = absurd (true≢false (sym e))

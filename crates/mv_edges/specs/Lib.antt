@@ -3,5 +3,6 @@ pub mod Counts
 pub mod Edges
 pub mod Equality
 pub mod Joins
+pub mod Positions
 pub mod Sorted
 pub mod Sought

@@ -1,5 +1,7 @@
 // An edge, and the order of edges.
 ghost use Rattle.std.specs.Prelude.{◌≡◌, ◌≤◌, max, length, IfOk};
+ghost use Rattle.std.specs.Ordering.{ordering_then, nat_cmp, bool_cmp};
+ghost use Rattle.std.specs.Cmp.Lexicographic.{slice_cmp};
 ghost use Rattle.mv_edges.specs.Edges.{an_edge, is_global_node, same_node, renamed_node, changed, edge_leq, opened_at};
 ghost use Rattle.mv_edges.specs.Ascending.{node_code, height, edge_height, nodes_code, edge_before, edge_order};
 
@@ -256,12 +258,33 @@ impl<'a> EdgeView<'a> {
         [self.height(), from_kind, from_index, to_kind, to_index]
     }
 
+    /// Which of two edges comes first by the higher of the nodes, then by the nodes.
+    #[tactic(auto, using(crate::proofs::Comparisons::order_of_same_nodes))]
+    fn nodes_order(&self, other: &EdgeView<'_>) -> Ordering
+        ensures { result ≡ slice_cmp nat_cmp (nodes_code self.now) (nodes_code other.now) }
+    {
+        if is_same(self.from, other.from) && is_same(self.to, other.to) {
+            return Ordering::Equal;
+        }
+        self.nodes().cmp(&other.nodes())
+    }
+
+    /// Which of two labels comes first: by the positions, then exact before open.
+    fn label_order(&self, other: &EdgeView<'_>) -> Ordering
+        ensures { result ≡ ordering_then (slice_cmp nat_cmp self.now.label.path other.now.label.path) (bool_cmp self.now.label.is_open other.now.label.is_open) }
+    {
+        let paths = self.path.cmp(other.path);
+        paths.then(self.is_open.cmp(&other.is_open))
+    }
+
     /// Which of two edges comes first: by the higher of the nodes, then by the nodes, then by the positions, then exact before open.
     pub(crate) fn order(&self, other: &EdgeView<'_>) -> Ordering
         ensures { result ≡ edge_order self.now other.now }
     {
-        let nodes = self.nodes().cmp(&other.nodes());
-        let paths = self.path.cmp(other.path);
-        nodes.then(paths.then(self.is_open.cmp(&other.is_open)))
+        match self.nodes_order(other) {
+            Ordering::Less => Ordering::Less,
+            Ordering::Equal => self.label_order(other),
+            Ordering::Greater => Ordering::Greater,
+        }
     }
 }

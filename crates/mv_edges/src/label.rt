@@ -2,7 +2,7 @@
 ghost use Rattle.std.specs.Prelude.{◌≡◌, ◌≤◌, length, IsOk, IfOk};
 ghost use Rattle.mv_edges.specs.Edges.{here, extended, opened, changed, agrees, label_leq};
 
-use smallvec::SmallVec;
+use super::path::Path;
 use std::alloc::{AllocError, Global};
 use std::marker::Model;
 
@@ -12,7 +12,7 @@ use std::marker::Model;
 /// so that such a label is made, copied and changed with no allocation.
 #[derive(Drop, Debug)]
 pub struct Label {
-    path: SmallVec<u8, 8>,
+    path: Path,
     is_open: bool,
 }
 
@@ -21,7 +21,7 @@ impl Model for Label {
 
     ghost Value = { LabelRecord };
 
-    ghost view = { λ l. record { path = l.path.items; is_open = l.is_open } };
+    ghost view = { λ l. record { path = l.path; is_open = l.is_open } };
 }
 
 impl Label {
@@ -29,8 +29,7 @@ impl Label {
     pub fn new(path: Vec<u8>, is_open: bool) -> Self
         ensures { result ≡ record { path = path.items; is_open = is_open } }
     {
-        let mut path = SmallVec::from_vec(path);
-        path.shrink_to_fit();
+        let path = Path::from_vec(path);
         Label { path, is_open }
     }
 
@@ -39,15 +38,15 @@ impl Label {
         ensures value { IfOk result (λ l. l ≡ record { path = path.now; is_open = is_open }) }
         ensures succeeds { length path.now ≤ 8 → IsOk result }
     {
-        let path = SmallVec::from_slice(alloc, path)?;
+        let path = Path::from_slice(alloc, path)?;
         Ok(Label { path, is_open })
     }
 
     /// The label of the place itself: no position, exact.
-    pub fn here(alloc: Global) -> Self
+    pub fn here(_alloc: Global) -> Self
         ensures { result ≡ here }
     {
-        let path = SmallVec::new(alloc);
+        let path = Path::new();
         Label {
             path,
             is_open: false,
@@ -72,7 +71,9 @@ impl Label {
     pub fn copy(&self, alloc: Global) -> Result<Self, AllocError>
         ensures { IfOk result (λ l. l ≡ self.now) }
     {
-        Label::from_slice(alloc, self.path(), self.is_open)
+        let path = self.path.copy(alloc)?;
+        let is_open = self.is_open;
+        Ok(Label { path, is_open })
     }
 
     /// Whether the label is the other, or the other is open and its positions begin this one's.
@@ -98,19 +99,27 @@ impl Label {
     pub fn extended(&self, alloc: Global, position: u8) -> Result<Self, AllocError>
         ensures { IfOk result (λ l. l ≡ extended position self.now) }
     {
-        let mut path = SmallVec::from_slice(alloc, self.path())?;
-        let is_open = self.is_open;
-        if !is_open {
-            path.push(position)?;
+        let path = self.path.copy(alloc)?;
+        if self.is_open {
+            return Ok(Label {
+                path,
+                is_open: true,
+            });
         }
-        Ok(Label { path, is_open })
+        let path = path.pushed(alloc, position)?;
+        Ok(Label {
+            path,
+            is_open: false,
+        })
     }
 
     /// The label that allows anything below, too.
     pub fn opened(&self, alloc: Global) -> Result<Self, AllocError>
         ensures { IfOk result (λ l. l ≡ opened self.now) }
     {
-        Label::from_slice(alloc, self.path(), true)
+        let mut label = self.copy(alloc)?;
+        label.is_open = true;
+        Ok(label)
     }
 
     /// The label with a change made to it.

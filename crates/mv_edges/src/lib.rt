@@ -22,6 +22,7 @@ mod edge;
 mod edges;
 mod ends;
 mod label;
+mod path;
 mod renaming;
 mod search;
 mod sought;

@@ -19,10 +19,15 @@ fn push_renamed_into(
     requires { IsTrue (are_ascending edges.now) }
     ensures { OnOk result (items.new.items ≡ items.old.items ++ renamed old new (into old edges.now)) }
 {
-    let mut place = next_into(edges, old, 0);
+    let mut place = 0;
     while place < edges.len() {
-        items.push(edges[place].copy(alloc)?.renamed(old, new))?;
-        place = next_into(edges, old, place + 1);
+        let e = &edges[place];
+        if e.ends_at(old) {
+            items.push(e.copy(alloc)?.renamed(old, new))?;
+            place += 1;
+        } else {
+            place = next_into(edges, old, place + 1);
+        }
     }
     Ok(())
 }
@@ -38,10 +43,15 @@ fn push_renamed_out_of(
     requires { IsTrue (are_ascending edges.now) }
     ensures { OnOk result (items.new.items ≡ items.old.items ++ renamed old new (out_of old edges.now)) }
 {
-    let mut place = next_out_of(edges, old, 0);
+    let mut place = 0;
     while place < edges.len() {
-        items.push(edges[place].copy(alloc)?.renamed(old, new))?;
-        place = next_out_of(edges, old, place + 1);
+        let e = &edges[place];
+        if e.starts_at(old) {
+            items.push(e.copy(alloc)?.renamed(old, new))?;
+            place += 1;
+        } else {
+            place = next_out_of(edges, old, place + 1);
+        }
     }
     Ok(())
 }

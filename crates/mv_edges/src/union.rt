@@ -22,7 +22,7 @@ fn push_copies(alloc: Global, items: &mut Vec<Edge>, more: &[Edge]) -> Result<()
 }
 
 /// The edges of two ascending lists, in order, each once.
-fn merged(alloc: Global, a: &[Edge], b: &[Edge]) -> Result<Vec<Edge>, AllocError>
+pub(crate) fn merged(alloc: Global, a: &[Edge], b: &[Edge]) -> Result<Vec<Edge>, AllocError>
     requires left { IsTrue (are_ascending a.now) }
     requires right { IsTrue (are_ascending b.now) }
     ensures { IfOk result (λ v. v.items ≡ sorted (a.now ++ b.now)) }
@@ -80,10 +80,15 @@ impl Edges {
     {
         let edges = self.as_slice();
         let mut items = Vec::new(alloc);
-        let mut place = next_into(edges, old, 0);
+        let mut place = 0;
         while place < edges.len() {
-            items.push(edges[place].inherited(alloc, change, new)?)?;
-            place = next_into(edges, old, place + 1);
+            let e = &edges[place];
+            if e.ends_at(old) {
+                items.push(e.inherited(alloc, change, new)?)?;
+                place += 1;
+            } else {
+                place = next_into(edges, old, place + 1);
+            }
         }
         match change {
             Change::Kept => Ok(Edges::of_items(items)),

@@ -4,6 +4,7 @@ ghost use Rattle.mv_edges.specs.Ascending.{are_ascending};
 ghost use Rattle.mv_edges.specs.Sorted.{sorted};
 
 use super::Edge;
+use super::union::merged;
 use std::alloc::AllocError;
 
 /// Whether edges ascend.
@@ -52,7 +53,7 @@ fn follow(items: &[Edge], more: &[Edge]) -> bool
     last.is_before(first)
 }
 
-/// Adds edges to others, and puts all of them in their order, each once. Those that go behind the others are there already.
+/// Adds edges to others, all of them in their order, each once: behind the others where they go there, and else in one pass over both.
 #[tactic(auto, using(crate::proofs::Sorting::sorted_behind))]
 pub(crate) fn add_in_order(items: &mut Vec<Edge>, mut more: Vec<Edge>) -> Result<(), AllocError>
     requires items { IsTrue (are_ascending items.old.items) }
@@ -60,15 +61,11 @@ pub(crate) fn add_in_order(items: &mut Vec<Edge>, mut more: Vec<Edge>) -> Result
     ensures ok { OnOk result (items.new.items ≡ sorted (items.old.items ++ more.items)) }
     ensures err { OnErr result (items.new.items ≡ items.old.items) }
 {
-    let count = items.len();
-    let ascend = follow(items, &more);
-    items.append(&mut more)?;
-    if ascend {
+    if follow(items, &more) {
+        items.append(&mut more)?;
         return Ok(());
     }
-    let done = put_in_order(items);
-    if done.is_err() {
-        items.truncate(count);
-    }
-    done
+    let alloc = *items.allocator();
+    *items = merged(alloc, items, &more)?;
+    Ok(())
 }

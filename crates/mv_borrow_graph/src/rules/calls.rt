@@ -2,15 +2,20 @@
 ghost use Rattle.std.specs.Prelude.{◌≡◌, ◌+◌, ◌++◌, ◌∷◌, [], ◌≤◌, ◌^◌, ◌&&◌, ◌||◌, ◌-◌, length, slice_get, option_map, Err, IfOk, IfSome, OnOk, IsTrue};
 ghost use Rattle.std.specs.Bool.{then_some};
 ghost use Rattle.std.specs.List.{list_all, list_any};
-ghost use Rattle.mv_move_types.specs.declared.borrow.Node.TheVariants.{Glob};
+ghost use Rattle.mv_move_types.specs.declared.borrow.Node.TheVariants.{Glob, Temp};
+ghost use Rattle.mv_edges.specs.Edges.{changed, inherited};
+ghost use Rattle.mv_edges.specs.declared.label.Change.TheVariants.{Kept};
 ghost use Rattle.mv_move_types.specs.Module.{own_acquires};
 ghost use Rattle.mv_edges.specs.Ascending.{are_ascending};
 ghost use Rattle.mv_edges.specs.Sorted.{sorted};
 ghost use Rattle.mv_borrow_graph.specs.BorrowRules.{call_edges, is_mutable, is_mutable_token, is_reference_token, is_root_node, is_temp, no_edge_out, opened_edges, reference_nodes, result_edges, return_edges, without_all};
+ghost use Rattle.mv_borrow_graph.specs.Results.{taken_over};
 ghost use Rattle.mv_borrow_graph.specs.Domain.{Follows, ordered};
 
 use crate::changes::keep;
-use crate::nodes::{are_free, are_free_globals, is_operand, is_root, nodes_of};
+use crate::nodes::{
+    any_immutable, any_mutable, are_free, are_free_globals, is_operand, is_root, nodes_of,
+};
 use crate::site::Site;
 use mv_edges::{Change, Edge, Edges};
 use mv_lattice::StepError;
@@ -47,27 +52,61 @@ fn add_opened(
     Ok(())
 }
 
-/// Adds the edges of a result at a place: a mutable reference comes from the mutable arguments, any other from all.
+/// The incoming edges of these nodes, opened, for one node, if they are asked for; else none.
+fn opened_if(
+    alloc: Global,
+    asked: bool,
+    nodes: &[Node],
+    to: Node,
+    s: &Edges,
+) -> Result<Edges, AllocError>
+    ensures { IfOk result (λ edges. IsTrue asked → edges ≡ sorted (opened_edges nodes.now to s.now)) }
+{
+    let mut edges = Edges::new(alloc);
+    if asked {
+        add_opened(alloc, nodes, to, s, &mut edges)?;
+    }
+    Ok(edges)
+}
+
+/// Adds the edges that lead into a node among others, for a result at a place.
+#[tactic(auto, using(crate::proofs::Results::added_sorted))]
+fn add_taken_over(
+    alloc: Global,
+    from: &Edges,
+    shared: Node,
+    place: u16,
+    edges: &mut Edges,
+) -> Result<(), AllocError>
+    ensures { OnOk result (edges.new ≡ sorted (edges.old ++ inherited (changed Kept) shared (Temp place) from.now)) }
+{
+    let new = from.inherited(alloc, Change::Kept, shared, Node::Temp(place))?;
+    edges.add_all(new)
+}
+
+/// Adds the edges of a result at a place: a mutable reference's lead into a node among some edges, and another reference's
+/// among others.
 fn add_result(
     alloc: Global,
-    mutable: &[Node],
-    all: &[Node],
+    from_mutable: &Edges,
+    from_all: &Edges,
+    shared: Node,
     place: u16,
     token: Token,
-    s: &Edges,
     edges: &mut Edges,
 ) -> Result<(), AllocError>
     requires { IsTrue (are_ascending edges.old) }
-    ensures { OnOk result (edges.new ≡ sorted (edges.old ++ result_edges mutable.now all.now place (token ∷ []) s.now)) }
+    ensures { OnOk result (edges.new ≡ sorted (edges.old ++ taken_over from_mutable.now from_all.now shared place token)) }
 {
     match token {
         Token::Plain(_) => Ok(()),
-        Token::Reference(_) => add_opened(alloc, all, Node::Temp(place), s, edges),
-        Token::MutableReference(_) => add_opened(alloc, mutable, Node::Temp(place), s, edges),
+        Token::Reference(_) => add_taken_over(alloc, from_all, shared, place, edges),
+        Token::MutableReference(_) => add_taken_over(alloc, from_mutable, shared, place, edges),
     }
 }
 
-/// The edges of a call's results, the first of which stands at a place.
+/// The edges of a call's results, the first of which stands at a place. What a result takes over is gathered once for all
+/// results of its kind.
 fn edges_of_results(
     alloc: Global,
     mutable: &[Node],
@@ -79,15 +118,19 @@ fn edges_of_results(
     requires { place + length results.now ≤ 2 ^ 16 }
     ensures { IfOk result (λ edges. edges ≡ sorted (result_edges mutable.now all.now place results.now s.now)) }
 {
+    let shared = Node::Temp(0);
+    let from_mutable = opened_if(alloc, any_mutable(results), mutable, shared, s)?;
+    let from_all = opened_if(alloc, any_immutable(results), all, shared, s)?;
     let mut edges = Edges::new(alloc);
     for (i, token) in results.iter().enumerate() {
+        let at = (place + i) as u16;
         add_result(
             alloc,
-            mutable,
-            all,
-            (place + i) as u16,
+            &from_mutable,
+            &from_all,
+            shared,
+            at,
             *token,
-            s,
             &mut edges,
         )?;
     }

@@ -1,11 +1,10 @@
-use Rattle.std.proofs.Common.{◌≡◌, ◌-◌, ◌<◌, ◌≤◌, ◌++◌, true, length, take, get_or}
-use Rattle.mv_edges.specs.Edges.{Edge, same_node, renamed, out_of}
+use Rattle.std.proofs.Common.{◌≡◌, ◌-◌, ◌≤◌, ◌++◌, length, take}
+use Rattle.mv_edges.specs.Edges.{renamed, out_of}
 use Rattle.mv_edges.proofs.renaming.push_renamed_out_of.Given as goal
 
 abbrev pub invariant-loop-place : goal.invariant-loop-place
 invariant-loop-place l = record {
   within : l.place ≤ length l.edges;
-  passes : (d : Edge) → l.place < length l.edges → same_node (get_or l.edges l.place d).from l.old ≡ true;
   so_far : l.items.items ≡ l.fn.items.items ++ renamed l.old l.new (out_of l.old (take l.place l.edges));
 }
 

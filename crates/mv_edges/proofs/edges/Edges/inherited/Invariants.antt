@@ -1,11 +1,10 @@
-use Rattle.std.proofs.Common.{◌≡◌, ◌-◌, ◌<◌, ◌≤◌, true, length, take, get_or}
-use Rattle.mv_edges.specs.Edges.{Edge, same_node, inherited, changed}
+use Rattle.std.proofs.Common.{◌≡◌, ◌-◌, ◌≤◌, length, take}
+use Rattle.mv_edges.specs.Edges.{inherited, changed}
 use Rattle.mv_edges.proofs.edges.Edges.inherited.Given as goal
 
 abbrev pub invariant-loop-place : goal.invariant-loop-place
 invariant-loop-place l = record {
   within : l.place ≤ length l.edges;
-  passes : (d : Edge) → l.place < length l.edges → same_node (get_or l.edges l.place d).to l.old ≡ true;
   so_far : l.items.items ≡ inherited (changed l.change) l.old l.new (take l.place l.edges);
 }
 
