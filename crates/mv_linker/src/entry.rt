@@ -7,7 +7,7 @@ ghost use Rattle.mv_linker.specs.News.{HasItsTexts, AreTexts, published_of, publ
 ghost use Rattle.mv_linker.specs.Link.{IsPublishable};
 
 use crate::New;
-use mv_binary_format::Module;
+use crate::names::name_of;
 use std::alloc::{AllocError, Global};
 use std::borrow::CowSlice;
 use std::marker::Model;
@@ -85,16 +85,6 @@ impl Entry {
         let Entry { name, texts } = self;
         (name, texts)
     }
-}
-
-/// The address and the identifier of a module, if its own handle is there.
-pub fn name_of<'a>(m: &Module<'a>) -> Option<(u128, &'a [u8])>
-    ensures { option_map (λ p. record { address = p.0; name = p.1.now }) result ≡ own_name m.now }
-{
-    let handle = m.module_handles().get(m.own() as usize)?;
-    let address = m.addresses().get(handle.address as usize)?;
-    let name = m.identifier(handle.name as usize)?;
-    Some((*address, name))
 }
 
 /// A new module with its texts copied.

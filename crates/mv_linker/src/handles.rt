@@ -9,6 +9,7 @@ ghost use Rattle.mv_linker.specs.Targets.{modules_in, AreTargets, declared_at, s
 
 use crate::likely::{likely_functions, likely_structs};
 use crate::names::{likely_function_place, likely_struct_place, name_of, struct_name};
+use crate::pushed::pushed;
 use crate::scope::{Scope, is_module};
 use crate::targets::Target;
 use crate::types::{are_same, same_signature};
@@ -148,17 +149,6 @@ fn definition(place: usize, index: usize) -> Definition
     Definition {
         place: place as u16,
         index: index as u16,
-    }
-}
-
-/// Puts a definition at the end.
-fn pushed(v: &mut Vec<Definition>, d: Definition) -> Result<(), Refusal>
-    ensures ok { OnOk result (v.new.items ≡ v.old.items ++ d ∷ []) }
-    ensures errors { IfErr result (λ e. e ≡ Refusal.Memory) }
-{
-    match v.push(d) {
-        Ok(()) => Ok(()),
-        Err(_) => Err(Refusal::Memory),
     }
 }
 

@@ -13,6 +13,7 @@ ghost use Rattle.mv_linker.specs.Targets.{modules_in, AreStructsAt, AreFunctions
 use crate::New;
 use crate::code::CodeAt;
 use crate::dependencies::{DependenciesAt, placed};
+use crate::pushed::pushed;
 use crate::scope::Scope;
 use mv_binary_format::Module;
 use mv_move_types::{Definition, Refusal};
@@ -113,16 +114,5 @@ impl<'a> Scope<'a> {
             codes,
             dependencies,
         })
-    }
-}
-
-/// Puts what a module's handles name at the end.
-fn pushed(v: &mut Vec<Names>, names: Names) -> Result<(), Refusal>
-    ensures ok { OnOk result (v.new.items ≡ v.old.items ++ names ∷ []) }
-    ensures errors { IfErr result (λ e. e ≡ Refusal.Memory) }
-{
-    match v.push(names) {
-        Ok(()) => Ok(()),
-        Err(_) => Err(Refusal::Memory),
     }
 }

@@ -11,6 +11,7 @@ ghost use Rattle.mv_linker.specs.Scope.{offered};
 ghost use Rattle.mv_linker.specs.Targets.{modules_in};
 
 use crate::order::{dependencies, is_ordered};
+use crate::pushed::pushed;
 use crate::scope::Scope;
 use crate::targets::Target;
 use mv_move_types::Refusal;
@@ -39,17 +40,6 @@ fn places_of(alloc: Global, targets: &[Target<'_>]) -> Result<Vec<usize>, AllocE
         places.push(t.place)?;
     }
     Ok(places)
-}
-
-/// Puts places at the end.
-fn pushed(graph: &mut Vec<Vec<usize>>, places: Vec<usize>) -> Result<(), Refusal>
-    ensures ok { OnOk result (graph.new.items ≡ graph.old.items ++ places ∷ []) }
-    ensures errors { IfErr result (λ e. e ≡ Refusal.Memory) }
-{
-    match graph.push(places) {
-        Ok(()) => Ok(()),
-        Err(_) => Err(Refusal::Memory),
-    }
 }
 
 impl<'a> Scope<'a> {

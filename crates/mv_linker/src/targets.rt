@@ -10,6 +10,7 @@ ghost use Rattle.mv_linker.specs.Targets.{modules_in, tables_of, IsTarget, AreTa
 use crate::entry::Name;
 use crate::indexed::place_of;
 use crate::names::module_name;
+use crate::pushed::pushed;
 use crate::scope::Scope;
 use mv_binary_format::Module;
 use mv_move_types::Refusal;
@@ -42,17 +43,6 @@ pub struct Target<'a> {
     pub place: usize,
     /// The module.
     pub module: Found<'a>,
-}
-
-/// Puts a target at the end.
-fn pushed<'t>(v: &mut Vec<Target<'t>>, target: Target<'t>) -> Result<(), Refusal>
-    ensures ok { OnOk result (v.new.items ≡ v.old.items ++ target.entry ∷ []) }
-    ensures errors { IfErr result (λ e. e ≡ Refusal.Memory) }
-{
-    match v.push(target) {
-        Ok(()) => Ok(()),
-        Err(_) => Err(Refusal::Memory),
-    }
 }
 
 /// The key that a module with this address and identifier is found by.
