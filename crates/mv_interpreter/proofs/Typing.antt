@@ -2,10 +2,10 @@
 -- where no live reference leads into what the step removes. The statement is `EveryStepIsTyped` (specs/Typing/Laws.antt).
 --
 -- Read first specs/Typing/HasType.antt and StateTyped.antt (what is typed), then Parts, Stays, one file of rows, and Rule.
---   Parts, Tests, Operands   a rule's parts one after the other; `takes_gives-is`, `one`, `leaf`: operands by their types
+--   Parts, Tests, Operands   a rule's parts one after the other; `takes_gives-is`, `one_operand`, `leaf`: operands by their types
 --   Within, Roots, Keep      `read_within`, `write_within`: places within values; what stays typed when a root changes
 --   Frames, Storage          the same of a local of some frame, and of the storage
---   Stays                    `stays_at`, `moved`: the row at which a typed state stands, and the state that a rule leads to
+--   Stays                    `top_typed`, `stays_at`: the row at which a typed state stands, and the state that a rule leads to
 --   the rows, by family      Families and Small (numbers, control), Locals, Structs, References and Write, Globals, Calls
 --   Rule                     `rule_typed`, `step_typed`, `counted_typed`: each instruction by its row, a step, a run
 --   FlowFacts, Advances      `advances`: what comes after a typed instruction is typed code, block by block

@@ -45,8 +45,22 @@ pub record Standing : Type 1 where
   pub fits : Fits (record { home = h.home; function = h.function; types = types }) (alone h.state.top)
   pub inside : NoneInside h.state
 
+-- the references on its stack, the topmost first, where its types are stated, and its module's place
+pub record View : Type 0 where
+  pub os : List (Option Reference)
+  pub p : Point
+  pub place : ℕ
+
+abbrev pub view : Standing → View
+view this = record {
+  os = map reference_of this.h.state.top.stack;
+  p = record { home = this.h.home; function = this.h.function; types = this.types };
+  place = this.h.state.top.function.place;
+}
+
 module _ (this : Standing) where
   open this use {depends, through, no_cycle, rest, h, types, es, stands, fits, inside}
+  open view this use {os, p, place}
 
   -- the chain with a frame of this function on top
   abbrev pub StandTop : Frame → List Edge → Type 1
@@ -58,20 +72,11 @@ module _ (this : Standing) where
   Kept i edges (Ok (Returns t)) = Unit {1}
   Kept i edges (Err e) = Unit {1}
 
-  abbrev p : Point
-  p = record { home = h.home; function = h.function; types = types }
-
-  abbrev os : List (Option Reference)
-  os = map reference_of h.state.top.stack
-
   pub size : length types ≡ length os
   size = kinds-length types os fits.stack
 
   pub typed : Kinds (activation h.function.acquires (alone h.state.top)) (kind_at p)
   typed = kinds p h.function.acquires (alone h.state.top) fits
-
-  abbrev place : ℕ
-  place = h.state.top.function.place
 
   abbrev pub StandList : List (Option Value) → List (Option Reference) → List Edge → Type 1
   StandList locals operands edges = Stand depends through no_cycle h.function.acquires h.state.top rest locals operands edges

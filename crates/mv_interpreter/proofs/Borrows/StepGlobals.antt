@@ -1,5 +1,5 @@
 -- A step on the storage keeps the chain of frames.
-use Rattle.mv_interpreter.proofs.Borrows.Common.{◌≡◌, ℕ, suc, ◌+◌, ◌-◌, List, [], ◌∷◌, ◌++◌, map, length, Bool, true, false, not, inl, refl, sym, ◌∙◌, ap, arith, subst, Option, Some, None, Ok, ok_or, ◌==◌, list_any, and_from, eq-eqb, same_Some, Key, Glob, Temp, Instruction, need, Stored, Reference, Value, Ref, Frame, reference_of, live, is_frozen_by, successors, Faults, TypeFault, FrozenFault, has_tag, Edge, here, without, an_edge, Point, no_edge_out, no_mutable_from, defined, acquires_of, edges_of, kind_at, held_as, Turn, with_top, operand, as_reference, TheLabel, TheNode, AtSlot, AtOwn, AtGlob, AtTemp, Bars, Kinds, stack_ref, found-is, operand-is}
+use Rattle.mv_interpreter.proofs.Borrows.Common.{◌≡◌, ℕ, suc, ◌+◌, ◌-◌, List, [], ◌∷◌, ◌++◌, map, length, Bool, true, false, not, inl, refl, sym, ◌∙◌, ap, arith, subst, Option, Some, None, Ok, ok_or, ◌==◌, list_any, and_from, eq-eqb, same_Some, Key, Glob, Temp, Instruction, need, Stored, Reference, Value, Ref, Frame, reference_of, live, is_frozen_by, successors, Faults, TypeFault, FrozenFault, has_tag, Edge, here, without, an_edge, no_edge_out, no_mutable_from, defined, acquires_of, edges_of, kind_at, held_as, Turn, with_top, operand, as_reference, TheLabel, TheNode, AtSlot, AtOwn, AtGlob, AtTemp, Bars, Kinds, stack_ref, found-is, operand-is}
 use Rattle.std.specs.Prelude.{is_some}
 use Rattle.mv_move_types.specs.declared.instruction.Instruction.TheVariants.{Exists, MutBorrowGlobal, ImmBorrowGlobal, MoveFrom, MoveTo}
 use Rattle.mv_machine.specs.State.{stored_at, without_stored, with_stored}
@@ -14,20 +14,11 @@ use Rattle.mv_interpreter.proofs.Borrows.Same.{same-all}
 use Rattle.mv_interpreter.proofs.Borrows.Edges.{free_out, free_mutable, then-some}
 use Rattle.mv_interpreter.proofs.Borrows.Kept.{falls-pushed, falls-popped, below-from, kept-falls, kept-borrow-global, kept-drop, act}
 use Rattle.mv_interpreter.proofs.Borrows.Operands.{on_result, on_passed, one-off}
-use Rattle.mv_interpreter.proofs.Borrows.Standing.{Standing, Among, at_top, ends, calm, StandTop, StandList, Kept, address-top, size, typed}
+use Rattle.mv_interpreter.proofs.Borrows.Standing.{Standing, view, Among, at_top, ends, calm, StandTop, StandList, Kept, address-top, size, typed}
 
 module _ (this : Standing) where
   open this use {depends, through, no_cycle, rest, h, types, es, stands, fits, inside}
-
-  -- the references on the stack, the topmost first
-  abbrev os : List (Option Reference)
-  os = map reference_of h.state.top.stack
-
-  abbrev p : Point
-  p = record { home = h.home; function = h.function; types = types }
-
-  abbrev place : ℕ
-  place = h.state.top.function.place
+  open view this use {os, p, place}
 
   abbrev global_frame : Bool → Key → List Value → Frame
   global_frame m key s = record (h.state.top) { stack = Ref (record { is_mutable = m; place = record { root = Stored key; path = [] } }) ∷ s; at = h.state.top.at + 1 }

@@ -1,5 +1,5 @@
 -- A step on a local keeps the chain of frames: copies, moves, stores and borrows.
-use Rattle.mv_interpreter.proofs.Borrows.Common.{◌≡◌, ℕ, zero, suc, ◌+◌, List, [], ◌∷◌, ◌++◌, map, length, Bool, true, false, not, inl, refl, sym, ◌∙◌, ap, subst, Option, Some, None, Ok, slice_get, slice_set, same_Some, Slot, Own, Temp, Token, Plain, ReferenceTo, MutableReferenceTo, Instruction, need, ◌>>>◌, Reference, Value, Ref, Frame, reference_of, live, is_frozen_by, successors, Faults, TypeFault, LostFault, FrozenFault, entry, tag_named, has_tag, Tag, Edge, here, without, inherited, renamed, an_edge, Point, no_edge_out, no_mutable_from, edges_of, kind_at, Turn, with_top, with_stack, operand, TheLabel, TheNode, AtOwn, Bars, token_kind, operand_kind, on_bind, found-is, operand-is}
+use Rattle.mv_interpreter.proofs.Borrows.Common.{◌≡◌, ℕ, zero, suc, ◌+◌, List, [], ◌∷◌, ◌++◌, map, length, Bool, true, false, not, inl, refl, sym, ◌∙◌, ap, subst, Option, Some, None, Ok, slice_get, slice_set, same_Some, Slot, Own, Temp, Token, Plain, ReferenceTo, MutableReferenceTo, Instruction, need, ◌>>>◌, Reference, Value, Ref, Frame, reference_of, live, is_frozen_by, successors, Faults, TypeFault, LostFault, FrozenFault, entry, tag_named, has_tag, Tag, Edge, here, without, inherited, renamed, an_edge, no_edge_out, no_mutable_from, edges_of, kind_at, Turn, with_top, with_stack, operand, TheLabel, TheNode, AtOwn, Bars, token_kind, operand_kind, on_bind, found-is, operand-is}
 use Rattle.mv_move_types.specs.declared.instruction.Instruction.TheVariants.{CopyLoc, MoveLoc, StLoc, MutBorrowLoc, ImmBorrowLoc}
 use Rattle.mv_move_types.specs.Module.{local_tokens, local_type}
 use Rattle.mv_machine.specs.Typing.{linked}
@@ -12,7 +12,7 @@ use Rattle.mv_interpreter.proofs.Borrows.Mutability.{operand-plain}
 use Rattle.mv_interpreter.proofs.Borrows.Kept.{falls-pushed, falls-popped, falls-same, below-from, kept-falls, kept-copy, kept-copy-mutable, kept-move, kept-store, kept-borrow-local}
 use Rattle.mv_machine.proofs.Binds.{held-is}
 use Rattle.mv_interpreter.proofs.Borrows.Operands.{on_result, on_passed, on_option, tag-kind}
-use Rattle.mv_interpreter.proofs.Borrows.Standing.{Standing, Among, at_next, at_top, local-kind, ends, calm, StandTop, Kept, typed}
+use Rattle.mv_interpreter.proofs.Borrows.Standing.{Standing, view, Among, at_next, at_top, local-kind, ends, calm, StandTop, Kept, typed}
 
 kind-some : (o : Option Reference) (b : Bool) → Some b ≡ operand_kind o → (r : Reference) × (o ≡ Some r) × (r.is_mutable ≡ b)
 kind-some None b e = absurd cc
@@ -34,16 +34,7 @@ no-value w z = absurd cc
 
 module _ (this : Standing) where
   open this use {depends, through, no_cycle, rest, h, types, es, stands, fits, inside}
-
-  -- the references on the stack, the topmost first
-  abbrev os : List (Option Reference)
-  os = map reference_of h.state.top.stack
-
-  abbrev p : Point
-  p = record { home = h.home; function = h.function; types = types }
-
-  abbrev place : ℕ
-  place = h.state.top.function.place
+  open view this use {os, p, place}
 
   copy-by : (l : ℕ) (v : Value) (es' : List Edge) (t : Token) → slice_get h.state.top.locals l ≡ Some (Some v) → token_kind t ≡ operand_kind (reference_of v) → copy_edges p l t es ≡ Some es'
       → StandTop this (record (h.state.top) { stack = v ∷ h.state.top.stack; at = h.state.top.at + 1 }) es'

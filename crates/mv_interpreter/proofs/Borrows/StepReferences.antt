@@ -1,5 +1,5 @@
 -- A step on references keeps the chain of frames: fields, FreezeRef, reads and writes.
-use Rattle.mv_interpreter.proofs.Borrows.Common.{◌≡◌, ℕ, ◌+◌, ◌-◌, List, [], ◌∷◌, ◌++◌, map, length, Bool, true, false, not, inl, refl, sym, ◌∙◌, ap, subst, Option, Some, None, Ok, slice_get, ok_or, ◌&&◌, ◌||◌, ◌==◌, filter, list_any, not-true, and_from, eq-eqb, same_Some, Temp, Instruction, need, ◌>>>◌, Reference, Value, Ref, Frame, place_value, reference_of, live, is_frozen_by, successors, Faults, TypeFault, LostFault, FrozenFault, entry, has_tag, Edge, Label, same_node, without, inherited, extended, Point, is_mutable, no_edge_out, no_mutable_from, edges_of, kind_at, label_from, Member, Turn, gives, with_top, with_stack, operand, can_drop, as_reference, as_fields, TheLabel, TheNode, AtTemp, Chain, home_of, Descending, begins, on_bind, ok-is, found-is, operand-is}
+use Rattle.mv_interpreter.proofs.Borrows.Common.{◌≡◌, ℕ, ◌+◌, ◌-◌, List, [], ◌∷◌, ◌++◌, map, length, Bool, true, false, not, inl, refl, sym, ◌∙◌, ap, subst, Some, None, Ok, slice_get, ok_or, ◌&&◌, ◌||◌, ◌==◌, filter, list_any, not-true, and_from, eq-eqb, same_Some, Temp, Instruction, need, ◌>>>◌, Reference, Value, Ref, Frame, place_value, reference_of, live, is_frozen_by, successors, Faults, TypeFault, LostFault, FrozenFault, entry, has_tag, Edge, Label, same_node, without, inherited, extended, is_mutable, no_edge_out, no_mutable_from, edges_of, kind_at, label_from, Member, Turn, gives, with_top, with_stack, operand, can_drop, as_reference, as_fields, TheLabel, TheNode, AtTemp, Chain, home_of, Descending, begins, on_bind, ok-is, found-is, operand-is}
 use Rattle.mv_move_types.specs.declared.instruction.Instruction.TheVariants.{MutBorrowField, ImmBorrowField, ReadRef, WriteRef, FreezeRef}
 use Rattle.mv_machine.specs.State.{with_place}
 use Rattle.mv_machine.specs.Typing.{DanglingFault, tag_of}
@@ -15,7 +15,7 @@ use Rattle.mv_interpreter.proofs.Borrows.Edges.{kind_of_node, free_mutable, then
 use Rattle.mv_interpreter.proofs.Borrows.Kept.{Falls, falls-pushed, falls-popped, falls-same, kept-borrow-field, kept-freeze}
 use Rattle.mv_machine.proofs.Binds.{reference-is}
 use Rattle.mv_interpreter.proofs.Borrows.Operands.{on_result, on_passed, on_option}
-use Rattle.mv_interpreter.proofs.Borrows.Standing.{Standing, Among, at_top, under, ends, StandTop, Kept, dropped-calm, ref-top, typed}
+use Rattle.mv_interpreter.proofs.Borrows.Standing.{Standing, view, Among, at_top, under, ends, StandTop, Kept, dropped-calm, ref-top, typed}
 
 agrees-begins : (l : List ℕ) (i : ℕ) → AgreesWith l i → (begins l (i ∷ []) || begins (i ∷ []) l) ≡ true
 agrees-begins [] i a = refl
@@ -38,16 +38,7 @@ lends-is false r k z = absurd cc
 
 module _ (this : Standing) where
   open this use {depends, through, no_cycle, rest, h, types, es, stands, fits, inside}
-
-  -- the references on the stack, the topmost first
-  abbrev os : List (Option Reference)
-  os = map reference_of h.state.top.stack
-
-  abbrev p : Point
-  p = record { home = h.home; function = h.function; types = types }
-
-  abbrev place : ℕ
-  place = h.state.top.function.place
+  open view this use {os, p, place}
 
   own-field-is : (i : ℕ) (x : OwnStruct × ℕ) → own_field h i ≡ Ok x → position_of p i ≡ Some x.1
   unfolding own_field

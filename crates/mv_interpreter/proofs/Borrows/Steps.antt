@@ -1,5 +1,5 @@
 -- One step of the machine keeps the chain of frames: every instruction but Call and Ret, in one table over the families.
-use Rattle.mv_interpreter.proofs.Borrows.Common.{◌≡◌, ℕ, ◌+◌, ◌-◌, List, ◌∷◌, ◌++◌, map, length, reverse, Bool, true, false, not, cond, inl, inr, refl, sym, ap, subst, Option, Some, None, Result, Ok, Err, ok_or, ◌&&◌, ◌||◌, beq, same_Some, Temp, Token, Plain, ReferenceTo, MutableReferenceTo, Instruction, Call, Reference, Value, Leaf, Struct, reference_of, successors, Faults, TypeFault, LostFault, entry, tag_named, Edge, without, Point, Turn, gives, with_top, with_stack, operand, can_drop, as_fields, Descending, on_bind, ok-is, operand-is}
+use Rattle.mv_interpreter.proofs.Borrows.Common.{◌≡◌, ℕ, ◌+◌, ◌-◌, List, ◌∷◌, ◌++◌, map, length, reverse, Bool, true, false, not, cond, inl, inr, refl, sym, ap, subst, Some, None, Result, Ok, Err, ok_or, ◌&&◌, ◌||◌, beq, same_Some, Temp, Token, Plain, ReferenceTo, MutableReferenceTo, Instruction, Call, Value, Leaf, Struct, reference_of, successors, Faults, TypeFault, LostFault, entry, tag_named, Edge, without, Turn, gives, with_top, with_stack, operand, can_drop, as_fields, Descending, on_bind, ok-is, operand-is}
 use Rattle.std.specs.Prelude.{nat_le, bit_or, bit_and, bit_xor, nat_lt}
 use Rattle.mv_move_types.specs.declared.token.Width.TheVariants.{U8, U16, U32, U64, U128}
 use Rattle.mv_move_types.specs.declared.instruction.Instruction.TheVariants.{Pop, Ret, BrTrue, BrFalse, Branch, LdU64, LdConst, LdTrue, LdFalse, CopyLoc, MoveLoc, StLoc, MutBorrowLoc, ImmBorrowLoc, MutBorrowField, ImmBorrowField, Pack, Unpack, ReadRef, WriteRef, Add, Sub, Mul, Mod, Div, BitOr, BitAnd, Xor, Or, And, Not, Eq, Neq, Lt, Gt, Le, Ge, Abort, Nop, Exists, MutBorrowGlobal, ImmBorrowGlobal, MoveFrom, MoveTo, FreezeRef, Shl, Shr, LdU8, LdU128, CastU8, CastU64, CastU128, LdU16, LdU32, CastU16, CastU32}
@@ -26,7 +26,7 @@ use Rattle.mv_machine.proofs.Laws.{on_need}
 use Rattle.mv_machine.proofs.Binds.{operands-is}
 use Rattle.mv_interpreter.proofs.Borrows.Operands.{on_result, on_passed, fields-are, one-off, none-more, none-reverse, drop-falls}
 use Rattle.mv_machine.proofs.Operations.{binary-gives, comparison-gives, shift-gives, cast-gives, logic-gives, negation-gives, equality-gives}
-use Rattle.mv_interpreter.proofs.Borrows.Standing.{Standing, Among, IsTransfer, ends, calm, calm-leaf, calm-pushes, StandTop, Kept, dropped-calm}
+use Rattle.mv_interpreter.proofs.Borrows.Standing.{Standing, view, Among, IsTransfer, ends, calm, calm-leaf, calm-pushes, StandTop, Kept, dropped-calm}
 use Rattle.mv_interpreter.proofs.Borrows.StepLocals.{step-copy, step-move, step-store, step-borrow-mutable, step-borrow-immutable}
 use Rattle.mv_interpreter.proofs.Borrows.StepReferences.{step-field-mutable, step-field-immutable, step-freeze, step-read, step-write}
 use Rattle.mv_interpreter.proofs.Borrows.StepGlobals.{step-global-mutable, step-global-immutable, step-move-from, step-move-to, step-exists}
@@ -39,16 +39,7 @@ constant-none (MutableReferenceTo t) bytes v e = absurd cc
 
 module _ (this : Standing) where
   open this use {depends, through, no_cycle, rest, h, types, es, stands, fits, inside}
-
-  -- the references on the stack, the topmost first
-  abbrev os : List (Option Reference)
-  os = map reference_of h.state.top.stack
-
-  abbrev p : Point
-  p = record { home = h.home; function = h.function; types = types }
-
-  abbrev place : ℕ
-  place = h.state.top.function.place
+  open view this use {os, p, place}
 
   pub step-pop : (y : Turn) (es' : List Edge) → gives h (pop h h.state.top.stack) ≡ Ok y → edges_after p Pop es ≡ Some es' → Kept this Pop es' (Ok y)
   unfolding pop edges_after
