@@ -21,6 +21,9 @@ pub fn run(rt: &HostRuntime) -> u8 {
     ended(&mut rt.stderr(), &end)
 }
 
+/// What the program calls itself, whatever the name of its file.
+const NAME: &str = "moveledger";
+
 /// Reads the command line, and does what it asks for.
 fn asked(rt: &HostRuntime) -> End {
     let args = match env::args(rt) {
@@ -36,7 +39,12 @@ fn asked(rt: &HostRuntime) -> End {
     }
     let mut words: Vec<&str> = Vec::new(rt.alloc());
     for word in &owned {
-        if words.push(word.as_str()).is_err() {
+        let said = if words.is_empty() {
+            NAME
+        } else {
+            word.as_str()
+        };
+        if words.push(said).is_err() {
             return End::Memory;
         }
     }
