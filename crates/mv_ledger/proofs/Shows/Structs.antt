@@ -1,5 +1,5 @@
 -- The value of a struct, by what its fields are made of.
-use Rattle.std.proofs.Common.{◌≡◌, ℕ, zero, suc, ◌-◌, List, [], ◌∷◌, ◌++◌, false, refl, sym, ap, ◌∙◌, subst, arith, append_assoc, Option, Some, None, codes, unwrap_or}
+use Rattle.std.proofs.Common.{◌≡◌, ◌≢◌, ℕ, zero, suc, ◌-◌, List, [], ◌∷◌, ◌++◌, false, refl, sym, ap, ◌∙◌, subst, arith, append_assoc, Option, Some, None, codes, unwrap_or}
 use Rattle.std.specs.Prelude.{is_some, slice_get}
 use Rattle.std.specs.Borrow.{Bor}
 use Rattle.mv_move_types.specs.declared.tables.Definition.{Definition}
