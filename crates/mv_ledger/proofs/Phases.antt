@@ -48,7 +48,8 @@ module _ (o : Offer) where
       fails (endless signed able out) = no_flow m text bounds defined signed able out
       fails (ill_typed signed able flow out) = not_typed m text bounds defined signed able flow out
 
-  pub refused_stated : (m : Module) (e : Refusal) → Spells o.text m → IsSound m → (e ≡ Phase 9) ⊎ (e ≡ Memory) → (e ≡ Phase 9 → (c : Certificate) → IsCertificateText m o.certificate c → ⊥) → IsRefusedOffer o e
+  pub refused_stated : (m : Module) (e : Refusal) → Spells o.text m → IsSound m → (e ≡ Phase 9) ⊎ (e ≡ Memory) → (e ≡ Phase 9 → (c : Certificate) → IsCertificateText m o.certificate c → ⊥)
+      → IsRefusedOffer o e
   refused_stated m Memory text sound is none = tt
   refused_stated m (Phase p) text sound (inl is) none = let same : p ≡ 9 = cc in subst (λ (n : ℕ). FailsAt o n) (sym same) (no_certificate m text sound (none is))
   refused_stated m (Phase p) text sound (inr is) none = cc

@@ -21,8 +21,8 @@ use Rattle.mv_ledger.specs.Judging.{IsAcceptedBy, IsRefusedBy}
 use Rattle.mv_ledger.specs.Running.{IsAdmitted, IsSettled}
 use Rattle.mv_ledger.specs.Tallying.{AddsTallies}
 use Rattle.mv_ledger.specs.Accepted.SoundLedger.{IsSoundLedger}
-use Rattle.mv_ledger.proofs.Verifying.{as-many}
-use Rattle.mv_ledger.proofs.AdmissionsAnswered.{answered-rejected, answered-run}
+use Rattle.mv_ledger.proofs.Bundles.Verifying.{as-many}
+use Rattle.mv_ledger.proofs.Runs.AdmissionsAnswered.{answered-rejected, answered-run}
 use Rattle.mv_ledger.proofs.Accepted.Sound.{published_sound, attempted_sound}
 use Rattle.mv_ledger.proofs.Accepted.Records.{asked_fits, answers_record}
 
@@ -45,13 +45,15 @@ module _ (old new : List PublishedModule) (payload : List ℕ) (stored : List Fl
   second = view_of new stored after runs
 
   -- the ledger with the bundle
-  with_it : (bundle : List PublishedModule) → new ≡ with_modules old bundle → storage_of (tables_in new) stored ≡ storage_of (tables_in old) stored → AddsTallies old new before after → state_of second ≡ with_bundle (state_of first) bundle
+  with_it : (bundle : List PublishedModule) → new ≡ with_modules old bundle → storage_of (tables_in new) stored ≡ storage_of (tables_in old) stored → AddsTallies old new before after
+      → state_of second ≡ with_bundle (state_of first) bundle
   with_it bundle added same tallies =
       same_state new (with_modules old bundle) (storage_of (tables_in new) stored) (storage_of (tables_in old) stored) _ _ runs added same
       (tallies ∙ ap (λ (l : List PublishedModule). map (tally_of (map (tallied (tables_in old)) before)) (scarce_structs (tables_in l))) added)
 
   -- which is sound
-  pub sound_with : (count : ℕ) → IsAcceptedBy count old payload new → storage_of (tables_in new) stored ≡ storage_of (tables_in old) stored → AddsTallies old new before after → IsStore new → IsSoundLedger (state_of first) → IsSoundLedger (state_of second)
+  pub sound_with : (count : ℕ) → IsAcceptedBy count old payload new → storage_of (tables_in new) stored ≡ storage_of (tables_in old) stored → AddsTallies old new before after → IsStore new
+      → IsSoundLedger (state_of first) → IsSoundLedger (state_of second)
   sound_with count accepted same tallies whole sound = with_bundle_of (accepted (state_of first) refl)
     where
       with_bundle_of : (bundle : List PublishedModule) × (IsAccepted (state_of first) payload bundle × (count ≡ length bundle) × (new ≡ with_modules old bundle)) → IsSoundLedger (state_of second)
@@ -59,18 +61,21 @@ module _ (old new : List PublishedModule) (payload : List ℕ) (stored : List Fl
           let a : IsAccepted (state_of first) payload b.0 = b.1.0 in
           subst IsSoundLedger (sym (with_it b.0 b.1.2 same tallies)) (published_sound (state_of first) a.sender a.offers b.0 sound (subst IsStore b.1.2 whole) a.published)
 
-  pub published_replies : (count : ℕ) → IsAcceptedBy count old payload new → storage_of (tables_in new) stored ≡ storage_of (tables_in old) stored → AddsTallies old new before after → IsStore new → IsSoundLedger (state_of first)
+  pub published_replies : (count : ℕ) → IsAcceptedBy count old payload new → storage_of (tables_in new) stored ≡ storage_of (tables_in old) stored → AddsTallies old new before after → IsStore new
+      → IsSoundLedger (state_of first)
       → Replies 1 payload (Some (ToldPublished count)) first second
   published_replies count accepted same tallies whole sound = with_bundle_of (accepted (state_of first) refl)
     where
-      with_bundle_of : (bundle : List PublishedModule) × (IsAccepted (state_of first) payload bundle × (count ≡ length bundle) × (new ≡ with_modules old bundle)) → Replies 1 payload (Some (ToldPublished count)) first second
+      with_bundle_of : (bundle : List PublishedModule) × (IsAccepted (state_of first) payload bundle × (count ≡ length bundle) × (new ≡ with_modules old bundle))
+          → Replies 1 payload (Some (ToldPublished count)) first second
       with_bundle_of b =
           let bundle : List PublishedModule = b.0 in
           let a : IsAccepted (state_of first) payload bundle = b.1.0 in
           let all : AllPass a.offers bundle = a.published.0 in
           let state : state_of second ≡ with_bundle (state_of first) bundle = with_it bundle b.1.2 same tallies in
           record {
-            answers = answers_record 1 payload (Publish a.sender a.offers) (ToldPublished count) (state_of first) (state_of second) a.asked (bundle, read_as a.offers bundle all, b.1.1 ∙ as-many a.offers bundle all, state) (sound_with count accepted same tallies whole sound);
+            answers = answers_record 1 payload (Publish a.sender a.offers) (ToldPublished count) (state_of first) (state_of second) a.asked
+                (bundle, read_as a.offers bundle all, b.1.1 ∙ as-many a.offers bundle all, state) (sound_with count accepted same tallies whole sound);
             leaves = (refl, refl);
             rightly = λ kind. (bundle, (a, b.1.1, state));
           }
@@ -103,7 +108,8 @@ bad_run_replies payload v none sound = record {
   rightly = λ kind. absurd (omega (arith, kind));
 }
 
-module _ (published : List PublishedModule) (payload : List ℕ) (stored : List FlatEntry) (tallies : List Tally) (runs : ℕ) (r : RunRequest) (asked : IsShaped 2 payload (Run r)) (sound : IsSoundLedger (state_of (view_of published stored tallies runs))) where
+module _ (published : List PublishedModule) (payload : List ℕ) (stored : List FlatEntry) (tallies : List Tally) (runs : ℕ) (r : RunRequest) (asked : IsShaped 2 payload (Run r))
+    (sound : IsSoundLedger (state_of (view_of published stored tallies runs))) where
   abbrev held : LedgerView
   held = view_of published stored tallies runs
 
@@ -148,7 +154,8 @@ module _ (published : List PublishedModule) (payload : List ℕ) (stored : List 
     had_sound None told settled = cc
     had_sound (Some t) told settled = sound_had t settled
 
-    pub had_replies : (reply : Option Told) → is_some reply ≡ true → IsSettled published call reply stored new tallies after → RunsTo reply stored new tallies after → Replies 2 payload reply held holds
+    pub had_replies : (reply : Option Told) → is_some reply ≡ true → IsSettled published call reply stored new tallies after → RunsTo reply stored new tallies after
+        → Replies 2 payload reply held holds
     had_replies None told settled kept = cc
     had_replies (Some t) told settled kept = run_replies t settled kept
 

@@ -24,7 +24,7 @@ use Rattle.mv_ledger.specs.SavedText.{Form, Second, body_text, saved_text, IsSav
 use Rattle.mv_ledger.specs.Loading.{HasHead, AreLinked, AreTallied, IsLoaded, FailsLoad, no_head, no_module, no_links, no_body, no_tallies}
 use Rattle.mv_ledger.specs.SavedLaws.{EachLoadIsOne, EachSecondFormComesBack, NoLoadFails}
 use Rattle.mv_ledger.proofs.Spelling.{OffersAreBytes, text_bytes, offers_bytes, module-one}
-use Rattle.mv_ledger.proofs.Saved.{heads-one, ledgers-one}
+use Rattle.mv_ledger.proofs.Saves.Saved.{heads-one, ledgers-one}
 
 -- bytes are loaded as one ledger at most
 pub loads-one : IsReadByText → EachLoadIsOne
@@ -110,7 +110,8 @@ head_of : (form : Form) (bytes : List ℕ) (s : LedgerState) → IsSavedText for
 head_of form bytes s text = record { rest = body_text form s; text = text.text; fits = text.head }
 
 -- is the only one
-own_head : (form other : Form) (bytes : List ℕ) (s : LedgerState) (runs : ℕ) (offers : List Offer) → IsSavedText form bytes s → HasHead bytes other runs offers → (form ≡ other) × (map offered s.published ≡ offers)
+own_head : (form other : Form) (bytes : List ℕ) (s : LedgerState) (runs : ℕ) (offers : List Offer) → IsSavedText form bytes s → HasHead bytes other runs offers
+    → (form ≡ other) × (map offered s.published ≡ offers)
 own_head form other bytes s runs offers text head =
     let h = heads-one form other s.runs runs (map offered s.published) offers (body_text form s) head.rest (sym text.text ∙ head.text) in
     (h.0, h.2)

@@ -28,7 +28,7 @@ use Rattle.mv_linker.proofs.NameLemmas.{same_struct-is}
 use Rattle.mv_interpreter.proofs.Typing.Tests.{same_kind-is}
 use Rattle.mv_ledger.specs.RecordText.{leaf_bytes, sized, offer_text}
 use Rattle.mv_ledger.specs.SavedText.{leaves_text, leaves_of_fields}
-use Rattle.mv_ledger.proofs.Heirs.{tested}
+use Rattle.mv_ledger.proofs.Bundles.Heirs.{tested}
 
 -- of two things with the property, whose texts stand at the front of the same bytes, one is the other, and so are the bytes after them
 abbrev pub IsOneOn : {A : Type 0} → (A → Type 0) → (A → List ℕ) → Type 0
@@ -192,12 +192,14 @@ module _ (modules : List Module) where
     typed-one m t v w x y p q e = absurd cc
 
     -- fields of one struct's types
-    fields-one : (m : Module) (types : List Field) (fs gs : Values) (x y : List ℕ) → are_of_types modules m types fs ≡ true → are_of_types modules m types gs ≡ true → leaves_of_fields fs ++ x ≡ leaves_of_fields gs ++ y → (fs ≡ gs) × (x ≡ y)
+    fields-one : (m : Module) (types : List Field) (fs gs : Values) (x y : List ℕ) → are_of_types modules m types fs ≡ true → are_of_types modules m types gs ≡ true
+        → leaves_of_fields fs ++ x ≡ leaves_of_fields gs ++ y → (fs ≡ gs) × (x ≡ y)
     fields-one m [] NoMore NoMore x y p q e = (refl, e)
     fields-one m (f ∷ types) (More v fs) (More w gs) x y p q e =
         let a = and_parts (is_of_type modules m f.token v) (are_of_types modules m types fs) p in
         let b = and_parts (is_of_type modules m f.token w) (are_of_types modules m types gs) q in
-        let first = typed-one m f.token v w (leaves_of_fields fs ++ x) (leaves_of_fields gs ++ y) a.0 b.0 (in_parts (leaves_text v) (leaves_of_fields fs) x (leaves_text w) (leaves_of_fields gs) y e) in
+        let first = typed-one m f.token v w (leaves_of_fields fs ++ x) (leaves_of_fields gs ++ y) a.0 b.0
+        (in_parts (leaves_text v) (leaves_of_fields fs) x (leaves_text w) (leaves_of_fields gs) y e) in
         let rest = fields-one m types fs gs x y a.1 b.1 first.1 in
         (ap₂ More first.0 rest.0, rest.1)
     fields-one m types fs gs x y p q e = absurd cc

@@ -218,8 +218,10 @@ values-whole rest vs ok =
 -- a run is read
 run-whole : Whole run_from run_text run_fits
 run-whole rest v ok =
-    let p = and_parts (address_fits v.sender && address_fits v.home.address && identifier_fits v.home.name && identifier_fits v.function && nat_lt v.budget (2 ^ 64) && nat_le (length v.arguments) 16) (list_all argument_fits v.arguments) ok in
-    let q = and_parts (address_fits v.sender && address_fits v.home.address && identifier_fits v.home.name && identifier_fits v.function && nat_lt v.budget (2 ^ 64)) (nat_le (length v.arguments) 16) p.0 in
+    let p = and_parts (address_fits v.sender && address_fits v.home.address && identifier_fits v.home.name && identifier_fits v.function && nat_lt v.budget (2 ^ 64) && nat_le (length v.arguments) 16)
+    (list_all argument_fits v.arguments) ok in
+    let q = and_parts (address_fits v.sender && address_fits v.home.address && identifier_fits v.home.name && identifier_fits v.function && nat_lt v.budget (2 ^ 64)) (nat_le (length v.arguments) 16)
+    p.0 in
     let r = and_parts (address_fits v.sender && address_fits v.home.address && identifier_fits v.home.name && identifier_fits v.function) (nat_lt v.budget (2 ^ 64)) q.0 in
     let s = and_parts (address_fits v.sender && address_fits v.home.address && identifier_fits v.home.name) (identifier_fits v.function) r.0 in
     let t = and_parts (address_fits v.sender && address_fits v.home.address) (identifier_fits v.home.name) s.0 in

@@ -21,10 +21,6 @@ pub mod SavedText
 pub mod Loading
 pub mod SavedLaws
 pub mod Layouts
-pub mod BodyParts
-pub mod LayoutParts
-pub mod LoadedParts
 pub mod Groups
 pub mod Inside
-pub mod CountRows
-pub mod Saving
+pub mod Parts

@@ -4,7 +4,7 @@ ghost use Rattle.mv_move_types.specs.Module.{Module as Tables};
 ghost use Rattle.mv_linker.specs.Link.{tables_in};
 ghost use Rattle.mv_linker.specs.Shapes.{AreFieldsAt};
 ghost use Rattle.mv_ledger.specs.Layouts.{is_keyed, kinds_under, structs_at};
-ghost use Rattle.mv_ledger.specs.LayoutParts.{kinds_at, kinds_of_part, kinds_of_parts, keyed_at, IsOfStore, PutsKinds};
+ghost use Rattle.mv_ledger.specs.Parts.LayoutParts.{kinds_at, kinds_of_part, kinds_of_parts, keyed_at, IsOfStore, PutsKinds};
 ghost use Rattle.mv_ledger.specs.SavedText.{keyed_from};
 
 use mv_linker::{Part, Store};

@@ -3,7 +3,7 @@ ghost use Rattle.std.specs.Prelude.{◌≡◌, ℕ, List, IfOk, IfErr};
 ghost use Rattle.mv_machine.specs.Ledger.{LedgerState};
 ghost use Rattle.mv_ledger.specs.Asking.{offers_of};
 ghost use Rattle.mv_ledger.specs.Loading.{IsLoaded, load_number, IsLoadRefusal};
-ghost use Rattle.mv_ledger.specs.LoadedParts.{head_of, reason_of, AreJoined, BeginsWith};
+ghost use Rattle.mv_ledger.specs.Parts.LoadedParts.{head_of, reason_of, AreJoined, BeginsWith};
 ghost use Rattle.mv_ledger.specs.SavedText.{IsSavedText, Second};
 ghost use Rattle.mv_ledger.specs.View.{all_of, state_of, view_of, IsLedger};
 

@@ -12,7 +12,7 @@ ghost use Rattle.mv_ledger.specs.Layouts.{coded, is_keyed, kinds_under, structs_
 ghost use Rattle.mv_ledger.specs.Publishing.{offered};
 ghost use Rattle.mv_ledger.specs.RecordText.{leaf_bytes, offer_text, sized};
 ghost use Rattle.mv_ledger.specs.SavedText.{head_text, keyed_from, struct_text, Second};
-ghost use Rattle.mv_ledger.specs.Saving.{counts_text, section_at, sections_of, struct_of, AddsValue, AreSections, IsEmpty, IsWritable, KnowsKinds, written};
+ghost use Rattle.mv_ledger.specs.Parts.Saving.{counts_text, section_at, sections_of, struct_of, AddsValue, AreSections, IsEmpty, IsWritable, KnowsKinds, written};
 ghost use Rattle.mv_ledger.specs.View.{all_of, IsSmall};
 
 use crate::layouts::Layouts;

@@ -6,7 +6,7 @@ ghost use Rattle.mv_linker.specs.Stored.{IsLinkedTo, with_at};
 ghost use Rattle.mv_frames.specs.Counters.{is_tally_at};
 ghost use Rattle.mv_interpreter.specs.Runs.{AtMost};
 ghost use Rattle.mv_module_text.specs.Parsing.{entries_from};
-ghost use Rattle.mv_ledger.specs.BodyParts.{form_of, counts_of, struct_of, tally_from};
+ghost use Rattle.mv_ledger.specs.Parts.BodyParts.{form_of, counts_of, struct_of, tally_from};
 ghost use Rattle.mv_ledger.specs.Tallying.{fresh_tally, tally_after, with_placed, AreWithin, AreInOrder, HasRoomFor, HasRoomLeft, IsRoomFor};
 ghost use Rattle.mv_ledger.specs.View.{all_of, ArePlaced, scarce_indices};
 

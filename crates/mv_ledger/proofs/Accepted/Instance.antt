@@ -41,7 +41,8 @@ coins = record {
   version = 5;
   module_handles = record { address = 0; name = 0 } ∷ [];
   struct_handles = record { «module» = 0; name = 1; abilities = record { copy = false; drop = false; store = true; key = true } } ∷ [];
-  function_handles = record { «module» = 0; name = 3; parameters = 1; results = 0 } ∷ record { «module» = 0; name = 4; parameters = 2; results = 0 } ∷ record { «module» = 0; name = 0; parameters = 2; results = 0 } ∷ [];
+  function_handles = record { «module» = 0; name = 3; parameters = 1; results = 0 } ∷ record { «module» = 0; name = 4; parameters = 2; results = 0 } ∷ record
+      { «module» = 0; name = 0; parameters = 2; results = 0 } ∷ [];
   signatures = [] ∷ (Plain (OfLeaf Signer) ∷ Plain (OfLeaf (Number U64)) ∷ []) ∷ (Plain (OfLeaf Address) ∷ []) ∷ (Reference (OfStruct 0) ∷ []) ∷ [];
   constants = [];
   identifiers = (77 ∷ []) ∷ (67 ∷ 111 ∷ 105 ∷ 110 ∷ []) ∷ (118 ∷ []) ∷ (109 ∷ 105 ∷ 110 ∷ 116 ∷ []) ∷ (98 ∷ 117 ∷ 114 ∷ 110 ∷ []) ∷ [];
@@ -49,14 +50,16 @@ coins = record {
   structs = record { handle = 0; fields = record { name = 2; token = Plain (OfLeaf (Number U64)) } ∷ [] } ∷ [];
   functions = record { handle = 0; visibility = Public; is_entry = true; acquires = []; locals = 0; code = ImmBorrowLoc 0 ∷ MoveLoc 1 ∷ Pack 0 ∷ MoveTo 0 ∷ Ret ∷ [] }
       ∷ record { handle = 1; visibility = Public; is_entry = true; acquires = 0 ∷ []; locals = 0; code = MoveLoc 0 ∷ MoveFrom 0 ∷ Unpack 0 ∷ Pop ∷ Ret ∷ [] }
-      ∷ record { handle = 2; visibility = Public; is_entry = true; acquires = 0 ∷ []; locals = 3; code = CopyLoc 0 ∷ ImmBorrowGlobal 0 ∷ StLoc 1 ∷ MoveLoc 1 ∷ Pop ∷ CopyLoc 0 ∷ Call 1 ∷ Ret ∷ [] } ∷ [];
+      ∷ record { handle = 2; visibility = Public; is_entry = true; acquires = 0 ∷ []; locals = 3; code = CopyLoc 0 ∷ ImmBorrowGlobal 0 ∷ StLoc 1 ∷ MoveLoc 1 ∷ Pop ∷ CopyLoc 0 ∷ Call 1 ∷ Ret ∷ [] } ∷
+      [];
   field_handles = record { definition = 0; position = 0 } ∷ [];
   own = 0;
 }
 
 -- its certificate: nothing is borrowed where its blocks begin
 abbrev pub coins_certificate : Certificate
-coins_certificate = (Some (record { locals = Available ∷ Available ∷ []; edges = [] }) ∷ []) ∷ (Some (record { locals = Available ∷ []; edges = [] }) ∷ []) ∷ (Some (record { locals = Available ∷ Unavailable ∷ []; edges = [] }) ∷ []) ∷ []
+coins_certificate = (Some (record { locals = Available ∷ Available ∷ []; edges = [] }) ∷ []) ∷ (Some (record { locals = Available ∷ []; edges = [] }) ∷ []) ∷
+    (Some (record { locals = Available ∷ Unavailable ∷ []; edges = [] }) ∷ []) ∷ []
 
 abbrev pub offer : Offer
 offer = record { text = ordered_text coins; certificate = certificate_text coins_certificate }
@@ -66,14 +69,37 @@ published = record { text = ordered_text coins; certificate = certificate_text c
 
 coins_fit : HasText coins
 unfolding uleb
-coins_fit = record { version = refl; module_handles = refl; struct_handles = refl; function_handles = refl; signatures = refl; constants = refl; identifiers = refl; addresses = refl; structs = refl; functions = refl; few_functions = refl; field_handles = refl; own = refl; size = refl }
+coins_fit = record {
+  version = refl;
+  module_handles = refl;
+  struct_handles = refl;
+  function_handles = refl;
+  signatures = refl;
+  constants = refl;
+  identifiers = refl;
+  addresses = refl;
+  structs = refl;
+  functions = refl;
+  few_functions = refl;
+  field_handles = refl;
+  own = refl;
+  size = refl;
+}
 
 coins_bytes : AreBytes (ordered_text coins)
 unfolding uleb
 coins_bytes = refl
 
 coins_text : IsModuleText (ordered_text coins) coins
-coins_text = record { contents = tables coins; headers = headers_from 0 (tables coins); tiled = IsPermutation-refl (tables coins); listed = IsPermutation-refl (headers_from 0 (tables coins)); text = refl; fits = coins_fit }
+coins_text = record {
+  contents = tables coins;
+  headers = headers_from 0 (tables coins);
+  tiled = IsPermutation-refl (tables coins);
+  listed = IsPermutation-refl
+      (headers_from 0 (tables coins));
+  text = refl;
+  fits = coins_fit;
+}
 
 abbrev coin_struct : StructDefinition
 coin_struct = record { handle = 0; fields = record { name = 2; token = Plain (OfLeaf (Number U64)) } ∷ [] }
@@ -142,10 +168,23 @@ one_block m d b k one first fits = record {
 
 coins_stated : AllStatedFit coins coins.functions coins_certificate
 coins_stated = (
-  one_block coins (record { handle = 0; visibility = Public; is_entry = true; acquires = []; locals = 0; code = ImmBorrowLoc 0 ∷ MoveLoc 1 ∷ Pack 0 ∷ MoveTo 0 ∷ Ret ∷ [] }) (record { first = 0; last = 4; next = [] }) (record { locals = Available ∷ Available ∷ []; edges = [] }) refl refl refl,
+  one_block coins (record { handle = 0; visibility = Public; is_entry = true; acquires = []; locals = 0; code = ImmBorrowLoc 0 ∷ MoveLoc 1 ∷ Pack 0 ∷ MoveTo 0 ∷ Ret ∷ [] })
+      (record { first = 0; last = 4; next = [] }) (record { locals = Available ∷ Available ∷ []; edges = [] }) refl refl refl,
   (
-    one_block coins (record { handle = 1; visibility = Public; is_entry = true; acquires = 0 ∷ []; locals = 0; code = MoveLoc 0 ∷ MoveFrom 0 ∷ Unpack 0 ∷ Pop ∷ Ret ∷ [] }) (record { first = 0; last = 4; next = [] }) (record { locals = Available ∷ []; edges = [] }) refl refl refl,
-    (one_block coins (record { handle = 2; visibility = Public; is_entry = true; acquires = 0 ∷ []; locals = 3; code = CopyLoc 0 ∷ ImmBorrowGlobal 0 ∷ StLoc 1 ∷ MoveLoc 1 ∷ Pop ∷ CopyLoc 0 ∷ Call 1 ∷ Ret ∷ [] }) (record { first = 0; last = 7; next = [] }) (record { locals = Available ∷ Unavailable ∷ []; edges = [] }) refl refl refl, tt),
+    one_block coins (record { handle = 1; visibility = Public; is_entry = true; acquires = 0 ∷ []; locals = 0; code = MoveLoc 0 ∷ MoveFrom 0 ∷ Unpack 0 ∷ Pop ∷ Ret ∷ [] })
+        (record { first = 0; last = 4; next = [] }) (record { locals = Available ∷ []; edges = [] }) refl refl refl,
+    (
+      one_block coins (record {
+        handle = 2;
+        visibility = Public;
+        is_entry = true;
+        acquires = 0 ∷ [];
+        locals = 3;
+        code = CopyLoc 0 ∷ ImmBorrowGlobal 0 ∷ StLoc 1 ∷ MoveLoc 1 ∷ Pop ∷ CopyLoc 0 ∷ Call
+            1 ∷ Ret ∷ [];
+      }) (record { first = 0; last = 7; next = [] }) (record { locals = Available ∷ Unavailable ∷ []; edges = [] }) refl refl refl,
+      tt,
+    ),
   ),
 )
 

@@ -30,12 +30,15 @@ arguments_ranged (Ref r ∷ vs) h = absurd cc
 
 run_ranged : (r : RunRequest) → run_fits r ≡ true → RunFits r
 run_ranged r h = record {
-  sender = sender (address_fits r.sender) (address_fits r.home.address) (identifier_fits r.home.name) (identifier_fits r.function) (nat_lt r.budget (2 ^ 64)) (nat_le (length r.arguments) 16) (list_all argument_fits r.arguments) h;
-  arguments = arguments_ranged r.arguments (second_so (address_fits r.sender && address_fits r.home.address && identifier_fits r.home.name && identifier_fits r.function && nat_lt r.budget (2 ^ 64) && nat_le (length r.arguments) 16) (list_all argument_fits r.arguments) h);
+  sender = sender (address_fits r.sender) (address_fits r.home.address) (identifier_fits r.home.name) (identifier_fits r.function) (nat_lt r.budget (2 ^ 64)) (nat_le (length r.arguments) 16)
+      (list_all argument_fits r.arguments) h;
+  arguments = arguments_ranged r.arguments (second_so (address_fits r.sender && address_fits r.home.address && identifier_fits r.home.name && identifier_fits r.function && nat_lt r.budget
+      (2 ^ 64) && nat_le (length r.arguments) 16) (list_all argument_fits r.arguments) h);
 }
   where
     sender : (a b c d e f g : Bool) → (a && b && c && d && e && f && g) ≡ true → a ≡ true
-    sender a b c d e f g k = first_so a b (first_so (a && b) c (first_so (a && b && c) d (first_so (a && b && c && d) e (first_so (a && b && c && d && e) f (first_so (a && b && c && d && e && f) g k)))))
+    sender a b c d e f g k = first_so a b (first_so (a && b) c (first_so (a && b && c) d
+        (first_so (a && b && c && d) e (first_so (a && b && c && d && e) f (first_so (a && b && c && d && e && f) g k)))))
 
 -- what a record asks has its parts in their ranges
 pub asked_fits : (kind : ℕ) (payload : List ℕ) (request : Request) → Asks kind payload request → RequestFits request
@@ -50,7 +53,8 @@ asked_fits kind payload Bad a = tt
 -- ---- what is answered
 
 -- a record that is answered over a sound ledger, and leaves one, is answered well
-pub answers_record : (kind : ℕ) (payload : List ℕ) (request : Request) (reply : Reply) (old new : LedgerState) → Asks kind payload request → Answers Spells old request reply new → IsSoundLedger new → AnswersRecord kind payload reply old new
+pub answers_record : (kind : ℕ) (payload : List ℕ) (request : Request) (reply : Reply) (old new : LedgerState) → Asks kind payload request → Answers Spells old request reply new → IsSoundLedger new
+    → AnswersRecord kind payload reply old new
 answers_record kind payload request reply old new asks answers sound = (request, asks, answers, answered-well Spells old new request reply answers, sound.balanced)
 
 pub records_well : IsReadByText → EachRecordIsWell

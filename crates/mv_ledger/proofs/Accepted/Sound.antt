@@ -21,8 +21,8 @@ use Rattle.mv_ledger.specs.Counting.Returns.{AtReturn}
 use Rattle.mv_ledger.specs.Counting.Conservation.{IsFineStorage, Conserves}
 use Rattle.mv_ledger.specs.Accepted.SoundLedger.{IsSoundLedger}
 use Rattle.mv_ledger.specs.Accepted.Records.{IsVetted}
-use Rattle.mv_ledger.proofs.Heirs.{Inherits, inherited}
-use Rattle.mv_ledger.proofs.Staying.{storage-stays}
+use Rattle.mv_ledger.proofs.Bundles.Heirs.{Inherits, inherited}
+use Rattle.mv_ledger.proofs.Bundles.Staying.{storage-stays}
 use Rattle.mv_machine.proofs.Binds.{WhereSome}
 use Rattle.mv_ledger.proofs.Counting.Admitted.{admitted-entry}
 use Rattle.mv_ledger.proofs.Counting.Declared.{declared-stays}
@@ -51,11 +51,13 @@ sound_balanced s sound = record { tallied = sound.tallied; balanced = sound.bala
 -- ---- a bundle
 
 -- a bundle that is published leaves a sound ledger sound
-pub published_sound : (s : LedgerState) (sender : ℕ) (offers : List Offer) (bundle : List PublishedModule) → IsSoundLedger s → IsStore (with_modules s.published bundle) → IsPublished s sender offers bundle → IsSoundLedger (with_bundle s bundle)
+pub published_sound : (s : LedgerState) (sender : ℕ) (offers : List Offer) (bundle : List PublishedModule) → IsSoundLedger s → IsStore (with_modules s.published bundle)
+    → IsPublished s sender offers bundle → IsSoundLedger (with_bundle s bundle)
 published_sound s sender offers bundle sound whole published =
     let after : List PublishedModule = with_modules s.published bundle in
     let inherits : Inherits (modules_of s) (tables_in after) = inherited s.published bundle published.1.compatible in
-    let are = bundle-balanced (modules_of s) (tables_in after) s.storage s.tallies (sound_fine s sound).kept (sound_balanced s sound) (declared-stays s.published after sound.store whole inherits) (able_store after whole) in
+    let are = bundle-balanced (modules_of s) (tables_in after) s.storage s.tallies (sound_fine s sound).kept (sound_balanced s sound) (declared-stays s.published after sound.store whole inherits)
+    (able_store after whole) in
     record {
       store = whole;
       typed = fine_storage (tables_in after) (accepted_store after whole) s.storage (storage-stays s.published after sound.store whole inherits s.storage (sound_stored s sound));
@@ -72,16 +74,19 @@ pub record RunFits (r : RunRequest) : Type 0 where
   pub arguments : Ranged r.arguments
 
 -- a run that is admitted meets no fault, and leaves what is stored typed
-pub run_faultless : (s : LedgerState) (r : RunRequest) (call : FunctionCall) → IsSoundLedger s → RunFits r → admitted s r ≡ Ok call → Faultless (modules_of s) (run (modules_of s) s.storage call r.budget)
+pub run_faultless : (s : LedgerState) (r : RunRequest) (call : FunctionCall) → IsSoundLedger s → RunFits r → admitted s r ≡ Ok call → Faultless (modules_of s)
+    (run (modules_of s) s.storage call r.budget)
 run_faultless s r call sound fits e =
     runs_faultless s.published s.storage call r.budget sound.store sound.typed (admitted_typed s r call (accepted_store s.published sound.store) fits.sender fits.arguments e)
 
 -- and conserves what is scarce
-run_conserves : (s : LedgerState) (r : RunRequest) (call : FunctionCall) → IsSoundLedger s → admitted s r ≡ Ok call → AtReturn (Conserves (modules_of s) s.storage) (run (modules_of s) s.storage call r.budget)
+run_conserves : (s : LedgerState) (r : RunRequest) (call : FunctionCall) → IsSoundLedger s → admitted s r ≡ Ok call → AtReturn (Conserves (modules_of s) s.storage)
+    (run (modules_of s) s.storage call r.budget)
 run_conserves s r call sound e = run-conserves (modules_of s) s.storage call r.budget (able_store s.published sound.store) (sound_fine s sound) (admitted-entry s r call e)
 
 -- what a run returns leaves a sound ledger sound
-returned_sound : (s : LedgerState) (storage : Storage) (events : List Event) → IsSoundLedger s → StorageTyped (modules_of s) storage → Conserves (modules_of s) s.storage storage events → IsSoundLedger (with_returned s storage events)
+returned_sound : (s : LedgerState) (storage : Storage) (events : List Event) → IsSoundLedger s → StorageTyped (modules_of s) storage → Conserves (modules_of s) s.storage storage events
+    → IsSoundLedger (with_returned s storage events)
 returned_sound s storage events sound typed conserves =
     let are = returned-balanced (modules_of s) s.storage storage events s.tallies (able_store s.published sound.store) (sound_balanced s sound) conserves in
     record { store = sound.store; typed = typed; ascending = conserves.fine.ascending; tallied = are.tallied; balanced = are.balanced }
@@ -119,7 +124,8 @@ RequestFits (Audit format) = Unit {0}
 RequestFits BadRun = Unit {0}
 RequestFits Bad = Unit {0}
 
-pub answered_sound : IsReadByText → (old new : LedgerState) (request : Request) (reply : Reply) → IsSoundLedger old → RequestFits request → Answers Spells old request reply new → IsVetted old request reply new → IsSoundLedger new
+pub answered_sound : IsReadByText → (old new : LedgerState) (request : Request) (reply : Reply) → IsSoundLedger old → RequestFits request → Answers Spells old request reply new
+    → IsVetted old request reply new → IsSoundLedger new
 answered_sound reads old new (Publish sender offers) (Published n) sound fits a v =
     subst IsSoundLedger (sym v.2) (published_sound old sender offers v.0 sound (published_store reads old sender offers v.0 sound.store fits v.1) v.1)
 answered_sound reads old new (Publish sender offers) (Refused phase) sound fits a v = subst IsSoundLedger (sym a) sound

@@ -59,6 +59,7 @@ passed_all reads (o ∷ os) [] are a = absurd a
 passed_all reads (o ∷ os) (p ∷ ps) are a = All-cons IsPublishable p ps (passed_publishable reads o p a.2.0 are.0 a.0 a.1 a.2.1) (passed_all reads os ps are.1 a.3)
 
 -- a bundle that is published over a store leaves one
-pub published_store : IsReadByText → (s : LedgerState) (sender : ℕ) (offers : List Offer) (bundle : List PublishedModule) → IsStore s.published → OffersAreBytes offers → IsPublished s sender offers bundle →
+pub published_store : IsReadByText → (s : LedgerState) (sender : ℕ) (offers : List Offer) (bundle : List PublishedModule) → IsStore s.published → OffersAreBytes offers
+    → IsPublished s sender offers bundle →
     IsStore (with_modules s.published bundle)
 published_store reads s sender offers bundle store are published = joined-store (Some sender) s.published bundle store (passed_all reads offers bundle are published.0) published.1

@@ -32,7 +32,7 @@ use Rattle.mv_machine.proofs.Binds.{on_some, place-written, entry-is, WhereOk}
 use Rattle.mv_ledger.proofs.Counting.Counts.{held-entered, held-reverse, kept-entered}
 use Rattle.mv_ledger.proofs.Counting.Keeps.{effect-fine, effect-balances, left-none}
 use Rattle.mv_ledger.proofs.Counting.Packs.{each-get}
-use Rattle.mv_ledger.proofs.Heirs.{tested}
+use Rattle.mv_ledger.proofs.Bundles.Heirs.{tested}
 use Rattle.mv_ledger.proofs.Counting.Runs.{step-stepped, begun, run-keeps}
 
 -- ---- the function of the first frame
@@ -159,7 +159,8 @@ for_each-none modules m [] tags n e = subst (WhereOk (λ (x : List Tag). length 
 for_each-none modules m (t ∷ ts) tags n e = absurd cc
 
 -- a function without results has no result tags
-no_results-tags : (modules : List Module) (m : Module) (d : FunctionDefinition) (handle : FunctionHandle) (tags : List Tag) → has_no_results m d ≡ true → entry m.function_handles d.handle ≡ Ok handle →
+no_results-tags : (modules : List Module) (m : Module) (d : FunctionDefinition) (handle : FunctionHandle) (tags : List Tag) → has_no_results m d ≡ true
+    → entry m.function_handles d.handle ≡ Ok handle →
     signature_tags modules m handle.results ≡ Ok tags → length tags ≡ 0
 unfolding signature_tags
 no_results-tags modules m d handle tags none handle_is tags_are =
@@ -180,7 +181,8 @@ packs-made name (e ∷ es) = sum_by-cons (λ (x : Event). cond (x.is_pack && sam
 
 pub unpacks-unmade : (name : StructName) (es : List Event) → unpacks name es ≡ unmade name es
 unpacks-unmade name [] = refl
-unpacks-unmade name (e ∷ es) = sum_by-cons (λ (x : Event). cond (not x.is_pack && same_struct x.struct name) 1 0) e es ∙ ap (λ n. cond (not e.is_pack && same_struct e.struct name) 1 0 + n) (unpacks-unmade name es)
+unpacks-unmade name (e ∷ es) = sum_by-cons (λ (x : Event). cond (not x.is_pack && same_struct x.struct name) 1 0) e es
+    ∙ ap (λ n. cond (not e.is_pack && same_struct e.struct name) 1 0 + n) (unpacks-unmade name es)
 
 -- the entry function's module and definition are those at work in the first frame
 entry-results : (h : Here) (call : FunctionCall) → IsAbleStore h.modules → IsEntryCall h.modules call → h.state.top.function ≡ call.function →
@@ -188,10 +190,12 @@ entry-results : (h : Here) (call : FunctionCall) → IsAbleStore h.modules → I
 entry-results h call store entered same home_is function_is =
     let there : slice_get h.modules call.function.place ≡ Some h.home = subst (λ (d : Definition). slice_get h.modules d.place ≡ Some h.home) same home_is in
     let home : entered.home ≡ h.home = same_Some entered.home h.home (sym entered.home_is ∙ there) in
-    let at : slice_get h.home.functions call.function.index ≡ Some entered.function = subst (λ (m : Module). slice_get m.functions call.function.index ≡ Some entered.function) home entered.function_is in
+    let at : slice_get h.home.functions call.function.index ≡ Some entered.function = subst (λ (m : Module). slice_get m.functions call.function.index ≡ Some entered.function) home
+    entered.function_is in
     let at2 : slice_get h.home.functions call.function.index ≡ Some h.function = subst (λ (d : Definition). slice_get h.home.functions d.index ≡ Some h.function) same function_is in
     let function : entered.function ≡ h.function = same_Some entered.function h.function (sym at ∙ at2) in
-    let fits : entry_fits h.home h.function ≡ true = each (entry_fits h.home) h.home.functions h.state.top.function.index h.function (each-get (λ m. IsTrue (list_all (entry_fits m) m.functions)) h.modules h.state.top.function.place h.home store.entries home_is) function_is in
+    let fits : entry_fits h.home h.function ≡ true = each (entry_fits h.home) h.home.functions h.state.top.function.index h.function
+    (each-get (λ m. IsTrue (list_all (entry_fits m) m.functions)) h.modules h.state.top.function.place h.home store.entries home_is) function_is in
     let is_entry : h.function.is_entry ≡ true = subst (λ (d : FunctionDefinition). d.is_entry ≡ true) function entered.is_entry in
     entry-none h.function.is_entry (has_no_results h.home h.function) (option_map_or are_entry_parameters (parameter_tokens h.home h.function) false) fits is_entry
 

@@ -15,7 +15,7 @@ use Rattle.mv_linker.specs.Link.{IsStore, tables_in}
 use Rattle.mv_linker.proofs.NameLemmas.{same_struct-is}
 use Rattle.mv_linker.proofs.Found.{on_some, then_found}
 use Rattle.mv_ledger.specs.Counting.Kept.{IsKept, AreKept, StorageIsKept}
-use Rattle.mv_ledger.proofs.Heirs.{Inherits, Stayed, tested, found-passes, on_and_then, stayed}
+use Rattle.mv_ledger.proofs.Bundles.Heirs.{Inherits, Stayed, tested, found-passes, on_and_then, stayed}
 use Rattle.mv_machine.proofs.Binds.{map-is}
 use Rattle.mv_ledger.proofs.Counting.Packs.{HandlesDeclared, each-declared, each-get}
 
@@ -34,7 +34,8 @@ pub declared-by : (modules : List Module) (name : StructName) (a : Abilities) �
 declared-by modules name a e =
     on_and_then (declared_in name) (module_named modules name.home) a e (λ m m_is e1.
     on_and_then (slice_get modules) (module_place modules name.home) m m_is (λ place place_is at.
-    on_and_then (λ i. option_and_then (λ (d : StructDefinition). option_map (λ (h : StructHandle). h.abilities) (slice_get m.struct_handles d.handle)) (slice_get m.structs i)) (find_index (is_struct m name) m.structs) a e1 (λ i i_is e2.
+    on_and_then (λ i. option_and_then (λ (d : StructDefinition). option_map (λ (h : StructHandle). h.abilities) (slice_get m.struct_handles d.handle)) (slice_get m.structs i))
+    (find_index (is_struct m name) m.structs) a e1 (λ i i_is e2.
     on_and_then (λ (d : StructDefinition). option_map (λ (h : StructHandle). h.abilities) (slice_get m.struct_handles d.handle)) (slice_get m.structs i) a e2 (λ d d_is e3.
     let handle = map-is (λ (h : StructHandle). h.abilities) (slice_get m.struct_handles d.handle) a e3 in
     let named = tested (λ own. same_struct own name) (name_of_struct m d) (found-passes (is_struct m name) m.structs i d i_is d_is) in
@@ -50,7 +51,8 @@ declared-by modules name a e =
     }))))
 
 -- a struct definition with its abilities
-pub definition-declared : (modules : List Module) (m : Module) (d : StructDefinition) (name : StructName) (a : Abilities) → HandlesDeclared modules m → name_of_struct m d ≡ Some name → struct_abilities m d ≡ Some a →
+pub definition-declared : (modules : List Module) (m : Module) (d : StructDefinition) (name : StructName) (a : Abilities) → HandlesDeclared modules m → name_of_struct m d ≡ Some name
+    → struct_abilities m d ≡ Some a →
     declared modules name ≡ Some a
 definition-declared modules m d name a declares name_is a_is =
     on_some (slice_get m.struct_handles d.handle) _ a a_is (λ handle handle_is e. declares d.handle handle name handle_is name_is ∙ e)
@@ -63,8 +65,10 @@ pub declared-stays : (old new : List PublishedModule) → IsStore old → IsStor
 declared-stays old new old_store new_store inherits name a e =
     let by = declared-by (tables_in old) name a e in
     let n = inherits by.place by.home by.home_is in
-    let s : Stayed by.home by.definition name n.0 by.index = stayed old new old_store new_store inherits by.place by.index by.home n.0 by.definition name by.home_is n.1 n.2 by.definition_is by.name_is in
-    let declares : HandlesDeclared (tables_in new) n.0 = each-get (HandlesDeclared (tables_in new)) (tables_in new) by.place n.0 (each-declared (tables_in new) (tables_in new) new_store.links.structs) n.1 in
+    let s : Stayed by.home by.definition name n.0 by.index = stayed old new old_store new_store inherits by.place by.index by.home n.0 by.definition name by.home_is n.1 n.2 by.definition_is
+    by.name_is in
+    let declares : HandlesDeclared (tables_in new) n.0 = each-get (HandlesDeclared (tables_in new)) (tables_in new) by.place n.0 (each-declared (tables_in new) (tables_in new) new_store.links.structs)
+    n.1 in
     definition-declared (tables_in new) n.0 s.definition name a declares s.is_named (sym s.abilities ∙ by.abilities_are)
 
 -- ---- a struct that is not declared has no values

@@ -95,7 +95,8 @@ freeze-trades h stack after e =
 -- a trade, and then going on at some instruction
 trade-ends : (h : Here) (at : ℕ) (after : List Value) (t : Turn) → Trades h h.state.top.stack after → goes_to at (with_stack h.state after) ≡ Ok t → Ends h t
 trade-ends h at after t trade e =
-    let effect : Effect h (with_stack h.state after) = subst (λ x. Effect h (with_stack h.state x)) (sym trade.afterwards) (Restacked trade.taken trade.given trade.rest trade.before trade.dropped trade.appears) in
+    let effect : Effect h (with_stack h.state after) = subst (λ x. Effect h (with_stack h.state x)) (sym trade.afterwards)
+    (Restacked trade.taken trade.given trade.rest trade.before trade.dropped trade.appears) in
     subst (WhereOk (Ends h)) e (Went at (with_stack h.state after) effect)
 
 gives-ends : (h : Here) (r : Result (List Value) Failure) (t : Turn) → ((after : List Value) → r ≡ Ok after → Trades h h.state.top.stack after) → gives h r ≡ Ok t → Ends h t

@@ -29,7 +29,8 @@ run-bound modules storage call budget = outcome-bound modules budget (first_stat
     subst (WhereOk (λ (t : State). t.steps ≡ 0)) e3 refl))))
 
 -- a run that is answered meets no fault
-settled-well : (s new : LedgerState) (reply : Reply) (budget : ℕ) (outcome : RunOutcome) → steps_taken outcome ≤ budget → AtReturn (λ storage events. IsOwnWork events) outcome → settled s outcome ≡ Some (reply, new) → EndsWell budget outcome
+settled-well : (s new : LedgerState) (reply : Reply) (budget : ℕ) (outcome : RunOutcome) → steps_taken outcome ≤ budget → AtReturn (λ storage events. IsOwnWork events) outcome
+    → settled s outcome ≡ Some (reply, new) → EndsWell budget outcome
 settled-well s new reply budget (Returned steps storage events) b own e = (b, own)
 settled-well s new reply budget (Aborted kind number steps) b own e = b
 settled-well s new reply budget (Exhausted stop steps) b own e = b
@@ -50,7 +51,8 @@ answered-well IsText old new BadRun reply a = tt
 answered-well IsText old new Bad reply a = tt
 
 -- what is stored is what the tallies leave
-stored-tallied : (storage : Storage) (ts : List Tallied) → AllByRecursion (λ (t : Tallied). count storage t.struct + t.unpacks ≡ t.packs) ts → AllByRecursion (λ (t : Tallied). count storage t.struct ≡ t.packs - t.unpacks) ts
+stored-tallied : (storage : Storage) (ts : List Tallied) → AllByRecursion (λ (t : Tallied). count storage t.struct + t.unpacks ≡ t.packs) ts
+    → AllByRecursion (λ (t : Tallied). count storage t.struct ≡ t.packs - t.unpacks) ts
 stored-tallied storage [] a = tt
 stored-tallied storage (t ∷ ts) a = let b : count storage t.struct + t.unpacks ≡ t.packs = a.0 in (omega (arith, b), stored-tallied storage ts a.1)
 

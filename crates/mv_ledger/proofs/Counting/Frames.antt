@@ -29,8 +29,10 @@ held-frames name n l old new m (f ∷ fs) numbered e = by_case (f.number == n) r
         ≡ (held_in_frame name f + held_in_frames name fs) + count_in name new
     by_case false s g ih = let i : held_in_frames name (map (with_local n l new) fs) + count_in name old ≡ held_in_frames name fs + count_in name new = ih g in omega (arith, i)
     by_case true s g ih =
-        let rest : held_in_frames name (map (with_local n l new) fs) ≡ held_in_frames name fs = ap (held_in_frames name) (written_below n l new f.number fs numbered.1 (let same : f.number ≡ n = eqb-true f.number n s in omega (arith, same))) in
-        let here : held_in_locals name (slice_set f.locals l (Some new)) + count_in name old ≡ held_in_locals name f.locals + count_in name new = held-set name f.locals l (Some old) (Some new) (held_entry f l old g) in
+        let rest : held_in_frames name (map (with_local n l new) fs) ≡ held_in_frames name fs = ap (held_in_frames name)
+        (written_below n l new f.number fs numbered.1 (let same : f.number ≡ n = eqb-true f.number n s in omega (arith, same))) in
+        let here : held_in_locals name (slice_set f.locals l (Some new)) + count_in name old ≡ held_in_locals name f.locals + count_in name new = held-set name f.locals l (Some old) (Some new)
+        (held_entry f l old g) in
         omega (arith, rest, here)
 
 pub kept-local_in : (modules : List Module) (n l : ℕ) (v : Value) (fs : List Frame) → FramesAreKept modules fs → local_in fs n l ≡ Some v → IsKept modules v
@@ -84,6 +86,7 @@ fine-root modules s (Stored key) v fine kept = record {
 pub held-root : (modules : List Module) (name : StructName) (s : State) (root : Root) (old new : Value) → IsFine modules s → root_value s root ≡ Some old →
     held name (with_root s root new) + count_in name old ≡ held name s + count_in name new
 held-root modules name s (Local n l) old new fine e =
-    let h : held_in_frames name (map (with_local n l new) (frames s)) + count_in name old ≡ held_in_frames name (frames s) + count_in name new = held-frames name n l old new s.entered (frames s) fine.numbered e in
+    let h : held_in_frames name (map (with_local n l new) (frames s)) + count_in name old ≡ held_in_frames name (frames s) + count_in name new = held-frames name n l old new s.entered (frames s)
+    fine.numbered e in
     omega (arith, h)
 held-root modules name s (Stored key) old new fine e = let h = count-over name s.storage key old new fine.ascending e in omega (arith, h)

@@ -115,7 +115,14 @@ effect-fine h place _ store home_is fine (Restacked taken given rest s d a) =
     fine-stack h.modules h.state (given ++ rest) fine
     (kept-append h.modules given rest (appear-kept h given fine a) (kept-rest h.modules taken rest (subst (StackIsKept h.modules) s fine.framed.0.stack)))
 effect-fine h place _ store home_is fine (MovedLocal l v e) = record {
-  framed = (record { locals = kept-set h.modules h.state.top.locals l None fine.framed.0.locals tt; stack = (kept-get h.modules h.state.top.locals l (Some v) fine.framed.0.locals e, fine.framed.0.stack) }, fine.framed.1);
+  framed = (
+    record {
+      locals = kept-set h.modules h.state.top.locals l None fine.framed.0.locals
+          tt;
+      stack = (kept-get h.modules h.state.top.locals l (Some v) fine.framed.0.locals e, fine.framed.0.stack);
+    },
+    fine.framed.1,
+  );
   stored = fine.stored;
   ascending = fine.ascending;
   numbered = fine.numbered;
@@ -132,7 +139,10 @@ effect-fine h place _ store home_is fine (Packed i struct taken rest tags struct
     let kept : StackIsKept h.modules (reverse taken ++ rest) = subst (StackIsKept h.modules) s fine.framed.0.stack in
     let fields : StackIsKept h.modules taken = kept-unreverse h.modules taken (kept-first h.modules (reverse taken) rest kept) in
     record {
-      framed = (record { locals = fine.framed.0.locals; stack = (packed-kept h place i struct tags taken store home_is struct_is named typed fields, kept-rest h.modules (reverse taken) rest kept) }, fine.framed.1);
+      framed = (
+        record { locals = fine.framed.0.locals; stack = (packed-kept h place i struct tags taken store home_is struct_is named typed fields, kept-rest h.modules (reverse taken) rest kept) },
+        fine.framed.1,
+      );
       stored = fine.stored;
       ascending = fine.ascending;
       numbered = fine.numbered;
@@ -170,7 +180,10 @@ effect-fine h place _ store home_is fine (MovedTo key r v below s e) =
 effect-fine h place _ store home_is fine (Called function others taken rest s) =
     let kept : StackIsKept h.modules (reverse taken ++ rest) = subst (StackIsKept h.modules) s fine.framed.0.stack in
     record {
-      framed = (record { locals = kept-entered h.modules taken others (kept-unreverse h.modules taken (kept-first h.modules (reverse taken) rest kept)); stack = tt }, (record { locals = fine.framed.0.locals; stack = kept-rest h.modules (reverse taken) rest kept }, fine.framed.1));
+      framed = (
+        record { locals = kept-entered h.modules taken others (kept-unreverse h.modules taken (kept-first h.modules (reverse taken) rest kept)); stack = tt },
+        (record { locals = fine.framed.0.locals; stack = kept-rest h.modules (reverse taken) rest kept }, fine.framed.1),
+      );
       stored = fine.stored;
       ascending = fine.ascending;
       numbered = (omega arith, fine.numbered);
@@ -216,7 +229,8 @@ effect-balances h name _ scarce fine (MovedLocal l v e) =
 effect-balances h name _ scarce fine (StoredLocal l old v below s e d) =
     let before : held_in_stack name h.state.top.stack ≡ count_in name v + held_in_stack name below = ap (held_in_stack name) s in
     let out : held_in_local name old ≡ 0 = lost-none h name old scarce (kept-get h.modules h.state.top.locals l old fine.framed.0.locals e) d in
-    let set : held_in_locals name (slice_set h.state.top.locals l (Some v)) + held_in_local name old ≡ held_in_locals name h.state.top.locals + count_in name v = held-set name h.state.top.locals l old (Some v) e in
+    let set : held_in_locals name (slice_set h.state.top.locals l (Some v)) + held_in_local name old ≡ held_in_locals name h.state.top.locals + count_in name v = held-set name h.state.top.locals l old
+    (Some v) e in
     omega (arith, before, out, set)
 effect-balances h name _ scarce fine (Packed i struct taken rest tags struct_is s named typed) =
     let before : held_in_stack name h.state.top.stack ≡ held_in_stack name taken + held_in_stack name rest =

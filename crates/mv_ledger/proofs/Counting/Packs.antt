@@ -30,7 +30,7 @@ use Rattle.mv_ledger.specs.Counting.Kept.{Allows, IsKept, AreKept, StackIsKept}
 use Rattle.mv_ledger.specs.Counting.Fine.{IsAbleStore}
 use Rattle.mv_machine.proofs.Binds.{on_some, WhereOk}
 use Rattle.mv_ledger.proofs.Counting.Tags.{has_tag-abilities, tag_named-abilities}
-use Rattle.mv_ledger.proofs.Heirs.{tested}
+use Rattle.mv_ledger.proofs.Bundles.Heirs.{tested}
 
 -- what each element is, the one at an index is
 pub each-get : {A : Type 0} (P : A → Type 0) (xs : List A) (i : ℕ) (x : A) → AllByRecursion P xs → slice_get xs i ≡ Some x → P x
@@ -39,7 +39,8 @@ each-get P (y ∷ ys) zero x h e = subst P (same_Some y x e) h.0
 each-get P (y ∷ ys) (suc i) x h e = each-get P ys i x h.1 e
 
 -- a struct handle of a store's module names a struct that is declared as the handle says
-pub there-get : (modules : List Module) (m : Module) (k j : ℕ) (handles : List StructHandle) (handle : StructHandle) → structs_are_there modules m k handles ≡ true → slice_get handles j ≡ Some handle →
+pub there-get : (modules : List Module) (m : Module) (k j : ℕ) (handles : List StructHandle) (handle : StructHandle) → structs_are_there modules m k handles ≡ true
+    → slice_get handles j ≡ Some handle →
     struct_is_there modules m (k + j) handle ≡ true
 there-get modules m k j [] handle h e = absurd cc
 there-get modules m k zero (x ∷ xs) handle h e =
@@ -53,7 +54,8 @@ there-get modules m k (suc j) (x ∷ xs) handle h e =
 
 -- each struct handle of a module names a struct that is declared as the handle says
 abbrev pub HandlesDeclared : List Module → Module → Type 0
-HandlesDeclared modules m = (j : ℕ) (handle : StructHandle) (name : StructName) → slice_get m.struct_handles j ≡ Some handle → struct_name m j ≡ Some name → declared modules name ≡ Some handle.abilities
+HandlesDeclared modules m = (j : ℕ) (handle : StructHandle) (name : StructName) → slice_get m.struct_handles j ≡ Some handle → struct_name m j ≡ Some name
+    → declared modules name ≡ Some handle.abilities
 
 pub handles-declared : (modules : List Module) (m : Module) → structs_are_there modules m 0 m.struct_handles ≡ true → HandlesDeclared modules m
 handles-declared modules m all j handle name handle_is name_is =
@@ -104,11 +106,13 @@ implied true b h e = h
 implied false b h e = absurd cc
 
 -- a value of a field's tag has what the struct asks of the field
-field-allows : (modules : List Module) (m : Module) (s : State) (outer : Abilities) (f : Field) (tag : Tag) (v : Value) → field_is_able m outer f ≡ true → tag_named modules m f.token ≡ Ok tag → has_tag s v tag ≡ true →
+field-allows : (modules : List Module) (m : Module) (s : State) (outer : Abilities) (f : Field) (tag : Tag) (v : Value) → field_is_able m outer f ≡ true → tag_named modules m f.token ≡ Ok tag
+    → has_tag s v tag ≡ true →
     Allows outer (abilities_of modules v)
 field-allows modules m s outer f tag v able named typed =
     let had = tested (λ a. implies outer.copy a.copy && implies outer.drop a.drop && implies (outer.store || outer.key) a.store) (token_abilities m f.token) able in
-    let front : (implies outer.copy (had.0).copy && implies outer.drop (had.0).drop) ≡ true = first_so (implies outer.copy (had.0).copy && implies outer.drop (had.0).drop) (implies (outer.store || outer.key) (had.0).store) had.2 in
+    let front : (implies outer.copy (had.0).copy && implies outer.drop (had.0).drop) ≡ true = first_so (implies outer.copy (had.0).copy && implies outer.drop (had.0).drop)
+    (implies (outer.store || outer.key) (had.0).store) had.2 in
     let same : had.0 ≡ abilities_of modules v = tag_named-abilities modules m f.token tag had.0 named had.1 ∙ sym (has_tag-abilities modules s v tag typed) in
     subst (Allows outer) same (record {
       copy = implied outer.copy (had.0).copy (first_so (implies outer.copy (had.0).copy) (implies outer.drop (had.0).drop) front);
@@ -128,7 +132,8 @@ fields-kept modules m s outer (f ∷ fs) tags (v ∷ vs) able named typed kept =
     let both : (has_tag s v tag && have_tags s vs rest) ≡ true = subst (WhereOk (λ ts. have_tags s (v ∷ vs) ts ≡ true)) (sym e2) typed in (
       field-allows modules m s outer f tag v (first_so (field_is_able m outer f) (list_all (field_is_able m outer) fs) able) tag_is (first_so (has_tag s v tag) (have_tags s vs rest) both),
       kept.0,
-      fields-kept modules m s outer fs rest vs (second_so (field_is_able m outer f) (list_all (field_is_able m outer) fs) able) rest_are (second_so (has_tag s v tag) (have_tags s vs rest) both) kept.1,
+      fields-kept modules m s outer fs rest vs (second_so (field_is_able m outer f) (list_all (field_is_able m outer) fs) able) rest_are (second_so (has_tag s v tag) (have_tags s vs rest) both)
+          kept.1,
     )))
 
 -- a struct value that is packed

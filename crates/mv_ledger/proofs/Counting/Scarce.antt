@@ -76,7 +76,8 @@ some-right : {A : Type 0} (P : A → Type 0) (xs ys : List A) → SomeOf P ys �
 some-right P [] ys s = s
 some-right P (x ∷ xs) ys s = inr (some-right P xs ys s)
 
-among-definitions : (m : Module) (ds : List StructDefinition) (i : ℕ) (d : StructDefinition) (name : StructName) → slice_get ds i ≡ Some d → scarce_name m d ≡ Some name → SomeOf (λ y. y ≡ name) (filter_map (scarce_name m) ds)
+among-definitions : (m : Module) (ds : List StructDefinition) (i : ℕ) (d : StructDefinition) (name : StructName) → slice_get ds i ≡ Some d → scarce_name m d ≡ Some name → SomeOf (λ y. y ≡ name)
+    (filter_map (scarce_name m) ds)
 among-definitions m [] i d name e g = absurd cc
 among-definitions m (x ∷ xs) zero d name e g = by_case (scarce_name m x) (ap (scarce_name m) (same_Some x d e) ∙ g)
   where
@@ -89,7 +90,8 @@ among-definitions m (x ∷ xs) (suc i) d name e g = by_case (scarce_name m x) (a
     by_case (Some n) ih = inr ih
     by_case None ih = ih
 
-pub scarce-among : (ms : List Module) (name : StructName) (place i : ℕ) (m : Module) (d : StructDefinition) → slice_get ms place ≡ Some m → slice_get m.structs i ≡ Some d → scarce_name m d ≡ Some name →
+pub scarce-among : (ms : List Module) (name : StructName) (place i : ℕ) (m : Module) (d : StructDefinition) → slice_get ms place ≡ Some m → slice_get m.structs i ≡ Some d
+    → scarce_name m d ≡ Some name →
     SomeOf (λ x. x ≡ name) (scarce_structs ms)
 scarce-among [] name place i m d m_is d_is e = absurd cc
 scarce-among (x ∷ xs) name zero i m d m_is d_is e =
@@ -99,7 +101,8 @@ scarce-among (x ∷ xs) name (suc place) i m d m_is d_is e =
     some-right (λ y. y ≡ name) (filter_map (scarce_name x) x.structs) (scarce_structs xs) (scarce-among xs name place i m d m_is d_is e)
 
 -- a definition without copy and drop is scarce
-pub scarce_name-is : (m : Module) (d : StructDefinition) (name : StructName) (a : Abilities) → name_of_struct m d ≡ Some name → struct_abilities m d ≡ Some a → a.copy ≡ false → a.drop ≡ false → scarce_name m d ≡ Some name
+pub scarce_name-is : (m : Module) (d : StructDefinition) (name : StructName) (a : Abilities) → name_of_struct m d ≡ Some name → struct_abilities m d ≡ Some a → a.copy ≡ false → a.drop ≡ false
+    → scarce_name m d ≡ Some name
 scarce_name-is m d name a name_is a_is c dr =
     let named : cond (a.copy || a.drop) None (name_of_struct m d) ≡ Some name = rw (c, dr) name_is in
     ap (λ (o : Option Abilities). option_map_or (λ (a : Abilities). cond (a.copy || a.drop) None (name_of_struct m d)) o None) a_is ∙ named

@@ -30,7 +30,8 @@ count-new name (e ∷ es) key v h =
     by_case (same_key e.key key) (key_before key e.key) (count-new name es key v) h
   where
     by_case : (same before : Bool) → (stored_at es key ≡ None → count (with_stored es key v) name ≡ count_in name v + count es name) → cond same (Some e.value) (stored_at es key) ≡ None →
-        count (cond same (record { key = key; value = v } ∷ es) (cond before (record { key = key; value = v } ∷ e ∷ es) (e ∷ with_stored es key v))) name ≡ count_in name v + (count_in name e.value + count es name)
+        count (cond same (record { key = key; value = v } ∷ es) (cond before (record { key = key; value = v } ∷ e ∷ es) (e ∷ with_stored es key v))) name ≡ count_in name
+        v + (count_in name e.value + count es name)
     by_case true before ih g = absurd cc
     by_case false true ih g = omega arith
     by_case false false ih g = let i : count (with_stored es key v) name ≡ count_in name v + count es name = ih g in omega (arith, i)

@@ -38,7 +38,8 @@ names-stay : (events : List Event) (ts : List Tallied) → map (λ (t : Tallied)
 names-stay events [] = refl
 names-stay events (t ∷ ts) = ap (λ (ns : List StructName). t.struct ∷ ns) (names-stay events ts)
 
-balances-stay : (modules : List Module) (old new : Storage) (events : List Event) (ts : List Tallied) → Conserves modules old new events → AllByRecursion (λ (t : Tallied). IsScarce modules t.struct) ts →
+balances-stay : (modules : List Module) (old new : Storage) (events : List Event) (ts : List Tallied) → Conserves modules old new events
+    → AllByRecursion (λ (t : Tallied). IsScarce modules t.struct) ts →
     AllByRecursion (Balanced old) ts → AllByRecursion (Balanced new) (map (tally_with events) ts)
 balances-stay modules old new events [] c scarce b = tt
 balances-stay modules old new events (t ∷ ts) c scarce b =
@@ -84,8 +85,10 @@ module _ (old new : List Module) (storage : Storage) (tallies : List Tallied) (k
       by_case (Some a) e =
           let by = declared-by old name a e in
           let one : a ≡ scarce.abilities = same_Some a scarce.abilities (sym (remembers name a e) ∙ scarce.is_declared) in
-          let named : scarce_name by.home by.definition ≡ Some name = scarce_name-is by.home by.definition name a by.name_is by.abilities_are (ap (λ (x : Abilities). x.copy) one ∙ scarce.copy) (ap (λ (x : Abilities). x.drop) one ∙ scarce.drop) in
-          let among : SomeOf (λ x. x ≡ name) (map (λ (t : Tallied). t.struct) tallies) = subst (SomeOf (λ x. x ≡ name)) (sym are.tallied) (scarce-among old name by.place by.index by.home by.definition by.home_is by.definition_is named) in
+          let named : scarce_name by.home by.definition ≡ Some name = scarce_name-is by.home by.definition name a by.name_is by.abilities_are (ap (λ (x : Abilities). x.copy) one ∙ scarce.copy)
+          (ap (λ (x : Abilities). x.drop) one ∙ scarce.drop) in
+          let among : SomeOf (λ x. x ≡ name) (map (λ (t : Tallied). t.struct) tallies) = subst (SomeOf (λ x. x ≡ name)) (sym are.tallied)
+          (scarce-among old name by.place by.index by.home by.definition by.home_is by.definition_is named) in
           some-each (λ (t : Tallied). t.struct ≡ name) (λ (t : Tallied). is_of name t ≡ false) tallies
           (λ t same differs.
           let yes : is_of name t ≡ true = subst (λ (n : StructName). same_struct n name ≡ true) (sym same) (same_struct-same name) in

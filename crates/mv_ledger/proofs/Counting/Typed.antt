@@ -27,7 +27,7 @@ use Rattle.mv_linker.proofs.Found.{each, on_some}
 use Rattle.mv_interpreter.proofs.Typing.Tests.{same_kind-is}
 use Rattle.mv_ledger.specs.Counting.Kept.{Allows, IsKept, AreKept, StorageIsKept}
 use Rattle.mv_ledger.specs.Counting.Fine.{IsAbleStore}
-use Rattle.mv_ledger.proofs.Heirs.{tested, found-passes, on_and_then}
+use Rattle.mv_ledger.proofs.Bundles.Heirs.{tested, found-passes, on_and_then}
 use Rattle.mv_ledger.proofs.Counting.Counts.{declared-abilities}
 use Rattle.mv_ledger.proofs.Counting.Packs.{HandlesDeclared, each-declared, each-get, implied}
 use Rattle.mv_ledger.proofs.Counting.Declared.{definition-declared}
@@ -82,10 +82,12 @@ module _ (modules : List Module) (store : IsAbleStore modules) where
   typed-abilities m (MutableReferenceTo t) (Struct name fields) a declares h e = absurd cc
   typed-abilities m (MutableReferenceTo t) (Ref r) a declares h e = absurd cc
 
-  typed-allows : (m : Module) (outer : Abilities) (f : Field) (v : Value) → HandlesDeclared modules m → field_is_able m outer f ≡ true → is_of_type modules m f.token v ≡ true → Allows outer (abilities_of modules v)
+  typed-allows : (m : Module) (outer : Abilities) (f : Field) (v : Value) → HandlesDeclared modules m → field_is_able m outer f ≡ true → is_of_type modules m f.token v ≡ true
+      → Allows outer (abilities_of modules v)
   typed-allows m outer f v declares able typed =
       let had = tested (λ a. implies outer.copy a.copy && implies outer.drop a.drop && implies (outer.store || outer.key) a.store) (token_abilities m f.token) able in
-      let front : (implies outer.copy (had.0).copy && implies outer.drop (had.0).drop) ≡ true = first_so (implies outer.copy (had.0).copy && implies outer.drop (had.0).drop) (implies (outer.store || outer.key) (had.0).store) had.2 in
+      let front : (implies outer.copy (had.0).copy && implies outer.drop (had.0).drop) ≡ true = first_so (implies outer.copy (had.0).copy && implies outer.drop (had.0).drop)
+      (implies (outer.store || outer.key) (had.0).store) had.2 in
       subst (Allows outer) (typed-abilities m f.token v had.0 declares typed had.1) (record {
         copy = implied outer.copy (had.0).copy (first_so (implies outer.copy (had.0).copy) (implies outer.drop (had.0).drop) front);
         drop = implied outer.drop (had.0).drop (second_so (implies outer.copy (had.0).copy) (implies outer.drop (had.0).drop) front);
@@ -106,13 +108,16 @@ module _ (modules : List Module) (store : IsAbleStore modules) where
         let defines = definition-defines name found.0 found.1 in
         (defines.abilities, defines.is_declared, typed-fields (found.0).0 defines.abilities (found.0).1 fields defines.declares defines.able found.2)
 
-    typed-fields : (m : Module) (outer : Abilities) (fs : List Field) (vs : Values) → HandlesDeclared modules m → list_all (field_is_able m outer) fs ≡ true → are_of_types modules m fs vs ≡ true → AreKept modules outer vs
+    typed-fields : (m : Module) (outer : Abilities) (fs : List Field) (vs : Values) → HandlesDeclared modules m → list_all (field_is_able m outer) fs ≡ true → are_of_types modules m fs vs ≡ true
+        → AreKept modules outer vs
     typed-fields m outer fs NoMore declares able typed = tt
     typed-fields m outer [] (More v vs) declares able typed = absurd cc
     typed-fields m outer (f ∷ fs) (More v vs) declares able typed = (
-      typed-allows m outer f v declares (first_so (field_is_able m outer f) (list_all (field_is_able m outer) fs) able) (first_so (is_of_type modules m f.token v) (are_of_types modules m fs vs) typed),
+      typed-allows m outer f v declares (first_so (field_is_able m outer f) (list_all (field_is_able m outer) fs) able)
+          (first_so (is_of_type modules m f.token v) (are_of_types modules m fs vs) typed),
       typed-kept m f.token v (first_so (is_of_type modules m f.token v) (are_of_types modules m fs vs) typed),
-      typed-fields m outer fs vs declares (second_so (field_is_able m outer f) (list_all (field_is_able m outer) fs) able) (second_so (is_of_type modules m f.token v) (are_of_types modules m fs vs) typed),
+      typed-fields m outer fs vs declares (second_so (field_is_able m outer f) (list_all (field_is_able m outer) fs) able)
+          (second_so (is_of_type modules m f.token v) (are_of_types modules m fs vs) typed),
     )
 
   of_struct-kept : (own : StructName) (v : Value) → is_of_struct modules own v ≡ true → IsKept modules v

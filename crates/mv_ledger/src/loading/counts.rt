@@ -4,9 +4,9 @@ ghost use Rattle.std.specs.List.{AllByRecursion};
 ghost use Rattle.mv_interpreter.specs.Runs.{IsFineWords};
 ghost use Rattle.mv_linker.specs.Link.{tables_in};
 ghost use Rattle.mv_machine.specs.Flat.{storage_of};
-ghost use Rattle.mv_ledger.specs.CountRows.{no_counts, count_at, with_count, Adds, AreAll, AreStored, IsTallied};
+ghost use Rattle.mv_ledger.specs.Parts.CountRows.{no_counts, count_at, with_count, Adds, AreAll, AreStored, IsTallied};
 ghost use Rattle.mv_ledger.specs.Inside.{structs_in_part, structs_in_parts, structs_under};
-ghost use Rattle.mv_ledger.specs.LoadedParts.{AreCounted};
+ghost use Rattle.mv_ledger.specs.Parts.LoadedParts.{AreCounted};
 ghost use Rattle.mv_ledger.specs.View.{all_of, tallied, AreScarce, IsNamed};
 
 use crate::layouts::{Layouts, MOST_NESTING};

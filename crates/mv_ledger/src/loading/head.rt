@@ -1,8 +1,8 @@
 // How the text of a saved ledger begins.
 ghost use Rattle.std.specs.Prelude.{◌≡◌, ◌⊎◌, None, Some, Err, IfOk, IfErr};
 ghost use Rattle.mv_module_text.specs.Reads.{ReadsAs, Marks};
-ghost use Rattle.mv_ledger.specs.BodyParts.{form_of};
-ghost use Rattle.mv_ledger.specs.LoadedParts.{form_from, head_from, head_of, marks_from};
+ghost use Rattle.mv_ledger.specs.Parts.BodyParts.{form_of};
+ghost use Rattle.mv_ledger.specs.Parts.LoadedParts.{form_from, head_from, head_of, marks_from};
 
 use crate::payload::{Offered, offers};
 use mv_module_text::Reader;

@@ -8,7 +8,7 @@ ghost use Rattle.mv_move_types.specs.Refusals.{IsRefusedIn};
 ghost use Rattle.mv_ledger.specs.declared.tallies.Placed.{Placed as Standing};
 ghost use Rattle.mv_ledger.specs.Asking.{offers_of};
 ghost use Rattle.mv_ledger.specs.Loading.{AreLinked};
-ghost use Rattle.mv_ledger.specs.LoadedParts.{AreJoined, AreNotJoined, IsJoined};
+ghost use Rattle.mv_ledger.specs.Parts.LoadedParts.{AreJoined, AreNotJoined, IsJoined};
 ghost use Rattle.mv_ledger.specs.Publishing.{AllPass};
 
 use crate::loading::groups::first_group;

@@ -2,7 +2,7 @@
 ghost use Rattle.std.specs.Prelude.{◌≡◌, None, Some, length, map, OnOk, OnErr, IfErr};
 ghost use Rattle.mv_module_text.specs.Parsing.{entries_from};
 ghost use Rattle.mv_module_text.specs.Reads.{Reads};
-ghost use Rattle.mv_ledger.specs.BodyParts.{form_of, counts_of, struct_of, count_from, tally_from};
+ghost use Rattle.mv_ledger.specs.Parts.BodyParts.{form_of, counts_of, struct_of, count_from, tally_from};
 
 use crate::loading::head::SavedForm;
 use crate::tallies::Tally;

@@ -2,7 +2,7 @@
 ghost use Rattle.std.specs.Prelude.{◌≡◌, ◌⊎◌, [], None, Some, Err, IfOk, IfErr, OnOk, cond, is_some, not, option_map};
 ghost use Rattle.mv_move_types.specs.declared.tables.Definition.{Definition as DefinitionAt};
 ghost use Rattle.mv_storage.specs.FlatStorage.{words_under, with_words};
-ghost use Rattle.mv_ledger.specs.BodyParts.{form_of, leaves_from, struct_from, entry_from, is_after, rising_into, group_into, groups_into, storage_into};
+ghost use Rattle.mv_ledger.specs.Parts.BodyParts.{form_of, leaves_from, struct_from, entry_from, is_after, rising_into, group_into, groups_into, storage_into};
 ghost use Rattle.mv_ledger.specs.Layouts.{kinds_under};
 
 use crate::layouts::Layouts;

@@ -3,7 +3,7 @@ use Rattle.mv_machine.specs.Lines.{Refused as ToldRefused, Told as ToldLines}
 use Rattle.mv_machine.specs.Ledger.{AsText, AsJson}
 use Rattle.mv_ledger.specs.Answering.{Replies}
 use Rattle.mv_ledger.specs.View.{LedgerView, view_of, all_of}
-use Rattle.mv_ledger.proofs.Reports.{unasked_replies, audit_replies, audit-lines, audit-json, few_tallies}
+use Rattle.mv_ledger.proofs.Shows.Reports.{unasked_replies, audit_replies, audit-lines, audit-json, few_tallies}
 use Rattle.mv_ledger.proofs.Ledger.audit.Goals as goal
 
 pub returns-in_default : goal.returns-in_default
@@ -14,7 +14,8 @@ returns-in_default c =
 
 pub of_tallies-requires-clause-few : goal.of_tallies-requires-clause-few
 of_tallies-requires-clause-few c =
-    let most : length (all_of c.self.inside.tallies) ≤ 65536 * length c.self.inside.store = few_tallies c.self.inside.store c.self.inside.tallies c.self.invariant.sound.store.passed c.self.invariant.scarce in
+    let most : length (all_of c.self.inside.tallies) ≤ 65536 * length c.self.inside.store = few_tallies c.self.inside.store c.self.inside.tallies c.self.invariant.sound.store.passed
+    c.self.invariant.scarce in
     omega (arith, most, c.self.invariant.few)
 
 pub returns-in-Text : goal.returns-in-Text

@@ -1,10 +1,11 @@
 use Rattle.std.proofs.Common.{subst}
 use Rattle.mv_ledger.specs.SavedLaws.{IsSavable}
 use Rattle.mv_ledger.specs.View.{LedgerView, state_of}
-use Rattle.mv_ledger.proofs.SavedLimits.{ledger-savable}
+use Rattle.mv_ledger.proofs.Saves.SavedLimits.{ledger-savable}
 use Rattle.mv_ledger.proofs.Ledger.is_savable.Goals as goal
 
 pub returns : goal.returns
 returns c =
     subst (λ (v : LedgerView). IsSavable (state_of v)) c.self.view_is
-    (ledger-savable c.modules_are_read_by_text.ensures c.self.inside.store c.self.inside.storage c.self.inside.tallies c.self.inside.counters c.self.inside.runs c.iter-entries.ensures.few c.self.invariant)
+    (ledger-savable c.modules_are_read_by_text.ensures c.self.inside.store c.self.inside.storage c.self.inside.tallies c.self.inside.counters c.self.inside.runs c.iter-entries.ensures.few
+    c.self.invariant)

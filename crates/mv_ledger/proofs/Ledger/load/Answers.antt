@@ -1,9 +1,9 @@
 use Rattle.std.proofs.Common.{Err, arith, sym, ap, ◌∙◌}
 use Rattle.mv_certificate.proofs.Marks.{all-bytes}
 use Rattle.mv_ledger.specs.declared.loading.LoadError.TheVariants.{Head}
-use Rattle.mv_ledger.specs.LoadedParts.{head_from, head_of, BeginsWith}
-use Rattle.mv_ledger.proofs.LoadedHead.{head-none}
-use Rattle.mv_ledger.proofs.Loaded.{refused-as}
+use Rattle.mv_ledger.specs.Parts.LoadedParts.{head_from, head_of, BeginsWith}
+use Rattle.mv_ledger.proofs.Loads.LoadedHead.{head-none}
+use Rattle.mv_ledger.proofs.Loads.Loaded.{refused-as}
 use Rattle.mv_ledger.proofs.Ledger.load.Goals as goal
 
 pub returns-in-Err-clause-refused : goal.returns-in-Err-clause-refused
@@ -16,10 +16,12 @@ load_after-requires c = (c.args.bytes.now, record { are = all-bytes c.args.bytes
 
 pub returns-in-Ok-clause-loaded : goal.returns-in-Ok-clause-loaded
 returns-in-Ok-clause-loaded c =
-    let begun : BeginsWith c.args.bytes.now (head_of c.in-Ok.head) c.read_head.new.reader = record { are = all-bytes c.args.bytes.now (λ i. omega (arith, c.type_inv.bytes i)); begins = ap head_from (sym c.new-reader.ensures) ∙ c.in-Ok.ensures.ok } in
+    let begun : BeginsWith c.args.bytes.now (head_of c.in-Ok.head)
+    c.read_head.new.reader = record { are = all-bytes c.args.bytes.now (λ i. omega (arith, c.type_inv.bytes i)); begins = ap head_from (sym c.new-reader.ensures) ∙ c.in-Ok.ensures.ok } in
     c.load_after.ensures.loaded c.args.bytes.now begun
 
 pub returns-in-Ok-clause-refused : goal.returns-in-Ok-clause-refused
 returns-in-Ok-clause-refused c =
-    let begun : BeginsWith c.args.bytes.now (head_of c.in-Ok.head) c.read_head.new.reader = record { are = all-bytes c.args.bytes.now (λ i. omega (arith, c.type_inv.bytes i)); begins = ap head_from (sym c.new-reader.ensures) ∙ c.in-Ok.ensures.ok } in
+    let begun : BeginsWith c.args.bytes.now (head_of c.in-Ok.head)
+    c.read_head.new.reader = record { are = all-bytes c.args.bytes.now (λ i. omega (arith, c.type_inv.bytes i)); begins = ap head_from (sym c.new-reader.ensures) ∙ c.in-Ok.ensures.ok } in
     c.load_after.ensures.refused c.args.bytes.now begun

@@ -1,6 +1,6 @@
 use Rattle.std.proofs.Common.{arith}
 use Rattle.mv_ledger.specs.View.{all_of}
-use Rattle.mv_ledger.proofs.Written.{all-writable, saved-so}
+use Rattle.mv_ledger.proofs.Saves.Written.{all-writable, saved-so}
 use Rattle.mv_ledger.proofs.Ledger.save.Goals as goal
 
 pub text_of-requires-clause-few : goal.text_of-requires-clause-few
@@ -14,4 +14,5 @@ text_of-requires-clause-writable c = all-writable c.self.inside.runs (all_of c.s
 
 pub returns : goal.returns
 returns c =
-    saved-so c.text_of.result c.self.inside.runs c.self.inside.store c.self.inside.storage (all_of c.self.inside.tallies) c.args.self.now c.self.view_is c.is_sound.ensures c.is_savable.ensures c.text_of.ensures
+    saved-so c.text_of.result c.self.inside.runs c.self.inside.store c.self.inside.storage (all_of c.self.inside.tallies) c.args.self.now c.self.view_is c.is_sound.ensures c.is_savable.ensures
+    c.text_of.ensures

@@ -3,7 +3,7 @@ use Rattle.mv_machine.specs.Lines.{Refused as ToldRefused, Told as ToldLines}
 use Rattle.mv_machine.specs.Ledger.{AsText, AsJson}
 use Rattle.mv_ledger.specs.Answering.{Replies}
 use Rattle.mv_ledger.specs.View.{LedgerView, view_of, all_of}
-use Rattle.mv_ledger.proofs.Reports.{unasked_replies, show_replies}
+use Rattle.mv_ledger.proofs.Shows.Reports.{unasked_replies, show_replies}
 use Rattle.mv_ledger.proofs.Ledger.show.Goals as goal
 
 pub returns-in_default : goal.returns-in_default
@@ -22,4 +22,5 @@ pub returns-in_ok-text-in-Json : goal.returns-in_ok-text-in-Json
 returns-in_ok-text-in-Json c =
     let held : LedgerView = view_of c.self.inside.store c.self.inside.storage (all_of c.self.inside.tallies) c.self.inside.runs in
     subst (λ (v : LedgerView). Replies 3 c.args.payload.now (Some (ToldLines c.of_text.result)) v v) c.self.view_is
-    (show_replies c.args.payload.now held AsJson c.of_text.result (rw c.in-Json.is at c.in-Some.ensures) c.self.invariant.sound (c.of_text.ensures ∙ ap (λ text. text ∷ []) c.in_ok-text-in-Json.ensures))
+    (show_replies c.args.payload.now held AsJson c.of_text.result (rw c.in-Json.is at c.in-Some.ensures) c.self.invariant.sound
+    (c.of_text.ensures ∙ ap (λ text. text ∷ []) c.in_ok-text-in-Json.ensures))

@@ -15,8 +15,8 @@ use Rattle.mv_linker.proofs.Found.{found_at}
 use Rattle.mv_interpreter.specs.Runs.{arg_value}
 use Rattle.mv_ledger.specs.Asking.{request_of}
 use Rattle.mv_ledger.specs.declared.executing.Barred.TheVariants.{Rejected}
-use Rattle.mv_ledger.proofs.Calls.{place-below}
-use Rattle.mv_ledger.proofs.Admissions.{FindsModule, FindsFunction, FindsTypes, hit, miss, rejected-as, no_budget, no_module, no_function, no_entry, no_arguments, no_runs, admits}
+use Rattle.mv_ledger.proofs.Runs.Calls.{place-below}
+use Rattle.mv_ledger.proofs.Runs.Admissions.{FindsModule, FindsFunction, FindsTypes, hit, miss, rejected-as, no_budget, no_module, no_function, no_entry, no_arguments, no_runs, admits}
 use Rattle.mv_ledger.proofs.executing.admitted.Goals as goal
 use Rattle.mv_ledger.proofs.executing.admitted.Goals.{In_ok-index, After-are_passed}
 
@@ -32,9 +32,11 @@ module _ (published : List PublishedModule) (runs : ℕ) (r : RunRequest) where
       record { home = f.entry; found = record { fits = fits; place_is = sym is ∙ some; home_is = f.at } }
 
   -- no function there has the identifier
-  none-named : (place : ℕ) (h : FindsHome place) (p : Option (ℕ × Bor Interface)) → IfSome (slice_get (tables_in published) place) (λ m. option_map (λ q. q.0) p ≡ function_place m r.function) → p ≡ None → function_place h.home r.function ≡ None
+  none-named : (place : ℕ) (h : FindsHome place) (p : Option (ℕ × Bor Interface)) → IfSome (slice_get (tables_in published) place) (λ m. option_map (λ q. q.0) p ≡ function_place m r.function)
+      → p ≡ None → function_place h.home r.function ≡ None
   none-named place h p named none =
-      let is : option_map (λ q. q.0) p ≡ function_place h.home r.function = subst (λ (x : Option Module). IfSome x (λ m. option_map (λ q. q.0) p ≡ function_place m r.function)) h.found.home_is named in
+      let is : option_map (λ q. q.0) p ≡ function_place h.home r.function = subst (λ (x : Option Module). IfSome x (λ m. option_map (λ q. q.0) p ≡ function_place m r.function)) h.found.home_is
+      named in
       sym is ∙ ap (option_map (λ (q : ℕ × Bor Interface). q.0)) none
 
   -- the function of a run, with its interface
@@ -46,10 +48,12 @@ module _ (published : List PublishedModule) (runs : ℕ) (r : RunRequest) where
     tokens : parameter_tokens home definition ≡ Some i.parameters.items
 
   finds : (o : Option ℕ) (place index : ℕ) (i : Bor Interface) (p : Option (ℕ × Bor Interface)) → r.budget ≤ 10000000 → o ≡ module_place (tables_in published) r.home → o ≡ Some place
-      → IfSome (slice_get (tables_in published) place) (λ m. option_map (λ q. q.0) p ≡ function_place m r.function) → IfSome p (λ q. IsInterfaceAt (tables_in published) place q.0 q.1.now) → p ≡ Some (index, i) → Finds place index i.now
+      → IfSome (slice_get (tables_in published) place) (λ m. option_map (λ q. q.0) p ≡ function_place m r.function) → IfSome p (λ q. IsInterfaceAt (tables_in published) place q.0 q.1.now)
+      → p ≡ Some (index, i) → Finds place index i.now
   finds o place index i p fits is some named at found =
       let a : IsInterfaceAt (tables_in published) place index i.now = subst (λ (x : Option (ℕ × Bor Interface)). IfSome x (λ q. IsInterfaceAt (tables_in published) place q.0 q.1.now)) found at in
-      let index_is : option_map (λ q. q.0) p ≡ function_place a.home r.function = subst (λ (x : Option Module). IfSome x (λ m. option_map (λ q. q.0) p ≡ function_place m r.function)) a.home_is named in
+      let index_is : option_map (λ q. q.0) p ≡ function_place a.home r.function = subst (λ (x : Option Module). IfSome x (λ m. option_map (λ q. q.0) p ≡ function_place m r.function)) a.home_is
+      named in
       record {
         home = a.home;
         definition = a.definition;
@@ -63,7 +67,8 @@ module _ (published : List PublishedModule) (runs : ℕ) (r : RunRequest) where
       }
 
   -- it is an entry, and its parameters have these types
-  types-of : (place index : ℕ) (i : Interface) (tokens : List Token) (f : Finds place index i) → tokens ≡ i.parameters.items → i.is_entry ≡ true → FindsTypes published runs r place f.home index f.definition tokens
+  types-of : (place index : ℕ) (i : Interface) (tokens : List Token) (f : Finds place index i) → tokens ≡ i.parameters.items → i.is_entry ≡ true
+      → FindsTypes published runs r place f.home index f.definition tokens
   types-of place index i tokens f are entry = record { at = f.found; entry = f.entry ∙ entry; tokens_are = f.tokens ∙ ap (λ ts. Some ts) (sym are) }
 
 pub function-requires : goal.function-requires
@@ -103,7 +108,8 @@ found-of : (c : In_ok-index) → Finds c.args.store.now c.args.runs (request_of 
 found-of c =
     let some : c.find.result ≡ Some c.in_ok-place.place = hit c.find.result (Rejected 3) c.ok_or.result c.in_ok-place.place c.ok_or.ensures.value c.in_ok-place.was in
     let known = hit c.function.result (Rejected 4) c.ok_or-2.result (c.in_ok-index.index, c.in_ok-index.function) c.ok_or-2.ensures.value c.in_ok-index.was in
-    finds c.args.store.now c.args.runs (request_of c.args.asked) c.find.result c.in_ok-place.place c.in_ok-index.index c.in_ok-index.function c.function.result (omega (arith, c.if-asked-gt-MOST_STEPS.false)) c.find.ensures some c.function.ensures.index c.function.ensures.interface known
+    finds c.args.store.now c.args.runs (request_of c.args.asked) c.find.result c.in_ok-place.place c.in_ok-index.index c.in_ok-index.function c.function.result
+    (omega (arith, c.if-asked-gt-MOST_STEPS.false)) c.find.ensures some c.function.ensures.index c.function.ensures.interface known
 
 pub returns-then-not-function-clause-admitted : goal.returns-then-not-function-clause-admitted
 returns-then-not-function-clause-admitted c =
@@ -116,9 +122,11 @@ types-found : (c : After-are_passed) → (f : Finds c.args.store.now c.args.runs
     → FindsTypes c.args.store.now c.args.runs (request_of c.args.asked) c.in_ok-place.place f.home c.in_ok-index.index f.definition c.as_slice-tokens.result.now
 types-found c f =
     let entry : c.in_ok-index.function.now.is_entry ≡ true = first_of (cc, grind arith) in
-    types-of c.args.store.now c.args.runs (request_of c.args.asked) c.in_ok-place.place c.in_ok-index.index c.in_ok-index.function.now c.as_slice-tokens.result.now f c.as_slice-tokens.ensures.value entry
+    types-of c.args.store.now c.args.runs (request_of c.args.asked) c.in_ok-place.place c.in_ok-index.index c.in_ok-index.function.now c.as_slice-tokens.result.now f c.as_slice-tokens.ensures.value
+    entry
 
-same-arguments : (c : After-are_passed) → are_arguments c.as_slice-tokens.result.now (with_sender c.args.asked.sender c.as_slice-tokens.result.now (map arg_value c.args.asked.arguments.items)) ≡ c.are_passed.result
+same-arguments : (c : After-are_passed)
+    → are_arguments c.as_slice-tokens.result.now (with_sender c.args.asked.sender c.as_slice-tokens.result.now (map arg_value c.args.asked.arguments.items)) ≡ c.are_passed.result
 same-arguments c =
     ap (are_arguments c.as_slice-tokens.result.now) (sym c.in_ok-arguments.ensures.value ∙ ap (map arg_value) (sym c.deref.ensures.value)) ∙ sym c.are_passed.ensures
 
@@ -127,14 +135,16 @@ returns-then-not-are_passed-clause-admitted c =
     let here = (goal.at.returns-then-not-are_passed-clause-admitted c).After-are_passed in
     let f = found-of (goal.at.returns-then-not-are_passed-clause-admitted c).In_ok-index in
     let differ : c.are_passed.result ≡ false = first_of (cc, grind arith) in
-    no_arguments c.args.store.now c.args.runs (request_of c.args.asked) c.in_ok-place.place f.home c.in_ok-index.index f.definition c.as_slice-tokens.result.now (types-found here f) (same-arguments here ∙ differ)
+    no_arguments c.args.store.now c.args.runs (request_of c.args.asked) c.in_ok-place.place f.home c.in_ok-index.index f.definition c.as_slice-tokens.result.now (types-found here f)
+    (same-arguments here ∙ differ)
 
 pub returns-then-runs-ge-MOST_RUNS-clause-admitted : goal.returns-then-runs-ge-MOST_RUNS-clause-admitted
 returns-then-runs-ge-MOST_RUNS-clause-admitted c =
     let here = (goal.at.returns-then-runs-ge-MOST_RUNS-clause-admitted c).After-are_passed in
     let f = found-of (goal.at.returns-then-runs-ge-MOST_RUNS-clause-admitted c).In_ok-index in
     let fit : c.are_passed.result ≡ true = first_of (cc, grind arith) in
-    no_runs c.args.store.now c.args.runs (request_of c.args.asked) c.in_ok-place.place f.home c.in_ok-index.index f.definition c.as_slice-tokens.result.now (types-found here f) (same-arguments here ∙ fit) (omega (arith, c.if-runs-ge-MOST_RUNS.true))
+    no_runs c.args.store.now c.args.runs (request_of c.args.asked) c.in_ok-place.place f.home c.in_ok-index.index f.definition c.as_slice-tokens.result.now (types-found here f)
+    (same-arguments here ∙ fit) (omega (arith, c.if-runs-ge-MOST_RUNS.true))
 
 pub returns-clause-admitted : goal.returns-clause-admitted
 returns-clause-admitted c =
@@ -142,4 +152,5 @@ returns-clause-admitted c =
     let f = found-of (goal.at.returns-clause-admitted c).In_ok-index in
     let fit : c.are_passed.result ≡ true = first_of (cc, grind arith) in
     let made : List Value → FunctionCall = λ vs. record { function = record { place = c.in_ok-place.place; index = c.in_ok-index.index }; arguments = vs } in
-    admits c.args.store.now c.args.runs (request_of c.args.asked) c.in_ok-place.place f.home c.in_ok-index.index f.definition c.as_slice-tokens.result.now _ (types-found here f) (same-arguments here ∙ fit) (omega (arith, c.if-runs-ge-MOST_RUNS.false)) (ap made c.in_ok-arguments.ensures.value) refl
+    admits c.args.store.now c.args.runs (request_of c.args.asked) c.in_ok-place.place f.home c.in_ok-index.index f.definition c.as_slice-tokens.result.now _ (types-found here f)
+    (same-arguments here ∙ fit) (omega (arith, c.if-runs-ge-MOST_RUNS.false)) (ap made c.in_ok-arguments.ensures.value) refl

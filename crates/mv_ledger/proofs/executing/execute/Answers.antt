@@ -9,10 +9,10 @@ use Rattle.mv_interpreter.specs.Runs.{IsFineWords, Agrees, AtMost}
 use Rattle.mv_ledger.specs.declared.tallies.Tally.{Tally}
 use Rattle.mv_ledger.specs.Tallying.{tally_after}
 use Rattle.mv_ledger.specs.View.{all_of, IsNamed, IsSmall, AreScarce, AreCountable}
-use Rattle.mv_ledger.proofs.Countable.{all-countable-kept, run-countable}
-use Rattle.mv_ledger.proofs.StoredRuns.{run-same, tallied-after, settled-returned, settled-kept, small-kept}
-use Rattle.mv_ledger.proofs.ScarceTallies.{all-scarce, scarce-ordered}
-use Rattle.mv_ledger.proofs.TalliesAfter.{named-after, most-after, small-after, scarce-after}
+use Rattle.mv_ledger.proofs.Runs.Countable.{all-countable-kept, run-countable}
+use Rattle.mv_ledger.proofs.Runs.StoredRuns.{run-same, tallied-after, settled-returned, settled-kept, small-kept}
+use Rattle.mv_ledger.proofs.Runs.ScarceTallies.{all-scarce, scarce-ordered}
+use Rattle.mv_ledger.proofs.Runs.TalliesAfter.{named-after, most-after, small-after, scarce-after}
 use Rattle.mv_ledger.proofs.executing.execute.Goals as goal
 use Rattle.mv_ledger.proofs.executing.execute.Goals.{then-eq, else-eq}
 
@@ -47,7 +47,8 @@ returns-after-eq-clause-named c =
       | then-eq w ↦
           let after : all_of c.if-eq.tallies ≡ map (tally_after c.in-Ok.tally.items) (all_of c.args.tallies.now) =
           ap all_of w.tallies-is ∙ tallied-after c.in-Ok.tally.items w.deref-then-eq.result.now c.args.tallies.now w.add_run.new.self w.add_run.ensures w.deref-then-eq.ensures.value in
-          subst (λ (ts : List Tally). All (IsNamed (tables_in c.args.store.now)) ts) (sym after) (named-after (tables_in c.args.store.now) c.in-Ok.tally.items (all_of c.args.tallies.now) c.requires.named)
+          subst (λ (ts : List Tally). All (IsNamed (tables_in c.args.store.now)) ts) (sym after)
+          (named-after (tables_in c.args.store.now) c.in-Ok.tally.items (all_of c.args.tallies.now) c.requires.named)
       | else-eq w ↦ rw w.tallies-is c.requires.named
     ]
 
@@ -57,7 +58,8 @@ returns-after-eq-clause-small c = λ runs small.
       | then-eq w ↦
           let after : all_of c.if-eq.tallies ≡ map (tally_after c.in-Ok.tally.items) (all_of c.args.tallies.now) =
           ap all_of w.tallies-is ∙ tallied-after c.in-Ok.tally.items w.deref-then-eq.result.now c.args.tallies.now w.add_run.new.self w.add_run.ensures w.deref-then-eq.ensures.value in
-          subst (λ (ts : List Tally). All (IsSmall (runs + 1)) ts) (sym after) (small-after runs c.in-Ok.tally.items (all_of c.args.tallies.now) (most-after c.args.call.now.budget c.in-Ok.tally.items c.in-Ok.ensures.few c.requires.budget).0 small)
+          subst (λ (ts : List Tally). All (IsSmall (runs + 1)) ts) (sym after)
+          (small-after runs c.in-Ok.tally.items (all_of c.args.tallies.now) (most-after c.args.call.now.budget c.in-Ok.tally.items c.in-Ok.ensures.few c.requires.budget).0 small)
       | else-eq w ↦ rw w.tallies-is (small-kept runs (all_of c.args.tallies.now) small)
     ]
 
@@ -88,15 +90,19 @@ returns-after-eq-clause-settled c =
           let after : all_of c.if-eq.tallies ≡ map (tally_after c.in-Ok.tally.items) (all_of c.args.tallies.now) =
           ap all_of w.tallies-is ∙ tallied-after c.in-Ok.tally.items w.deref-then-eq.result.now c.args.tallies.now w.add_run.new.self w.add_run.ensures w.deref-then-eq.ensures.value in
           let agrees = subst (λ (o : RunOutcome). Agrees (tables_in c.args.store.now) o c.in-Ok.outcome c.in-Ok.tally.items c.run.new.o)
-          (run-same c.args.store.now c.args.call.now c.args.storage.now c.if-eq.storage (all_of c.args.tallies.now) (all_of c.if-eq.tallies) c.overlay-overlay.result.current c.deref.result.now (c.overlay-overlay.ensures.current ∙ c.replace.ensures.value) c.deref.ensures.value) c.in-Ok.ensures.machine in
+          (run-same c.args.store.now c.args.call.now c.args.storage.now c.if-eq.storage (all_of c.args.tallies.now) (all_of c.if-eq.tallies) c.overlay-overlay.result.current c.deref.result.now
+          (c.overlay-overlay.ensures.current ∙ c.replace.ensures.value) c.deref.ensures.value) c.in-Ok.ensures.machine in
           let ended : c.in-Ok.outcome.ending ≡ Returned = search rules in
           let e : c.if-eq.storage ≡ c.run.new.o.current = cc in
-          settled-returned c.args.store.now c.args.call.now c.args.storage.now c.if-eq.storage (all_of c.args.tallies.now) (all_of c.if-eq.tallies) c.in-Ok.outcome c.in-Ok.tally.items c.run.new.o c.requires.named
+          settled-returned c.args.store.now c.args.call.now c.args.storage.now c.if-eq.storage (all_of c.args.tallies.now) (all_of c.if-eq.tallies) c.in-Ok.outcome c.in-Ok.tally.items c.run.new.o
+          c.requires.named
           (all-scarce (tables_in c.args.store.now) c.args.tallies.now c.requires.scarce c.len-modules.ensures.placed) agrees ended e after
       | else-eq w ↦
           let agrees = subst (λ (o : RunOutcome). Agrees (tables_in c.args.store.now) o c.in-Ok.outcome c.in-Ok.tally.items c.run.new.o)
-          (run-same c.args.store.now c.args.call.now c.args.storage.now c.if-eq.storage (all_of c.args.tallies.now) (all_of c.if-eq.tallies) c.overlay-overlay.result.current c.deref.result.now (c.overlay-overlay.ensures.current ∙ c.replace.ensures.value) c.deref.ensures.value) c.in-Ok.ensures.machine in
+          (run-same c.args.store.now c.args.call.now c.args.storage.now c.if-eq.storage (all_of c.args.tallies.now) (all_of c.if-eq.tallies) c.overlay-overlay.result.current c.deref.result.now
+          (c.overlay-overlay.ensures.current ∙ c.replace.ensures.value) c.deref.ensures.value) c.in-Ok.ensures.machine in
           let other : c.in-Ok.outcome.ending ≡ Returned → ⊥ = search rules in
           let e : c.if-eq.storage ≡ c.args.storage.now = cc in
-          settled-kept c.args.store.now c.args.call.now c.args.storage.now c.if-eq.storage (all_of c.args.tallies.now) (all_of c.if-eq.tallies) c.in-Ok.outcome c.in-Ok.tally.items c.run.new.o agrees other e (ap all_of w.tallies-is)
+          settled-kept c.args.store.now c.args.call.now c.args.storage.now c.if-eq.storage (all_of c.args.tallies.now) (all_of c.if-eq.tallies) c.in-Ok.outcome c.in-Ok.tally.items c.run.new.o agrees
+          other e (ap all_of w.tallies-is)
     ]

@@ -1,5 +1,5 @@
 use Rattle.std.proofs.lemmas.Result.{IfOk-weaker}
-use Rattle.mv_ledger.proofs.Objects.{entry-written}
+use Rattle.mv_ledger.proofs.Shows.Objects.{entry-written}
 use Rattle.mv_ledger.proofs.json_lines.entry_value.Goals as goal
 
 pub returns : goal.returns

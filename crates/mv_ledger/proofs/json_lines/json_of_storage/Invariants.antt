@@ -2,7 +2,7 @@ use Rattle.std.proofs.Common.{length, map}
 use Rattle.mv_linker.specs.Link.{tables_in}
 use Rattle.mv_machine.specs.Flat.{storage_of}
 use Rattle.mv_machine.specs.Lines.{entry_object}
-use Rattle.mv_ledger.proofs.Listed.{IsListed}
+use Rattle.mv_ledger.proofs.Shows.Listed.{IsListed}
 use Rattle.mv_ledger.proofs.json_lines.json_of_storage.Given as goal
 
 abbrev pub invariant-each : goal.invariant-each

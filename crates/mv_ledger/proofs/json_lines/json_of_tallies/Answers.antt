@@ -1,8 +1,8 @@
 use Rattle.std.proofs.Common.{map}
 use Rattle.mv_linker.specs.Link.{tables_in}
 use Rattle.mv_ledger.specs.View.{all_of, tallied}
-use Rattle.mv_ledger.proofs.Names.{plain-tallies}
-use Rattle.mv_ledger.proofs.Listed.{counted-none, counted-more}
+use Rattle.mv_ledger.proofs.Shows.Names.{plain-tallies}
+use Rattle.mv_ledger.proofs.Shows.Listed.{counted-none, counted-more}
 use Rattle.mv_ledger.proofs.json_lines.json_of_tallies.Goals as goal
 
 pub each-init : goal.each-init

@@ -1,5 +1,5 @@
 use Rattle.std.proofs.Common.{ap, ◌∙◌, codes, ◌≡◌, ◌++◌, string_bytes}
-use Rattle.mv_ledger.proofs.Objects.{line-written}
+use Rattle.mv_ledger.proofs.Shows.Objects.{line-written}
 use Rattle.mv_ledger.proofs.json_lines.line_of.Goals as goal
 
 pub returns : goal.returns

@@ -2,7 +2,7 @@ use Rattle.std.proofs.Common.{◌<◌, ◌≤◌, length, ap, ◌∙◌, arith, 
 use Rattle.mv_move_types.specs.declared.tables.Definition.{Definition}
 use Rattle.mv_linker.specs.Link.{tables_in}
 use Rattle.mv_linker.specs.Shapes.{structs_in}
-use Rattle.mv_ledger.proofs.KeyedIndices.{keyed-first, keyed-found, keyed-passed, keyed-all, structs-of}
+use Rattle.mv_ledger.proofs.Saves.KeyedIndices.{keyed-first, keyed-found, keyed-passed, keyed-all, structs-of}
 use Rattle.mv_ledger.proofs.layouts.put_keyed.Goals as goal
 use Rattle.mv_ledger.proofs.layouts.put_keyed.Goals.{then-is_keyed+in_ok-push, else-is_keyed}
 
@@ -19,7 +19,8 @@ each-preserved c = λ m at.
     elim c.if-is_keyed.branch [
       | then-is_keyed+in_ok-push w ↦
           ap (λ (v : Vec Definition Global). v.items) w.keyed-is
-          ∙ keyed-found modules m c.args.place at c.args.keyed.now.items c.each.i c.is_keyed.result low c.is_keyed.ensures c.each.keyed.items w.push.new.self.items w.if-is_keyed.true (c.each.invariant m at) w.in_ok-push.ensures.items
+          ∙ keyed-found modules m c.args.place at c.args.keyed.now.items c.each.i c.is_keyed.result low c.is_keyed.ensures c.each.keyed.items w.push.new.self.items w.if-is_keyed.true
+          (c.each.invariant m at) w.in_ok-push.ensures.items
       | else-is_keyed w ↦
           ap (λ (v : Vec Definition Global). v.items) w.keyed-is
           ∙ keyed-passed modules m c.args.place at c.args.keyed.now.items c.each.i c.is_keyed.result low c.is_keyed.ensures c.each.keyed.items w.if-is_keyed.false (c.each.invariant m at)

@@ -3,8 +3,8 @@ use Rattle.std.proofs.lemmas.List.{length-map}
 use Rattle.std.proofs.lemmas.Result.{err_from_is_err_and}
 use Rattle.mv_ledger.specs.declared.payload.Offered.{Offered}
 use Rattle.mv_ledger.specs.Asking.{offer_of, offers_of}
-use Rattle.mv_ledger.specs.LoadedParts.{head_of, AreJoined, AreNotJoined}
-use Rattle.mv_ledger.proofs.Loaded.{fails-joined, head-few}
+use Rattle.mv_ledger.specs.Parts.LoadedParts.{head_of, AreJoined, AreNotJoined}
+use Rattle.mv_ledger.proofs.Loads.Loaded.{fails-joined, head-few}
 use Rattle.mv_ledger.proofs.loading.load_after.Goals as goal
 
 pub join_offers-requires-clause-few : goal.join_offers-requires-clause-few

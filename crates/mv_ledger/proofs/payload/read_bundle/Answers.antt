@@ -9,7 +9,8 @@ use Rattle.mv_ledger.proofs.payload.read_bundle.Goals as goal
 
 pub returns-in_err-offered-clause-refused : goal.returns-in_err-offered-clause-refused
 returns-in_err-offered-clause-refused c is =
-    let none : bundle_from c.new-reader.result ≡ None = elim c.in_err-offered.ensures.errors [ inl p ↦ c.in_err-offered.ensures.refused (ap Err p) | inr q ↦ absurd (grind (arith, common_steps, q, is)) ] in
+    let none : bundle_from c.new-reader.result ≡ None = elim c.in_err-offered.ensures.errors
+    [ inl p ↦ c.in_err-offered.ensures.refused (ap Err p) | inr q ↦ absurd (grind (arith, common_steps, q, is)) ] in
     bundle-none c.args.payload.now (ap bundle_from (sym c.new-reader.ensures) ∙ none)
 
 pub returns-then-is_empty-clause-ok : goal.returns-then-is_empty-clause-ok

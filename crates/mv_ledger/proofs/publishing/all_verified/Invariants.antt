@@ -1,4 +1,4 @@
-use Rattle.mv_ledger.proofs.Verifying.{IsVerifying}
+use Rattle.mv_ledger.proofs.Bundles.Verifying.{IsVerifying}
 use Rattle.mv_ledger.proofs.publishing.all_verified.Given as goal
 
 abbrev pub invariant-each : goal.invariant-each

@@ -10,10 +10,10 @@ use Rattle.mv_ledger.specs.Asking.{offers_of}
 use Rattle.mv_ledger.specs.Publishing.{AllPass, IsRefusedAmong}
 use Rattle.mv_ledger.specs.Tallying.{ArePlacedFor}
 use Rattle.mv_ledger.specs.View.{AreCountable}
-use Rattle.mv_ledger.proofs.Countable.{all-countable-kept, with-placed-countable}
-use Rattle.mv_ledger.proofs.Verifying.{as-many}
+use Rattle.mv_ledger.proofs.Runs.Countable.{all-countable-kept, with-placed-countable}
+use Rattle.mv_ledger.proofs.Bundles.Verifying.{as-many}
 use Rattle.mv_ledger.proofs.Phases.{refused_among, refused_link, refused_room, accepted}
-use Rattle.mv_ledger.proofs.Joining.{IsPlacedBundle, few-offers, placed-length, joined-within, room-for, no-room-for, after-length, after-scarce, after-named, after-small, after-tallied}
+use Rattle.mv_ledger.proofs.Bundles.Joining.{IsPlacedBundle, few-offers, placed-length, joined-within, room-for, no-room-for, after-length, after-scarce, after-named, after-small, after-tallied}
 use Rattle.mv_ledger.proofs.publishing.join_bundle.Goals as goal
 use Rattle.mv_ledger.proofs.publishing.join_bundle.Goals.{In_ok-linked}
 
@@ -36,7 +36,8 @@ is_too_much-requires c =
     let many = as-many (offers_of c.args.bundle.now.offers.items) (published_of c.in_ok-news.news.items)
     (subst (λ (xs : List Offered). AllPass (offers_of xs) (published_of c.in_ok-news.news.items)) c.deref.ensures.value c.in_ok-news.ensures.passed) in
     let few = few-offers c.requires.asked.0 c.args.bundle.now.sender (offers_of c.args.bundle.now.offers.items) c.requires.asked.1 in
-    let long = placed-length (tables_in c.args.store.now) c.args.tallies.now (length c.args.store.now) (tables_in (published_of c.deref-2.result.now)) c.in_ok-placed.placed.items c.in_ok-placed.ensures.placed in
+    let long = placed-length (tables_in c.args.store.now) c.args.tallies.now (length c.args.store.now) (tables_in (published_of c.deref-2.result.now)) c.in_ok-placed.placed.items
+    c.in_ok-placed.ensures.placed in
     let same = ap length c.deref-3.ensures.value in
     let long' = long ∙ length-map (published_of c.deref-2.result.now) (λ (p : PublishedModule). p.tables) ∙ ap (λ (ns : List New). length (published_of ns)) c.deref-2.ensures.value in
     omega (arith, many, few, long', same, c.requires.few, c.len-published.ensures.count)
@@ -48,7 +49,8 @@ bundle-of c = record {
   whole = subst (λ (l : List PublishedModule). IsStore (with_modules c.args.store.now l)) c.in_ok-linked.ensures.ok c.in_ok-linked.ensures.linked.whole;
   join = c.in_ok-linked.ensures.joins;
   at =
-      subst (λ (ns : List New). ArePlacedFor (tables_in c.args.store.now) c.args.tallies.now (length c.args.store.now) (tables_in (published_of ns)) c.in_ok-placed.placed.items) c.deref-2.ensures.value
+      subst (λ (ns : List New). ArePlacedFor (tables_in c.args.store.now) c.args.tallies.now (length c.args.store.now) (tables_in (published_of ns)) c.in_ok-placed.placed.items)
+      c.deref-2.ensures.value
       c.in_ok-placed.ensures.placed;
   theirs = c.in_ok-placed.ensures.theirs;
   scarce = c.requires.scarce;
@@ -62,19 +64,24 @@ pub returns-clause-whole : goal.returns-clause-whole
 returns-clause-whole c = subst IsStore (sym c.in_ok-join.ensures.ok) c.in_ok-linked.ensures.linked.whole
 
 pub returns-clause-placed : goal.returns-clause-placed
-returns-clause-placed c = after-length _ _ _ _ _ (bundle-of (goal.at.returns-clause-placed c).In_ok-linked) c.join.new.store c.join.new.self (c.in_ok-join.ensures.ok ∙ ap (with_modules c.args.store.now) c.in_ok-linked.ensures.ok) c.in_ok-join.ensures.tallied
+returns-clause-placed c = after-length _ _ _ _ _ (bundle-of (goal.at.returns-clause-placed c).In_ok-linked) c.join.new.store c.join.new.self
+    (c.in_ok-join.ensures.ok ∙ ap (with_modules c.args.store.now) c.in_ok-linked.ensures.ok) c.in_ok-join.ensures.tallied
 
 pub returns-clause-scarce : goal.returns-clause-scarce
-returns-clause-scarce c = after-scarce _ _ _ _ _ (bundle-of (goal.at.returns-clause-scarce c).In_ok-linked) c.join.new.store c.join.new.self (c.in_ok-join.ensures.ok ∙ ap (with_modules c.args.store.now) c.in_ok-linked.ensures.ok) c.in_ok-join.ensures.tallied c.requires.named
+returns-clause-scarce c = after-scarce _ _ _ _ _ (bundle-of (goal.at.returns-clause-scarce c).In_ok-linked) c.join.new.store c.join.new.self
+    (c.in_ok-join.ensures.ok ∙ ap (with_modules c.args.store.now) c.in_ok-linked.ensures.ok) c.in_ok-join.ensures.tallied c.requires.named
 
 pub returns-clause-named : goal.returns-clause-named
-returns-clause-named c = after-named _ _ _ _ _ (bundle-of (goal.at.returns-clause-named c).In_ok-linked) c.join.new.store c.join.new.self (c.in_ok-join.ensures.ok ∙ ap (with_modules c.args.store.now) c.in_ok-linked.ensures.ok) c.in_ok-join.ensures.tallied c.requires.named
+returns-clause-named c = after-named _ _ _ _ _ (bundle-of (goal.at.returns-clause-named c).In_ok-linked) c.join.new.store c.join.new.self
+    (c.in_ok-join.ensures.ok ∙ ap (with_modules c.args.store.now) c.in_ok-linked.ensures.ok) c.in_ok-join.ensures.tallied c.requires.named
 
 pub returns-clause-small : goal.returns-clause-small
-returns-clause-small c = after-small _ _ _ _ _ (bundle-of (goal.at.returns-clause-small c).In_ok-linked) c.join.new.store c.join.new.self (c.in_ok-join.ensures.ok ∙ ap (with_modules c.args.store.now) c.in_ok-linked.ensures.ok) c.in_ok-join.ensures.tallied c.requires.named
+returns-clause-small c = after-small _ _ _ _ _ (bundle-of (goal.at.returns-clause-small c).In_ok-linked) c.join.new.store c.join.new.self
+    (c.in_ok-join.ensures.ok ∙ ap (with_modules c.args.store.now) c.in_ok-linked.ensures.ok) c.in_ok-join.ensures.tallied c.requires.named
 
 pub returns-clause-tallied : goal.returns-clause-tallied
-returns-clause-tallied c = after-tallied _ _ _ _ _ (bundle-of (goal.at.returns-clause-tallied c).In_ok-linked) c.join.new.store c.join.new.self (c.in_ok-join.ensures.ok ∙ ap (with_modules c.args.store.now) c.in_ok-linked.ensures.ok) c.in_ok-join.ensures.tallied c.requires.named
+returns-clause-tallied c = after-tallied _ _ _ _ _ (bundle-of (goal.at.returns-clause-tallied c).In_ok-linked) c.join.new.store c.join.new.self
+    (c.in_ok-join.ensures.ok ∙ ap (with_modules c.args.store.now) c.in_ok-linked.ensures.ok) c.in_ok-join.ensures.tallied c.requires.named
 
 pub returns-clause-room : goal.returns-clause-room
 returns-clause-room c =
@@ -88,7 +95,8 @@ returns-clause-accepted c = λ payload asked.
     c.len-published.result c.deref-3.result.now c.len-published.ensures.count c.deref-3.ensures.value (sym c.is_too_much.ensures ∙ c.if-is_too_much.false) in
     accepted c.args.store.now payload c.args.bundle.now.sender (offers_of c.args.bundle.now.offers.items) asked (published_of c.in_ok-news.news.items)
     (subst (λ (xs : List Offered). AllPass (offers_of xs) (published_of c.in_ok-news.news.items)) c.deref.ensures.value c.in_ok-news.ensures.passed)
-    c.in_ok-linked.ensures.joins c.len-count.result c.join.new.store (c.len-count.ensures ∙ c.in_ok-news.news.ok.0 ∙ sym (length-map c.in_ok-news.news.items published_one)) room (c.in_ok-join.ensures.ok ∙ ap (with_modules c.args.store.now) c.in_ok-linked.ensures.ok)
+    c.in_ok-linked.ensures.joins c.len-count.result c.join.new.store (c.len-count.ensures ∙ c.in_ok-news.news.ok.0 ∙ sym (length-map c.in_ok-news.news.items published_one)) room
+    (c.in_ok-join.ensures.ok ∙ ap (with_modules c.args.store.now) c.in_ok-linked.ensures.ok)
 
 pub returns-in_err-news-clause-refused : goal.returns-in_err-news-clause-refused
 returns-in_err-news-clause-refused c = λ payload asked.

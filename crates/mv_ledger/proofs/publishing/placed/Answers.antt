@@ -3,20 +3,22 @@ use Rattle.std.specs.Prelude.{is_none, All}
 use Rattle.mv_linker.specs.declared.New.{New}
 use Rattle.mv_frames.specs.Counters.{KeepsCounts}
 use Rattle.mv_ledger.specs.Tallying.{fresh_tally}
-use Rattle.mv_ledger.proofs.Countable.{IsCountable, countable-at, placed-countable, pushed-countable}
-use Rattle.mv_ledger.proofs.Placing.{placing-more, placing-low, none-so}
+use Rattle.mv_ledger.proofs.Runs.Countable.{IsCountable, countable-at, placed-countable, pushed-countable}
+use Rattle.mv_ledger.proofs.Bundles.Placing.{placing-more, placing-low, none-so}
 use Rattle.mv_ledger.proofs.publishing.placed.Goals as goal
 use Rattle.mv_ledger.proofs.publishing.placed.Goals.{then-is_none, else-is_none}
 
 pub overflow_cast-place : goal.overflow_cast-place
 overflow_cast-place c =
-    let low : c.unwrap_or-place.result < 65536 = placing-low c.args.store.now c.args.tallies.now c.args.news.now c.each.new-index c.each.all.items c.each.next c.module-module.result.now c.place_of-found.result c.each.invariant.0 c.each-test.true c.requires.few
+    let low : c.unwrap_or-place.result < 65536 = placing-low c.args.store.now c.args.tallies.now c.args.news.now c.each.new-index c.each.all.items c.each.next c.module-module.result.now
+    c.place_of-found.result c.each.invariant.0 c.each-test.true c.requires.few
     c.place_of-found.ensures c.unwrap_or-place.result c.unwrap_or-place.ensures in
     omega (arith, low)
 
 pub extended-requires : goal.extended-requires
 extended-requires c =
-    placing-low c.args.store.now c.args.tallies.now c.args.news.now c.each.new-index c.each.all.items c.each.next c.module-module.result.now c.place_of-found.result c.each.invariant.0 c.each-test.true c.requires.few c.place_of-found.ensures
+    placing-low c.args.store.now c.args.tallies.now c.args.news.now c.each.new-index c.each.all.items c.each.next c.module-module.result.now c.place_of-found.result c.each.invariant.0 c.each-test.true
+    c.requires.few c.place_of-found.ensures
     c.unwrap_or-place.result c.unwrap_or-place.ensures
 
 pub each-preserved : goal.each-preserved
@@ -32,7 +34,8 @@ each-preserved c =
     let one : All (IsCountable new) c.in_ok-extended.field-0.items =
     placed-countable c.args.counters.now new _ c.in_ok-extended.field-0.items c.unwrap_or-place.result c.counted_structs.result c.in_ok-structs.structs.items kept
     (countable-at c.args.counters.now c.args.tallies.now c.unwrap_or-place.result c.requires.countable) c.in_ok-make_room.ensures.made low
-    (subst (λ (xs : List ℕ). c.in_ok-extended.field-0.items ≡ unwrap_or (slice_get c.args.tallies.now c.unwrap_or-place.result) [] ++ map (fresh_tally c.unwrap_or-place.result) (drop (length (unwrap_or (slice_get c.args.tallies.now c.unwrap_or-place.result) [])) xs)) c.deref-in-each.ensures.value c.in_ok-extended.ensures) in (
+    (subst (λ (xs : List ℕ). c.in_ok-extended.field-0.items ≡ unwrap_or (slice_get c.args.tallies.now c.unwrap_or-place.result) [] ++ map (fresh_tally c.unwrap_or-place.result)
+    (drop (length (unwrap_or (slice_get c.args.tallies.now c.unwrap_or-place.result) [])) xs)) c.deref-in-each.ensures.value c.in_ok-extended.ensures) in (
       placing-more c.args.store.now c.args.tallies.now c.args.news.now c.each.new-index c.each.all.items c.each.next c.module-module.result.now c.place_of-found.result
           c.new-item.result c.push.new.self.items (record { place = c.unwrap_or-place.result; tallies = c.in_ok-extended.field-0 }) c.deref-in-each.result.now
           c.each.invariant.0 c.each-test.true (c.module-module.ensures.value ∙ ap (λ (n : New). n.module) c.new-item.is) c.place_of-found.ensures c.unwrap_or-place.ensures

@@ -14,7 +14,8 @@ spelled text m n spells same = subst (λ (k : Module). Spells text k) (sym same)
 pub returns-in_err-module-clause-refused : goal.returns-in_err-module-clause-refused
 returns-in_err-module-clause-refused c = λ certificate.
     let p = err_from_is_err_and c.from_residual.result c.from_residual.ensures.1 in
-    rw (p.1, p.2) (refused_text (record { text = c.args.text.now; certificate = certificate }) c.in_err-module.field-0.0 c.in_err-module.ensures.errors (λ is. c.in_err-module.ensures.none (ap Err is)))
+    rw (p.1, p.2) (refused_text (record { text = c.args.text.now; certificate = certificate }) c.in_err-module.field-0.0 c.in_err-module.ensures.errors
+    (λ is. c.in_err-module.ensures.none (ap Err is)))
 
 pub returns-in_err-bounded-clause-refused : goal.returns-in_err-bounded-clause-refused
 returns-in_err-bounded-clause-refused c = λ certificate.
@@ -28,7 +29,8 @@ returns-clause-read c =
 
 pub returns-clause-text : goal.returns-clause-text
 returns-clause-text c =
-    IfOk-weaker c.check-2.result _ (λ (m : Module). Spells c.args.text.now m) (λ m same. spelled c.args.text.now c.in_ok-module.module m c.in_ok-module.ensures.text (same ∙ c.in_ok-bounded.ensures.ok)) c.check-2.ensures.ok
+    IfOk-weaker c.check-2.result _ (λ (m : Module). Spells c.args.text.now m)
+    (λ m same. spelled c.args.text.now c.in_ok-module.module m c.in_ok-module.ensures.text (same ∙ c.in_ok-bounded.ensures.ok)) c.check-2.ensures.ok
 
 pub returns-clause-refused : goal.returns-clause-refused
 returns-clause-refused c = λ certificate.

@@ -3,14 +3,15 @@ use Rattle.std.specs.declared.vec.Vec.{Vec}
 use Rattle.std.specs.declared.alloc.Global.{Global}
 use Rattle.std.proofs.lemmas.List.{map-append}
 use Rattle.mv_ledger.specs.declared.saving.Section.{Section}
-use Rattle.mv_ledger.specs.Saving.{sections_of}
-use Rattle.mv_ledger.proofs.Sections.{AreEmptyRows, empty-more, empty-all}
+use Rattle.mv_ledger.specs.Parts.Saving.{sections_of}
+use Rattle.mv_ledger.proofs.Saves.Sections.{AreEmptyRows, empty-more, empty-all}
 use Rattle.mv_ledger.proofs.saving.empty_rows.Goals as goal
 
 pub each-preserved : goal.each-preserved
 each-preserved c =
     let row : Vec Section Global = c.in_ok-empty_row.field-0 in
-    subst (λ (l : List (List Section)). AreEmptyRows c.args.layouts.now (c.each.place + 1) l) (sym (ap sections_of c.in_ok-push.ensures.items ∙ map-append (λ (r : Vec Section Global). r.items) c.each.rows.items (row ∷ [])))
+    subst (λ (l : List (List Section)). AreEmptyRows c.args.layouts.now (c.each.place + 1) l)
+    (sym (ap sections_of c.in_ok-push.ensures.items ∙ map-append (λ (r : Vec Section Global). r.items) c.each.rows.items (row ∷ [])))
     (empty-more c.args.layouts.now c.each.place (sections_of c.each.rows.items) row.items c.each.invariant c.in_ok-empty_row.ensures.structs c.in_ok-empty_row.ensures.empty)
 
 pub returns : goal.returns

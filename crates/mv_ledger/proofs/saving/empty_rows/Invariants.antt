@@ -1,5 +1,5 @@
-use Rattle.mv_ledger.specs.Saving.{sections_of}
-use Rattle.mv_ledger.proofs.Sections.{AreEmptyRows}
+use Rattle.mv_ledger.specs.Parts.Saving.{sections_of}
+use Rattle.mv_ledger.proofs.Saves.Sections.{AreEmptyRows}
 use Rattle.mv_ledger.proofs.saving.empty_rows.Given as goal
 
 abbrev pub invariant-each : goal.invariant-each

@@ -1,4 +1,4 @@
-use Rattle.mv_ledger.proofs.Coding.{coded-start}
+use Rattle.mv_ledger.proofs.Saves.Coding.{coded-start}
 use Rattle.mv_ledger.proofs.saving.put_leaves.Goals as goal
 
 pub each-init : goal.each-init

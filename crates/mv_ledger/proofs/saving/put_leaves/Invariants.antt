@@ -1,4 +1,4 @@
-use Rattle.mv_ledger.proofs.Coding.{AreCoded}
+use Rattle.mv_ledger.proofs.Saves.Coding.{AreCoded}
 use Rattle.mv_ledger.proofs.saving.put_leaves.Given as goal
 
 abbrev pub invariant-each : goal.invariant-each

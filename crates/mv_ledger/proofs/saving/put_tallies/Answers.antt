@@ -1,5 +1,5 @@
 use Rattle.std.proofs.Common.{arith}
-use Rattle.mv_ledger.proofs.Written.{tallies-at, tallies-more}
+use Rattle.mv_ledger.proofs.Saves.Written.{tallies-at, tallies-more}
 use Rattle.mv_ledger.proofs.saving.put_tallies.Goals as goal
 
 pub put_tallies_of-requires : goal.put_tallies_of-requires
@@ -7,4 +7,5 @@ put_tallies_of-requires c = tallies-at c.args.tallies.now c.each.place (omega ar
 
 pub each-preserved : goal.each-preserved
 each-preserved c =
-    tallies-more c.args.tallies.now c.each.place (omega arith) c.at.result.now c.args.text.now.items c.each.text.items c.put_tallies_of.new.text.items c.at.ensures c.each.invariant c.in_ok-put_tallies_of.ensures
+    tallies-more c.args.tallies.now c.each.place (omega arith) c.at.result.now c.args.text.now.items c.each.text.items c.put_tallies_of.new.text.items c.at.ensures c.each.invariant
+    c.in_ok-put_tallies_of.ensures

@@ -1,5 +1,5 @@
 use Rattle.std.proofs.Common.{◌≡◌, ◌++◌, take}
-use Rattle.mv_ledger.specs.Saving.{counts_text}
+use Rattle.mv_ledger.specs.Parts.Saving.{counts_text}
 use Rattle.mv_ledger.specs.View.{all_of}
 use Rattle.mv_ledger.proofs.saving.put_tallies.Given as goal
 

@@ -1,5 +1,5 @@
-use Rattle.mv_ledger.specs.Saving.{sections_of, struct_of}
-use Rattle.mv_ledger.proofs.Filling.{readable, fill-start, fill-fine, fill-there, fill-few, fill-known, fill-leaves, fill-more}
+use Rattle.mv_ledger.specs.Parts.Saving.{sections_of, struct_of}
+use Rattle.mv_ledger.proofs.Saves.Filling.{readable, fill-start, fill-fine, fill-there, fill-few, fill-known, fill-leaves, fill-more}
 use Rattle.mv_ledger.proofs.saving.sections_in.Goals as goal
 
 pub each-init : goal.each-init

@@ -1,6 +1,6 @@
 use Rattle.std.proofs.Common.{length}
-use Rattle.mv_ledger.specs.Saving.{sections_of}
-use Rattle.mv_ledger.proofs.Filling.{IsFilled}
+use Rattle.mv_ledger.specs.Parts.Saving.{sections_of}
+use Rattle.mv_ledger.proofs.Saves.Filling.{IsFilled}
 use Rattle.mv_ledger.proofs.saving.sections_in.Given as goal
 
 abbrev pub invariant-each : goal.invariant-each

@@ -1,4 +1,4 @@
-use Rattle.mv_ledger.proofs.PlainTexts.{plain-address, put-plain, put-text}
+use Rattle.mv_ledger.proofs.Shows.PlainTexts.{plain-address, put-plain, put-text}
 use Rattle.mv_ledger.proofs.strings.address_string.Goals as goal
 
 pub string_of-requires : goal.string_of-requires

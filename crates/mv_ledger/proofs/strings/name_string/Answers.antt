@@ -1,4 +1,4 @@
-use Rattle.mv_ledger.proofs.PlainTexts.{put-plain, put-text}
+use Rattle.mv_ledger.proofs.Shows.PlainTexts.{put-plain, put-text}
 use Rattle.mv_ledger.proofs.strings.name_string.Goals as goal
 
 pub string_of-requires : goal.string_of-requires

@@ -1,4 +1,4 @@
-use Rattle.mv_ledger.proofs.PlainTexts.{plain-decimal, put-plain, put-text}
+use Rattle.mv_ledger.proofs.Shows.PlainTexts.{plain-decimal, put-plain, put-text}
 use Rattle.mv_ledger.proofs.strings.number_string.Goals as goal
 
 pub string_of-requires : goal.string_of-requires

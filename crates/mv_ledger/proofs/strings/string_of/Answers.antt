@@ -1,5 +1,5 @@
 use Rattle.std.proofs.lemmas.Bool.{false≢true}
-use Rattle.mv_ledger.proofs.PlainTexts.{utf8-plain}
+use Rattle.mv_ledger.proofs.Shows.PlainTexts.{utf8-plain}
 use Rattle.mv_ledger.proofs.strings.string_of.Goals as goal
 
 pub unreachable-requires : goal.unreachable-requires

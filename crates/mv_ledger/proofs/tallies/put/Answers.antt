@@ -1,4 +1,4 @@
-use Rattle.mv_ledger.proofs.Placing.{set-there, push-last}
+use Rattle.mv_ledger.proofs.Bundles.Placing.{set-there, push-last}
 use Rattle.mv_ledger.proofs.tallies.put.Goals as goal
 
 pub returns-in-Some-clause-lists : goal.returns-in-Some-clause-lists

@@ -1,7 +1,7 @@
 use Rattle.std.proofs.Common.{◌≡◌, ◌∙◌, ap}
 use Rattle.hex.specs.Hex.{encode_lower}
 use Rattle.mv_machine.specs.Lines.{address_text}
-use Rattle.mv_ledger.proofs.Digits.{address_digits, put_after}
+use Rattle.mv_ledger.proofs.Shows.Digits.{address_digits, put_after}
 use Rattle.mv_ledger.proofs.texts.put_address.Goals as goal
 
 pub returns : goal.returns

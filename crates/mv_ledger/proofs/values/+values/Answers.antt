@@ -7,8 +7,8 @@ use Rattle.mv_linker.specs.Link.{tables_in}
 use Rattle.mv_machine.specs.Lines.{value_text}
 use Rattle.mv_ledger.specs.Showing.{PutsText}
 use Rattle.mv_ledger.specs.ValueParts.{part_from}
-use Rattle.mv_ledger.proofs.Fields.{HasPut-first, HasPut-later, extends-same, extends-more}
-use Rattle.mv_ledger.proofs.Structs.{puts_no_depth, puts_missing, puts_fields}
+use Rattle.mv_ledger.proofs.Shows.Fields.{HasPut-first, HasPut-later, extends-same, extends-more}
+use Rattle.mv_ledger.proofs.Shows.Structs.{puts_no_depth, puts_missing, puts_fields}
 use Rattle.mv_ledger.proofs.values.+values.Goals as goal
 use Rattle.mv_ledger.proofs.values.+values.Goals.{put_parts-then-i-gt0+in_ok-push, put_parts-else-i-gt0}
 
@@ -29,7 +29,8 @@ put_struct-returns k c =
     let most = c.put_parts.new.text.items in
     let new = c.push-2.new.self.items in
     record {
-      value = puts_fields c.args.store.now c.in-Some.ensures.store c.args.depth c.args.d c.in-Some.parts.now c.args.words.now c.in_ok-rest.rest old front most new c.if-depth-eq0.false c.in-Some.ensures.fields c.in_ok-push.ensures.items
+      value = puts_fields c.args.store.now c.in-Some.ensures.store c.args.depth c.args.d c.in-Some.parts.now c.args.words.now c.in_ok-rest.rest old front most new c.if-depth-eq0.false
+          c.in-Some.ensures.fields c.in_ok-push.ensures.items
           c.in_ok-rest.ensures.value c.in_ok-push-2.ensures.items;
       kept = extends-more old front new (codes "{", c.in_ok-push.ensures.items) (extends-more front most new c.in_ok-rest.ensures.kept (codes "}", c.in_ok-push-2.ensures.items));
     }
@@ -47,8 +48,10 @@ put_parts-each-preserved k c =
     elim c.if-i-gt0.branch [
       | put_parts-then-i-gt0+in_ok-push w ↦
           let text : c.if-i-gt0.text.items ≡ c.each.text.items ++ codes "," = ap (λ (v : Vec ℕ Global). v.items) w.text-is ∙ w.in_ok-push.ensures.items in
-          HasPut-later value all c.each.i c.args.words.now c.each.rest.now c.args.text.now.items c.each.text.items f c.each.invariant left c.in-Some.more c.put_part.new.text.items (omega (arith, w.if-i-gt0.true)) (subst P text put)
+          HasPut-later value all c.each.i c.args.words.now c.each.rest.now c.args.text.now.items c.each.text.items f c.each.invariant left c.in-Some.more c.put_part.new.text.items
+          (omega (arith, w.if-i-gt0.true)) (subst P text put)
       | put_parts-else-i-gt0 w ↦
           let text : c.if-i-gt0.text.items ≡ c.each.text.items = ap (λ (v : Vec ℕ Global). v.items) w.text-is in
-          HasPut-first value all c.each.i c.args.words.now c.each.rest.now c.args.text.now.items c.each.text.items f c.each.invariant left c.in-Some.more c.put_part.new.text.items (omega (arith, w.if-i-gt0.false)) (subst P text put)
+          HasPut-first value all c.each.i c.args.words.now c.each.rest.now c.args.text.now.items c.each.text.items f c.each.invariant left c.in-Some.more c.put_part.new.text.items
+          (omega (arith, w.if-i-gt0.false)) (subst P text put)
     ]

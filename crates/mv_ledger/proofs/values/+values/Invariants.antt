@@ -1,7 +1,7 @@
 use Rattle.std.proofs.Common.{◌+◌, ◌*◌}
 use Rattle.mv_linker.specs.Link.{tables_in}
 use Rattle.mv_ledger.specs.ValueParts.{part_from}
-use Rattle.mv_ledger.proofs.Fields.{HasPut}
+use Rattle.mv_ledger.proofs.Shows.Fields.{HasPut}
 use Rattle.mv_ledger.proofs.values.+values.Given as goal
 
 abbrev pub decreases-put_struct : goal.decreases-put_struct

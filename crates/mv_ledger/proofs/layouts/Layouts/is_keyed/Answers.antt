@@ -1,7 +1,7 @@
 use Rattle.std.proofs.Common.{ap, ◌∙◌}
 use Rattle.mv_linker.specs.Link.{tables_in}
 use Rattle.mv_ledger.specs.Layouts.{is_keyed}
-use Rattle.mv_ledger.proofs.LayoutParts.{keyed-same}
+use Rattle.mv_ledger.proofs.Saves.LayoutParts.{keyed-same}
 use Rattle.mv_ledger.proofs.layouts.Layouts.is_keyed.Goals as goal
 
 pub returns : goal.returns

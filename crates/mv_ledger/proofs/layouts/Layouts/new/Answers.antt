@@ -3,7 +3,7 @@ use Rattle.std.proofs.lemmas.List.{length-map}
 use Rattle.mv_move_types.specs.Published.{PublishedModule}
 use Rattle.mv_linker.specs.Link.{tables_in}
 use Rattle.mv_linker.proofs.Found.{there_at}
-use Rattle.mv_ledger.proofs.LayoutParts.{keyed-more}
+use Rattle.mv_ledger.proofs.Saves.LayoutParts.{keyed-more}
 use Rattle.mv_ledger.proofs.layouts.Layouts.new.Goals as goal
 
 pub each-preserved : goal.each-preserved

@@ -2,12 +2,13 @@ use Rattle.std.proofs.Common.{arith}
 use Rattle.mv_move_types.specs.declared.token.LeafKind.TheVariants.{Boolean}
 use Rattle.mv_linker.specs.declared.shapes.Part.{Part}
 use Rattle.mv_linker.specs.declared.shapes.Part.TheVariants.{Leaf}
-use Rattle.mv_ledger.proofs.Adding.{adds-struct, adds-more, adds-all}
+use Rattle.mv_ledger.proofs.Loads.Adding.{adds-struct, adds-more, adds-all}
 use Rattle.mv_ledger.proofs.loading.counts.+inside.Goals as goal
 
 pub add_struct-returns-in-Some : goal.add_struct-returns-in-Some
 add_struct-returns-in-Some t c =
-    adds-struct c.args.layouts.now c.args.n c.len-modules.ensures.store c.args.depth c.args.d c.in-Some.parts.now c.args.counts.now c.add.new.self c.add_parts.new.counts c.if-depth-eq0.false c.in-Some.ensures c.add.ensures c.add_parts.ensures
+    adds-struct c.args.layouts.now c.args.n c.len-modules.ensures.store c.args.depth c.args.d c.in-Some.parts.now c.args.counts.now c.add.new.self c.add_parts.new.counts c.if-depth-eq0.false
+    c.in-Some.ensures c.add.ensures c.add_parts.ensures
 
 pub add_parts-each-preserved : goal.add_parts-each-preserved
 add_parts-each-preserved t c =

@@ -1,5 +1,5 @@
 use Rattle.std.proofs.Common.{◌+◌, ◌*◌}
-use Rattle.mv_ledger.proofs.Adding.{AddsFirst}
+use Rattle.mv_ledger.proofs.Loads.Adding.{AddsFirst}
 use Rattle.mv_ledger.proofs.loading.counts.+inside.Given as goal
 
 abbrev pub decreases-add_struct : goal.decreases-add_struct

@@ -1,6 +1,6 @@
 use Rattle.std.proofs.Common.{◌+◌, List, ℕ, take, sym, subst, arith}
 use Rattle.mv_move_types.specs.declared.tables.Definition.{Definition}
-use Rattle.mv_ledger.proofs.CountedStructs.{IsAdding, add-more, add-none, add-all}
+use Rattle.mv_ledger.proofs.Loads.CountedStructs.{IsAdding, add-more, add-none, add-all}
 use Rattle.mv_ledger.proofs.loading.counts.all_counts.Goals as goal
 use Rattle.mv_ledger.proofs.loading.counts.all_counts.Goals.{then-n-gt0, else-n-gt0}
 
@@ -14,7 +14,8 @@ each-preserved c =
     elim c.if-n-gt0.branch [
       | then-n-gt0 w ↦
           subst is_so (sym w.counts-is)
-          (add-more ms es c.in_ok-stored.stored c.in_ok-stored.ensures ds c.each.d-index z c.each-test.true c.at-n.result c.at-n.ensures c.each.counts w.add_struct.new.counts w.add_struct.ensures c.each.invariant)
+          (add-more ms es c.in_ok-stored.stored c.in_ok-stored.ensures ds c.each.d-index z c.each-test.true c.at-n.result c.at-n.ensures c.each.counts w.add_struct.new.counts w.add_struct.ensures
+          c.each.invariant)
       | else-n-gt0 w ↦
           subst is_so (sym w.counts-is)
           (add-none ms es c.in_ok-stored.stored c.in_ok-stored.ensures ds c.each.d-index z c.each-test.true c.at-n.result c.at-n.ensures c.each.counts w.if-n-gt0.false c.each.invariant)

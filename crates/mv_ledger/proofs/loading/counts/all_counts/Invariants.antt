@@ -1,5 +1,5 @@
 use Rattle.std.proofs.Common.{take}
-use Rattle.mv_ledger.proofs.CountedStructs.{IsAdding}
+use Rattle.mv_ledger.proofs.Loads.CountedStructs.{IsAdding}
 use Rattle.mv_ledger.proofs.loading.counts.all_counts.Given as goal
 
 abbrev pub invariant-each : goal.invariant-each

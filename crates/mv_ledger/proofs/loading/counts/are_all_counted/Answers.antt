@@ -2,8 +2,8 @@ use Rattle.std.proofs.Common.{◌<◌, ◌≤◌, length, refl, sym, ◌∙◌, 
 use Rattle.std.specs.List.{AllByRecursion}
 use Rattle.std.proofs.lemmas.Bool.{true≢false}
 use Rattle.mv_ledger.specs.declared.tallies.Tally.{Tally}
-use Rattle.mv_ledger.specs.CountRows.{IsTallied}
-use Rattle.mv_ledger.proofs.TalliesCounted.{modules-more, modules-each, modules-all}
+use Rattle.mv_ledger.specs.Parts.CountRows.{IsTallied}
+use Rattle.mv_ledger.proofs.Loads.TalliesCounted.{modules-more, modules-each, modules-all}
 use Rattle.mv_ledger.proofs.loading.counts.are_all_counted.Goals as goal
 
 pub returns-then-not-are_counted : goal.returns-then-not-are_counted

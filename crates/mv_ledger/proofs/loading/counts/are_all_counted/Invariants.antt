@@ -1,6 +1,6 @@
 use Rattle.std.proofs.Common.{take}
 use Rattle.std.specs.List.{AllByRecursion}
-use Rattle.mv_ledger.specs.CountRows.{IsTallied}
+use Rattle.mv_ledger.specs.Parts.CountRows.{IsTallied}
 use Rattle.mv_ledger.specs.View.{all_of}
 use Rattle.mv_ledger.proofs.loading.counts.are_all_counted.Given as goal
 

@@ -1,5 +1,5 @@
 use Rattle.mv_machine.specs.Flat.{FlatEntry}
-use Rattle.mv_ledger.proofs.CountedStructs.{count-more}
+use Rattle.mv_ledger.proofs.Loads.CountedStructs.{count-more}
 use Rattle.mv_ledger.proofs.loading.counts.stored_counts.Goals as goal
 
 pub each-preserved : goal.each-preserved

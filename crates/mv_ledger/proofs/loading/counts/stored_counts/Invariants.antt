@@ -1,5 +1,5 @@
 use Rattle.std.proofs.Common.{length}
-use Rattle.mv_ledger.proofs.CountedStructs.{IsCounting}
+use Rattle.mv_ledger.proofs.Loads.CountedStructs.{IsCounting}
 use Rattle.mv_ledger.proofs.loading.counts.stored_counts.Given as goal
 
 abbrev pub invariant-each : goal.invariant-each

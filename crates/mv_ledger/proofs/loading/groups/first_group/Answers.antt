@@ -1,12 +1,13 @@
 use Rattle.std.proofs.Common.{ℕ, ◌+◌, ◌<◌, length, arith, sym, subst}
-use Rattle.mv_ledger.proofs.Grouping.{IsGrouping, larger, grouping-ends, grouping-goes-on, grouping-stops}
+use Rattle.mv_ledger.proofs.Loads.Grouping.{IsGrouping, larger, grouping-ends, grouping-goes-on, grouping-stops}
 use Rattle.mv_ledger.proofs.loading.groups.first_group.Goals as goal
 use Rattle.mv_ledger.proofs.loading.groups.first_group.Goals.{then-needed-at, else-needed-at}
 
 pub returns-in_default : goal.returns-in_default
 returns-in_default c =
     let lt : c.each.at < length c.args.news.now = omega (arith, c.each-test.true) in
-    grouping-stops c.args.store.now c.args.news.now c.each.at c.each.count c.each.needed c.index-news-at.result c.module.result.now c.each.invariant lt c.module.ensures.value c.in_default.ensures.needed
+    grouping-stops c.args.store.now c.args.news.now c.each.at c.each.count c.each.needed c.index-news-at.result c.module.result.now c.each.invariant lt c.module.ensures.value
+    c.in_default.ensures.needed
 
 pub each-preserved : goal.each-preserved
 each-preserved c =

@@ -1,4 +1,4 @@
-use Rattle.mv_ledger.proofs.Grouping.{IsGrouping}
+use Rattle.mv_ledger.proofs.Loads.Grouping.{IsGrouping}
 use Rattle.mv_ledger.proofs.loading.groups.first_group.Given as goal
 
 abbrev pub invariant-each : goal.invariant-each

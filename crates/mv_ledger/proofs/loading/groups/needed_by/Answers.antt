@@ -1,7 +1,7 @@
 use Rattle.std.proofs.Common.{◌<◌, length, arith, sym, ap, subst}
 use Rattle.mv_linker.specs.News.{published_of}
 use Rattle.mv_ledger.specs.Groups.{IsNeeded, HandlesHold}
-use Rattle.mv_ledger.proofs.Grouping.{larger, handles-needed, handles-never}
+use Rattle.mv_ledger.proofs.Loads.Grouping.{larger, handles-needed, handles-never}
 use Rattle.mv_ledger.proofs.loading.groups.needed_by.Goals as goal
 
 pub returns-in_err-needed_for-clause-needed : goal.returns-in_err-needed_for-clause-needed
@@ -15,7 +15,8 @@ loop-handle-preserved c =
     let more = larger c.loop-handle.most c.in_ok-needed_for.field-0 c.max-most.result c.max-most.ensures in
     record {
       needed =
-          handles-needed c.args.store.now (published_of c.args.news.now) c.args.m.now c.loop-handle.handle c.loop-handle.most c.in_ok-needed_for.field-0 c.max-most.result c.loop-handle.invariant.needed c.in_ok-needed_for.ensures.needed
+          handles-needed c.args.store.now (published_of c.args.news.now) c.args.m.now c.loop-handle.handle c.loop-handle.most c.in_ok-needed_for.field-0 c.max-most.result
+          c.loop-handle.invariant.needed c.in_ok-needed_for.ensures.needed
           more.0 more.1 more.2;
       few = more.2 (length c.args.news.now) c.loop-handle.invariant.few c.in_ok-needed_for.ensures.few;
     }

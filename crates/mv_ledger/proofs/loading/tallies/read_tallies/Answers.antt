@@ -1,7 +1,7 @@
 use Rattle.std.proofs.Common.{◌+◌, ◌<◌, length, map, take, sym, subst, arith}
 use Rattle.mv_module_text.proofs.Entries.{ReadsOn, ReadsOn-next}
-use Rattle.mv_ledger.specs.BodyParts.{form_of, counts_of, tally_from}
-use Rattle.mv_ledger.proofs.BodyReading.{OnErr-any, entries-stop, structs-kept, counts-more}
+use Rattle.mv_ledger.specs.Parts.BodyParts.{form_of, counts_of, tally_from}
+use Rattle.mv_ledger.proofs.Loads.BodyReading.{OnErr-any, entries-stop, structs-kept, counts-more}
 use Rattle.mv_ledger.proofs.loading.tallies.read_tallies.Goals as goal
 
 pub returns-in_err-read_tally-clause-refused : goal.returns-in_err-read_tally-clause-refused
@@ -19,7 +19,8 @@ each-preserved c =
     record {
       reads = subst (λ z. ReadsOn (tally_from (form_of c.args.form)) (length c.args.tallies.now) (c.each.tally-index + 1) c.args.reader.now z c.read_tally.new.reader)
           (sym (counts-more c.each.tallies c.each.tally-index c.read_tally.new.tally lt))
-          (ReadsOn-next (tally_from (form_of c.args.form)) (length c.args.tallies.now) c.each.tally-index c.args.reader.now (map counts_of (take c.each.tally-index c.each.tallies)) c.each.reader c.read_tally.new.reader (counts_of c.read_tally.new.tally)
+          (ReadsOn-next (tally_from (form_of c.args.form)) (length c.args.tallies.now) c.each.tally-index c.args.reader.now (map counts_of (take c.each.tally-index c.each.tallies)) c.each.reader
+          c.read_tally.new.reader (counts_of c.read_tally.new.tally)
           (omega arith) c.in_ok-read_tally.ensures.ok c.each.invariant.reads);
       kept = structs-kept c.each.tallies c.args.tallies.now c.each.tally-index c.read_tally.new.tally _ c.read_tally.ensures.kept c.each.invariant.kept;
     }

@@ -1,7 +1,7 @@
 use Rattle.std.proofs.Common.{◌≡◌, None, Err, ap, sym, ◌∙◌, arith, inl, inr}
 use Rattle.std.proofs.lemmas.Grind.{common_steps}
-use Rattle.mv_ledger.specs.BodyParts.{entry_from}
-use Rattle.mv_ledger.proofs.BodyReading.{RisingOn-next, RisingOn-stops, RisingOn-falls}
+use Rattle.mv_ledger.specs.Parts.BodyParts.{entry_from}
+use Rattle.mv_ledger.proofs.Loads.BodyReading.{RisingOn-next, RisingOn-stops, RisingOn-falls}
 use Rattle.mv_ledger.proofs.loading.values.group.Goals as goal
 
 pub returns-in_err-next-clause-refused : goal.returns-in_err-next-clause-refused
@@ -16,4 +16,5 @@ returns-then-not-follows-clause-refused c is =
 
 pub each-preserved : goal.each-preserved
 each-preserved c =
-    RisingOn-next _ _ _ _ _ _ _ _ _ _ c.in_ok-put.field-0 _ (omega arith) c.in_ok-next.ensures.ok (sym c.follows.ensures ∙ c.if-not-follows.false) c.in_ok-put.ensures.done c.in_ok-put.ensures.current c.each.invariant
+    RisingOn-next _ _ _ _ _ _ _ _ _ _ c.in_ok-put.field-0 _ (omega arith) c.in_ok-next.ensures.ok (sym c.follows.ensures ∙ c.if-not-follows.false) c.in_ok-put.ensures.done c.in_ok-put.ensures.current
+    c.each.invariant

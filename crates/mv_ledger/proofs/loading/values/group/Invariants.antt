@@ -1,5 +1,5 @@
-use Rattle.mv_ledger.specs.BodyParts.{entry_from}
-use Rattle.mv_ledger.proofs.BodyReading.{RisingOn}
+use Rattle.mv_ledger.specs.Parts.BodyParts.{entry_from}
+use Rattle.mv_ledger.proofs.Loads.BodyReading.{RisingOn}
 use Rattle.mv_ledger.proofs.loading.values.group.Given as goal
 
 abbrev pub invariant-each : goal.invariant-each

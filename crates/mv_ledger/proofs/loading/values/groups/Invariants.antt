@@ -1,4 +1,4 @@
-use Rattle.mv_ledger.proofs.BodyReading.{GroupsOn}
+use Rattle.mv_ledger.proofs.Loads.BodyReading.{GroupsOn}
 use Rattle.mv_ledger.proofs.loading.values.groups.Given as goal
 
 abbrev pub invariant-each : goal.invariant-each

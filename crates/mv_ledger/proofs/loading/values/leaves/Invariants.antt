@@ -1,4 +1,4 @@
-use Rattle.mv_ledger.proofs.BodyReading.{LeavesOn}
+use Rattle.mv_ledger.proofs.Loads.BodyReading.{LeavesOn}
 use Rattle.mv_ledger.proofs.loading.values.leaves.Given as goal
 
 abbrev pub invariant-each : goal.invariant-each

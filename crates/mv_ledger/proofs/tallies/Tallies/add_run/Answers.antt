@@ -4,7 +4,7 @@ use Rattle.mv_frames.specs.declared.counters.StructTally.{StructTally}
 use Rattle.mv_ledger.specs.declared.tallies.Tally.{Tally}
 use Rattle.mv_ledger.specs.Tallying.{AreInOrder, HasRoomLeft, IsRoomFor}
 use Rattle.mv_ledger.specs.View.{all_of, ArePlaced}
-use Rattle.mv_ledger.proofs.TalliesByModule.{lists, all-first, placed-after, step-after, step-at, placed-at, ordered-at, room-at, written}
+use Rattle.mv_ledger.proofs.Runs.TalliesByModule.{lists, all-first, placed-after, step-after, step-at, placed-at, ordered-at, room-at, written}
 use Rattle.mv_ledger.proofs.tallies.Tallies.add_run.Goals as goal
 use Rattle.mv_ledger.proofs.tallies.Tallies.add_run.Goals.{in-Some, in_default}
 
@@ -23,20 +23,23 @@ invariant_of-self c =
 pub add_entry-requires-clause-placed : goal.add_entry-requires-clause-placed
 add_entry-requires-clause-placed c =
     subst (λ (ts : List Tally). All (λ t. t.place ≡ (get_or c.args.run.now c.loop-entry.entry-index none).place) ts) (sym c.deref_mut.ensures.value)
-    (placed-at c.args.run.now c.loop-entry.entry-index none _ (lists c.self.inside.modules.items) c.loop-entry.self-inside.modules.items c.loop-entry-test.true refl c.self.invariant c.loop-entry.invariant
+    (placed-at c.args.run.now c.loop-entry.entry-index none _ (lists c.self.inside.modules.items) c.loop-entry.self-inside.modules.items c.loop-entry-test.true refl c.self.invariant
+    c.loop-entry.invariant
     c.in-Some.tallies.now c.in-Some.ensures.item.3.0 c.in-Some.ensures.value)
 
 pub add_entry-requires-clause-ordered : goal.add_entry-requires-clause-ordered
 add_entry-requires-clause-ordered c =
     subst AreInOrder (sym c.deref_mut.ensures.value)
-    (ordered-at c.args.run.now c.loop-entry.entry-index none _ (lists c.self.inside.modules.items) c.loop-entry.self-inside.modules.items c.loop-entry-test.true refl c.self.invariant c.loop-entry.invariant
+    (ordered-at c.args.run.now c.loop-entry.entry-index none _ (lists c.self.inside.modules.items) c.loop-entry.self-inside.modules.items c.loop-entry-test.true refl c.self.invariant
+    c.loop-entry.invariant
     (subst (λ (tss : List (List Tally)). All AreInOrder tss) (sym c.self.view_is) c.requires.ordered)
     c.in-Some.tallies.now c.in-Some.ensures.item.3.0 c.in-Some.ensures.value)
 
 pub add_entry-requires-clause-room : goal.add_entry-requires-clause-room
 add_entry-requires-clause-room c =
     subst (λ (ts : List Tally). All (IsRoomFor (get_or c.args.run.now c.loop-entry.entry-index none)) ts) (sym c.deref_mut.ensures.value)
-    (room-at c.args.run.now c.loop-entry.entry-index none _ (lists c.self.inside.modules.items) c.loop-entry.self-inside.modules.items c.loop-entry-test.true refl c.self.invariant c.loop-entry.invariant
+    (room-at c.args.run.now c.loop-entry.entry-index none _ (lists c.self.inside.modules.items) c.loop-entry.self-inside.modules.items c.loop-entry-test.true refl c.self.invariant
+    c.loop-entry.invariant
     (subst (λ (tss : List (List Tally)). All HasRoomLeft (all_of tss)) (sym c.self.view_is) c.requires.room) c.requires.few
     c.in-Some.tallies.now c.in-Some.ensures.item.3.0 c.in-Some.ensures.value)
 
@@ -45,11 +48,13 @@ loop-entry-preserved c =
     elim c.match-get_mut.branch [
       | in-Some w ↦
           ap (λ t. lists t.modules.items) w.self-inside-is
-          ∙ step-at c.args.run.now c.loop-entry.entry-index none _ (lists c.self.inside.modules.items) c.loop-entry.self-inside.modules.items c.loop-entry-test.true refl c.self.invariant c.loop-entry.invariant
+          ∙ step-at c.args.run.now c.loop-entry.entry-index none _ (lists c.self.inside.modules.items) c.loop-entry.self-inside.modules.items c.loop-entry-test.true refl c.self.invariant
+          c.loop-entry.invariant
           w.in-Some.tallies.now _ w.in-Some.ensures.item.3.0 w.in-Some.ensures.value
           (written _ w.in-Some.tallies.now w.deref_mut.result.now w.add_entry.new.tallies w.add_entry.ensures w.deref_mut.ensures.value (w.deref_mut.ensures.len))
       | in_default w ↦
           ap (λ t. lists t.modules.items) w.self-inside-is
-          ∙ step-after c.args.run.now c.loop-entry.entry-index none _ (lists c.self.inside.modules.items) c.loop-entry.self-inside.modules.items c.loop-entry-test.true refl c.self.invariant c.loop-entry.invariant
+          ∙ step-after c.args.run.now c.loop-entry.entry-index none _ (lists c.self.inside.modules.items) c.loop-entry.self-inside.modules.items c.loop-entry-test.true refl c.self.invariant
+          c.loop-entry.invariant
           w.in_default.ensures.item.3
     ]

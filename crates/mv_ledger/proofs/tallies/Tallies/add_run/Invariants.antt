@@ -1,6 +1,6 @@
 use Rattle.std.proofs.Common.{◌≡◌, map, take}
 use Rattle.mv_ledger.specs.Tallying.{tally_after}
-use Rattle.mv_ledger.proofs.TalliesByModule.{lists}
+use Rattle.mv_ledger.proofs.Runs.TalliesByModule.{lists}
 use Rattle.mv_ledger.proofs.tallies.Tallies.add_run.Given as goal
 
 abbrev pub invariant-loop-entry : goal.invariant-loop-entry

@@ -3,8 +3,8 @@ use Rattle.mv_ledger.specs.declared.tallies.Tally.{Tally}
 use Rattle.mv_ledger.specs.declared.tallies.Placed.{Placed}
 use Rattle.mv_ledger.specs.View.{ArePlaced}
 use Rattle.mv_ledger.specs.Tallying.{with_placed, AreWithin}
-use Rattle.mv_ledger.proofs.TalliesByModule.{lists}
-use Rattle.mv_ledger.proofs.Placing.{joining-room, joining-next, joining-done}
+use Rattle.mv_ledger.proofs.Runs.TalliesByModule.{lists}
+use Rattle.mv_ledger.proofs.Bundles.Placing.{joining-room, joining-next, joining-done}
 use Rattle.mv_ledger.proofs.tallies.Tallies.join.Goals as goal
 
 pub loop-one-init : goal.loop-one-init

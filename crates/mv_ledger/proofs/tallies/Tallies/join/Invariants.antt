@@ -1,7 +1,7 @@
 use Rattle.std.specs.Vec.{vec_len, vec_capacity}
 use Rattle.mv_ledger.specs.Tallying.{with_placed}
-use Rattle.mv_ledger.proofs.TalliesByModule.{lists}
-use Rattle.mv_ledger.proofs.Placing.{IsJoining}
+use Rattle.mv_ledger.proofs.Runs.TalliesByModule.{lists}
+use Rattle.mv_ledger.proofs.Bundles.Placing.{IsJoining}
 use Rattle.mv_ledger.proofs.tallies.Tallies.join.Given as goal
 
 abbrev pub invariant-loop-one : goal.invariant-loop-one

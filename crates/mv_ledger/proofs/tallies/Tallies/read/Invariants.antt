@@ -1,7 +1,7 @@
 use Rattle.std.proofs.Common.{◌≡◌, length}
-use Rattle.mv_ledger.specs.BodyParts.{form_of, tally_from}
+use Rattle.mv_ledger.specs.Parts.BodyParts.{form_of, tally_from}
 use Rattle.mv_ledger.specs.View.{all_of}
-use Rattle.mv_ledger.proofs.BodyTallies.{TalliesOn, lists, structs_in}
+use Rattle.mv_ledger.proofs.Loads.BodyTallies.{TalliesOn, lists, structs_in}
 use Rattle.mv_ledger.proofs.tallies.Tallies.read.Given as goal
 
 abbrev pub invariant-each : goal.invariant-each

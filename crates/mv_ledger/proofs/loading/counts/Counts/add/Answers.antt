@@ -1,8 +1,8 @@
 use Rattle.std.proofs.Common.{◌≡◌, ℕ, ◌+◌, ◌≤◌, List, length, sym, ap, ap₂, ◌∙◌, subst}
 use Rattle.std.specs.Prelude.{slice_set}
 use Rattle.mv_move_types.specs.declared.tables.Definition.{Definition}
-use Rattle.mv_ledger.specs.CountRows.{row_at, capped, count_at, with_count}
-use Rattle.mv_ledger.proofs.Counted.{rows_in, rows-put, rows-past}
+use Rattle.mv_ledger.specs.Parts.CountRows.{row_at, capped, count_at, with_count}
+use Rattle.mv_ledger.proofs.Loads.Counted.{rows_in, rows-put, rows-past}
 use Rattle.mv_ledger.proofs.loading.counts.Counts.add.Goals as goal
 use Rattle.mv_ledger.proofs.loading.counts.Counts.add.Goals.{in-Some, in_default}
 
@@ -17,13 +17,15 @@ returns c =
     elim c.match-get_mut.branch [
       | in-Some w ↦
           ap (λ t. rows_in t.rows.items) w.self-inside-is
-          ∙ rows-put c.self.inside.rows.items c.from.result w.from-in-Some.result c.saturating_add-count.result w.in-Some.row.now w.put_count.new.row w.in-Some.ensures.item.3.0 w.in-Some.ensures.value w.put_count.ensures
+          ∙ rows-put c.self.inside.rows.items c.from.result w.from-in-Some.result c.saturating_add-count.result w.in-Some.row.now w.put_count.new.row w.in-Some.ensures.item.3.0 w.in-Some.ensures.value
+          w.put_count.ensures
           ∙ ap₂ (λ p i. with_row (rows_in c.self.inside.rows.items) (record { place = p; index = i }) c.saturating_add-count.result) c.from.ensures w.from-in-Some.ensures
           ∙ ap (λ k. with_row (rows_in c.self.inside.rows.items) c.args.d k) count
           ∙ ap (λ rows. with_count rows c.args.d c.args.n) c.self.view_is
       | in_default w ↦
           ap (λ t. rows_in t.rows.items) w.self-inside-is
-          ∙ rows-past c.self.inside.rows.items c.args.d.place (slice_set (row_at (rows_in c.self.inside.rows.items) c.args.d.place) c.args.d.index (capped (count_at (rows_in c.self.inside.rows.items) c.args.d + c.args.n)))
+          ∙ rows-past c.self.inside.rows.items c.args.d.place (slice_set (row_at (rows_in c.self.inside.rows.items) c.args.d.place) c.args.d.index
+          (capped (count_at (rows_in c.self.inside.rows.items) c.args.d + c.args.n)))
           (subst (λ (k : ℕ). length c.self.inside.rows.items ≤ k) c.from.ensures w.in_default.ensures.item.3)
           ∙ ap (λ rows. with_count rows c.args.d c.args.n) c.self.view_is
     ]

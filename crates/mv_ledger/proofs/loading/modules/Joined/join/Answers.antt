@@ -2,9 +2,9 @@ use Rattle.std.proofs.Common.{◌++◌, arith, sym, subst}
 use Rattle.std.proofs.lemmas.List.{length-map}
 use Rattle.mv_linker.specs.News.{published_of, published_one}
 use Rattle.mv_ledger.specs.Asking.{offer_of, offers_of}
-use Rattle.mv_ledger.specs.LoadedParts.{AreNotJoined}
-use Rattle.mv_ledger.proofs.LoadedModules.{not-passed, not-linked}
-use Rattle.mv_ledger.proofs.Verifying.{as-many}
+use Rattle.mv_ledger.specs.Parts.LoadedParts.{AreNotJoined}
+use Rattle.mv_ledger.proofs.Loads.LoadedModules.{not-passed, not-linked}
+use Rattle.mv_ledger.proofs.Bundles.Verifying.{as-many}
 use Rattle.mv_ledger.proofs.loading.modules.Joined.join.Goals as goal
 
 pub append-requires-clause-few : goal.append-requires-clause-few
@@ -14,7 +14,8 @@ append-requires-clause-few c =
 
 pub returns-in-Err-clause-refused : goal.returns-in-Err-clause-refused
 returns-in-Err-clause-refused c = λ before h.
-    subst (AreNotJoined (before ++ offers_of c.args.offers.now)) (sym c.because.ensures) (not-passed before c.args.self.now.store h.passed (offers_of c.args.offers.now) c.in-Err.refusal c.in-Err.ensures.refused)
+    subst (AreNotJoined (before ++ offers_of c.args.offers.now)) (sym c.because.ensures)
+    (not-passed before c.args.self.now.store h.passed (offers_of c.args.offers.now) c.in-Err.refusal c.in-Err.ensures.refused)
 
 pub returns-in-Ok-append-clause-joined : goal.returns-in-Ok-append-clause-joined
 returns-in-Ok-append-clause-joined c = λ before h. c.in-Ok-append.ensures.joined before (offers_of c.args.offers.now) h c.in-Ok.ensures.passed

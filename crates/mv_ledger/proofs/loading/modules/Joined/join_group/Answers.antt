@@ -3,9 +3,9 @@ use Rattle.std.proofs.lemmas.List.Elements.{All-take}
 use Rattle.mv_linker.specs.News.{AreTexts, HasItsTexts}
 use Rattle.mv_machine.specs.Ledger.{Offer}
 use Rattle.mv_ledger.specs.Asking.{offers_of}
-use Rattle.mv_ledger.specs.LoadedParts.{AreNotJoined}
+use Rattle.mv_ledger.specs.Parts.LoadedParts.{AreNotJoined}
 use Rattle.mv_ledger.specs.Publishing.{IsRefusedAmong}
-use Rattle.mv_ledger.proofs.LoadedModules.{group-not-passed, group-count, group-within, group-passed, group-long, first-offers}
+use Rattle.mv_ledger.proofs.Loads.LoadedModules.{group-not-passed, group-count, group-within, group-passed, group-long, first-offers}
 use Rattle.mv_ledger.proofs.loading.modules.Joined.join_group.Goals as goal
 
 pub returns-in-Err-clause-refused : goal.returns-in-Err-clause-refused
@@ -19,7 +19,8 @@ append-requires-clause-texts c = subst AreTexts (sym c.truncate.ensures.items) (
 
 pub append-requires-clause-few : goal.append-requires-clause-few
 append-requires-clause-few c =
-    let few = group-long c.args.offers.now c.split_at.result.0.now c.min-most.result c.in-Ok.news.items c.truncate.new.self.items c.first_group-count.result c.split_at.ensures.front c.in-Ok.ensures.passed
+    let few = group-long c.args.offers.now c.split_at.result.0.now c.min-most.result c.in-Ok.news.items c.truncate.new.self.items c.first_group-count.result c.split_at.ensures.front
+    c.in-Ok.ensures.passed
     (group-count c.deref.result.now c.in-Ok.news.items c.first_group-count.result c.deref.ensures.value c.first_group-count.ensures.few) c.truncate.ensures.items in
     omega (arith, few, c.requires.few)
 

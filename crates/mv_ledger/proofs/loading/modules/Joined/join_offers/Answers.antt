@@ -3,8 +3,8 @@ use Rattle.std.proofs.lemmas.Result.{err_from_is_err_and}
 use Rattle.std.specs.Prelude.{IfErr, OnOk}
 use Rattle.mv_machine.specs.Ledger.{Offer}
 use Rattle.mv_ledger.specs.Asking.{offers_of}
-use Rattle.mv_ledger.specs.LoadedParts.{AreJoined, AreNotJoined}
-use Rattle.mv_ledger.proofs.LoadedModules.{left-few, left-all, left-more, left-same, left-none}
+use Rattle.mv_ledger.specs.Parts.LoadedParts.{AreJoined, AreNotJoined}
+use Rattle.mv_ledger.proofs.Loads.LoadedModules.{left-few, left-all, left-more, left-same, left-none}
 use Rattle.mv_ledger.proofs.loading.modules.Joined.join_offers.Goals as goal
 
 pub join_group-requires-clause-few : goal.join_group-requires-clause-few
@@ -45,14 +45,16 @@ returns-then-count-eq0-clause-joined c =
     let before = take c.loop-done.done (offers_of c.args.offers.now) in
     let same = subst (λ (os : List Offer). AreJoined os c.join_group.new.self.store c.join_group.new.self.tallies c.join_group.new.self.counters)
     (left-same before (offers_of c.split_at.result.1.now) c.in_ok-count.count c.if-count-eq0.true) (c.in_ok-count.ensures.joined before c.loop-done.invariant.joined) in
-    subst (λ (os : List Offer). OnOk c.join.result (AreJoined os c.join.new.self.store c.join.new.self.tallies c.join.new.self.counters)) (left-all c.args.offers.now c.split_at.result.1.now c.loop-done.done c.split_at.ensures.back) (c.join.ensures.joined before same)
+    subst (λ (os : List Offer). OnOk c.join.result (AreJoined os c.join.new.self.store c.join.new.self.tallies c.join.new.self.counters))
+    (left-all c.args.offers.now c.split_at.result.1.now c.loop-done.done c.split_at.ensures.back) (c.join.ensures.joined before same)
 
 pub returns-then-count-eq0-clause-refused : goal.returns-then-count-eq0-clause-refused
 returns-then-count-eq0-clause-refused c =
     let before = take c.loop-done.done (offers_of c.args.offers.now) in
     let same = subst (λ (os : List Offer). AreJoined os c.join_group.new.self.store c.join_group.new.self.tallies c.join_group.new.self.counters)
     (left-same before (offers_of c.split_at.result.1.now) c.in_ok-count.count c.if-count-eq0.true) (c.in_ok-count.ensures.joined before c.loop-done.invariant.joined) in
-    subst (λ (os : List Offer). IfErr c.join.result (AreNotJoined os)) (left-all c.args.offers.now c.split_at.result.1.now c.loop-done.done c.split_at.ensures.back) (c.join.ensures.refused before same)
+    subst (λ (os : List Offer). IfErr c.join.result (AreNotJoined os)) (left-all c.args.offers.now c.split_at.result.1.now c.loop-done.done c.split_at.ensures.back)
+    (c.join.ensures.refused before same)
 
 pub returns-in_err-count-clause-refused : goal.returns-in_err-count-clause-refused
 returns-in_err-count-clause-refused c =

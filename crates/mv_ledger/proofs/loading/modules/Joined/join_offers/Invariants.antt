@@ -1,6 +1,6 @@
 use Rattle.std.proofs.Common.{◌-◌, ◌≤◌, length, take}
 use Rattle.mv_ledger.specs.Asking.{offers_of}
-use Rattle.mv_ledger.specs.LoadedParts.{AreJoined}
+use Rattle.mv_ledger.specs.Parts.LoadedParts.{AreJoined}
 use Rattle.mv_ledger.proofs.loading.modules.Joined.join_offers.Given as goal
 
 abbrev pub invariant-loop-done : goal.invariant-loop-done

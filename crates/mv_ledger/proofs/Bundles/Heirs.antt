@@ -1,0 +1,277 @@
+-- What stands in a module's place after a bundle: the module itself, or one of its name that may replace it. Its structs stay.
+use Rattle.std.proofs.Common.{◌≡◌, ℕ, zero, suc, ◌+◌, Bool, true, false, cond, List, [], ◌∷◌, ◌++◌, map, Option, Some, None, option_map, refl, sym, ap, ap₂, ◌∙◌, subst, append-nil, ◌⊎◌, inl, inr}
+use Rattle.std.specs.Prelude.{slice_get, not, ◌&&◌, ◌||◌, fold, option_and_then}
+use Rattle.std.specs.List.{list_all, filter, enumerate_from, AllByRecursion}
+use Rattle.std.specs.Option.{option_map_or}
+use Rattle.std.specs.Cmp.{first_so, second_so}
+use Rattle.std.specs.Str.{bytes_eq}
+use Rattle.std.proofs.lemmas.Slice.Eq.{bytes_eq-Decides}
+use Rattle.std.proofs.lemmas.Option.{same_Some}
+use Rattle.mv_move_types.specs.declared.token.Abilities.{Abilities}
+use Rattle.mv_move_types.specs.declared.tables.Field.{Field}
+use Rattle.mv_move_types.specs.AbilitySets.{same_abilities}
+use Rattle.mv_move_types.specs.Options.{find_index}
+use Rattle.mv_move_types.specs.Names.{ModuleName, StructName, same_module}
+use Rattle.mv_move_types.specs.Module.{Module, StructDefinition, own_name, name_of_struct, struct_abilities, name_at}
+use Rattle.mv_move_types.specs.Named.{is_module, is_struct, have_one_name, module_place, module_named, definition_of}
+use Rattle.mv_move_types.specs.Published.{PublishedModule, has_name_of, with_module, with_modules}
+use Rattle.mv_linker.specs.Upgrades.{same_fields, same_struct_definition, structs_stay, function_stays, may_replace}
+use Rattle.mv_linker.specs.Link.{IsStore, tables_in, are_compatible}
+use Rattle.mv_linker.specs.Scarce.{is_scarce_struct}
+use Rattle.mv_linker.proofs.Upgraded.{same_abilities-is}
+use Rattle.mv_linker.proofs.NameLemmas.{same_module-same, is_module-is}
+use Rattle.mv_linker.proofs.Found.{each, on_some, then_found}
+use Rattle.mv_interpreter.specs.Owned.{IsOwn}
+use Rattle.mv_interpreter.proofs.Lists.{mapped_at}
+use Rattle.mv_interpreter.proofs.Homes.{own_of_store}
+use Rattle.mv_ledger.specs.declared.tallies.Tally.{Tally}
+use Rattle.mv_ledger.specs.View.{AreScarce, scarce_indices}
+use Rattle.mv_ledger.proofs.Bundles.Stores.{one_own}
+use Rattle.mv_ledger.proofs.Bundles.Places.{had}
+
+-- a test of an option that passes had something to test
+pub tested : {A : Type 0} (test : A → Bool) (o : Option A) → option_map_or test o false ≡ true → (x : A) × (o ≡ Some x) × (test x ≡ true)
+tested test (Some x) h = (x, refl, h)
+tested test None h = absurd cc
+
+-- the module itself, or one of its name that may replace it
+abbrev pub IsHeir : Module → Module → Type 0
+IsHeir m n = (n ≡ m) ⊎ ((own_name m ≡ own_name n) × (may_replace m n ≡ true))
+
+-- each old place has an heir
+abbrev pub Inherits : List Module → List Module → Type 0
+Inherits old new = (place : ℕ) (m : Module) → slice_get old place ≡ Some m → (n : Module) × (slice_get new place ≡ Some n) × IsHeir m n
+
+-- one more module takes the place of the one of its name, or leaves it
+placed_with : (ps : List PublishedModule) (new p : PublishedModule) (place : ℕ) → slice_get ps place ≡ Some p →
+    (q : PublishedModule) × (slice_get (with_module ps new) place ≡ Some q) × ((q ≡ p) ⊎ ((q ≡ new) × (has_name_of new.tables p ≡ true)))
+placed_with [] new p place e = absurd cc
+placed_with (x ∷ xs) new p zero e = by_case (has_name_of new.tables x) refl (same_Some x p e)
+  where
+    by_case : (b : Bool) → has_name_of new.tables x ≡ b → x ≡ p
+        → (q : PublishedModule) × (slice_get (cond b (new ∷ xs) (x ∷ with_module xs new)) zero ≡ Some q) × ((q ≡ p) ⊎ ((q ≡ new) × (has_name_of new.tables p ≡ true)))
+    by_case true h same = (new, refl, inr (refl, subst (λ (y : PublishedModule). has_name_of new.tables y ≡ true) same h))
+    by_case false h same = (x, refl, inl same)
+placed_with (x ∷ xs) new p (suc place) e = by_case (has_name_of new.tables x) (placed_with xs new p place e)
+  where
+    by_case : (b : Bool) → (q : PublishedModule) × (slice_get (with_module xs new) place ≡ Some q) × ((q ≡ p) ⊎ ((q ≡ new) × (has_name_of new.tables p ≡ true))) →
+        (q : PublishedModule) × (slice_get (cond b (new ∷ xs) (x ∷ with_module xs new)) (suc place) ≡ Some q) × ((q ≡ p) ⊎ ((q ≡ new) × (has_name_of new.tables p ≡ true)))
+    by_case true ih = (p, e, inl refl)
+    by_case false ih = ih
+
+-- a bundle has a module only for what it may replace
+abbrev MayFollow : Module → PublishedModule → Type 0
+MayFollow m n = have_one_name m n.tables ≡ true → may_replace m n.tables ≡ true
+
+heir_own : (m n : Module) → IsHeir m n → own_name m ≡ own_name n
+heir_own m n (inl e) = ap own_name (sym e)
+heir_own m n (inr h) = h.0
+
+joined_place : (m : Module) (bundle ps : List PublishedModule) (place : ℕ) (q : PublishedModule) → AllByRecursion (MayFollow m) bundle → slice_get ps place ≡ Some q → IsHeir m q.tables →
+    (r : PublishedModule) × (slice_get (fold with_module ps bundle) place ≡ Some r) × IsHeir m r.tables
+joined_place m [] ps place q offers at heir = (q, at, heir)
+joined_place m (n ∷ bundle) ps place q offers at heir =
+    let next = placed_with ps n q place at in
+    joined_place m bundle (with_module ps n) place next.0 offers.1 next.1 (goes next.0 next.2)
+  where
+    goes : (r : PublishedModule) → (r ≡ q) ⊎ ((r ≡ n) × (has_name_of n.tables q ≡ true)) → IsHeir m r.tables
+    goes r (inl same) = subst (λ (x : PublishedModule). IsHeir m x.tables) (sym same) heir
+    goes r (inr (same, named)) =
+        let owns : own_name m ≡ own_name n.tables = heir_own m q.tables heir ∙ sym (one_own n.tables q.tables named) in
+        let self : have_one_name n.tables n.tables ≡ true = has_itself n.tables q.tables named in
+        let one : have_one_name m n.tables ≡ true = subst (λ (x : Option ModuleName). option_map_or (λ name. is_module name n.tables) x false ≡ true) (sym owns) self in
+        subst (λ (x : PublishedModule). IsHeir m x.tables) (sym same) (inr (owns, offers.0 one))
+      where
+        has_itself : (k o : Module) → have_one_name k o ≡ true → have_one_name k k ≡ true
+        has_itself k o h =
+            let t = tested (λ name. is_module name o) (own_name k) h in
+            subst (λ (x : Option ModuleName). option_map_or (λ name. option_map_or (λ own. same_module own name) x false) x false ≡ true) (sym t.1) (same_module-same t.0)
+
+offered : (m : Module) (bundle : List PublishedModule) → list_all (λ n. not (have_one_name m n) || may_replace m n) (tables_in bundle) ≡ true → AllByRecursion (MayFollow m) bundle
+offered m [] h = tt
+offered m (n ∷ bundle) h = (
+  λ one. second (have_one_name m n.tables) (may_replace m n.tables) one
+      (first_so (not (have_one_name m n.tables) || may_replace m n.tables) (list_all (λ n. not (have_one_name m n) || may_replace m n) (tables_in bundle)) h),
+  offered m bundle (second_so (not (have_one_name m n.tables) || may_replace m n.tables) (list_all (λ n. not (have_one_name m n) || may_replace m n) (tables_in bundle)) h),
+)
+  where
+    second : (a b : Bool) → a ≡ true → (not a || b) ≡ true → b ≡ true
+    second true b e k = k
+    second false b e k = absurd cc
+
+get-mapped : {A B : Type 0} (f : A → B) (xs : List A) (i : ℕ) (x : A) → slice_get xs i ≡ Some x → slice_get (map f xs) i ≡ Some (f x)
+get-mapped f [] i x e = absurd cc
+get-mapped f (y ∷ ys) zero x e = ap (λ (z : _). Some (f z)) (same_Some y x e)
+get-mapped f (y ∷ ys) (suc i) x e = get-mapped f ys i x e
+
+-- each old place has an heir after a bundle that may join
+pub inherited : (old bundle : List PublishedModule) → are_compatible (tables_in old) (tables_in bundle) ≡ true → Inherits (tables_in old) (tables_in (with_modules old bundle))
+inherited old bundle compatible place m m_at =
+    let p = mapped_at (λ (p : PublishedModule). p.tables) old place m m_at in
+    let may = each (λ m. list_all (λ n. not (have_one_name m n) || may_replace m n) (tables_in bundle)) (tables_in old) place m compatible m_at in
+    let r = joined_place m bundle old place p.0 (offered m bundle may) p.1 (inl p.2) in
+    (r.0.tables, get-mapped (λ (p : PublishedModule). p.tables) (with_modules old bundle) place r.0 r.1, r.2)
+
+-- ---- definitions stay
+
+module _ (m : Module) (d : StructDefinition) (n : Module) (e : StructDefinition) (same : same_struct_definition m d n e ≡ true) where
+  abbrev names_alike : Bool
+  names_alike = option_map_or (λ (x : StructName). option_map_or (λ (y : StructName). bytes_eq x.name y.name) (name_of_struct n e) false) (name_of_struct m d) false
+
+  abbrev abilities_alike : Bool
+  abilities_alike = option_map_or (λ (x : Abilities). option_map_or (same_abilities x) (struct_abilities n e) false) (struct_abilities m d) false
+
+  front : (names_alike && abilities_alike) ≡ true
+  front = first_so (names_alike && abilities_alike) (same_fields m d.fields n e.fields) same
+
+  pub abilities-same : struct_abilities m d ≡ struct_abilities n e
+  abilities-same =
+      let c = tested (λ (x : Abilities). option_map_or (same_abilities x) (struct_abilities n e) false) (struct_abilities m d) (second_so names_alike abilities_alike front) in
+      let f = tested (same_abilities c.0) (struct_abilities n e) c.2 in
+      c.1 ∙ ap (λ (x : Abilities). Some x) (same_abilities-is c.0 f.0 f.2) ∙ sym f.1
+
+  pub names-same : (a b : StructName) → name_of_struct m d ≡ Some a → name_of_struct n e ≡ Some b → a.name ≡ b.name
+  names-same a b a_is b_is =
+      let x = tested (λ (x : StructName). option_map_or (λ (y : StructName). bytes_eq x.name y.name) (name_of_struct n e) false) (name_of_struct m d) (first_so names_alike abilities_alike front) in
+      let y = tested (λ (y : StructName). bytes_eq (x.0).name y.name) (name_of_struct n e) x.2 in
+      ap (λ (z : StructName). z.name) (same_Some a x.0 (sym a_is ∙ x.1)) ∙ (bytes_eq-Decides (x.0).name (y.0).name).0 y.2 ∙ ap (λ (z : StructName). z.name) (same_Some y.0 b (sym y.1 ∙ b_is))
+
+  pub fields-same : same_fields m d.fields n e.fields ≡ true
+  fields-same = second_so (names_alike && abilities_alike) (same_fields m d.fields n e.fields) same
+
+-- a definition that stays stands in its place
+stays-at : (m n : Module) (ds es : List StructDefinition) (i : ℕ) (d : StructDefinition) → structs_stay m ds n es ≡ true → slice_get ds i ≡ Some d →
+    (e : StructDefinition) × (slice_get es i ≡ Some e) × (same_struct_definition m d n e ≡ true)
+stays-at m n [] es i d h e = absurd cc
+stays-at m n (x ∷ xs) [] i d h e = absurd cc
+stays-at m n (x ∷ xs) (y ∷ ys) zero d h e = (y, refl, subst (λ z. same_struct_definition m z n y ≡ true) (same_Some x d e) (first_so (same_struct_definition m x n y) (structs_stay m xs n ys) h))
+stays-at m n (x ∷ xs) (y ∷ ys) (suc i) d h e = stays-at m n xs ys i d (second_so (same_struct_definition m x n y) (structs_stay m xs n ys) h) e
+
+-- what is found by its place passes the test
+pub found-passes : {A : Type 0} (test : A → Bool) (xs : List A) (i : ℕ) (x : A) → find_index test xs ≡ Some i → slice_get xs i ≡ Some x → test x ≡ true
+found-passes test [] i x e g = absurd cc
+found-passes test (y ∷ ys) i x e g = by_case (λ j. found-passes test ys j x) (test y) refl (find_index test ys) refl e
+  where
+    by_case : ((j : ℕ) → find_index test ys ≡ Some j → slice_get ys j ≡ Some x → test x ≡ true) → (b : Bool) → test y ≡ b → (o : Option ℕ) → find_index test ys ≡ o → cond b (Some 0)
+        (option_map suc o) ≡ Some i → test x ≡ true
+    by_case ih true s o o_is h =
+        let first : slice_get (y ∷ ys) 0 ≡ Some x = subst (λ n. slice_get (y ∷ ys) n ≡ Some x) (sym (same_Some 0 i h)) g in
+        subst (λ z. test z ≡ true) (same_Some y x first) s
+    by_case ih false s None o_is h = absurd cc
+    by_case ih false s (Some j) o_is h =
+        let rest : slice_get (y ∷ ys) (suc j) ≡ Some x = subst (λ n. slice_get (y ∷ ys) n ≡ Some x) (sym (same_Some (suc j) i h)) g in
+        ih j o_is rest
+
+pub on_and_then : {A B P : Type 0} (f : A → Option B) (o : Option A) (y : B) → option_and_then f o ≡ Some y → ((x : A) → o ≡ Some x → f x ≡ Some y → P) → P
+on_and_then f None y e go = absurd cc
+on_and_then f (Some x) y e go = go x refl e
+
+-- a struct's name has its module's
+home-of : (modules : List Module) (name : StructName) (m : Module) (fields : List Field) → definition_of modules name ≡ Some (m, fields) → own_name m ≡ Some name.home
+home-of modules name m fields e =
+    let whole : Module × List Field = (m, fields) in
+    on_some (module_named modules name.home) _ whole e (λ x x_is e1.
+    on_some (find_index (is_struct x name) x.structs) _ whole e1 (λ i i_is e2.
+    on_some (slice_get x.structs i) _ whole e2 (λ d d_is e3.
+    let made : Module × List Field = (x, d.fields) in
+    let same : x ≡ m = ap (λ (p : Module × List Field). p.0) (same_Some made whole e3) in
+    on_and_then (slice_get modules) (module_place modules name.home) x x_is (λ place place_is at.
+    subst (λ (y : Module). own_name y ≡ Some name.home) same (is_module-is name.home x (found-passes (is_module name.home) modules place x place_is at))))))
+
+-- a definition of an heir, which is as it was
+pub record Stayed (m : Module) (d : StructDefinition) (name : StructName) (n : Module) (i : ℕ) : Type 0 where
+  pub definition : StructDefinition
+  pub is_there : slice_get n.structs i ≡ Some definition
+  pub is_named : name_of_struct n definition ≡ Some name
+  pub abilities : struct_abilities m d ≡ struct_abilities n definition
+  pub fields : ((n ≡ m) × (definition ≡ d)) ⊎ (same_fields m d.fields n definition.fields ≡ true)
+
+module _ (old new : List PublishedModule) (old_store : IsStore old) (new_store : IsStore new) (inherits : Inherits (tables_in old) (tables_in new)) where
+  pub stayed : (place i : ℕ) (m n : Module) (d : StructDefinition) (name : StructName) → slice_get (tables_in old) place ≡ Some m → slice_get (tables_in new) place ≡ Some n → IsHeir m n
+      → slice_get m.structs i ≡ Some d
+      → name_of_struct m d ≡ Some name → Stayed m d name n i
+  stayed place i m n d name m_at n_at (inl e) at named =
+      subst (λ (x : Module). Stayed m d name x i) (sym e) (record { definition = d; is_there = at; is_named = named; abilities = refl; fields = inl (refl, refl) })
+  stayed place i m n d name m_at n_at (inr h) at named =
+      let found = stays-at m n m.structs n.structs i d (first_so (structs_stay m m.structs n n.structs) (list_all (function_stays m n) m.functions) h.1) at in
+      let e : StructDefinition = found.0 in
+      let mine : IsOwn (tables_in old) m i d = own_of_store old place m old_store m_at i d at in
+      let theirs : IsOwn (tables_in new) n i e = own_of_store new place n new_store n_at i e found.1 in
+      let same : mine.name ≡ name = same_Some mine.name name (sym mine.named ∙ named) in
+      let idents : theirs.name.name ≡ name.name = sym (names-same m d n e found.2 name theirs.name named theirs.named) in
+      let new_home : own_name n ≡ Some theirs.name.home = home-of (tables_in new) theirs.name n e.fields theirs.definition in
+      let old_home : own_name m ≡ Some mine.name.home = home-of (tables_in old) mine.name m d.fields mine.definition in
+      let homes : theirs.name.home ≡ name.home = same_Some theirs.name.home name.home (sym new_home ∙ sym h.0 ∙ old_home ∙ ap (λ (x : StructName). Some x.home) same) in
+      let made : ModuleName → List ℕ → StructName = λ x y. record { home = x; name = y } in
+      record {
+        definition = e;
+        is_there = found.1;
+        is_named = theirs.named ∙ ap (λ (x : StructName). Some x) (ap₂ made homes idents);
+        abilities = abilities-same m d n e found.2;
+        fields = inr (fields-same m d n e found.2);
+      }
+
+  -- a struct's name stays at its place and index
+  pub name-stays : (place index : ℕ) (name : StructName) → name_at (tables_in old) place index ≡ Some name → name_at (tables_in new) place index ≡ Some name
+  name-stays place index name e =
+      on_some (slice_get (tables_in old) place) _ name e (λ m m_at e1.
+      on_some (slice_get m.structs index) _ name e1 (λ d d_at named.
+      let n = inherits place m m_at in
+      let s = stayed place index m n.0 d name m_at n.1 n.2 d_at named in
+      then_found (slice_get (tables_in new) place) _ n.0 (Some name) n.1 (then_found (slice_get (n.0).structs index) _ s.definition (Some name) s.is_there s.is_named)))
+
+-- ---- the structs with neither copy nor drop
+
+-- their indices, from this one on
+abbrev pub indices_from : ℕ → Module → List StructDefinition → List ℕ
+indices_from k m ds = map (λ p. p.0) (filter (λ p. is_scarce_struct m p.1) (enumerate_from k ds))
+
+-- those of structs that stay come first
+indices-stay : (m n : Module) (k : ℕ) (ds es : List StructDefinition) → structs_stay m ds n es ≡ true → (rest : List ℕ) × (indices_from k n es ≡ indices_from k m ds ++ rest)
+indices-stay m n k [] es h = (indices_from k n es, refl)
+indices-stay m n k (d ∷ ds) [] h = absurd cc
+indices-stay m n k (d ∷ ds) (e ∷ es) h =
+    let ih = indices-stay m n (k + 1) ds es (second_so (same_struct_definition m d n e) (structs_stay m ds n es) h) in
+    let same : is_scarce_struct n e ≡ is_scarce_struct m d =
+    ap (λ (o : Option Abilities). option_map_or (λ (a : Abilities). not a.copy && not a.drop) o false)
+    (sym (abilities-same m d n e (first_so (same_struct_definition m d n e) (structs_stay m ds n es) h))) in (
+      ih.0,
+      ap (λ (b : Bool). map (λ (p : ℕ × StructDefinition). p.0)
+          (cond b ((k, e) ∷ filter (λ p. is_scarce_struct n p.1) (enumerate_from (k + 1) es)) (filter (λ p. is_scarce_struct n p.1) (enumerate_from (k + 1) es)))) same
+          ∙ by_case (is_scarce_struct m d) ih.0 ih.1,
+    )
+  where
+    by_case : (b : Bool) (rest : List ℕ) → indices_from (k + 1) n es ≡ indices_from (k + 1) m ds ++ rest
+        → map (λ (p : ℕ × StructDefinition). p.0) (cond b ((k, e) ∷ filter (λ p. is_scarce_struct n p.1) (enumerate_from (k + 1) es))
+        (filter (λ p. is_scarce_struct n p.1) (enumerate_from (k + 1) es)))
+        ≡ map (λ (p : ℕ × StructDefinition). p.0) (cond b ((k, d) ∷ filter (λ p. is_scarce_struct m p.1) (enumerate_from (k + 1) ds))
+        (filter (λ p. is_scarce_struct m p.1) (enumerate_from (k + 1) ds))) ++ rest
+    by_case true rest ih = ap (λ (xs : List ℕ). k ∷ xs) ih
+    by_case false rest ih = ih
+
+-- the tallies at a place are a module's, or there are none
+had-scarce : (ms : List Module) (tss : List (List Tally)) → AreScarce ms tss → (i : ℕ)
+    → ((m : Module) × (slice_get ms i ≡ Some m) × (map (λ (t : Tally). t.index) (had tss i) ≡ scarce_indices m)) ⊎ (had tss i ≡ [])
+had-scarce [] [] h i = inr refl
+had-scarce [] (ts ∷ tss) h i = absurd h
+had-scarce (m ∷ ms) [] h i = absurd h
+had-scarce (m ∷ ms) (ts ∷ tss) h zero = inl (m, refl, h.0)
+had-scarce (m ∷ ms) (ts ∷ tss) h (suc i) = had-scarce ms tss h.1 i
+
+-- the structs of the tallies that stand at a place come first among those of its module
+pub had-first : (old new : List Module) (tss : List (List Tally)) → AreScarce old tss → Inherits old new → (i : ℕ) (n : Module) → slice_get new i ≡ Some n
+    → (rest : List ℕ) × (scarce_indices n ≡ map (λ (t : Tally). t.index) (had tss i) ++ rest)
+had-first old new tss scarce inherits i n n_at = by_old (had-scarce old tss scarce i)
+  where
+    by_heir : (m k : Module) → IsHeir m k → (rest : List ℕ) × (scarce_indices k ≡ scarce_indices m ++ rest)
+    by_heir m k (inl e) = ([], ap scarce_indices e ∙ sym (append-nil (scarce_indices m)))
+    by_heir m k (inr h) = indices-stay m k 0 m.structs k.structs (first_so (structs_stay m m.structs k k.structs) (list_all (function_stays m k) m.functions) h.1)
+
+    by_old : ((m : Module) × (slice_get old i ≡ Some m) × (map (λ (t : Tally). t.index) (had tss i) ≡ scarce_indices m)) ⊎ (had tss i ≡ [])
+        → (rest : List ℕ) × (scarce_indices n ≡ map (λ (t : Tally). t.index) (had tss i) ++ rest)
+    by_old (inr none) = (scarce_indices n, ap (λ (ts : List Tally). map (λ (t : Tally). t.index) ts ++ scarce_indices n) (sym none))
+    by_old (inl (m, m_at, is)) =
+        let k = inherits i m m_at in
+        let same : k.0 ≡ n = same_Some k.0 n (sym k.1 ∙ n_at) in
+        let r = by_heir m n (subst (λ (x : Module). IsHeir m x) same k.2) in
+        (r.0, r.1 ∙ ap (λ (xs : List ℕ). xs ++ r.0) (sym is))

@@ -1,0 +1,422 @@
+-- What is stored stays as it was where a bundle is published: its words are fine, and stand for the same values.
+use Rattle.std.proofs.Common.{◌≡◌, ℕ, zero, suc, ◌+◌, Bool, true, false, List, [], ◌∷◌, Option, Some, None, Result, Ok, Err, refl, sym, ap, ap₂, ◌∙◌, subst, arith, inl, inr, ◌⊎◌}
+use Rattle.std.specs.Prelude.{All, OnOk, IfOk, slice_get, unwrap_or, ◌&&◌, option_map, option_and_then}
+use Rattle.std.specs.Option.{option_map_or}
+use Rattle.std.specs.Cmp.{first_so, second_so}
+use Rattle.std.specs.Str.{bytes_eq}
+use Rattle.std.proofs.lemmas.List.Elements.{All-head, All-tail, All-weaker}
+use Rattle.std.proofs.lemmas.Option.{same_Some}
+use Rattle.std.proofs.lemmas.Bool.{and_from}
+use Rattle.mv_move_types.specs.declared.refusal.Refusal.{Refusal}
+use Rattle.mv_move_types.specs.declared.tables.Field.{Field}
+use Rattle.mv_move_types.specs.declared.tables.Key.{Key}
+use Rattle.mv_move_types.specs.declared.tables.StructHandle.{StructHandle}
+use Rattle.mv_move_types.specs.declared.token.Abilities.{Abilities}
+use Rattle.mv_move_types.specs.declared.token.LeafKind.TheVariants.{Boolean}
+use Rattle.mv_move_types.specs.declared.token.Token.{Token}
+use Rattle.mv_move_types.specs.declared.token.Token.TheVariants.{Plain, Reference, MutableReference}
+use Rattle.mv_move_types.specs.declared.token.ValueType.TheVariants.{OfLeaf, OfStruct}
+use Rattle.mv_move_types.specs.AbilitySets.{same_abilities}
+use Rattle.mv_move_types.specs.Tokens.{same_kind}
+use Rattle.mv_move_types.specs.Tags.{Tag, LeafTag, StructTag, ReferenceTag, same_tag}
+use Rattle.mv_move_types.specs.Options.{find_index, ◌>>=◌}
+use Rattle.mv_move_types.specs.Names.{StructName, same_struct}
+use Rattle.mv_move_types.specs.Module.{Module, StructDefinition, struct_name, name_of_struct, struct_abilities, name_at}
+use Rattle.mv_move_types.specs.Named.{is_struct, module_place, module_named, definition_of, declared, declared_in}
+use Rattle.mv_move_types.specs.Published.{PublishedModule}
+use Rattle.mv_module_text.specs.Fits.{address_fits}
+use Rattle.mv_machine.specs.Value.{Value, Leaf, Struct, Ref, Values, NoMore, More}
+use Rattle.mv_machine.specs.State.{Storage}
+use Rattle.mv_machine.specs.Typed.{leaf_fits, is_of_type, are_of_types, is_of_struct, abilities_at, is_fine_entry, is_fine_storage}
+use Rattle.mv_machine.specs.Flat.{FlatEntry, value_from, fields_from, struct_from, value_under, storage_of}
+use Rattle.mv_linker.specs.TypesByName.{token_named, value_type_named}
+use Rattle.mv_linker.specs.Upgrades.{same_field, same_fields}
+use Rattle.mv_linker.specs.Links.{struct_is_there, structs_are_there}
+use Rattle.mv_linker.specs.Link.{IsStore, tables_in}
+use Rattle.mv_linker.proofs.NameLemmas.{same_struct-is}
+use Rattle.mv_linker.proofs.Found.{each, on_some, then_found}
+use Rattle.mv_linker.proofs.TagTests.{same_tag-is}
+use Rattle.mv_interpreter.specs.Owned.{IsOwn}
+use Rattle.mv_interpreter.specs.Runs.{IsFineWords}
+use Rattle.mv_interpreter.proofs.Homes.{own_of_store}
+use Rattle.mv_ledger.specs.Judging.{IsAcceptedBy}
+use Rattle.mv_ledger.proofs.Counting.Packs.{there-get}
+use Rattle.mv_ledger.proofs.Bundles.Heirs.{Inherits, inherited, tested, found-passes, on_and_then, stayed, name-stays, Stayed}
+
+-- ---- types by their names
+
+-- fields of one type each
+abbrev AreAlike : Module → List Field → Module → List Field → Type 0
+AreAlike m [] n [] = Unit {0}
+AreAlike m [] n (g ∷ gs) = ⊥
+AreAlike m (f ∷ fs) n [] = ⊥
+AreAlike m (f ∷ fs) n (g ∷ gs) = (token_named m f.token ≡ token_named n g.token) × AreAlike m fs n gs
+
+alike-self : (m : Module) (fs : List Field) → AreAlike m fs m fs
+alike-self m [] = tt
+alike-self m (f ∷ fs) = (refl, alike-self m fs)
+
+alike-fields : (m : Module) (fs : List Field) (n : Module) (gs : List Field) → same_fields m fs n gs ≡ true → AreAlike m fs n gs
+alike-fields m [] n [] h = tt
+alike-fields m [] n (g ∷ gs) h = absurd cc
+alike-fields m (f ∷ fs) n [] h = absurd cc
+alike-fields m (f ∷ fs) n (g ∷ gs) h =
+    let names = option_map_or (λ a. option_map_or (bytes_eq a) (slice_get n.identifiers g.name) false) (slice_get m.identifiers f.name) false in
+    let types = option_map_or (λ a. option_map_or (same_tag a) (token_named n g.token) false) (token_named m f.token) false in
+    let t = tested (λ a. option_map_or (same_tag a) (token_named n g.token) false) (token_named m f.token) (second_so names types (first_so (same_field m f n g) (same_fields m fs n gs) h)) in
+    let u = tested (same_tag t.0) (token_named n g.token) t.2 in
+    (t.1 ∙ ap (λ (x : Tag). Some x) (same_tag-is t.0 u.0 u.2) ∙ sym u.1, alike-fields m fs n gs (second_so (same_field m f n g) (same_fields m fs n gs) h))
+
+-- the value of a type by names that begins with these leaves
+abbrev by_tag : (StructName → List ℕ → Option (Value × List ℕ)) → Option Tag → List ℕ → Option (Value × List ℕ)
+by_tag struct (Some (LeafTag k)) (n ∷ words) = Some (Leaf k n, words)
+by_tag struct (Some (LeafTag k)) [] = None
+by_tag struct (Some (StructTag name)) words = struct name words
+by_tag struct (Some (ReferenceTag b t)) words = None
+by_tag struct None words = None
+
+value-by-tag : (struct : StructName → List ℕ → Option (Value × List ℕ)) (m : Module) (t : Token) (words : List ℕ) → value_from struct m t words ≡ by_tag struct (token_named m t) words
+value-by-tag struct m (Plain (OfLeaf k)) [] = refl
+value-by-tag struct m (Plain (OfLeaf k)) (n ∷ words) = refl
+value-by-tag struct m (Plain (OfStruct h)) words = step (struct_name m h)
+  where
+    step : (o : Option StructName) → (o >>= λ name. struct name words) ≡ by_tag struct (o >>= λ name. Some (StructTag name)) words
+    step None = refl
+    step (Some name) = refl
+value-by-tag struct m (Reference t) words = step (value_type_named m t)
+  where
+    step : (o : Option Tag) → None ≡ by_tag struct (o >>= λ tag. Some (ReferenceTag false tag)) words
+    step None = refl
+    step (Some tag) = refl
+value-by-tag struct m (MutableReference t) words = step (value_type_named m t)
+  where
+    step : (o : Option Tag) → None ≡ by_tag struct (o >>= λ tag. Some (ReferenceTag true tag)) words
+    step None = refl
+    step (Some tag) = refl
+
+-- whether a value is of a type by names
+abbrev fits_tag : List Module → Option Tag → Value → Bool
+fits_tag modules (Some (LeafTag k)) (Leaf j n) = same_kind j k && leaf_fits k n
+fits_tag modules (Some (StructTag own)) (Struct name fields) = same_struct own name && option_map_or (λ d. are_of_types modules d.0 d.1 fields) (definition_of modules name) false
+fits_tag modules _ _ = false
+
+type-by-tag : (modules : List Module) (m : Module) (t : Token) (v : Value) → is_of_type modules m t v ≡ fits_tag modules (token_named m t) v
+type-by-tag modules m (Plain (OfLeaf k)) (Leaf j n) = refl
+type-by-tag modules m (Plain (OfLeaf k)) (Struct name fields) = refl
+type-by-tag modules m (Plain (OfLeaf k)) (Ref r) = refl
+type-by-tag modules m (Plain (OfStruct h)) (Leaf j n) = step (struct_name m h)
+  where
+    step : (o : Option StructName) → false ≡ fits_tag modules (o >>= λ name. Some (StructTag name)) (Leaf j n)
+    step None = refl
+    step (Some own) = refl
+type-by-tag modules m (Plain (OfStruct h)) (Struct name fields) = step (struct_name m h)
+  where
+    step : (o : Option StructName)
+        → (option_map_or (λ own. same_struct own name) o false && option_map_or (λ d. are_of_types modules d.0 d.1 fields) (definition_of modules name) false) ≡ fits_tag modules
+        (o >>= λ name. Some (StructTag name))
+        (Struct name fields)
+    step None = refl
+    step (Some own) = refl
+type-by-tag modules m (Plain (OfStruct h)) (Ref r) = step (struct_name m h)
+  where
+    step : (o : Option StructName) → false ≡ fits_tag modules (o >>= λ name. Some (StructTag name)) (Ref r)
+    step None = refl
+    step (Some own) = refl
+type-by-tag modules m (Reference t) v = step (value_type_named m t) v
+  where
+    step : (o : Option Tag) (v : Value) → is_of_type modules m (Reference t) v ≡ fits_tag modules (o >>= λ tag. Some (ReferenceTag false tag)) v
+    step None (Leaf j n) = refl
+    step None (Struct name fields) = refl
+    step None (Ref r) = refl
+    step (Some tag) (Leaf j n) = refl
+    step (Some tag) (Struct name fields) = refl
+    step (Some tag) (Ref r) = refl
+type-by-tag modules m (MutableReference t) v = step (value_type_named m t) v
+  where
+    step : (o : Option Tag) (v : Value) → is_of_type modules m (MutableReference t) v ≡ fits_tag modules (o >>= λ tag. Some (ReferenceTag true tag)) v
+    step None (Leaf j n) = refl
+    step None (Struct name fields) = refl
+    step None (Ref r) = refl
+    step (Some tag) (Leaf j n) = refl
+    step (Some tag) (Struct name fields) = refl
+    step (Some tag) (Ref r) = refl
+
+-- ---- structs that are there
+
+-- a struct that is declared is defined
+defined-there : (modules : List Module) (name : StructName) (a : Abilities) → declared modules name ≡ Some a → (d : Module × List Field) × (definition_of modules name ≡ Some d)
+defined-there modules name a e =
+    on_and_then (declared_in name) (module_named modules name.home) a e (λ m m_is e1.
+    on_and_then (λ i. option_and_then (λ (d : StructDefinition). option_map (λ (h : StructHandle). h.abilities) (slice_get m.struct_handles d.handle)) (slice_get m.structs i))
+    (find_index (is_struct m name) m.structs) a e1 (λ i i_is e2.
+    on_and_then (λ (d : StructDefinition). option_map (λ (h : StructHandle). h.abilities) (slice_get m.struct_handles d.handle)) (slice_get m.structs i) a e2 (λ d d_is e3.
+    let made : Module × List Field = (m, d.fields) in (
+      made,
+      then_found (module_named modules name.home) _ m (Some made) m_is
+          (then_found (find_index (is_struct m name) m.structs) _ i (Some made) i_is (then_found (slice_get m.structs i) _ d (Some made) d_is refl)),
+    ))))
+
+-- a struct that a type of a module names is defined
+named-there : (modules : List Module) (m : Module) (t : Token) (name : StructName) → structs_are_there modules m 0 m.struct_handles ≡ true → token_named m t ≡ Some (StructTag name)
+    → (d : Module × List Field) × (definition_of modules name ≡ Some d)
+named-there modules m (Plain (OfLeaf k)) name all e = absurd cc
+named-there modules m (Plain (OfStruct h)) name all e = by_name (struct_name m h) refl e
+  where
+    by_name : (o : Option StructName) → struct_name m h ≡ o → (o >>= λ n. Some (StructTag n)) ≡ Some (StructTag name) → (d : Module × List Field) × (definition_of modules name ≡ Some d)
+    by_name None is e = absurd cc
+    by_name (Some own) is e =
+        let same : own ≡ name = cc in
+        on_some (slice_get m.struct_handles h) _ own is (λ handle handle_is e1.
+        let at : 0 + h ≡ h = omega arith in
+        let here : struct_is_there modules m h handle ≡ true = subst (λ (n : ℕ). struct_is_there modules m n handle ≡ true) at (there-get modules m 0 h m.struct_handles handle all handle_is) in
+        let n = tested (λ n. option_map_or (same_abilities handle.abilities) (declared modules n) false) (struct_name m h) here in
+        let a = tested (same_abilities handle.abilities) (declared modules n.0) n.2 in
+        let name_is : n.0 ≡ name = same_Some n.0 own (sym n.1 ∙ is) ∙ same in
+        defined-there modules name a.0 (ap (declared modules) (sym name_is) ∙ a.1))
+named-there modules m (Reference t) name all e = by_type (value_type_named m t) e
+  where
+    by_type : (o : Option Tag) → (o >>= λ tag. Some (ReferenceTag false tag)) ≡ Some (StructTag name) → (d : Module × List Field) × (definition_of modules name ≡ Some d)
+    by_type None e = absurd cc
+    by_type (Some tag) e = absurd cc
+named-there modules m (MutableReference t) name all e = by_type (value_type_named m t) e
+  where
+    by_type : (o : Option Tag) → (o >>= λ tag. Some (ReferenceTag true tag)) ≡ Some (StructTag name) → (d : Module × List Field) × (definition_of modules name ≡ Some d)
+    by_type None e = absurd cc
+    by_type (Some tag) e = absurd cc
+
+-- what goes on alike from a part goes on to the same
+goes-alike : {A B : Type 0} (o : Option A) (f g : A → Option B) → ((x : A) → f x ≡ g x) → (o >>= f) ≡ (o >>= g)
+goes-alike None f g alike = refl
+goes-alike (Some x) f g alike = alike x
+
+module _ (old new : List PublishedModule) (old_store : IsStore old) (new_store : IsStore new) (inherits : Inherits (tables_in old) (tables_in new)) where
+  -- a struct's definition and what it becomes
+  record BecomesIn (name : StructName) (d : Module × List Field) : Type 0 where
+    place : ℕ
+    at : slice_get (tables_in old) place ≡ Some d.0
+    new_one : Module × List Field
+    is_new : definition_of (tables_in new) name ≡ Some new_one
+    alike : AreAlike d.0 d.1 new_one.0 new_one.1
+
+  becomes : (name : StructName) (d : Module × List Field) → definition_of (tables_in old) name ≡ Some d → BecomesIn name d
+  becomes name d e =
+      on_some (module_named (tables_in old) name.home) _ d e (λ m m_is e1.
+      on_some (find_index (is_struct m name) m.structs) _ d e1 (λ i i_is e2.
+      on_some (slice_get m.structs i) _ d e2 (λ x x_is e3.
+      on_and_then (slice_get (tables_in old)) (module_place (tables_in old) name.home) m m_is (λ place place_is at.
+      let made : Module × List Field = (m, x.fields) in
+      let same : made ≡ d = same_Some made d e3 in
+      let t = tested (λ own. same_struct own name) (name_of_struct m x) (found-passes (is_struct m name) m.structs i x i_is x_is) in
+      let named : name_of_struct m x ≡ Some name = t.1 ∙ ap (λ (n : StructName). Some n) (same_struct-is t.0 name t.2) in
+      let n = inherits place m at in
+      let s : Stayed m x name n.0 i = stayed old new old_store new_store inherits place i m n.0 x name at n.1 n.2 x_is named in
+      let own : IsOwn (tables_in new) n.0 i s.definition = own_of_store new place n.0 new_store n.1 i s.definition s.is_there in
+      let one : own.name ≡ name = same_Some own.name name (sym own.named ∙ s.is_named) in
+      let after : Module × List Field = (n.0, s.definition.fields) in
+      subst (BecomesIn name) same (record {
+        place = place;
+        at = at;
+        new_one = after;
+        is_new = subst (λ (y : StructName). definition_of (tables_in new) y ≡ Some after) one own.definition;
+        alike = alike_so m x n.0 s.definition s.fields;
+      })))))
+    where
+      alike_so : (m : Module) (x : StructDefinition) (n : Module) (y : StructDefinition) → ((n ≡ m) × (y ≡ x)) ⊎ (same_fields m x.fields n y.fields ≡ true) → AreAlike m x.fields n y.fields
+      alike_so m x n y (inl (p, q)) = subst (λ (k : Module). AreAlike m x.fields k y.fields) (sym p) (subst (λ (z : StructDefinition). AreAlike m x.fields m z.fields) (sym q) (alike-self m x.fields))
+      alike_so m x n y (inr h) = alike-fields m x.fields n y.fields h
+
+  -- the structs of a module's handles are there
+  all-there : (place : ℕ) (m : Module) → slice_get (tables_in old) place ≡ Some m → structs_are_there (tables_in old) m 0 m.struct_handles ≡ true
+  all-there place m at = each (λ m. structs_are_there (tables_in old) m 0 m.struct_handles) (tables_in old) place m old_store.links.structs at
+
+  -- ---- values of words
+
+  -- a struct value is read from its words as before
+  abbrev ReadsAlike : ℕ → Type 0
+  ReadsAlike depth = (name : StructName) (d : Module × List Field) → definition_of (tables_in old) name ≡ Some d → (words : List ℕ)
+      → struct_from depth (tables_in new) name words ≡ struct_from depth (tables_in old) name words
+
+  tag-alike : (depth : ℕ) → ReadsAlike depth → (m : Module) → structs_are_there (tables_in old) m 0 m.struct_handles ≡ true → (t : Token) (tag : Option Tag) → token_named m t ≡ tag → (words : List ℕ)
+      → by_tag (struct_from depth (tables_in new)) tag words ≡ by_tag (struct_from depth (tables_in old)) tag words
+  tag-alike depth reads m all t None is words = refl
+  tag-alike depth reads m all t (Some (LeafTag k)) is [] = refl
+  tag-alike depth reads m all t (Some (LeafTag k)) is (n ∷ words) = refl
+  tag-alike depth reads m all t (Some (ReferenceTag b tag)) is words = refl
+  tag-alike depth reads m all t (Some (StructTag name)) is words = let d = named-there (tables_in old) m t name all is in reads name d.0 d.1 words
+
+  fields-alike : (depth : ℕ) → ReadsAlike depth → (m : Module) → structs_are_there (tables_in old) m 0 m.struct_handles ≡ true → (n : Module) (fs gs : List Field) → AreAlike m fs n gs
+      → (words : List ℕ)
+      → fields_from (value_from (struct_from depth (tables_in new)) n) gs words ≡ fields_from (value_from (struct_from depth (tables_in old)) m) fs words
+  fields-alike depth reads m all n [] [] alike words = refl
+  fields-alike depth reads m all n [] (g ∷ gs) alike words = absurd alike
+  fields-alike depth reads m all n (f ∷ fs) [] alike words = absurd alike
+  fields-alike depth reads m all n (f ∷ fs) (g ∷ gs) alike words =
+      let first : value_from (struct_from depth (tables_in new)) n g.token words ≡ value_from (struct_from depth (tables_in old)) m f.token words =
+      value-by-tag (struct_from depth (tables_in new)) n g.token words
+      ∙ ap (λ (o : Option Tag). by_tag (struct_from depth (tables_in new)) o words) (sym alike.0)
+      ∙ tag-alike depth reads m all f.token (token_named m f.token) refl words
+      ∙ sym (value-by-tag (struct_from depth (tables_in old)) m f.token words) in
+      ap (λ o. o >>= rest_new) first ∙ goes-alike (value_from (struct_from depth (tables_in old)) m f.token words) rest_new rest_old
+      (λ x. ap (λ o. o >>= λ rest. Some (More x.0 rest.0, rest.1)) (fields-alike depth reads m all n fs gs alike.1 x.1))
+    where
+      rest_new : Value × List ℕ → Option (Values × List ℕ)
+      rest_new first = fields_from (value_from (struct_from depth (tables_in new)) n) gs first.1 >>= λ rest. Some (More first.0 rest.0, rest.1)
+
+      rest_old : Value × List ℕ → Option (Values × List ℕ)
+      rest_old first = fields_from (value_from (struct_from depth (tables_in old)) m) fs first.1 >>= λ rest. Some (More first.0 rest.0, rest.1)
+
+  struct-alike : (depth : ℕ) → ReadsAlike depth
+  struct-alike zero name d e words = refl
+  struct-alike (suc depth) name d e words =
+      let b : BecomesIn name d = becomes name d e in
+      ap (λ o. o >>= from_new) b.is_new
+      ∙ ap (λ o. o >>= λ fields. Some (Struct name fields.0, fields.1)) (fields-alike depth (struct-alike depth) d.0 (all-there b.place d.0 b.at) b.new_one.0 d.1 b.new_one.1 b.alike words)
+      ∙ ap (λ o. o >>= from_old) (sym e)
+    where
+      from_new : Module × List Field → Option (Value × List ℕ)
+      from_new x = fields_from (value_from (struct_from depth (tables_in new)) x.0) x.1 words >>= λ fields. Some (Struct name fields.0, fields.1)
+
+      from_old : Module × List Field → Option (Value × List ℕ)
+      from_old x = fields_from (value_from (struct_from depth (tables_in old)) x.0) x.1 words >>= λ fields. Some (Struct name fields.0, fields.1)
+
+  -- ---- types of values
+
+  mutual
+    tag-stays : (v : Value) (tag : Option Tag) → fits_tag (tables_in old) tag v ≡ true → fits_tag (tables_in new) tag v ≡ true
+    tag-stays (Leaf j n) None h = h
+    tag-stays (Leaf j n) (Some (LeafTag k)) h = h
+    tag-stays (Leaf j n) (Some (StructTag own)) h = h
+    tag-stays (Leaf j n) (Some (ReferenceTag b t)) h = h
+    tag-stays (Ref r) None h = h
+    tag-stays (Ref r) (Some (LeafTag k)) h = h
+    tag-stays (Ref r) (Some (StructTag own)) h = h
+    tag-stays (Ref r) (Some (ReferenceTag b t)) h = h
+    tag-stays (Struct name fields) None h = h
+    tag-stays (Struct name fields) (Some (LeafTag k)) h = h
+    tag-stays (Struct name fields) (Some (ReferenceTag b t)) h = h
+    tag-stays (Struct name fields) (Some (StructTag own)) h =
+        let was = option_map_or (λ d. are_of_types (tables_in old) d.0 d.1 fields) (definition_of (tables_in old) name) false in
+        let t = tested (λ d. are_of_types (tables_in old) d.0 d.1 fields) (definition_of (tables_in old) name) (second_so (same_struct own name) was h) in
+        let b : BecomesIn name t.0 = becomes name t.0 t.1 in
+        and_from (same_struct own name) (option_map_or (λ d. are_of_types (tables_in new) d.0 d.1 fields) (definition_of (tables_in new) name) false) (first_so (same_struct own name) was h)
+        (ap (λ (o : Option (Module × List Field)). option_map_or (λ d. are_of_types (tables_in new) d.0 d.1 fields) o false) b.is_new ∙ are-stay fields t.0.0 t.0.1 b.new_one.0 b.new_one.1 b.alike t.2)
+
+    are-stay : (vs : Values) (m : Module) (fs : List Field) (n : Module) (gs : List Field) → AreAlike m fs n gs → are_of_types (tables_in old) m fs vs ≡ true
+        → are_of_types (tables_in new) n gs vs ≡ true
+    are-stay NoMore m [] n [] alike h = refl
+    are-stay NoMore m [] n (g ∷ gs) alike h = absurd alike
+    are-stay NoMore m (f ∷ fs) n [] alike h = absurd alike
+    are-stay NoMore m (f ∷ fs) n (g ∷ gs) alike h = absurd cc
+    are-stay (More v vs) m [] n [] alike h = absurd cc
+    are-stay (More v vs) m [] n (g ∷ gs) alike h = absurd alike
+    are-stay (More v vs) m (f ∷ fs) n [] alike h = absurd alike
+    are-stay (More v vs) m (f ∷ fs) n (g ∷ gs) alike h =
+        and_from (is_of_type (tables_in new) n g.token v) (are_of_types (tables_in new) n gs vs)
+        (type-by-tag (tables_in new) n g.token v ∙ ap (λ (o : Option Tag). fits_tag (tables_in new) o v) (sym alike.0)
+        ∙ tag-stays v (token_named m f.token) (sym (type-by-tag (tables_in old) m f.token v) ∙ first_so (is_of_type (tables_in old) m f.token v) (are_of_types (tables_in old) m fs vs) h))
+        (are-stay vs m fs n gs alike.1 (second_so (is_of_type (tables_in old) m f.token v) (are_of_types (tables_in old) m fs vs) h))
+
+  struct-stays : (own : StructName) (v : Value) → is_of_struct (tables_in old) own v ≡ true → is_of_struct (tables_in new) own v ≡ true
+  struct-stays own (Leaf j n) h = h
+  struct-stays own (Ref r) h = h
+  struct-stays own (Struct name fields) h = tag-stays (Struct name fields) (Some (StructTag own)) h
+
+  -- ---- entries
+
+  -- the parts of a fine entry's test
+  abbrev struct_part : List Module → Key → Value → Bool
+  struct_part modules k v = option_map_or (λ name. is_of_struct modules name v) (name_at modules k.place k.index) false
+
+  abbrev key_part : List Module → Key → Bool
+  key_part modules k = option_map_or (λ (a : Abilities). a.key) (abilities_at modules k.place k.index) false
+
+  abbrev front_part : List Module → Key → Value → Bool
+  front_part modules k v = address_fits k.address && struct_part modules k v
+
+  -- the struct that a fine entry's value is of
+  named-part : (k : Key) (v : Value) → is_fine_entry (tables_in old) (record { key = k; value = v }) ≡ true
+      → (name : StructName) × (name_at (tables_in old) k.place k.index ≡ Some name) × (is_of_struct (tables_in old) name v ≡ true)
+  named-part k v h =
+      tested (λ name. is_of_struct (tables_in old) name v) (name_at (tables_in old) k.place k.index)
+      (second_so (address_fits k.address) (struct_part (tables_in old) k v) (first_so (front_part (tables_in old) k v) (key_part (tables_in old) k) h))
+
+  abilities-stay : (place index : ℕ) (name : StructName) → name_at (tables_in old) place index ≡ Some name → abilities_at (tables_in old) place index ≡ abilities_at (tables_in new) place index
+  abilities-stay place index name e =
+      on_some (slice_get (tables_in old) place) _ name e (λ m m_at e1.
+      on_some (slice_get m.structs index) _ name e1 (λ d d_at named.
+      let n = inherits place m m_at in
+      let s : Stayed m d name n.0 index = stayed old new old_store new_store inherits place index m n.0 d name m_at n.1 n.2 d_at named in
+      let was : abilities_at (tables_in old) place index ≡ struct_abilities m d = rw (m_at, d_at) refl in
+      let is : abilities_at (tables_in new) place index ≡ struct_abilities n.0 s.definition = rw (n.1, s.is_there) refl in
+      was ∙ s.abilities ∙ sym is))
+
+  entry-stays : (k : Key) (v : Value) → is_fine_entry (tables_in old) (record { key = k; value = v }) ≡ true → is_fine_entry (tables_in new) (record { key = k; value = v }) ≡ true
+  entry-stays k v h =
+      let front = first_so (front_part (tables_in old) k v) (key_part (tables_in old) k) h in
+      let name = named-part k v h in
+      let named : struct_part (tables_in new) k v ≡ true =
+      ap (λ (o : Option StructName). option_map_or (λ name. is_of_struct (tables_in new) name v) o false) (name-stays old new old_store new_store inherits k.place k.index name.0 name.1)
+      ∙ struct-stays name.0 v name.2 in
+      let able : key_part (tables_in new) k ≡ true =
+      ap (λ (o : Option Abilities). option_map_or (λ (a : Abilities). a.key) o false) (sym (abilities-stay k.place k.index name.0 name.1))
+      ∙ second_so (front_part (tables_in old) k v) (key_part (tables_in old) k) h in
+      and_from (front_part (tables_in new) k v) (key_part (tables_in new) k)
+      (and_from (address_fits k.address) (struct_part (tables_in new) k v) (first_so (address_fits k.address) (struct_part (tables_in old) k v) front) named) able
+
+  -- what is stored is fine after the bundle too
+  pub storage-stays : (es : Storage) → is_fine_storage (tables_in old) es ≡ true → is_fine_storage (tables_in new) es ≡ true
+  storage-stays [] h = refl
+  storage-stays (e ∷ es) h =
+      and_from (is_fine_entry (tables_in new) e) (is_fine_storage (tables_in new) es)
+      (entry-stays e.key e.value (first_so (is_fine_entry (tables_in old) e) (is_fine_storage (tables_in old) es) h))
+      (storage-stays es (second_so (is_fine_entry (tables_in old) e) (is_fine_storage (tables_in old) es) h))
+
+  words-stay : (e : FlatEntry) → IsFineWords (tables_in old) e → IsFineWords (tables_in new) e
+  words-stay e h = (h.0, (h.1.0, entry-stays e.key h.0 h.1.1))
+
+  value-stays : (e : FlatEntry) → IsFineWords (tables_in old) e → value_under (tables_in new) e.key e.words ≡ value_under (tables_in old) e.key e.words
+  value-stays e h =
+      let name = named-part e.key h.0 h.1.1 in
+      let d = defined name.0 h.0 name.2 in
+      ap (λ (o : Option StructName). under (tables_in new) o) (name-stays old new old_store new_store inherits e.key.place e.key.index name.0 name.1)
+      ∙ ap (λ (o : Option (Value × List ℕ)). unwrap_or (o >>= λ v. Some v.0) (Leaf Boolean 0)) (struct-alike 8 name.0 d.0 d.1 e.words)
+      ∙ ap (λ (o : Option StructName). under (tables_in old) o) (sym name.1)
+    where
+      under : List Module → Option StructName → Value
+      under modules o = unwrap_or (o >>= λ name. struct_from 8 modules name e.words >>= λ v. Some v.0) (Leaf Boolean 0)
+
+      defined : (own : StructName) (v : Value) → is_of_struct (tables_in old) own v ≡ true → (d : Module × List Field) × (definition_of (tables_in old) own ≡ Some d)
+      defined own (Leaf j n) h = absurd cc
+      defined own (Ref r) h = absurd cc
+      defined own (Struct name fields) h =
+          let is = option_map_or (λ d. are_of_types (tables_in old) d.0 d.1 fields) (definition_of (tables_in old) name) false in
+          let same : own ≡ name = same_struct-is own name (first_so (same_struct own name) is h) in
+          let t = tested (λ d. are_of_types (tables_in old) d.0 d.1 fields) (definition_of (tables_in old) name) (second_so (same_struct own name) is h) in
+          (t.0, ap (definition_of (tables_in old)) same ∙ t.1)
+
+  pub fine-stays : (stored : List FlatEntry) → All (IsFineWords (tables_in old)) stored → All (IsFineWords (tables_in new)) stored
+  fine-stays stored fine = All-weaker (IsFineWords (tables_in old)) (IsFineWords (tables_in new)) words-stay stored fine
+
+  pub values-stay : (stored : List FlatEntry) → All (IsFineWords (tables_in old)) stored → storage_of (tables_in new) stored ≡ storage_of (tables_in old) stored
+  values-stay [] fine = refl
+  values-stay (e ∷ es) fine =
+      ap₂ (λ (v : Value) (s : Storage). (record { key = e.key; value = v }) ∷ s) (value-stays e (All-head (IsFineWords (tables_in old)) e es fine))
+      (values-stay es (All-tail (IsFineWords (tables_in old)) e es fine))
+
+-- ---- a bundle that was accepted
+
+accepted-inherits : (count : ℕ) (old new : List PublishedModule) (payload : List ℕ) → IsAcceptedBy count old payload new → Inherits (tables_in old) (tables_in new)
+accepted-inherits count old new payload accepted =
+    let b = accepted (record { published = old; storage = []; tallies = []; runs = 0 }) refl in
+    subst (λ (l : List PublishedModule). Inherits (tables_in old) (tables_in l)) (sym b.1.2) (inherited old b.0 b.1.0.published.1.compatible)
+
+pub stored-stays : (count : ℕ) (old new : List PublishedModule) (payload : List ℕ) (stored : List FlatEntry) → IsStore old → IsStore new → IsAcceptedBy count old payload new
+    → All (IsFineWords (tables_in old)) stored
+    → storage_of (tables_in new) stored ≡ storage_of (tables_in old) stored
+stored-stays count old new payload stored old_store new_store accepted fine = values-stay old new old_store new_store (accepted-inherits count old new payload accepted) stored fine
+
+pub stays-fine : (r : Result ℕ Refusal) (old new : List PublishedModule) (payload : List ℕ) (stored : List FlatEntry) → OnOk r (IsStore old) → OnOk r (IsStore new)
+    → IfOk r (λ n. IsAcceptedBy n old payload new)
+    → OnOk r (All (IsFineWords (tables_in old)) stored → All (IsFineWords (tables_in new)) stored)
+stays-fine (Ok count) old new payload stored old_store new_store accepted = fine-stays old new old_store new_store (accepted-inherits count old new payload accepted) stored
+stays-fine (Err e) old new payload stored old_store new_store accepted = tt

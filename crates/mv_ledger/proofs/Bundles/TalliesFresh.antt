@@ -1,0 +1,136 @@
+-- The tallies of a module that is published.
+use Rattle.std.proofs.Common.{◌≡◌, ℕ, suc, ◌+◌, ◌<◌, ◌≤◌, Bool, true, false, cond, List, [], ◌∷◌, ◌++◌, map, length, take, get_or, Option, Some, None, refl, sym, ap, ap₂, ◌∙◌, subst, arith, zero-add}
+use Rattle.std.specs.Prelude.{◌&&◌, ◌||◌, not, All, IsSome, slice_get, unwrap_or, filter_map}
+use Rattle.std.specs.List.{filter, enumerate_from, cons_option, list_all}
+use Rattle.std.specs.Option.{option_map_or}
+use Rattle.std.specs.Cmp.{first_so, second_so}
+use Rattle.std.proofs.lemmas.List.{append-nil, map-append, take_all}
+use Rattle.std.proofs.lemmas.List.Elements.{All-nil, All-cons, filter_more}
+use Rattle.std.proofs.lemmas.List.FromFn.{length-enumerate_from, get_or-enumerate_from}
+use Rattle.mv_move_types.specs.declared.token.Abilities.{Abilities}
+use Rattle.mv_move_types.specs.Names.{StructName}
+use Rattle.mv_move_types.specs.Module.{Module, StructDefinition, name_at, name_of_struct, module_name, struct_abilities}
+use Rattle.mv_bounds.specs.Bounds.{InBounds, below, struct_in, field_in, struct_handle_in}
+use Rattle.mv_machine.specs.Lines.{Tallied}
+use Rattle.mv_machine.specs.Ledger.{scarce_name, untouched_tally}
+use Rattle.mv_linker.specs.Scarce.{is_scarce_struct}
+use Rattle.mv_linker.proofs.Found.{then_found, there_below, each}
+use Rattle.mv_linker.proofs.OwnDefinitions.{module_there}
+use Rattle.mv_interpreter.specs.Flat.Agreement.{nameless}
+use Rattle.mv_ledger.specs.declared.tallies.Tally.{Tally}
+use Rattle.mv_ledger.specs.View.{IsNamed, scarce_indices, tallied}
+use Rattle.mv_ledger.specs.Tallying.{fresh_tally}
+
+module _ (m : Module) where
+  -- the indices of the first so many structs that are scarce
+  abbrev pub scarce_before : ℕ → List ℕ
+  scarce_before i = map (λ p. p.0) (filter (λ p. is_scarce_struct m p.1) (take i (enumerate_from 0 m.structs)))
+
+  -- one more struct
+  scarce-more : (i : ℕ) (ds : List StructDefinition) (d : StructDefinition) (b : Bool) → ds ≡ m.structs → i < length ds → d ≡ get_or ds i d → b ≡ is_scarce_struct m d
+      → scarce_before (i + 1) ≡ scarce_before i ++ cond b (i ∷ []) []
+  scarce-more i ds d b whole lt at is =
+      let h : i < length m.structs = subst (λ (xs : List StructDefinition). i < length xs) whole lt in
+      let here : get_or (enumerate_from 0 m.structs) i (0, d) ≡ (i, d) =
+      get_or-enumerate_from 0 m.structs i (0, d) h ∙ ap₂ (λ (n : ℕ) (x : StructDefinition). pair n x) (zero-add i) (sym (at ∙ ap (λ (xs : List StructDefinition). get_or xs i d) whole)) in
+      ap (map (λ p. p.0)) (filter_more (λ p. is_scarce_struct m p.1) (enumerate_from 0 m.structs) i (0, d) (subst (λ (n : ℕ). i < n) (sym (length-enumerate_from 0 m.structs)) h))
+      ∙ map-append (λ (p : ℕ × StructDefinition). p.0) (filter (λ p. is_scarce_struct m p.1) (take i (enumerate_from 0 m.structs)))
+      (cond (is_scarce_struct m (get_or (enumerate_from 0 m.structs) i (0, d)).1) (get_or (enumerate_from 0 m.structs) i (0, d) ∷ []) [])
+      ∙ ap (λ (p : ℕ × StructDefinition). scarce_before i ++ map (λ q. q.0) (cond (is_scarce_struct m p.1) (p ∷ []) [])) here
+      ∙ ap (λ ys. scarce_before i ++ ys) (chosen (is_scarce_struct m d) ∙ ap (λ t. cond t (i ∷ []) []) (sym is))
+    where
+      pair : ℕ → StructDefinition → ℕ × StructDefinition
+      pair n x = (n, x)
+
+      chosen : (t : Bool) → map (λ q. q.0) (cond t (pair i d ∷ []) []) ≡ cond t (i ∷ []) []
+      chosen true = refl
+      chosen false = refl
+
+  -- that is scarce
+  pub scarce-found : (i : ℕ) (ds : List StructDefinition) (d : StructDefinition) (b : Bool) → ds ≡ m.structs → i < length ds → d ≡ get_or ds i d → b ≡ is_scarce_struct m d → b ≡ true
+      → scarce_before i ++ i ∷ [] ≡ scarce_before (i + 1)
+  scarce-found i ds d b whole lt at is passes =
+      ap (λ (t : Bool). scarce_before i ++ cond t (i ∷ []) []) (sym passes) ∙ sym (scarce-more i ds d b whole lt at is)
+
+  -- that isn't
+  pub scarce-passed : (i : ℕ) (ds : List StructDefinition) (d : StructDefinition) (b : Bool) → ds ≡ m.structs → i < length ds → d ≡ get_or ds i d → b ≡ is_scarce_struct m d → b ≡ false
+      → scarce_before i ≡ scarce_before (i + 1)
+  scarce-passed i ds d b whole lt at is fails =
+      sym (append-nil (scarce_before i)) ∙ ap (λ (t : Bool). scarce_before i ++ cond t (i ∷ []) []) (sym fails) ∙ sym (scarce-more i ds d b whole lt at is)
+
+  -- all of them
+  pub scarce-all : (i : ℕ) (ds : List StructDefinition) → ds ≡ m.structs → length ds ≤ i → scarce_before i ≡ scarce_indices m
+  scarce-all i ds whole le =
+      let h : length m.structs ≤ i = subst (λ (xs : List StructDefinition). length xs ≤ i) whole le in
+      ap (λ (ps : List (ℕ × StructDefinition)). map (λ p. p.0) (filter (λ p. is_scarce_struct m p.1) ps))
+      (take_all i (enumerate_from 0 m.structs) (subst (λ (n : ℕ). n ≤ i) (sym (length-enumerate_from 0 m.structs)) h))
+
+  -- a struct of the module has a name
+  pub struct_there : InBounds m → (k : ℕ) (d : StructDefinition) → slice_get m.structs k ≡ Some d → (name : StructName) × (name_of_struct m d ≡ Some name)
+  struct_there bounds k d e =
+      let fine = each (struct_in m) m.structs k d bounds.structs e in
+      let handle = there_below m.struct_handles d.handle (first_so (below d.handle m.struct_handles) (list_all (field_in m) d.fields) fine) in
+      let fine_handle = each (struct_handle_in m) m.struct_handles d.handle handle.0 bounds.struct_handles handle.1 in
+      let home = module_there m bounds handle.0.module (first_so (below handle.0.module m.module_handles) (below handle.0.name m.identifiers) fine_handle) in
+      let name = there_below m.identifiers handle.0.name (second_so (below handle.0.module m.module_handles) (below handle.0.name m.identifiers) fine_handle) in
+      let made : StructName = record { home = home.0; name = name.0 } in (
+        made,
+        then_found (slice_get m.struct_handles d.handle) _ handle.0 (Some made) handle.1
+            (then_found (module_name m handle.0.module) _ home.0 (Some made) home.1 (then_found (slice_get m.identifiers handle.0.name) _ name.0 (Some made) name.1 refl)),
+      )
+
+  module _ (modules : List Module) (place : ℕ) where
+    -- definitions have the names that are found at their indices from this one on
+    abbrev pub AreThere : ℕ → List StructDefinition → Type 0
+    AreThere n ds = (k : ℕ) (d : StructDefinition) → slice_get ds k ≡ Some d → (name : StructName) × (name_of_struct m d ≡ Some name) × (name_at modules place (n + k) ≡ Some name)
+
+    next : (n : ℕ) (d : StructDefinition) (ds : List StructDefinition) → AreThere n (d ∷ ds) → AreThere (n + 1) ds
+    next n d ds there k x e =
+        let rest = there (suc k) x e in
+        let same : n + suc k ≡ n + 1 + k = omega arith in
+        (rest.0, rest.1, subst (λ (j : ℕ). name_at modules place j ≡ Some rest.0) same rest.2)
+
+    first : (n : ℕ) (d : StructDefinition) (ds : List StructDefinition) → AreThere n (d ∷ ds) → (name : StructName) × (name_of_struct m d ≡ Some name) × (name_at modules place n ≡ Some name)
+    first n d ds there =
+        let here = there 0 d refl in
+        let same : n + 0 ≡ n = omega arith in
+        (here.0, here.1, subst (λ (j : ℕ). name_at modules place j ≡ Some here.0) same here.2)
+
+    -- the empty tallies of the scarce ones
+    abbrev pub fresh_from : ℕ → List StructDefinition → List Tally
+    fresh_from n ds = map (fresh_tally place) (map (λ p. p.0) (filter (λ p. is_scarce_struct m p.1) (enumerate_from n ds)))
+
+    -- are those of their names
+    pub fresh-tallied : (n : ℕ) (ds : List StructDefinition) → AreThere n ds → map (tallied modules) (fresh_from n ds) ≡ map untouched_tally (filter_map (scarce_name m) ds)
+    fresh-tallied n [] there = refl
+    fresh-tallied n (d ∷ ds) there = by_abilities (fresh-tallied (n + 1) ds (next n d ds there)) (struct_abilities m d)
+      where
+        by_test : map (tallied modules) (fresh_from (n + 1) ds) ≡ map untouched_tally (filter_map (scarce_name m) ds) → (x y : Bool) → map (tallied modules)
+            (map (fresh_tally place) (map (λ p. p.0) (cond (not x && not y) ((n, d) ∷ filter (λ p. is_scarce_struct m p.1) (enumerate_from (n + 1) ds))
+            (filter (λ p. is_scarce_struct m p.1) (enumerate_from (n + 1) ds)))))
+            ≡ map untouched_tally (cons_option (cond (x || y) None (name_of_struct m d)) (filter_map (scarce_name m) ds))
+        by_test rest true y = rest
+        by_test rest false true = rest
+        by_test rest false false =
+            let here = first n d ds there in
+            ap₂ (λ (o : Option StructName) (ts : List Tallied). untouched_tally (unwrap_or o nameless) ∷ ts) here.2 rest
+            ∙ ap (λ (o : Option StructName). map untouched_tally (cons_option o (filter_map (scarce_name m) ds))) (sym here.1)
+
+        by_abilities : map (tallied modules) (fresh_from (n + 1) ds) ≡ map untouched_tally (filter_map (scarce_name m) ds) → (o : Option Abilities) → map (tallied modules)
+            (map (fresh_tally place) (map (λ p. p.0) (cond (option_map_or (λ (a : Abilities). not a.copy && not a.drop) o false)
+            ((n, d) ∷ filter (λ p. is_scarce_struct m p.1) (enumerate_from (n + 1) ds)) (filter (λ p. is_scarce_struct m p.1) (enumerate_from (n + 1) ds)))))
+            ≡ map untouched_tally (cons_option (option_map_or (λ (a : Abilities). cond (a.copy || a.drop) None (name_of_struct m d)) o None) (filter_map (scarce_name m) ds))
+        by_abilities rest None = rest
+        by_abilities rest (Some a) = by_test rest a.copy a.drop
+
+    -- and have names
+    pub fresh-named : (n : ℕ) (ds : List StructDefinition) → AreThere n ds → All (IsNamed modules) (fresh_from n ds)
+    fresh-named n [] there = All-nil (IsNamed modules)
+    fresh-named n (d ∷ ds) there = by_test (fresh-named (n + 1) ds (next n d ds there)) (is_scarce_struct m d)
+      where
+        by_test : All (IsNamed modules) (fresh_from (n + 1) ds) → (b : Bool) → All (IsNamed modules)
+            (map (fresh_tally place) (map (λ p. p.0) (cond b ((n, d) ∷ filter (λ p. is_scarce_struct m p.1) (enumerate_from (n + 1) ds))
+            (filter (λ p. is_scarce_struct m p.1) (enumerate_from (n + 1) ds)))))
+        by_test rest false = rest
+        by_test rest true =
+            All-cons (IsNamed modules) (fresh_tally place n) (fresh_from (n + 1) ds) (subst (λ (o : Option StructName). IsSome o) (sym (first n d ds there).2) refl) rest

@@ -1,0 +1,69 @@
+-- Offers are verified one after the other.
+use Rattle.std.proofs.Common.{◌≡◌, ℕ, suc, ◌+◌, ◌≤◌, ◌<◌, List, [], ◌∷◌, ◌++◌, length, take, drop, get_or, refl, sym, ap, ◌∙◌, subst}
+use Rattle.std.proofs.lemmas.List.{drop_more, map_more, map-append, take_all, take-append-drop}
+use Rattle.std.proofs.lemmas.List.Elements.{All-nil, All-cons, All-append}
+use Rattle.mv_move_types.specs.declared.refusal.Refusal.{Refusal}
+use Rattle.mv_move_types.specs.declared.refusal.Refusal.TheVariants.{Phase, Memory}
+use Rattle.mv_move_types.specs.Published.{PublishedModule}
+use Rattle.mv_certificate.specs.Certificate.{Certificate}
+use Rattle.mv_machine.specs.Ledger.{Offer}
+use Rattle.mv_linker.specs.declared.New.{New}
+use Rattle.mv_linker.specs.News.{HasItsTexts, AreTexts, published_one, published_of}
+use Rattle.mv_ledger.specs.declared.payload.Offered.{Offered}
+use Rattle.mv_ledger.specs.Asking.{offer_of, offers_of}
+use Rattle.mv_ledger.specs.Publishing.{Passes, AllPass, IsRefusedOffer, IsRefusedAmong}
+
+-- one more that passes
+pass-more : (os : List Offer) (ps : List PublishedModule) (o : Offer) (p : PublishedModule) → AllPass os ps → p.text ≡ o.text → p.certificate ≡ o.certificate → (c : Certificate) × Passes o p.tables c
+    → AllPass (os ++ o ∷ []) (ps ++ p ∷ [])
+pass-more [] [] o p all text certificate passes = (text, certificate, passes, tt)
+pass-more [] (q ∷ qs) o p all text certificate passes = absurd all
+pass-more (x ∷ os) [] o p all text certificate passes = absurd all
+pass-more (x ∷ os) (q ∷ qs) o p all text certificate passes = (all.0, all.1, all.2, pass-more os qs o p all.3 text certificate passes)
+
+-- as many passed as were offered
+pub as-many : (os : List Offer) (ps : List PublishedModule) → AllPass os ps → length ps ≡ length os
+as-many [] [] all = refl
+as-many [] (q ∷ qs) all = absurd all
+as-many (x ∷ os) [] all = absurd all
+as-many (x ∷ os) (q ∷ qs) all = ap suc (as-many os qs all.3)
+
+-- the first so many offers passed
+pub record IsVerifying (offers : List Offered) (i : ℕ) (news : List New) : Type 0 where
+  pub passed : AllPass (offers_of (take i offers)) (published_of news)
+  pub texts : AreTexts news
+
+pub verifying-none : (offers : List Offered) (news : List New) → news ≡ [] → IsVerifying offers 0 news
+verifying-none offers news none = subst (IsVerifying offers 0) (sym none) (record { passed = tt; texts = All-nil HasItsTexts })
+
+pub verifying-more : (offers : List Offered) (i : ℕ) (news after : List New) (d : Offered) (n : New) → IsVerifying offers i news → i < length offers → after ≡ news ++ n ∷ []
+    → n.text.now ≡ (get_or offers i d).text.now → n.certificate.now ≡ (get_or offers i d).certificate.now
+    → (c : Certificate) × Passes (offer_of (get_or offers i d)) n.module c → HasItsTexts n → IsVerifying offers (i + 1) after
+verifying-more offers i news after d n h lt pushed text certificate passes texts =
+    subst (IsVerifying offers (i + 1)) (sym pushed) (record {
+      passed =
+          subst (λ (ps : List PublishedModule). AllPass (offers_of (take (i + 1) offers)) ps) (sym (map-append published_one news (n ∷ [])))
+          (subst (λ (os : List Offer). AllPass os (published_of news ++ published_one n ∷ [])) (sym (map_more offer_of offers i d lt))
+          (pass-more (offers_of (take i offers)) (published_of news) (offer_of (get_or offers i d)) (published_one n) h.passed text certificate passes));
+      texts = All-append HasItsTexts news (n ∷ []) h.texts (All-cons HasItsTexts n [] texts (All-nil HasItsTexts));
+    })
+
+-- all of them
+pub verified-all : (offers : List Offered) (i : ℕ) (news : List New) → IsVerifying offers i news → length offers ≤ i → AllPass (offers_of offers) (published_of news)
+verified-all offers i news h past = subst (λ (xs : List Offered). AllPass (offers_of xs) (published_of news)) (take_all i offers past) h.passed
+
+-- the next one fails
+pub verifying-fails : (offers : List Offered) (i : ℕ) (news : List New) (d : Offered) (e : Refusal) → IsVerifying offers i news → i < length offers → IsRefusedOffer (offer_of (get_or offers i d)) e
+    → IsRefusedAmong (offers_of offers) e
+verifying-fails offers i news d Memory h lt refused = tt
+verifying-fails offers i news d (Phase p) h lt refused = record {
+  before = offers_of (take i offers);
+  offer = offer_of (get_or offers i d);
+  after = offers_of (drop (i + 1) offers);
+  bundle = published_of news;
+  are =
+      ap offers_of (sym (take-append-drop i offers) ∙ ap (λ (xs : List Offered). take i offers ++ xs) (drop_more offers i d lt))
+      ∙ map-append offer_of (take i offers) (get_or offers i d ∷ drop (i + 1) offers);
+  passed = h.passed;
+  fails = refused;
+}

@@ -1,0 +1,45 @@
+-- The proofs of loading: the head, the modules group by group, what follows them, and the tallies against what is stored.
+--   LoadedHead      A head is read exactly where the text of one stands.
+--   Grouping        Which of the next modules name none that comes later.
+--   LoadedModules   Modules of a saved ledger that join one group after the other: a group joins those that are there exactly where all of them together
+--   BodyReading     Reading what stands after the modules of a saved ledger: how far it has come.
+--   BodyTallies     Reading the tallies of all modules: how far it has come, and what stays.
+--   BodyEntries     The text of a stored value is read as its key and leaves, and what is read is such a text.
+--   LeafKinds       The leaves of a fine value are of the kinds that its struct says, and its text is theirs.
+--   Decoded         Leaves of the kinds that a struct's values have are those of such a value.
+--   BodyLookups     Stored values that were put one after the other: what stands under each key, and which stand under one struct's keys.
+--   BodyGroups      The texts of stored values by ascending key, after their number, are read as what they are put into.
+--   BodyKeyed       The structs with key, by place of their module and index: each stands once among them.
+--   BodyValues      Entries whose words are leaves of their structs' kinds are stored values with these leaves, and the other way round.
+--   BodyStorage     The text of what is stored is read as its words, and what is read is such a text.
+--   BodyLaws        What follows the modules in the text of a saved ledger is read as its tallies' counts and its storage, and nothing else is.
+--   LoadedTallies   Tallies whose counts were read are of the same structs.
+--   Insides         How many values of a struct are stored is known from how many values of each struct are stored under a key.
+--   Counted         Counts of the values of structs, as they are made and changed.
+--   Adding          Counts with more values of structs: what is added to them one after the other.
+--   CountedStructs  The values that are stored, counted one after the other under their structs, and then struct by struct at any depth.
+--   CountedStorage  How many values of a struct are stored, at any depth, from how many values are stored of each struct with key.
+--   TalliesCounted  Tallies against the counts of what is stored.
+--   Loaded          From its parts, which ledger bytes are loaded as, and why they are not.
+pub mod LoadedHead
+pub mod Grouping
+pub mod LoadedModules
+pub mod BodyReading
+pub mod BodyTallies
+pub mod BodyEntries
+pub mod LeafKinds
+pub mod Decoded
+pub mod BodyLookups
+pub mod BodyGroups
+pub mod BodyKeyed
+pub mod BodyValues
+pub mod BodyStorage
+pub mod BodyLaws
+pub mod LoadedTallies
+pub mod Insides
+pub mod Counted
+pub mod Adding
+pub mod CountedStructs
+pub mod CountedStorage
+pub mod TalliesCounted
+pub mod Loaded

@@ -1,0 +1,316 @@
+-- The text of what is stored is read as its words, and what is read is such a text.
+use Rattle.std.proofs.Common.{◌≡◌, ℕ, zero, suc, ◌^◌, ◌<◌, ◌≤◌, Bool, true, false, cond, List, [], ◌∷◌, ◌++◌, map, flat_map, length, Option, Some, None, IsTrue, refl, ap, ap₂, sym, ◌∙◌, subst, arith, inl, inr, ◌⊎◌, lt-ltb}
+use Rattle.std.specs.Prelude.{All, slice_get, is_some, nat_le}
+use Rattle.std.specs.List.{list_all, filter, AllByRecursion}
+use Rattle.std.specs.Cmp.{first_so, second_so}
+use Rattle.std.specs.Option.{option_map_or}
+use Rattle.std.proofs.lemmas.Bool.{and_from}
+use Rattle.std.proofs.lemmas.List.{length-map}
+use Rattle.std.proofs.lemmas.List.Elements.{All-head, All-tail}
+use Rattle.std.proofs.lemmas.Option.{slice_get_within}
+use Rattle.mv_uleb.specs.Uleb.{uleb}
+use Rattle.mv_move_types.specs.declared.tables.Definition.{Definition}
+use Rattle.mv_move_types.specs.declared.tables.Key.{Key}
+use Rattle.mv_move_types.specs.Options.{◌>>=◌}
+use Rattle.mv_move_types.specs.Names.{StructName}
+use Rattle.mv_move_types.specs.Module.{Module, name_of_struct, name_at}
+use Rattle.mv_move_types.specs.Published.{PublishedModule}
+use Rattle.mv_move_types.specs.Leaves.{leaves_within}
+use Rattle.mv_binary_format.specs.ModuleText.{HasText}
+use Rattle.mv_binary_format.proofs.Fitting.{few_structs}
+use Rattle.mv_module_text.specs.Entries.{counted}
+use Rattle.mv_module_text.specs.Fits.{is_index}
+use Rattle.mv_module_text.specs.Laws.{AreBytes}
+use Rattle.mv_module_text.proofs.Texts.{Front, on_bind}
+use Rattle.mv_machine.specs.State.{Storage, key_before, same_key}
+use Rattle.mv_machine.specs.Flat.{FlatEntry, flat_storage}
+use Rattle.mv_machine.specs.Typed.{is_fine_entry, is_fine_storage}
+use Rattle.mv_storage.specs.FlatStorage.{words_under, with_words}
+use Rattle.mv_storage.specs.Map.{Ascends}
+use Rattle.mv_storage.proofs.Keys.{same_key-to}
+use Rattle.mv_storage.proofs.Maps.{entries_from_words}
+use Rattle.mv_linker.specs.Link.{IsStore, IsPublishable, tables_in}
+use Rattle.mv_linker.specs.Links.{struct_is_small}
+use Rattle.mv_linker.proofs.Found.{each}
+use Rattle.mv_linker.proofs.Scopes.{within_tables}
+use Rattle.mv_ledger.specs.Counting.Kept.{IsAscending}
+use Rattle.mv_ledger.specs.Layouts.{is_keyed}
+use Rattle.mv_ledger.specs.Parts.BodyParts.{with_entry, storage_into}
+use Rattle.mv_ledger.specs.SavedText.{Form, First, Second, stored_text, addressed_text, is_under, struct_text, storage_text, keyed_from}
+use Rattle.mv_ledger.proofs.Loads.BodyLookups.{or_else, words-append, puts, words-puts, Ascends-puts, puts-ascending, is_of, under, is_key_of, words-under, under-puts}
+use Rattle.mv_ledger.proofs.Loads.BodyEntries.{struct_under, entry_text, IsEntry}
+use Rattle.mv_ledger.proofs.Loads.BodyGroups.{rises-ascends, ascends-rises, group-parts, group-whole, Among, group_text, groups-parts, groups-whole, is-own, own-is}
+use Rattle.mv_ledger.proofs.Loads.BodyKeyed.{keyed-distinct, keyed-among}
+use Rattle.mv_ledger.proofs.Loads.BodyValues.{flat_entry, valued, entry-valued, EachIsSized, FineParts, fine-parts, stored-as, addressed-as, ascending-ascends, ascends-ascending, under-valued, under-flat}
+
+-- ---- what is read
+
+module _ (modules : List Module) where
+  -- entries with their values
+  record AreValued (es : List FlatEntry) : Type 0 where
+    pub same : flat_storage (map (valued modules) es) ≡ es
+    pub fine : is_fine_storage modules (map (valued modules) es) ≡ true
+
+  are-valued : (es : List FlatEntry) → AllByRecursion (λ e. IsEntry modules (Some (struct_under e.key)) e) es → AreValued es
+  are-valued [] h = record { same = refl; fine = refl }
+  are-valued (e ∷ es) h =
+      let v = entry-valued modules (Some (struct_under e.key)) e h.0 in
+      let rest = are-valued es h.1 in
+      record {
+        same = ap₂ (λ (x : FlatEntry) (xs : List FlatEntry). x ∷ xs) v.same rest.same;
+        fine = and_from (is_fine_entry modules (valued modules e)) (list_all (is_fine_entry modules) (map (valued modules) es)) v.fine rest.fine;
+      }
+
+  -- an entry whose struct is written is of its own struct
+  own-of : (es : List FlatEntry) → AllByRecursion (IsEntry modules None) es → AllByRecursion (λ e. IsEntry modules (Some (struct_under e.key)) e) es
+  own-of [] h = tt
+  own-of (e ∷ es) h = (record { kinds = h.0.kinds; kinds_are = h.0.kinds_are; leaves = h.0.leaves; address = h.0.address; known = refl }, own-of es h.1)
+
+  -- the texts of entries are those of their values
+  stored-texts : (es : List FlatEntry) → AllByRecursion (IsEntry modules None) es → flat_map stored_text (map (valued modules) es) ≡ flat_map (entry_text modules None) es
+  stored-texts [] h = refl
+  stored-texts (e ∷ es) h =
+      let v = entry-valued modules None e h.0 in
+      ap₂ (λ (x y : List ℕ). x ++ y) (stored-as modules (valued modules e) e refl v.text) (stored-texts es h.1)
+
+  addressed-texts : (d : Definition) (es : List FlatEntry) → AllByRecursion (IsEntry modules (Some d)) es
+      → flat_map addressed_text (map (valued modules) es) ≡ flat_map (entry_text modules (Some d)) es
+  addressed-texts d [] h = refl
+  addressed-texts d (e ∷ es) h =
+      let v = entry-valued modules (Some d) e h.0 in
+      ap₂ (λ (x y : List ℕ). x ++ y) (addressed-as modules d (valued modules e) e refl v.text) (addressed-texts d es h.1)
+
+  -- what holds of all entries holds of those that they are put into
+  all-with : (P : FlatEntry → Type 0) (s : List FlatEntry) (e : FlatEntry) → AllByRecursion P s → P e → AllByRecursion P (with_words s e.key e.words)
+  all-with P [] e h own = (own, tt)
+  all-with P (x ∷ s) e h own = by_case (same_key x.key e.key) (key_before e.key x.key) (all-with P s e h.1 own)
+    where
+      by_case : (same before : Bool) → AllByRecursion P (with_words s e.key e.words) → AllByRecursion P (cond same (e ∷ s) (cond before (e ∷ x ∷ s) (x ∷ with_words s e.key e.words)))
+      by_case true before rest = (own, h.1)
+      by_case false true rest = (own, h)
+      by_case false false rest = (h.0, rest)
+
+  all-put : (P : FlatEntry → Type 0) (s : List FlatEntry) (e : FlatEntry) → AllByRecursion P s → P e → AllByRecursion P (with_entry s e)
+  all-put P s e h own = by_case (words_under s e.key)
+    where
+      by_case : (o : Option (List ℕ)) → AllByRecursion P (cond (is_some o) s (with_words s e.key e.words))
+      by_case (Some w) = h
+      by_case None = all-with P s e h own
+
+  all-puts : (P : FlatEntry → Type 0) (s es : List FlatEntry) → AllByRecursion P s → AllByRecursion P es → AllByRecursion P (puts s es)
+  all-puts P s [] h g = h
+  all-puts P s (e ∷ es) h g = all-puts P (with_entry s e) es (all-put P s e h g.0) g.1
+
+  -- the text of what is stored of a struct
+  struct-text : (d : Definition) (s es : List FlatEntry) → under d s ≡ under d es → AllByRecursion (IsEntry modules (Some d)) (under d es)
+      → group_text modules es d ≡ struct_text (map (valued modules) s) d
+  struct-text d s es same are =
+      let values : filter (is_under d) (map (valued modules) s) ≡ map (valued modules) (under d es) = under-valued modules d s ∙ ap (map (valued modules)) same in
+      ap₂ (λ (n : ℕ) (z : List ℕ). uleb n ++ z) (sym (length-map (under d es) (valued modules))) (sym (addressed-texts d (under d es) are)) ∙ ap (counted addressed_text) (sym values)
+
+  structs-text : (ds : List Definition) (s es : List FlatEntry) → ((d : Definition) → under d s ≡ under d es) → ((d : Definition) → AllByRecursion (IsEntry modules (Some d)) (under d es))
+      → flat_map (group_text modules es) ds ≡ flat_map (struct_text (map (valued modules) s)) ds
+  structs-text [] s es same are = refl
+  structs-text (d ∷ ds) s es same are = ap₂ (λ (x y : List ℕ). x ++ y) (struct-text d s es (same d) (are d)) (structs-text ds s es same are)
+
+  -- what was read is a storage, and its text stands at the front
+  pub record StorageFrom (form : Form) (bytes : List ℕ) (s : List FlatEntry) (rest : List ℕ) : Type 0 where
+    pub front : Front (storage_text form modules (map (valued modules) s)) bytes rest
+    pub same : flat_storage (map (valued modules) s) ≡ s
+    pub fine : is_fine_storage modules (map (valued modules) s) ≡ true
+    pub ascending : IsAscending (map (valued modules) s)
+
+  pub storage-parts : (form : Form) (bytes rest : List ℕ) (s : List FlatEntry) → AreBytes bytes → storage_into modules form [] bytes ≡ Some (s, rest) → StorageFrom form bytes s rest
+  storage-parts First bytes rest s ok h =
+      let g = group-parts modules None [] bytes s rest ok h in
+      let up : Ascends g.entries = rises-ascends g.entries g.rises in
+      let is : s ≡ g.entries = g.put ∙ puts-ascending g.entries up in
+      let v = are-valued g.entries (own-of g.entries g.are) in
+      let text : counted (entry_text modules None) g.entries ≡ counted stored_text (map (valued modules) g.entries) =
+      ap₂ (λ (n : ℕ) (z : List ℕ). uleb n ++ z) (sym (length-map g.entries (valued modules))) (sym (stored-texts g.entries g.are)) in
+      subst (λ (z : List FlatEntry). StorageFrom First bytes z rest) (sym is)
+      (record { front = subst (λ (z : List ℕ). Front z bytes rest) text g.front; same = v.same; fine = v.fine; ascending = ascends-ascending modules g.entries up })
+  storage-parts Second bytes rest s ok h =
+      let g = groups-parts modules (keyed_from 0 modules) [] bytes s rest (keyed-distinct 0 modules) ok h in
+      let same : (d : Definition) → under d s ≡ under d g.entries = λ d. ap (under d) g.put ∙ under-puts d g.entries (g.ascend d) in
+      let up : Ascends s = subst Ascends (sym g.put) (Ascends-puts [] g.entries tt) in
+      let each : AllByRecursion (λ e. IsEntry modules (Some (struct_under e.key)) e) s =
+      subst (λ (z : List FlatEntry). AllByRecursion (λ e. IsEntry modules (Some (struct_under e.key)) e) z) (sym g.put)
+      (all-puts (λ e. IsEntry modules (Some (struct_under e.key)) e) [] g.entries tt g.each) in
+      let v = are-valued s each in
+      record {
+        front = subst (λ (z : List ℕ). Front z bytes rest) (structs-text (keyed_from 0 modules) s g.entries same g.are) g.front;
+        same = v.same;
+        fine = v.fine;
+        ascending = ascends-ascending modules s up;
+      }
+
+-- ---- what is written
+
+-- the structs of a store have so many leaves
+pub store-sized : (published : List PublishedModule) → IsStore published → EachIsSized (tables_in published)
+store-sized published store place index name named =
+    on_bind (slice_get (tables_in published) place) _ name named (λ m m_is n1.
+    on_bind (slice_get m.structs index) (name_of_struct m) name n1 (λ d d_is n2.
+    let small = each (λ m. list_all (struct_is_small (tables_in published) m) m.structs) (tables_in published) place m store.links.small m_is in
+    let own : struct_is_small (tables_in published) m d ≡ true = each (struct_is_small (tables_in published) m) m.structs index d small d_is in
+    by_leaves (name_of_struct m d) n2 own))
+  where
+    by_leaves : (o : Option StructName) → o ≡ Some name → option_map_or (λ n. nat_le n 256) (o >>= leaves_within 8 (tables_in published)) false ≡ true
+        → (n : ℕ) × (leaves_within 8 (tables_in published) name ≡ Some n)
+    by_leaves None is h = absurd cc
+    by_leaves (Some own) is h = found (leaves_within 8 (tables_in published) name) refl
+        (subst (λ (z : StructName). option_map_or (λ n. nat_le n 256) (leaves_within 8 (tables_in published) z) false ≡ true) same h)
+      where
+        same : own ≡ name
+        same = cc
+
+        found : (o : Option ℕ) → leaves_within 8 (tables_in published) name ≡ o → option_map_or (λ n. nat_le n 256) o false ≡ true → (n : ℕ) × (leaves_within 8 (tables_in published) name ≡ Some n)
+        found (Some n) is g = (n, is)
+        found None is g = absurd cc
+
+-- each module of a store has a text
+text-at : (ps : List PublishedModule) (k : ℕ) (m : Module) → All IsPublishable ps → slice_get (tables_in ps) k ≡ Some m → HasText m
+text-at [] k m passed h = absurd cc
+text-at (p ∷ ps) zero m passed h = let same : p.tables ≡ m = cc in subst HasText same (All-head IsPublishable p ps passed).spelled
+text-at (p ∷ ps) (suc k) m passed h = text-at ps k m (All-tail IsPublishable p ps passed) h
+
+-- a struct of a small store can be written by its place and index
+record IsWritten (k : Key) : Type 0 where
+  pub place : IsTrue (is_index k.place)
+  pub index : IsTrue (is_index k.index)
+
+written : (published : List PublishedModule) → IsStore published → length published ≤ 65536 → (k : Key) (name : StructName) → name_at (tables_in published) k.place k.index ≡ Some name → IsWritten k
+written published store few k name named =
+    on_bind (slice_get (tables_in published) k.place) _ name named (λ m m_is n1.
+    on_bind (slice_get m.structs k.index) (name_of_struct m) name n1 (λ d d_is n2.
+    let place : k.place < length published = within_tables published k.place m m_is in
+    let index : k.index < length m.structs = slice_get_within m.structs k.index d d_is in
+    let most : length m.structs ≤ 65536 = few_structs m (text-at published k.place m store.passed m_is) in
+    record { place = lt-ltb k.place (2 ^ 16) (omega arith); index = lt-ltb k.index (2 ^ 16) (omega arith) }))
+
+filter-all : {A : Type 0} (P : A → Type 0) (p : A → Bool) (xs : List A) → AllByRecursion P xs → AllByRecursion P (filter p xs)
+filter-all P p [] h = tt
+filter-all P p (x ∷ xs) h = by_case (p x) (filter-all P p xs h.1)
+  where
+    by_case : (b : Bool) → AllByRecursion P (filter p xs) → AllByRecursion P (cond b (x ∷ filter p xs) (filter p xs))
+    by_case true rest = (h.0, rest)
+    by_case false rest = rest
+
+under-few : (d : Definition) (es : List FlatEntry) → length (under d es) ≤ length es
+under-few d [] = omega arith
+under-few d (e ∷ es) = by_case (is_of d e) (under-few d es)
+  where
+    by_case : (b : Bool) → length (under d es) ≤ length es → length (cond b (e ∷ under d es) (under d es)) ≤ suc (length es)
+    by_case true h = omega (arith, h)
+    by_case false h = omega (arith, h)
+
+-- the first of two, where the second is what the first may be
+or-same : (b : Bool) (o : Option (List ℕ)) → or_else (cond b o None) o ≡ o
+or-same true None = refl
+or-same true (Some w) = refl
+or-same false o = refl
+
+-- what stands under a key among what is stored of structs
+lookup-groups : (es : List FlatEntry) (q : Key) (ds : List Definition) → (words_under es q ≡ None) ⊎ Among (struct_under q) ds → words_under (flat_map (λ d. under d es) ds) q ≡ words_under es q
+lookup-groups es q [] (inl none) = sym none
+lookup-groups es q [] (inr among) = absurd among
+lookup-groups es q (d ∷ ds) h =
+    words-append (under d es) (flat_map (λ d. under d es) ds) q ∙ ap (λ o. or_else o (words_under (flat_map (λ d. under d es) ds) q)) (words-under d es q) ∙ by_case h (λ g. lookup-groups es q ds g)
+  where
+    none_or : (o : Option (List ℕ)) → words_under es q ≡ o → ((words_under es q ≡ None) ⊎ Among (struct_under q) ds → words_under (flat_map (λ d. under d es) ds) q ≡ words_under es q)
+        → or_else o (words_under (flat_map (λ d. under d es) ds) q) ≡ o
+    none_or (Some w) is ih = refl
+    none_or None is ih = ih (inl is) ∙ is
+
+    by_case : (words_under es q ≡ None) ⊎ Among (struct_under q) (d ∷ ds) → ((words_under es q ≡ None) ⊎ Among (struct_under q) ds → words_under (flat_map (λ d. under d es) ds) q ≡ words_under es q)
+        → or_else (cond (is_key_of d q) (words_under es q) None) (words_under (flat_map (λ d. under d es) ds) q) ≡ words_under es q
+    by_case (inl none) ih = ap (or_else (cond (is_key_of d q) (words_under es q) None)) (ih (inl none)) ∙ or-same (is_key_of d q) (words_under es q)
+    by_case (inr (inl same)) ih =
+        let key : is_key_of d q ≡ true = is-own d (record { key = q; words = [] }) same in
+        ap (λ b. or_else (cond b (words_under es q) None) (words_under (flat_map (λ d. under d es) ds) q)) key ∙ none_or (words_under es q) refl ih
+    by_case (inr (inr among)) ih = ap (or_else (cond (is_key_of d q) (words_under es q) None)) (ih (inr among)) ∙ or-same (is_key_of d q) (words_under es q)
+
+module _ (modules : List Module) where
+  -- each stored value has its parts
+  pub all-parts : EachIsSized modules → (storage : Storage) → is_fine_storage modules storage ≡ true → AllByRecursion (FineParts modules) storage
+  all-parts sized [] fine = tt
+  all-parts sized (e ∷ storage) fine = (
+    fine-parts modules sized e (first_so (is_fine_entry modules e) (list_all (is_fine_entry modules) storage) fine),
+    all-parts sized storage
+        (second_so (is_fine_entry modules e) (list_all (is_fine_entry modules) storage) fine),
+  )
+
+  -- stored values of a struct are entries under it
+  own-entries : (d : Definition) (storage : Storage) → AllByRecursion (FineParts modules) storage → AllByRecursion (IsEntry modules (Some d)) (under d (flat_storage storage))
+  own-entries d [] parts = tt
+  own-entries d (e ∷ storage) parts = by_case (is_of d (flat_entry e)) refl (own-entries d storage parts.1)
+    where
+      by_case : (b : Bool) → is_of d (flat_entry e) ≡ b → AllByRecursion (IsEntry modules (Some d)) (under d (flat_storage storage)) → AllByRecursion (IsEntry modules (Some d))
+          (cond b (flat_entry e ∷ under d (flat_storage storage)) (under d (flat_storage storage)))
+      by_case true own rest = (record { kinds = parts.0.kinds; kinds_are = parts.0.kinds_are; leaves = parts.0.leaves; address = parts.0.address; known = own-is d (flat_entry e) own }, rest)
+      by_case false own rest = rest
+
+  -- their texts
+  own-texts : (d : Definition) (storage : Storage) → AllByRecursion (FineParts modules) storage → flat_map addressed_text storage ≡ flat_map (entry_text modules (Some d)) (flat_storage storage)
+  own-texts d [] parts = refl
+  own-texts d (e ∷ storage) parts = ap₂ (λ (x y : List ℕ). x ++ y) (addressed-as modules d e (flat_entry e) refl parts.0.text) (own-texts d storage parts.1)
+
+  all-texts : (storage : Storage) → AllByRecursion (FineParts modules) storage → flat_map stored_text storage ≡ flat_map (entry_text modules None) (flat_storage storage)
+  all-texts [] parts = refl
+  all-texts (e ∷ storage) parts = ap₂ (λ (x y : List ℕ). x ++ y) (stored-as modules e (flat_entry e) refl parts.0.text) (all-texts storage parts.1)
+
+  group-is : (storage : Storage) → AllByRecursion (FineParts modules) storage → (d : Definition) → struct_text storage d ≡ group_text modules (flat_storage storage) d
+  group-is storage parts d =
+      let own : AllByRecursion (FineParts modules) (filter (is_under d) storage) = filter-all (FineParts modules) (is_under d) storage parts in
+      ap₂ (λ (n : ℕ) (z : List ℕ). uleb n ++ z) (sym (length-map (filter (is_under d) storage) flat_entry)) (own-texts d (filter (is_under d) storage) own)
+      ∙ ap (counted (entry_text modules (Some d))) (sym (under-flat d storage))
+
+  groups-are : (storage : Storage) → AllByRecursion (FineParts modules) storage → (ds : List Definition) → flat_map (struct_text storage) ds ≡ flat_map (group_text modules (flat_storage storage)) ds
+  groups-are storage parts [] = refl
+  groups-are storage parts (d ∷ ds) = ap₂ (λ (x y : List ℕ). x ++ y) (group-is storage parts d) (groups-are storage parts ds)
+
+  -- what is stored is stored under a struct with key
+  stored-keyed : (storage : Storage) → AllByRecursion (FineParts modules) storage → (q : Key) → (words_under (flat_storage storage) q ≡ None) ⊎ (is_keyed modules (struct_under q) ≡ true)
+  stored-keyed [] parts q = inl refl
+  stored-keyed (e ∷ storage) parts q = by_case (same_key e.key q) refl (stored-keyed storage parts.1 q)
+    where
+      by_case : (b : Bool) → same_key e.key q ≡ b → (words_under (flat_storage storage) q ≡ None) ⊎ (is_keyed modules (struct_under q) ≡ true)
+          → (cond b (Some (flat_entry e).words) (words_under (flat_storage storage) q) ≡ None) ⊎ (is_keyed modules (struct_under q) ≡ true)
+      by_case true same rest = inr (subst (λ (k : Key). is_keyed modules (struct_under k) ≡ true) (same_key-to e.key q same) parts.0.keyed)
+      by_case false same rest = rest
+
+  pub keyed-or : (storage : Storage) → AllByRecursion (FineParts modules) storage → (q : Key) → (words_under (flat_storage storage) q ≡ None) ⊎ Among (struct_under q) (keyed_from 0 modules)
+  keyed-or storage parts q = elim (stored-keyed storage parts q) [ inl none ↦ inl none | inr keyed ↦ inr (keyed-among modules (struct_under q) keyed) ]
+
+  second-whole : (storage : Storage) → AllByRecursion (FineParts modules) storage → IsAscending storage → length storage < 2 ^ 64 → (rest : List ℕ)
+      → storage_into modules Second [] (storage_text Second modules storage ++ rest) ≡ Some (flat_storage storage, rest)
+  second-whole storage parts up few rest =
+      let words : List FlatEntry = flat_storage storage in
+      let ascends : Ascends words = ascending-ascends storage up in
+      let whole : puts [] (flat_map (λ d. under d words) (keyed_from 0 modules)) ≡ words =
+      entries_from_words (puts [] (flat_map (λ d. under d words) (keyed_from 0 modules))) words (Ascends-puts [] (flat_map (λ d. under d words) (keyed_from 0 modules)) tt) ascends
+      (λ q. words-puts [] (flat_map (λ d. under d words) (keyed_from 0 modules)) q ∙ lookup-groups words q (keyed_from 0 modules) (keyed-or storage parts q)) in
+      ap (λ z. storage_into modules Second [] (z ++ rest)) (groups-are storage parts (keyed_from 0 modules))
+      ∙ groups-whole modules (keyed_from 0 modules) [] rest words ascends (λ d. own-entries d storage parts) (λ d. omega (arith, under-few d words, length-map storage flat_entry))
+      ∙ ap (λ z. Some (z, rest)) whole
+
+module _ (published : List PublishedModule) (store : IsStore published) (short : length published ≤ 65536) where
+  -- stored values whose structs are written are entries
+  none-entries : (storage : Storage) → AllByRecursion (FineParts (tables_in published)) storage → AllByRecursion (IsEntry (tables_in published) None) (flat_storage storage)
+  none-entries [] parts = tt
+  none-entries (e ∷ storage) parts =
+      let w = written published store short e.key parts.0.name parts.0.named in
+      (record { kinds = parts.0.kinds; kinds_are = parts.0.kinds_are; leaves = parts.0.leaves; address = parts.0.address; known = (w.place, w.index) }, none-entries storage parts.1)
+
+  pub storage-whole : (form : Form) (storage : Storage) → is_fine_storage (tables_in published) storage ≡ true → IsAscending storage → length storage < 2 ^ 64 → (rest : List ℕ)
+      → storage_into (tables_in published) form [] (storage_text form (tables_in published) storage ++ rest) ≡ Some (flat_storage storage, rest)
+  storage-whole First storage fine up few rest =
+      let parts = all-parts (tables_in published) (store-sized published store) storage fine in
+      let ascends : Ascends (flat_storage storage) = ascending-ascends storage up in
+      let text : counted stored_text storage ≡ counted (entry_text (tables_in published) None) (flat_storage storage) =
+      ap₂ (λ (n : ℕ) (z : List ℕ). uleb n ++ z) (sym (length-map storage flat_entry)) (all-texts (tables_in published) storage parts) in
+      ap (λ z. storage_into (tables_in published) First [] (z ++ rest)) text
+      ∙ group-whole (tables_in published) None [] rest (flat_storage storage) (none-entries storage parts) (ascends-rises (flat_storage storage) ascends) (omega (arith, length-map storage flat_entry))
+      ∙ ap (λ z. Some (z, rest)) (puts-ascending (flat_storage storage) ascends)
+  storage-whole Second storage fine up few rest = second-whole (tables_in published) storage (all-parts (tables_in published) (store-sized published store) storage fine) up few rest

@@ -1,0 +1,232 @@
+-- From its parts, which ledger bytes are loaded as, and why they are not.
+use Rattle.std.proofs.Common.{◌≡◌, ℕ, ◌+◌, ◌*◌, ◌^◌, ◌<◌, ◌≤◌, List, [], ◌∷◌, ◌++◌, map, flat_map, length, Some, IsTrue, ◌⊎◌, inl, inr, arith, refl, sym, ap, ap₂, ◌∙◌, subst}
+use Rattle.std.specs.Prelude.{All}
+use Rattle.std.specs.List.{list_all, AllByRecursion}
+use Rattle.std.specs.Cmp.{first_so, second_so}
+use Rattle.std.proofs.lemmas.List.{length-map}
+use Rattle.std.proofs.lemmas.List.Elements.{All-nil, All-cons}
+use Rattle.std.proofs.lemmas.Option.{same_Some}
+use Rattle.mv_move_types.specs.declared.refusal.Refusal.{Refusal}
+use Rattle.mv_move_types.specs.declared.refusal.Refusal.TheVariants.{Phase, Memory as NoMemory}
+use Rattle.mv_move_types.specs.Module.{Module}
+use Rattle.mv_move_types.specs.Published.{PublishedModule}
+use Rattle.mv_module_text.specs.Laws.{AreBytes}
+use Rattle.mv_machine.specs.Count.{count}
+use Rattle.mv_machine.specs.Flat.{flat, flat_storage, storage_of}
+use Rattle.mv_machine.specs.Ledger.{Offer, LedgerState, scarce_structs}
+use Rattle.mv_machine.specs.Lines.{Tallied}
+use Rattle.mv_machine.specs.State.{Storage}
+use Rattle.mv_machine.specs.Typed.{is_fine_entry, is_fine_storage}
+use Rattle.mv_storage.specs.FlatStorage.{FlatStorage}
+use Rattle.mv_frames.specs.declared.counters.Count.{Count}
+use Rattle.mv_linker.specs.Link.{IsStore, tables_in}
+use Rattle.mv_interpreter.specs.Runs.{IsFineWords}
+use Rattle.mv_interpreter.specs.Typing.Accepted.{StoreAccepted}
+use Rattle.mv_interpreter.specs.Typing.StateTyped.{StorageTyped}
+use Rattle.mv_interpreter.proofs.Typing.Fine.{fine_storage}
+use Rattle.mv_interpreter.proofs.Flat.Sizes.{sizes}
+use Rattle.mv_interpreter.proofs.Flat.Decoding.{storage_decoded}
+use Rattle.mv_ledger.specs.declared.loading.LoadError.{LoadError}
+use Rattle.mv_ledger.specs.declared.loading.LoadError.TheVariants.{Head, Module as BadModule, Link, Body, Tally as BadTally, Memory}
+use Rattle.mv_ledger.specs.declared.tallies.Tally.{Tally}
+use Rattle.mv_ledger.specs.Parts.BodyParts.{counts_of, struct_of}
+use Rattle.mv_ledger.specs.Counting.Kept.{IsAscending}
+use Rattle.mv_ledger.specs.Accepted.SoundLedger.{IsSoundLedger}
+use Rattle.mv_ledger.specs.Loading.{HasHead, IsLoaded, FailsLoad, no_module, no_links, no_body, no_tallies, IsLoadRefusal}
+use Rattle.mv_ledger.specs.Parts.LoadedParts.{SavedHead, head_from, reason_of, AreJoined, AreNotJoined, body_from, IsNoBody, IsBody, counted_by, EachBodyIsRead, EachReadIsBody, AreCounted}
+use Rattle.mv_ledger.specs.Publishing.{AllPass, offered}
+use Rattle.mv_ledger.specs.RecordText.{offer_fits}
+use Rattle.mv_ledger.specs.SavedText.{head_text, body_text, tally_text, storage_text, HeadFits, IsSavedText}
+use Rattle.mv_ledger.specs.View.{state_of, view_of, all_of, tallied, IsSmall, IsLedger}
+use Rattle.mv_ledger.proofs.Accepted.Stores.{accepted_store}
+use Rattle.mv_ledger.proofs.Loads.LoadedHead.{head-parts, head-whole, head-had}
+use Rattle.mv_ledger.proofs.Runs.Countable.{still-countable}
+use Rattle.mv_ledger.proofs.Loads.LoadedTallies.{counts-are, still-long, still-many, still-scarce, still-named, still-tallied}
+use Rattle.mv_ledger.proofs.Phases.{phase-no-memory}
+use Rattle.mv_ledger.proofs.Spelling.{passed-spelled}
+use Rattle.mv_ledger.proofs.Bundles.Verifying.{as-many}
+
+-- ---- lists
+
+-- modules that passed are offered as they were
+offers-were : (offers : List Offer) (ps : List PublishedModule) → AllPass offers ps → map offered ps ≡ offers
+offers-were [] [] passed = refl
+offers-were [] (p ∷ ps) passed = absurd passed
+offers-were (o ∷ os) [] passed = absurd passed
+offers-were (o ∷ os) (p ∷ ps) passed =
+    let made : List ℕ → List ℕ → Offer = λ text certificate. record { text = text; certificate = certificate } in
+    let same : offered p ≡ o = ap₂ made passed.0 passed.1 in
+    ap₂ (λ (x : Offer) (xs : List Offer). x ∷ xs) same (offers-were os ps passed.3)
+
+-- the words of fine values
+fine-words : (modules : List Module) (es : Storage) → IsTrue (is_fine_storage modules es) → All (IsFineWords modules) (flat_storage es)
+fine-words modules [] fine = All-nil (IsFineWords modules)
+fine-words modules (e ∷ es) fine =
+    All-cons (IsFineWords modules) (record { key = e.key; words = flat e.value }) (flat_storage es) (e.value, (refl, first_so (is_fine_entry modules e) (list_all (is_fine_entry modules) es) fine))
+    (fine-words modules es (second_so (is_fine_entry modules e) (list_all (is_fine_entry modules) es) fine))
+
+module _ (modules : List Module) (runs : ℕ) (storage : Storage) where
+  -- counts of what is stored are small
+  small-counts : (ts : List Tally) → AreCounted runs storage (map (tallied modules) ts) → All (IsSmall runs) ts
+  small-counts [] counted = All-nil (IsSmall runs)
+  small-counts (t ∷ ts) counted =
+      let packs : t.packs ≤ 10000000 * runs = counted.0.0 in
+      let unpacks : count storage (tallied modules t).struct + t.unpacks ≡ t.packs = counted.0.1 in
+      All-cons (IsSmall runs) t ts (omega (arith, packs), omega (arith, packs, unpacks)) (small-counts ts counted.1)
+
+-- and balanced
+counts-balanced : (runs : ℕ) (storage : Storage) (tallies : List Tallied) → AreCounted runs storage tallies → AllByRecursion (λ (t : Tallied). count storage t.struct + t.unpacks ≡ t.packs) tallies
+counts-balanced runs storage [] counted = tt
+counts-balanced runs storage (t ∷ ts) counted = (counted.0.1, counts-balanced runs storage ts counted.1)
+
+-- ---- a part that is refused
+
+-- a part is refused for what the bytes have there, or for want of memory
+pub refused-as : (bytes : List ℕ) (reason : LoadError) (e : Refusal) (r : LoadError) → r ≡ reason_of reason e → (e ≡ Phase 2) ⊎ (e ≡ NoMemory) → (e ≡ Phase 2 → IsLoadRefusal bytes reason)
+    → IsLoadRefusal bytes r
+refused-as bytes reason NoMemory r is errors fails = subst (IsLoadRefusal bytes) (sym is) tt
+refused-as bytes reason (Phase p) r is (inl two) fails = subst (IsLoadRefusal bytes) (sym is) (fails two)
+refused-as bytes reason (Phase p) r is (inr memory) fails = absurd (phase-no-memory (Phase p) p refl memory)
+
+-- ---- bytes with a head
+
+module _ (bytes : List ℕ) (head : SavedHead) (rest : List ℕ) (are : AreBytes bytes) (begins : head_from bytes ≡ Some (head, rest)) where
+  has : HasHead bytes head.form head.runs head.offers
+  has = head-had bytes rest head are begins
+
+  -- the modules are none of a ledger
+  pub fails-joined : (e : LoadError) → AreNotJoined head.offers e → IsLoadRefusal bytes e
+  fails-joined Head refused = absurd refused
+  fails-joined BadModule refused = no_module head.form head.runs head.offers refused.0 has refused.1
+  fails-joined Link refused = no_links head.form head.runs head.offers refused.0 has refused.1 refused.2
+  fails-joined Body refused = absurd refused
+  fails-joined BadTally refused = absurd refused
+  fails-joined Memory refused = tt
+
+  pub head-few : length head.offers ≤ 4096
+  head-few = (head-parts bytes rest head are begins).1.few
+
+  -- which are as many as the offers
+  pub few-joined : (ps : List PublishedModule) → AllPass head.offers ps → length ps ≤ 4096
+  few-joined ps passed = omega (arith, as-many head.offers ps passed, head-few)
+
+  module _ (ps : List PublishedModule) (tss : List (List Tally)) (counters : List (List Count)) (joined : AreJoined head.offers ps tss counters) where
+    -- a text of these modules ends in a body
+    text-body : (s : LedgerState) → s.published ≡ ps → IsSavedText head.form bytes s → IsBody head.form (tables_in s.published) rest s.tallies s.storage
+    text-body s is text =
+        let whole = ap head_from text.text ∙ head-whole head.form (body_text head.form s) s.runs (map offered s.published) text.head in
+        let had : SavedHead = record { form = head.form; runs = s.runs; offers = map offered s.published } in
+        let same : rest ≡ body_text head.form s = ap (λ (z : SavedHead × List ℕ). z.1) (same_Some (head, rest) (had, body_text head.form s) (sym begins ∙ whole)) in
+        record { text = same; counts = text.counts; ascending = text.ascending; typed = text.typed; few = text.few }
+
+    -- as many tallies as the modules have
+    text-many : (s : LedgerState) → s.published ≡ ps → IsSavedText head.form bytes s → length s.tallies ≡ length (all_of tss)
+    text-many s is text =
+        sym (length-map s.tallies (λ (t : Tallied). t.struct)) ∙ ap length (text.tallied ∙ ap (λ (qs : List PublishedModule). scarce_structs (tables_in qs)) is ∙ sym joined.tallied)
+        ∙ length-map (map (tallied (tables_in ps)) (all_of tss)) (λ (t : Tallied). t.struct) ∙ length-map (all_of tss) (tallied (tables_in ps))
+
+    -- so where no body is read the bytes are no text
+    pub fails-body : EachBodyIsRead → IsNoBody head.form (tables_in ps) (length (all_of tss)) rest → FailsLoad bytes 4
+    fails-body reads none = no_body head.form head.runs head.offers ps has joined.passed joined.linked (λ s is text.
+        let few : length s.published ≤ 65536 = omega (arith, length-map s.published offered, text.head.few) in
+        let read = reads head.form s.published rest s.tallies s.storage (subst IsStore (sym is) joined.store) few (text-body s is text) in
+        none (map counted_by s.tallies, flat_storage s.storage)
+        (sym (ap₂ (λ (qs : List PublishedModule) (n : ℕ). body_from head.form (tables_in qs) n rest) is (text-many s is text)) ∙ read))
+
+    module _ (uss : List (List Tally)) (stored : FlatStorage) (kept : map (map struct_of) uss ≡ map (map struct_of) tss) (few : length stored < 2 ^ 64)
+        (read : body_from head.form (tables_in ps) (length (all_of tss)) rest ≡ Some ((map counts_of (all_of uss), stored), [])) (parts : EachReadIsBody) where
+      abbrev tallies : List Tallied
+      tallies = map (tallied (tables_in ps)) (all_of uss)
+
+      count-is : length tallies ≡ length (all_of tss)
+      count-is = length-map (all_of uss) (tallied (tables_in ps)) ∙ still-many (tables_in ps) tss uss kept
+
+      read-so : body_from head.form (tables_in ps) (length tallies) rest ≡ Some ((map counted_by tallies, stored), [])
+      read-so =
+          ap (λ (n : ℕ). body_from head.form (tables_in ps) n rest) count-is ∙ read
+          ∙ ap (λ (cs : List (ℕ × ℕ)). Some ((cs, stored), [])) (sym (counts-are (tables_in ps) (all_of uss)))
+
+      head-is : HeadFits head.runs head.offers
+      head-is = (head-parts bytes rest head are begins).1
+
+      found : (storage : Storage) × ((stored ≡ flat_storage storage) × IsBody head.form (tables_in ps) rest tallies storage)
+      found = parts head.form ps rest tallies stored joined.store (head-parts bytes rest head are begins).0.left few read-so
+
+      abbrev storage : Storage
+      storage = found.0
+
+      body : IsBody head.form (tables_in ps) rest tallies storage
+      body = found.1.1
+
+      accepted : StoreAccepted (tables_in ps)
+      accepted = accepted_store ps joined.store
+
+      typed : StorageTyped (tables_in ps) storage
+      typed = fine_storage (tables_in ps) accepted storage body.typed
+
+      storage-is : storage_of (tables_in ps) stored ≡ storage
+      storage-is = ap (storage_of (tables_in ps)) found.1.0 ∙ storage_decoded (tables_in ps) (sizes (tables_in ps) accepted) storage typed
+
+      pub stored-fine : All (IsFineWords (tables_in ps)) stored
+      stored-fine = subst (All (IsFineWords (tables_in ps))) (sym found.1.0) (fine-words (tables_in ps) storage body.typed)
+
+      offers-are : map offered ps ≡ head.offers
+      offers-are = offers-were head.offers ps joined.passed
+
+      structs-are : map (λ (t : Tallied). t.struct) tallies ≡ scarce_structs (tables_in ps)
+      structs-are = still-tallied (tables_in ps) tss uss kept ∙ joined.tallied
+
+      ascending : IsAscending (storage_of (tables_in ps) stored)
+      ascending = subst IsAscending (sym storage-is) body.ascending
+
+      passed : AllPass (map offered ps) ps
+      passed = subst (λ (os : List Offer). AllPass os ps) (sym offers-are) joined.passed
+
+      text : IsSavedText head.form bytes (state_of (view_of ps stored (all_of uss) head.runs))
+      text = record {
+        text =
+            (head-parts bytes rest head are begins).0.text ∙ ap (λ (os : List Offer). head_text head.form head.runs os ++ rest) (sym offers-are)
+            ∙ ap (λ (z : List ℕ). head_text head.form head.runs (map offered ps) ++ z)
+            (body.text ∙ ap (λ (es : Storage). flat_map (tally_text head.form) tallies ++ storage_text head.form (tables_in ps) es) (sym storage-is));
+        head = subst (HeadFits head.runs) (sym offers-are) head-is;
+        spelled = passed-spelled ps passed;
+        tallied = structs-are;
+        counts = body.counts;
+        ascending = ascending;
+        typed = subst (λ (es : Storage). IsTrue (is_fine_storage (tables_in ps) es)) (sym storage-is) body.typed;
+        few = subst (λ (es : Storage). length es < 2 ^ 64) (sym storage-is) body.few;
+      }
+
+      -- its tallies are not those of what is stored
+      pub fails-tallied : (AreCounted head.runs (storage_of (tables_in ps) stored) (map (tallied (tables_in ps)) (all_of uss)) → ⊥) → FailsLoad bytes 5
+      fails-tallied wrong = no_tallies head.form (state_of (view_of ps stored (all_of uss) head.runs)) text passed joined.linked wrong
+
+      module _ (counted : AreCounted head.runs (storage_of (tables_in ps) stored) (map (tallied (tables_in ps)) (all_of uss))) where
+        -- the bytes are loaded
+        pub is-loaded : IsLoaded bytes (state_of (view_of ps stored (all_of uss) head.runs))
+        is-loaded = record { form = head.form; text = text; passed = passed; linked = joined.linked; tallied = counted }
+
+        sound : IsSoundLedger (state_of (view_of ps stored (all_of uss) head.runs))
+        sound = record {
+          store = joined.store;
+          typed = subst (StorageTyped (tables_in ps)) (sym storage-is) typed;
+          ascending = ascending;
+          tallied = structs-are;
+          balanced = counts-balanced head.runs (storage_of (tables_in ps) stored) tallies counted;
+        }
+
+        -- as a ledger
+        pub is-ledger : IsLedger ps stored uss counters head.runs
+        is-ledger = record {
+          few = few-joined ps joined.passed;
+          sized = subst (λ (os : List Offer). IsTrue (list_all offer_fits os)) (sym offers-are) head-is.sized;
+          fine = stored-fine;
+          placed = still-long (tables_in ps) tss uss kept ∙ joined.placed;
+          scarce = still-scarce (tables_in ps) tss uss kept joined.scarce;
+          named = still-named (tables_in ps) tss uss kept joined.named;
+          small = small-counts (tables_in ps) head.runs (storage_of (tables_in ps) stored) (all_of uss) counted;
+          clear = joined.clear;
+          countable = still-countable counters tss uss kept joined.countable;
+          counted = head-is.had;
+          sound = sound;
+        }

@@ -1,0 +1,93 @@
+-- What a run leaves is what the machine's run asks for.
+use Rattle.std.proofs.Common.{◌≡◌, true, Option, Some, ℕ, ◌+◌, ◌*◌, ◌≤◌, List, map, sym, ap, ap₂, ◌∙◌, arith}
+use Rattle.std.specs.Prelude.{All}
+use Rattle.std.proofs.lemmas.List.Elements.{All-weaker}
+use Rattle.mv_move_types.specs.Module.{Module}
+use Rattle.mv_move_types.specs.Published.{PublishedModule}
+use Rattle.mv_machine.specs.declared.Outcome.{Outcome}
+use Rattle.mv_machine.specs.declared.Ending.TheVariants.{Returned as HasReturned, Aborted as HasAborted, Exhausted as HasExhausted}
+use Rattle.mv_machine.specs.State.{Storage}
+use Rattle.mv_machine.specs.Flat.{FlatEntry, storage_of}
+use Rattle.mv_machine.specs.Lines.{Tallied, Reply as Told}
+use Rattle.mv_machine.specs.Run.{RunOutcome, run, Returned, Aborted, Exhausted, Faulted}
+use Rattle.mv_machine.specs.Ledger.{LedgerState, settled}
+use Rattle.mv_storage.specs.Map.{Layers}
+use Rattle.mv_linker.specs.Link.{tables_in}
+use Rattle.mv_linker.specs.Scarce.{is_scarce_in}
+use Rattle.mv_frames.specs.declared.counters.StructTally.{StructTally}
+use Rattle.mv_interpreter.specs.declared.Arg.{Arg}
+use Rattle.mv_interpreter.specs.Runs.{Agrees, call_of}
+use Rattle.mv_ledger.specs.declared.executing.Call.{Call}
+use Rattle.mv_ledger.specs.declared.tallies.Tally.{Tally}
+use Rattle.mv_ledger.specs.declared.Reply.TheVariants.{Ran}
+use Rattle.mv_ledger.specs.Answering.{told, told_ending}
+use Rattle.mv_ledger.specs.Running.{IsSettled, run_of}
+use Rattle.mv_ledger.specs.Tallying.{tally_after}
+use Rattle.mv_ledger.specs.View.{all_of, IsNamed, IsSmall, state_of, view_of, tallied}
+use Rattle.mv_ledger.proofs.Runs.TalliesAfter.{tallies-after}
+use Rattle.mv_ledger.proofs.Runs.TalliesByModule.{all-map}
+
+-- tallies that are small after some runs are so after one more
+pub small-kept : (runs : ℕ) (ts : List Tally) → All (IsSmall runs) ts → All (IsSmall (runs + 1)) ts
+small-kept runs ts small = All-weaker (IsSmall runs) (IsSmall (runs + 1)) one ts small
+  where
+    part : (n : ℕ) → n ≤ runs * 10000000 → n ≤ (runs + 1) * 10000000
+    part n h = omega arith
+
+    one : (t : Tally) → IsSmall runs t → IsSmall (runs + 1) t
+    one t h = (part t.packs h.0, part t.unpacks h.1)
+
+-- the tallies of all modules after a run
+pub tallied-after : (tally own : List StructTally) (before after : List (List Tally)) → after ≡ map (map (tally_after own)) before → own ≡ tally → all_of after ≡ map (tally_after tally)
+    (all_of before)
+tallied-after tally own before after after_is own_is = ap all_of (after_is ∙ ap (λ (t : List StructTally). map (map (tally_after t)) before) own_is) ∙ all-map (tally_after tally) before
+
+module _ (published : List PublishedModule) (call : Call) (stored new : List FlatEntry) (before after : List Tally) where
+  abbrev modules : List Module
+  modules = tables_in published
+
+  -- a ledger after so many runs with this storage and these tallies
+  abbrev after_runs : ℕ → Storage → List Tallied → LedgerState
+  after_runs runs storage tallies = record { published = published; storage = storage; tallies = tallies; runs = runs + 1 }
+
+  -- the machine's run from what the overlay began with
+  pub run-same : (seen : List FlatEntry) (args : List Arg) → seen ≡ stored → args ≡ call.arguments.items → run modules (storage_of modules seen)
+      (call_of call.function args) call.budget ≡ run_of published stored call
+  run-same seen args seen_is args_are = ap₂ (λ (entries : List FlatEntry) (as' : List Arg). run modules (storage_of modules entries) (call_of call.function as') call.budget) seen_is args_are
+
+  -- what is told, and the ledger after it
+  abbrev telling : Told → LedgerState → Option (Told × LedgerState)
+  telling t s = Some (t, s)
+
+  told_as : (t u : Told) (s x : LedgerState) → t ≡ u → s ≡ x → telling u x ≡ telling t s
+  told_as t u s x p q = ap₂ telling (sym p) (sym q)
+
+  -- a run that returned leaves its storage, and the tallies with its own
+  pub settled-returned : (outcome : Outcome) (tally : List StructTally) (layers : Layers) → All (IsNamed modules) before → All (λ t. is_scarce_in modules t.place t.index ≡ true) before
+      → Agrees modules (run_of published stored call) outcome tally layers → outcome.ending ≡ HasReturned
+      → new ≡ layers.current → after ≡ map (tally_after tally) before → IsSettled published call (told (Ran outcome)) stored new before after
+  settled-returned outcome tally layers named scarce agrees ended new_is after_is = λ runs. by_outcome runs (run_of published stored call) agrees
+    where
+      by_outcome : (runs : ℕ) (o : RunOutcome) → Agrees modules o outcome tally layers
+          → settled (state_of (view_of published stored before runs)) o ≡ Some (told_ending outcome.ending outcome.steps, state_of (view_of published new after (runs + 1)))
+      by_outcome runs (Returned steps storage events) h =
+          told_as _ _ _ _ (ap (λ (x : Outcome). told_ending x.ending x.steps) h.0)
+          (ap₂ (after_runs runs) (ap (storage_of modules) new_is ∙ sym h.1) (ap (map (tallied modules)) after_is ∙ tallies-after published tally events before named scarce h.2))
+      by_outcome runs (Aborted kind n steps) h = let clash : HasAborted kind n ≡ HasReturned = sym (ap (λ (x : Outcome). x.ending) h) ∙ ended in absurd cc
+      by_outcome runs (Exhausted stop steps) h = let clash : HasExhausted stop ≡ HasReturned = sym (ap (λ (x : Outcome). x.ending) h) ∙ ended in absurd cc
+      by_outcome runs (Faulted fault steps) h = absurd h
+
+  -- any other leaves both as they were
+  pub settled-kept : (outcome : Outcome) (tally : List StructTally) (layers : Layers) → Agrees modules (run_of published stored call) outcome tally layers → (outcome.ending ≡ HasReturned → ⊥)
+      → new ≡ stored → after ≡ before → IsSettled published call (told (Ran outcome)) stored new before after
+  settled-kept outcome tally layers agrees goes_on new_is after_is = λ runs. by_outcome runs (run_of published stored call) agrees
+    where
+      same : (runs : ℕ) → after_runs runs (storage_of modules new) (map (tallied modules) after) ≡ after_runs runs (storage_of modules stored) (map (tallied modules) before)
+      same runs = ap₂ (after_runs runs) (ap (storage_of modules) new_is) (ap (map (tallied modules)) after_is)
+
+      by_outcome : (runs : ℕ) (o : RunOutcome) → Agrees modules o outcome tally layers
+          → settled (state_of (view_of published stored before runs)) o ≡ Some (told_ending outcome.ending outcome.steps, state_of (view_of published new after (runs + 1)))
+      by_outcome runs (Returned steps storage events) h = absurd (goes_on (ap (λ (x : Outcome). x.ending) h.0))
+      by_outcome runs (Aborted kind n steps) h = told_as _ _ _ _ (ap (λ (x : Outcome). told_ending x.ending x.steps) h) (same runs)
+      by_outcome runs (Exhausted stop steps) h = told_as _ _ _ _ (ap (λ (x : Outcome). told_ending x.ending x.steps) h) (same runs)
+      by_outcome runs (Faulted fault steps) h = absurd h

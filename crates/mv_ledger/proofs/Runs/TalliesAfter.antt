@@ -1,0 +1,94 @@
+-- Tallies after a run.
+use Rattle.std.proofs.Common.{◌≡◌, ℕ, ◌+◌, ◌-◌, ◌*◌, ◌^◌, ◌≤◌, true, List, [], ◌∷◌, map, Option, refl, sym, ap, ap₂, ◌∙◌, arith}
+use Rattle.std.specs.Prelude.{All, unwrap_or}
+use Rattle.std.proofs.lemmas.List.Elements.{All-head, All-tail, All-map, All-weaker}
+use Rattle.mv_move_types.specs.declared.tables.Definition.{Definition}
+use Rattle.mv_move_types.specs.Names.{StructName}
+use Rattle.mv_move_types.specs.Module.{Module, name_at}
+use Rattle.mv_move_types.specs.Published.{PublishedModule}
+use Rattle.mv_machine.specs.State.{Event}
+use Rattle.mv_machine.specs.Lines.{Tallied}
+use Rattle.mv_machine.specs.Run.{packs, unpacks}
+use Rattle.mv_machine.specs.Ledger.{tally_with}
+use Rattle.mv_linker.specs.Link.{tables_in}
+use Rattle.mv_linker.specs.Scarce.{is_scarce_in}
+use Rattle.mv_linker.proofs.Found.{some-of}
+use Rattle.mv_frames.specs.Counters.{packs_at, unpacks_at}
+use Rattle.mv_frames.specs.declared.counters.Count.{Count}
+use Rattle.mv_frames.specs.declared.counters.StructTally.{StructTally}
+use Rattle.mv_frames.proofs.Tallied.{tallied-packs, tallied-unpacks}
+use Rattle.mv_interpreter.specs.Runs.{Tallies, AtMost}
+use Rattle.mv_interpreter.specs.Flat.Agreement.{nameless}
+use Rattle.mv_ledger.specs.declared.tallies.Tally.{Tally}
+use Rattle.mv_ledger.specs.View.{IsNamed, IsSmall, AreScarce, tallied}
+use Rattle.mv_ledger.specs.Tallying.{tally_after}
+
+-- functions that agree on a list's elements
+pub map-where : {A B : Type 0} (P : A → Type 0) (f g : A → B) → ((x : A) → P x → f x ≡ g x) → (xs : List A) → All P xs → map f xs ≡ map g xs
+map-where P f g agree [] all = refl
+map-where P f g agree (x ∷ xs) all = ap₂ (λ y ys. y ∷ ys) (agree x (All-head P x xs all)) (map-where P f g agree xs (All-tail P x xs all))
+
+-- one function after another
+pub map-then : {A B C : Type 0} (f : A → B) (g : B → C) (xs : List A) → map g (map f xs) ≡ map (λ x. g (f x)) xs
+map-then f g [] = refl
+map-then f g (x ∷ xs) = ap (λ ys. g (f x) ∷ ys) (map-then f g xs)
+
+module _ (published : List PublishedModule) where
+  -- a struct's tally after a run
+  tally-after : (run : List StructTally) (events : List Event) → Tallies (tables_in published) run events → (t : Tally)
+      → IsNamed (tables_in published) t × (is_scarce_in (tables_in published) t.place t.index ≡ true)
+      → tallied (tables_in published) (tally_after run t) ≡ tally_with events (tallied (tables_in published) t)
+  tally-after run events counted t (named, scarce) =
+      let name = some-of (name_at (tables_in published) t.place t.index) named in
+      let d : Definition = record { place = t.place; index = t.index } in
+      let struct : name.0 ≡ unwrap_or (name_at (tables_in published) t.place t.index) nameless = ap (λ (o : Option StructName). unwrap_or o nameless) (sym name.1) in
+      let made : packs_at t.place t.index run ≡ packs (unwrap_or (name_at (tables_in published) t.place t.index) nameless) events =
+      tallied-packs run d (did name.0) (counted.scarce t.place t.index name.0 name.1 scarce) ∙ ap (λ (s : StructName). packs s events) struct in
+      let taken : unpacks_at t.place t.index run ≡ unpacks (unwrap_or (name_at (tables_in published) t.place t.index) nameless) events =
+      tallied-unpacks run d (did name.0) (counted.scarce t.place t.index name.0 name.1 scarce) ∙ ap (λ (s : StructName). unpacks s events) struct in
+      ap₂ (λ (m n : ℕ). grown (unwrap_or (name_at (tables_in published) t.place t.index) nameless) (t.packs + m) (t.unpacks + n)) made taken
+    where
+      did : StructName → Count
+      did s = record { packs = packs s events; unpacks = unpacks s events }
+
+      grown : StructName → ℕ → ℕ → Tallied
+      grown s m n = record { struct = s; packs = m; unpacks = n }
+
+-- the tallies after a run
+pub tallies-after : (published : List PublishedModule) (run : List StructTally) (events : List Event) (ts : List Tally) → All (IsNamed (tables_in published)) ts
+    → All (λ t. is_scarce_in (tables_in published) t.place t.index ≡ true) ts → Tallies (tables_in published) run events
+    → map (tallied (tables_in published)) (map (tally_after run) ts) ≡ map (tally_with events) (map (tallied (tables_in published)) ts)
+tallies-after published run events ts named scarce counted =
+    map-then (tally_after run) (tallied (tables_in published)) ts
+    ∙ map-where (λ t. IsNamed (tables_in published) t × (is_scarce_in (tables_in published) t.place t.index ≡ true)) (λ t. tallied (tables_in published) (tally_after run t))
+    (λ t. tally_with events (tallied (tables_in published) t))
+    (tally-after published run events counted) ts (λ k d lt. (named k d lt, scarce k d lt))
+    ∙ sym (map-then (tallied (tables_in published)) (tally_with events) ts)
+
+-- what a run with an admitted budget did is at most what a run may do, and fits in 64 bits
+pub most-after : (budget : ℕ) (run : List StructTally) → AtMost budget run → budget ≤ 10000000 → AtMost 10000000 run × AtMost (2 ^ 64 - 1) run
+most-after budget run few low = (
+  λ place index. (omega (arith, (few place index).0, low), omega (arith, (few place index).1, low)),
+  λ place index. (omega (arith, (few place index).0, low), omega (arith, (few place index).1, low)),
+)
+
+-- a run adds at most 10,000,000 to each
+pub small-after : (runs : ℕ) (run : List StructTally) (ts : List Tally) → AtMost 10000000 run → All (IsSmall runs) ts → All (IsSmall (runs + 1)) (map (tally_after run) ts)
+small-after runs run ts few small = All-map (IsSmall (runs + 1)) (tally_after run) ts (All-weaker (IsSmall runs) (λ t. IsSmall (runs + 1) (tally_after run t)) one ts small)
+  where
+    sum : (old more : ℕ) → old ≤ runs * 10000000 → more ≤ 10000000 → old + more ≤ (runs + 1) * 10000000
+    sum old more a b = omega arith
+
+    one : (t : Tally) → IsSmall runs t → IsSmall (runs + 1) (tally_after run t)
+    one t h = let few = few t.place t.index in (sum t.packs (packs_at t.place t.index run) h.0 few.0, sum t.unpacks (unpacks_at t.place t.index run) h.1 few.1)
+
+-- a run leaves the tallies' structs
+pub named-after : (modules : List Module) (run : List StructTally) (ts : List Tally) → All (IsNamed modules) ts → All (IsNamed modules) (map (tally_after run) ts)
+named-after modules run ts named = All-map (IsNamed modules) (tally_after run) ts named
+
+-- and their indices
+pub scarce-after : (run : List StructTally) (modules : List Module) (tss : List (List Tally)) → AreScarce modules tss → AreScarce modules (map (map (tally_after run)) tss)
+scarce-after run [] [] h = tt
+scarce-after run [] (ts ∷ tss) h = h
+scarce-after run (m ∷ ms) [] h = h
+scarce-after run (m ∷ ms) (ts ∷ tss) h = (map-then (tally_after run) (λ (t : Tally). t.index) ts ∙ h.0, scarce-after run ms tss h.1)

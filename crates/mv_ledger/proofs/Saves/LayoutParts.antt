@@ -1,0 +1,235 @@
+-- Of what the fields of structs are made, and the kinds of their leaves.
+use Rattle.std.proofs.Common.{◌≡◌, ◌≢◌, ℕ, zero, suc, ◌+◌, ◌-◌, ◌<◌, Bool, true, false, cond, List, [], ◌∷◌, ◌++◌, length, take, refl, sym, ap, ap₂, ◌∙◌, subst, arith, Option, Some, None, option_map, append_assoc, append-nil, slice_get}
+use Rattle.std.specs.Prelude.{is_some, nat_le}
+use Rattle.std.specs.List.{list_all}
+use Rattle.std.specs.Option.{option_map_or}
+use Rattle.std.proofs.lemmas.List.{take_more, length-take-le}
+use Rattle.std.proofs.lemmas.Option.{none-some, slice_get_within, get_or_from_slice_get}
+use Rattle.mv_move_types.specs.declared.tables.Definition.{Definition}
+use Rattle.mv_move_types.specs.declared.tables.Field.{Field}
+use Rattle.mv_move_types.specs.declared.token.Abilities.{Abilities}
+use Rattle.mv_move_types.specs.declared.token.LeafKind.{LeafKind}
+use Rattle.mv_move_types.specs.declared.token.ValueType.TheVariants.{OfLeaf, OfStruct}
+use Rattle.mv_move_types.specs.declared.token.Token.{Token}
+use Rattle.mv_move_types.specs.declared.token.Token.TheVariants.{Plain, Reference, MutableReference}
+use Rattle.mv_move_types.specs.Names.{StructName, same_struct}
+use Rattle.mv_move_types.specs.Options.{◌>>=◌, find_index}
+use Rattle.mv_move_types.specs.Module.{Module, StructDefinition, struct_name, struct_abilities, name_of_struct, name_at}
+use Rattle.mv_move_types.specs.Named.{definition_of, is_struct}
+use Rattle.mv_move_types.specs.Leaves.{leaves_within}
+use Rattle.mv_move_types.specs.Published.{PublishedModule}
+use Rattle.mv_machine.specs.Typed.{abilities_at}
+use Rattle.mv_type_states.specs.Sound.{IsSound}
+use Rattle.mv_linker.specs.declared.shapes.Part.{Part}
+use Rattle.mv_linker.specs.declared.shapes.Part.TheVariants.{Leaf, Struct, Nothing}
+use Rattle.mv_linker.specs.Handles.{IsStructAt}
+use Rattle.mv_linker.specs.Link.{IsStore, tables_in}
+use Rattle.mv_linker.specs.Links.{struct_is_small}
+use Rattle.mv_linker.specs.Shapes.{AreFieldsAt, AreParts, IsMadeOf, IsPart, has_key, is_of_value}
+use Rattle.mv_linker.specs.Shapes.{is_keyed as keyed_in}
+use Rattle.mv_linker.proofs.Assembling.{passed-among}
+use Rattle.mv_linker.proofs.Found.{on_some, then_found, each}
+use Rattle.mv_linker.proofs.HandleDefinitions.{name-found}
+use Rattle.mv_linker.proofs.Members.{among-at}
+use Rattle.mv_linker.proofs.OwnDefinitions.{own-definition}
+use Rattle.mv_interpreter.proofs.Typing.Callees.{on_found}
+use Rattle.mv_ledger.specs.Inside.{structs_in_fields, structs_in_part, structs_in_parts, structs_in_token, structs_within}
+use Rattle.mv_ledger.specs.Layouts.{kinds_of_token, kinds_of_fields, kinds_within, leaf_kinds, is_keyed}
+use Rattle.mv_ledger.specs.Parts.LayoutParts.{kinds_at, kinds_of_part, kinds_of_parts, keyed_at, IsOfStore, PutsKinds}
+use Rattle.mv_ledger.specs.SavedText.{keyed_from}
+use Rattle.mv_ledger.proofs.Loads.LeafKinds.{kinds-count}
+
+-- ---- of what a field is made
+
+module _ (modules : List Module) where
+  named-part : (m : Module) (h : ℕ) (d : Definition) → IsStructAt modules m h d → struct_name m h ≡ name_at modules d.place d.index
+  named-part m h d at = at.named ∙ sym (name-found modules d.place d.index at.home at.name at.there at.index)
+
+  no_kinds : (depth : ℕ) (o : Option StructName) → is_some o ≡ false → (o >>= kinds_within depth modules) ≡ None
+  no_kinds depth None e = refl
+  no_kinds depth (Some name) e = absurd (cc)
+
+  kindless : (m : Module) (depth : ℕ) (t : Token) → is_of_value m t ≡ false → kinds_of_token (kinds_within depth modules) m t ≡ None
+  kindless m depth (Plain (OfLeaf kind)) e = absurd (cc)
+  kindless m depth (Plain (OfStruct h)) e = no_kinds depth (struct_name m h) e
+  kindless m depth (Reference t) e = refl
+  kindless m depth (MutableReference t) e = refl
+
+  no_structs : (depth : ℕ) (s : StructName) (o : Option StructName) → is_some o ≡ false → option_map_or (structs_within depth modules s) o 0 ≡ 0
+  no_structs depth s None e = refl
+  no_structs depth s (Some name) e = absurd (cc)
+
+  structless : (m : Module) (depth : ℕ) (s : StructName) (t : Token) → is_of_value m t ≡ false → structs_in_token (structs_within depth modules s) m t ≡ 0
+  structless m depth s (Plain (OfLeaf kind)) e = refl
+  structless m depth s (Plain (OfStruct h)) e = no_structs depth s (struct_name m h) e
+  structless m depth s (Reference t) e = refl
+  structless m depth s (MutableReference t) e = refl
+
+  -- a field of a type has the leaves of its part
+  part-kinds : (m : Module) (depth : ℕ) (t : Token) (part : Part) → IsPart modules m t part → kinds_of_token (kinds_within depth modules) m t ≡ kinds_of_part modules depth part
+  part-kinds m depth t (Leaf kind) is = ap (kinds_of_token (kinds_within depth modules) m) is
+  part-kinds m depth t (Struct d) is = ap (kinds_of_token (kinds_within depth modules) m) is.1 ∙ ap (λ o. o >>= kinds_within depth modules) (named-part m is.0 d is.2)
+  part-kinds m depth t Nothing is = kindless m depth t is
+
+  -- and as many values of each struct
+  part-structs : (m : Module) (depth : ℕ) (s : StructName) (t : Token) (part : Part) → IsPart modules m t part
+      → structs_in_token (structs_within depth modules s) m t ≡ structs_in_part depth modules s part
+  part-structs m depth s t (Leaf kind) is = ap (structs_in_token (structs_within depth modules s) m) is
+  part-structs m depth s t (Struct d) is = ap (structs_in_token (structs_within depth modules s) m) is.1 ∙ ap (λ o. option_map_or (structs_within depth modules s) o 0) (named-part m is.0 d is.2)
+  part-structs m depth s t Nothing is = structless m depth s t is
+
+  -- fields have the kinds of their parts
+  parts-kinds : (m : Module) (k : ℕ) (fs : List Field) (parts : List Part) → AreParts modules m fs parts
+      → kinds_of_fields (kinds_of_token (kinds_within k modules) m) fs ≡ kinds_of_parts modules k parts
+  parts-kinds m k [] [] h = refl
+  parts-kinds m k [] (p ∷ parts) h = absurd h
+  parts-kinds m k (f ∷ fs) [] h = absurd h
+  parts-kinds m k (f ∷ fs) (p ∷ parts) h =
+      ap₂ (λ (a b : Option (List LeafKind)). a >>= λ first. b >>= λ rest. Some (first ++ rest)) (part-kinds m k f.token p h.0) (parts-kinds m k fs parts h.1)
+
+  -- and as many values of each struct
+  parts-structs : (m : Module) (k : ℕ) (s : StructName) (fs : List Field) (parts : List Part) → AreParts modules m fs parts
+      → structs_in_fields (structs_in_token (structs_within k modules s) m) fs ≡ structs_in_parts k modules s parts
+  parts-structs m k s [] [] h = refl
+  parts-structs m k s [] (p ∷ parts) h = absurd h
+  parts-structs m k s (f ∷ fs) [] h = absurd h
+  parts-structs m k s (f ∷ fs) (p ∷ parts) h = ap₂ (λ (a b : ℕ). a + b) (part-structs m k s f.token p h.0) (parts-structs m k s fs parts h.1)
+
+  -- ---- whether a struct has key
+
+  key-of : (m : Module) (o : Option StructDefinition) → option_map_or (has_key m) o false ≡ option_map_or (λ (a : Abilities). a.key) (o >>= struct_abilities m) false
+  key-of m None = refl
+  key-of m (Some x) = refl
+
+  key-at : (d : Definition) (o : Option Module) → option_map_or (λ m. option_map_or (has_key m) (slice_get m.structs d.index) false) o false ≡ option_map_or (λ (a : Abilities). a.key)
+      (o >>= λ m. slice_get m.structs d.index >>= struct_abilities m) false
+  key-at d None = refl
+  key-at d (Some m) = key-of m (slice_get m.structs d.index)
+
+  pub keyed-same : (d : Definition) → keyed_in modules d ≡ is_keyed modules d
+  keyed-same d = key-at d (slice_get modules d.place)
+
+  -- the first part of a chain that leads to nothing
+  pub no_definition : {B : Type 0} (d : Definition) (f : Module → StructDefinition → Option B) (o : Option Module) → (o >>= λ m. slice_get m.structs d.index) ≡ None
+      → (o >>= λ m. slice_get m.structs d.index >>= f m) ≡ None
+  no_definition d f None e = refl
+  no_definition d f (Some m) e = ap (λ o. o >>= f m) e
+
+  pub missing-name : (d : Definition) → AreFieldsAt modules d None → name_at modules d.place d.index ≡ None
+  missing-name d h = no_definition d name_of_struct (slice_get modules d.place) h
+
+  -- ---- kinds that were put
+
+  pub puts-none : (o : Option (List LeafKind)) (old new : List LeafKind) → o ≡ None → PutsKinds o false old new
+  puts-none o old new e = let P : Option (List LeafKind) → Type 0 = λ o. PutsKinds o false old new in subst P (sym e) refl
+
+  pub no_depth : (o : Option StructName) → (o >>= kinds_within zero modules) ≡ None
+  no_depth None = refl
+  no_depth (Some name) = refl
+
+-- a struct that is there is one of its own, with those of its parts
+pub record HasStructs (modules : List Module) (k : ℕ) (d : Definition) (parts : List Part) : Type 0 where
+  pub name : StructName
+  pub named : name_at modules d.place d.index ≡ Some name
+  pub each : (s : StructName) → structs_within (suc k) modules s name ≡ cond (same_struct name s) 1 0 + structs_in_parts k modules s parts
+
+-- ---- over a store
+
+module _ (published : List PublishedModule) (is : IsStore published) where
+  abbrev modules : List Module
+  modules = tables_in published
+
+  -- its modules are sound
+  sound : (place : ℕ) (m : Module) → slice_get modules place ≡ Some m → IsSound m
+  sound place m at = let p = passed-among published m is.passed (among-at modules place m at) in subst IsSound p.2 p.1.sound
+
+  -- what stands at a place and an index has a name, and is what the name stands for
+  pub defined : (d : Definition) (m : Module) (x : StructDefinition) → slice_get modules d.place ≡ Some m → slice_get m.structs d.index ≡ Some x
+      → (name : StructName) × (name_of_struct m x ≡ Some name) × (definition_of modules name ≡ Some (m, x.fields)) × (find_index (is_struct m name) m.structs ≡ Some d.index)
+  defined d m x at x_at = own-definition modules d.place m is.once at (sound d.place m at).bounds (sound d.place m at).defined d.index x x_at
+
+  pub named : (d : Definition) (m : Module) (x : StructDefinition) (name : StructName) → slice_get modules d.place ≡ Some m → slice_get m.structs d.index ≡ Some x → name_of_struct m x ≡ Some name
+      → name_at modules d.place d.index ≡ Some name
+  named d m x name at x_at e = then_found (slice_get modules d.place) _ m (Some name) at (then_found (slice_get m.structs d.index) _ x (Some name) x_at e)
+
+  -- the kinds of a struct are those of its parts
+  pub made-kinds : (k : ℕ) (d : Definition) (parts : List Part) → IsMadeOf modules d parts → (name_at modules d.place d.index >>= kinds_within (suc k) modules) ≡ kinds_of_parts modules k parts
+  made-kinds k d parts h =
+      let own = defined d h.home h.definition h.there h.defined in
+      ap (λ o. o >>= kinds_within (suc k) modules) (named d h.home h.definition own.0 h.there h.defined own.1)
+      ∙ ap (λ o. o >>= λ x. kinds_of_fields (kinds_of_token (kinds_within k modules) x.0) x.1) own.2
+      ∙ parts-kinds modules h.home k h.definition.fields parts h.fields
+
+  -- a struct has as many values of another one as its parts say
+  pub made-structs : (k : ℕ) (d : Definition) (parts : List Part) → IsMadeOf modules d parts → HasStructs modules k d parts
+  made-structs k d parts h =
+      let own = defined d h.home h.definition h.there h.defined in
+      record {
+        name = own.0;
+        named = named d h.home h.definition own.0 h.there h.defined own.1;
+        each = λ s.
+            ap (λ o. option_map_or (λ (x : Module × List Field). cond (same_struct own.0 s) 1 0 + structs_in_fields (structs_in_token (structs_within k modules s) x.0) x.1) o 0) own.2
+            ∙ ap (λ n. cond (same_struct own.0 s) 1 0 + n) (parts-structs modules h.home k s h.definition.fields parts h.fields);
+      }
+
+  -- so many were put
+  pub puts-made : (depth : ℕ) (d : Definition) (parts : List Part) (there : Bool) (old new : List LeafKind) → depth ≢ 0 → IsMadeOf modules d parts
+      → PutsKinds (kinds_of_parts modules (depth - 1) parts) there old new
+      → PutsKinds (name_at modules d.place d.index >>= kinds_within depth modules) there old new
+  puts-made depth d parts there old new deep h put =
+      let P : Option (List LeafKind) → Type 0 = λ o. PutsKinds o there old new in
+      let deeper : depth ≡ suc (depth - 1) = omega arith in
+      subst P (sym (ap (λ n. name_at modules d.place d.index >>= kinds_within n modules) deeper ∙ made-kinds (depth - 1) d parts h)) put
+
+  -- a list that has a length
+  counted : (o : Option (List LeafKind)) (n : ℕ) → option_map length o ≡ Some n → (ks : List LeafKind) × (o ≡ Some ks)
+  counted None n e = absurd (none-some n e)
+  counted (Some ks) n e = (ks, refl)
+
+  -- a struct with key has leaves
+  pub keyed-kinds : (d : Definition) → is_keyed modules d ≡ true → (ks : List LeafKind) × ((name_at modules d.place d.index >>= leaf_kinds modules) ≡ Some ks)
+  keyed-kinds d keyed =
+      on_found (λ (a : Abilities). a.key) (abilities_at modules d.place d.index) keyed (λ a a_is has.
+      on_some (slice_get modules d.place) _ a a_is (λ m m_is e1.
+      on_some (slice_get m.structs d.index) _ a e1 (λ x x_is e2.
+      let own = defined d m x m_is x_is in
+      let small = each (struct_is_small modules m) m.structs d.index x (each (λ m. list_all (struct_is_small modules m) m.structs) modules d.place m is.links.small m_is) x_is in
+      on_found (λ n. nat_le n 256) (name_of_struct m x >>= leaves_within 8 modules) small (λ n n_is le.
+      let leaves : leaves_within 8 modules own.0 ≡ Some n = sym (ap (λ o. o >>= leaves_within 8 modules) own.1) ∙ n_is in
+      let ks = counted (kinds_within 8 modules own.0) n (kinds-count modules 8 own.0 ∙ leaves) in
+      (ks.0, ap (λ o. o >>= leaf_kinds modules) (named d m x own.0 m_is x_is own.1) ∙ ks.1)))))
+
+-- the same where the modules are known to be those of a store
+pub puts-struct : (ms : List Module) → IsOfStore ms → (depth : ℕ) (d : Definition) (parts : List Part) (there : Bool) (old new : List LeafKind) → depth ≢ 0 → IsMadeOf ms d parts
+    → PutsKinds (kinds_of_parts ms (depth - 1) parts) there old new
+    → PutsKinds (kinds_at depth ms d) there old new
+puts-struct ms of depth d parts there old new deep h put =
+    subst (λ (l : List Module). PutsKinds (kinds_at depth l d) there old new) of.2
+    (puts-made of.0 of.1 depth d parts there old new deep (subst (λ (l : List Module). IsMadeOf l d parts) (sym of.2) h)
+    (subst (λ (l : List Module). PutsKinds (kinds_of_parts l (depth - 1) parts) there old new) (sym of.2) put))
+
+pub structs-there : (ms : List Module) → IsOfStore ms → (k : ℕ) (d : Definition) (parts : List Part) → IsMadeOf ms d parts → HasStructs ms k d parts
+structs-there ms of k d parts = subst (λ (l : List Module). IsMadeOf l d parts → HasStructs l k d parts) of.2 (made-structs of.0 of.1 k d parts)
+
+pub keyed-there : (ms : List Module) → IsOfStore ms → (d : Definition) → is_keyed ms d ≡ true → kinds_at 8 ms d ≡ None → ⊥
+keyed-there ms of d keyed none =
+    let ks = keyed-kinds of.0 of.1 d (subst (λ (l : List Module). is_keyed l d ≡ true) (sym of.2) keyed) in
+    none-some ks.0 (sym none ∙ sym (subst (λ (l : List Module). Some ks.0 ≡ kinds_at 8 l d) of.2 (sym ks.1)))
+
+-- ---- the structs with key
+
+keyed-append : (k : ℕ) (ms : List Module) (m : Module) → keyed_from k (ms ++ m ∷ []) ≡ keyed_from k ms ++ keyed_at (k + length ms) m
+keyed-append k [] m = append-nil (keyed_at k m) ∙ ap (λ n. keyed_at n m) (let e : k ≡ k + 0 = omega arith in e)
+keyed-append k (n ∷ ms) m =
+    ap (λ l. keyed_at k n ++ l) (keyed-append (k + 1) ms m ∙ ap (λ i. keyed_from (k + 1) ms ++ keyed_at i m) (let e : k + 1 + length ms ≡ k + suc (length ms) = omega arith in e))
+    ∙ sym (append_assoc (keyed_at k n) (keyed_from (k + 1) ms) (keyed_at (k + suc (length ms)) m))
+
+-- with those of one module more
+pub keyed-more : (ms : List Module) (i : ℕ) (m : Module) (old new : List Definition) → slice_get ms i ≡ Some m → old ≡ keyed_from 0 (take i ms) → new ≡ old ++ keyed_at i m
+    → new ≡ keyed_from 0 (take (i + 1) ms)
+keyed-more ms i m old new at so_far added =
+    let lt : i < length ms = slice_get_within ms i m at in
+    let front : length (take i ms) ≡ i = length-take-le i ms (omega (arith, lt)) in
+    let one : take (i + 1) ms ≡ take i ms ++ m ∷ [] = take_more ms i m lt ∙ ap (λ x. take i ms ++ x ∷ []) (get_or_from_slice_get ms i m m at) in
+    added ∙ ap (λ l. l ++ keyed_at i m) so_far ∙ ap (λ n. keyed_from 0 (take i ms) ++ keyed_at n m) (let e : i ≡ 0 + length (take i ms) = omega (arith, front) in e)
+    ∙ sym (keyed-append 0 (take i ms) m) ∙ sym (ap (keyed_from 0) one)

@@ -1,0 +1,141 @@
+-- The texts of structs' names and of values are plain: identifiers are letters, digits and `_`.
+use Rattle.std.proofs.Common.{◌≡◌, Option, Some, None, slice_get, unwrap_or, map, subst, ℕ, Bool, true, ◌++◌, List, [], ◌∷◌, codes, refl, arith, length}
+use Rattle.std.specs.Prelude.{◌==◌, ◌&&◌, ◌||◌, nat_le, nat_lt}
+use Rattle.std.specs.List.{list_all, AllByRecursion}
+use Rattle.std.specs.Option.{option_map_or}
+use Rattle.std.proofs.lemmas.Option.{same_Some}
+use Rattle.std.specs.Cmp.{first_so, second_so}
+use Rattle.std.proofs.lemmas.Bool.{cond_both, and_from}
+use Rattle.std.proofs.lemmas.Bool.Decides.{nat_tests}
+use Rattle.mv_ledger.specs.JsonValues.{is_plain, IsPlain}
+use Rattle.mv_move_types.specs.declared.token.LeafKind.{LeafKind}
+use Rattle.mv_move_types.specs.declared.token.LeafKind.TheVariants.{Boolean, Number, Address, Signer}
+use Rattle.mv_move_types.specs.declared.tables.Key.{Key}
+use Rattle.mv_move_types.specs.Names.{ModuleName, StructName}
+use Rattle.mv_move_types.specs.Module.{Module, module_name, struct_name, name_of_struct, name_at}
+use Rattle.mv_move_types.specs.Published.{PublishedModule}
+use Rattle.mv_module_text.specs.Fits.{is_letter, is_name_part, identifier_fits}
+use Rattle.mv_module_text.proofs.Texts.{on_bind}
+use Rattle.mv_binary_format.specs.ModuleText.{HasText}
+use Rattle.mv_machine.specs.Value.{Value, Values, Leaf, Struct, Ref, NoMore, More}
+use Rattle.mv_machine.specs.Lines.{Tallied, address_text, struct_text, key_text, leaf_text, value_text, rest_text}
+use Rattle.mv_linker.specs.Link.{IsPublishable, IsStore, tables_in}
+use Rattle.mv_linker.proofs.Found.{each}
+use Rattle.mv_linker.proofs.Linkable.{at-all, mapped-at}
+use Rattle.mv_interpreter.specs.Flat.Agreement.{nameless}
+use Rattle.mv_ledger.specs.declared.tallies.Tally.{Tally}
+use Rattle.mv_ledger.specs.View.{tallied}
+use Rattle.mv_ledger.proofs.Shows.PlainTexts.{plain-append, plain-decimal, plain-address}
+
+-- ---- identifiers
+
+name_part : (c : ℕ) → is_name_part c ≡ true → is_plain c ≡ true
+name_part c is = grind (arith, nat_tests)
+
+name_parts : (cs : List ℕ) → list_all is_name_part cs ≡ true → IsPlain cs
+name_parts [] are = refl
+name_parts (c ∷ cs) are = and_from (is_plain c) (list_all is_plain cs) (name_part c (first_so (is_name_part c) (list_all is_name_part cs) are))
+    (name_parts cs (second_so (is_name_part c) (list_all is_name_part cs) are))
+
+first_part : (c n : ℕ) → (is_letter c || (c == 95) && nat_lt 0 n) ≡ true → is_plain c ≡ true
+first_part c n is = grind (arith, nat_tests)
+
+pub plain-identifier : (name : List ℕ) → identifier_fits name ≡ true → IsPlain name
+plain-identifier [] fits = refl
+plain-identifier (c ∷ cs) fits =
+    let first : Bool = is_letter c || (c == 95) && nat_lt 0 (length cs) in
+    let both : (first && list_all is_name_part cs) ≡ true = second_so (nat_le (length (c ∷ cs)) 128) (first && list_all is_name_part cs) fits in
+    and_from (is_plain c) (list_all is_plain cs) (first_part c (length cs) (first_so first (list_all is_name_part cs) both)) (name_parts cs (second_so first (list_all is_name_part cs) both))
+
+-- ---- names
+
+-- its identifiers are plain
+pub record IsPlainName (name : StructName) : Type 0 where
+  pub home : IsPlain name.home.name
+  pub own : IsPlain name.name
+
+pub plain-struct : (name : StructName) → IsPlainName name → IsPlain (struct_text name)
+plain-struct name plain =
+    let address = address_text name.home.address in
+    let home = name.home.name in
+    plain-append (address ++ codes "::" ++ home ++ codes "::") name.name
+    (plain-append (address ++ codes "::" ++ home) (codes "::") (plain-append (address ++ codes "::") home (plain-append address (codes "::") (plain-address name.home.address) refl) plain.home) refl)
+    plain.own
+
+-- the struct that is counted has a plain text
+abbrev pub IsPlainTallied : Tallied → Type 0
+IsPlainTallied t = IsPlain (struct_text t.struct)
+
+-- ---- of a store
+
+module _ (m : Module) (text : HasText m) where
+  identifier : (i : ℕ) (name : List ℕ) → slice_get m.identifiers i ≡ Some name → IsPlain name
+  identifier i name at = plain-identifier name (each identifier_fits m.identifiers i name text.identifiers at)
+
+  home : (h : ℕ) (name : ModuleName) → module_name m h ≡ Some name → IsPlain name.name
+  home h name named =
+      on_bind (slice_get m.module_handles h) _ name named (λ handle _ n1.
+      on_bind (slice_get m.addresses handle.address) _ name n1 (λ address _ n2.
+      on_bind (slice_get m.identifiers handle.name) _ name n2 (λ own at n3.
+      subst (λ (z : ModuleName). IsPlain z.name) (same_Some _ name n3) (identifier handle.name own at))))
+
+  struct : (h : ℕ) (name : StructName) → struct_name m h ≡ Some name → IsPlainName name
+  struct h name named =
+      on_bind (slice_get m.struct_handles h) _ name named (λ handle _ n1.
+      on_bind (module_name m handle.module) _ name n1 (λ from from_is n2.
+      on_bind (slice_get m.identifiers handle.name) _ name n2 (λ own at n3.
+      subst IsPlainName (same_Some _ name n3) (record { home = home handle.module from from_is; own = identifier handle.name own at }))))
+
+module _ (published : List PublishedModule) (store : IsStore published) where
+  text-at : (place : ℕ) (m : Module) → slice_get (tables_in published) place ≡ Some m → HasText m
+  text-at place m at =
+      let p = mapped-at (λ (p : PublishedModule). p.tables) published place m at in
+      subst HasText p.2 (at-all IsPublishable published place p.0 store.passed p.1).spelled
+
+  -- the structs of its modules have plain names
+  named-at : (place index : ℕ) (name : StructName) → name_at (tables_in published) place index ≡ Some name → IsPlainName name
+  named-at place index name named =
+      on_bind (slice_get (tables_in published) place) _ name named (λ m at n1.
+      on_bind (slice_get m.structs index) (name_of_struct m) name n1 (λ d _ n2.
+      struct m (text-at place m at) d.handle name n2))
+
+  -- what a key names has a plain text
+  pub plain-key : (key : Key) → IsPlain (key_text (tables_in published) key)
+  plain-key key = by_name (name_at (tables_in published) key.place key.index) (named-at key.place key.index)
+    where
+      by_name : (o : Option StructName) → ((name : StructName) → o ≡ Some name → IsPlainName name) → IsPlain (option_map_or struct_text o [])
+      by_name None plain = refl
+      by_name (Some name) plain = plain-struct name (plain name refl)
+
+  plain-tallied : (t : Tally) → IsPlain (struct_text (tallied (tables_in published) t).struct)
+  plain-tallied t = by_name (name_at (tables_in published) t.place t.index) (named-at t.place t.index)
+    where
+      by_name : (o : Option StructName) → ((name : StructName) → o ≡ Some name → IsPlainName name) → IsPlain (struct_text (unwrap_or o nameless))
+      by_name None plain = plain-struct nameless (record { home = refl; own = refl })
+      by_name (Some name) plain = plain-struct name (plain name refl)
+
+  -- and so have the structs of tallies
+  pub plain-tallies : (ts : List Tally) → AllByRecursion IsPlainTallied (map (tallied (tables_in published)) ts)
+  plain-tallies [] = tt
+  plain-tallies (t ∷ ts) = (plain-tallied t, plain-tallies ts)
+
+-- ---- values
+
+plain-leaf : (kind : LeafKind) (n : ℕ) → IsPlain (leaf_text kind n)
+plain-leaf Boolean n = cond_both (n == 0) (codes "false") (codes "true") IsPlain (λ _. refl) (λ _. refl)
+plain-leaf (Number w) n = plain-decimal n
+plain-leaf Address n = plain-address n
+plain-leaf Signer n = plain-address n
+
+mutual
+  pub plain-value : (v : Value) → IsPlain (value_text v)
+  plain-value (Leaf kind n) = plain-leaf kind n
+  plain-value (Struct name NoMore) = refl
+  plain-value (Struct name (More v vs)) =
+      plain-append (codes "{" ++ value_text v ++ rest_text vs) (codes "}")
+      (plain-append (codes "{" ++ value_text v) (rest_text vs) (plain-append (codes "{") (value_text v) refl (plain-value v)) (plain-rest vs)) refl
+  plain-value (Ref r) = refl
+
+  plain-rest : (vs : Values) → IsPlain (rest_text vs)
+  plain-rest NoMore = refl
+  plain-rest (More v vs) = plain-append (codes "," ++ value_text v) (rest_text vs) (plain-append (codes ",") (value_text v) refl (plain-value v)) (plain-rest vs)

@@ -1,0 +1,98 @@
+-- What a show and an audit reply.
+use Rattle.std.proofs.Common.{◌≡◌, Bool, ℕ, ◌+◌, ◌-◌, ◌*◌, ◌<◌, ◌≤◌, List, [], ◌∷◌, ◌++◌, map, length, Some, refl, sym, ap, ap₂, arith, zero-add, length-append, codes}
+use Rattle.std.specs.Prelude.{All}
+use Rattle.std.specs.List.{AllByRecursion, filter, enumerate_from}
+use Rattle.std.proofs.lemmas.List.{length-map}
+use Rattle.std.proofs.lemmas.List.Elements.{All-head, All-tail}
+use Rattle.std.proofs.lemmas.List.FromFn.{length-enumerate_from}
+use Rattle.std.proofs.lemmas.List.Sums.{length-filter, count_by-le-length}
+use Rattle.mv_binary_format.proofs.Fitting.{few_structs}
+use Rattle.mv_move_types.specs.Module.{Module, StructDefinition}
+use Rattle.mv_move_types.specs.Published.{PublishedModule}
+use Rattle.mv_machine.specs.Count.{count}
+use Rattle.mv_machine.specs.State.{Storage}
+use Rattle.mv_machine.specs.Lines.{Tallied, Refused as ToldRefused, Told as ToldLines, audit_lines, audit_json, end_line, json_line}
+use Rattle.mv_machine.specs.Ledger.{Format, Publish, Run, Show, Audit, BadRun, Bad, shown, audited}
+use Rattle.mv_linker.specs.Link.{IsPublishable, tables_in}
+use Rattle.mv_linker.specs.Scarce.{is_scarce_struct}
+use Rattle.mv_ledger.specs.declared.tallies.Tally.{Tally}
+use Rattle.mv_ledger.specs.RecordText.{IsShapeless, format_text}
+use Rattle.mv_ledger.specs.Answering.{Replies}
+use Rattle.mv_ledger.specs.Formats.{IsNoFormat}
+use Rattle.mv_ledger.specs.Auditing.{stored_of, count_line, count_object, audit_from, counts_json}
+use Rattle.mv_ledger.specs.View.{LedgerView, state_of, all_of, AreScarce, scarce_indices}
+use Rattle.mv_ledger.specs.Accepted.SoundLedger.{IsSoundLedger}
+use Rattle.mv_ledger.proofs.Accepted.Records.{answers_record}
+use Rattle.mv_ledger.proofs.Counting.Ended.{counts-tallied}
+
+-- ---- a payload that asks for no format
+
+shapeless : (kind : ℕ) (payload : List ℕ) → 2 < kind → IsNoFormat payload → IsShapeless kind payload
+shapeless kind payload late none (Publish sender offers) asked = absurd (omega (arith, late, asked.0))
+shapeless kind payload late none (Run r) asked = absurd (omega (arith, late, asked.0))
+shapeless kind payload late none (Show format) asked = none format asked.1
+shapeless kind payload late none (Audit format) asked = none format asked.1
+shapeless kind payload late none BadRun asked = asked
+shapeless kind payload late none Bad asked = asked
+
+-- is refused
+pub unasked_replies : (kind : ℕ) (payload : List ℕ) (v : LedgerView) → 2 < kind → IsNoFormat payload → IsSoundLedger (state_of v) → Replies kind payload (Some (ToldRefused 1)) v v
+unasked_replies kind payload v late none sound = record {
+  answers = answers_record kind payload Bad (ToldRefused 1) (state_of v) (state_of v) (λ is. omega (arith, late, is), shapeless kind payload late none) (refl, refl) sound;
+  leaves = refl;
+  rightly = λ is. absurd (omega (arith, late, is));
+}
+
+-- ---- one that asks for one
+
+module _ (payload : List ℕ) (v : LedgerView) (format : Format) (lines : List (List ℕ)) (asked : payload ≡ format_text format) (sound : IsSoundLedger (state_of v)) where
+  -- of a show
+  pub show_replies : lines ≡ shown (state_of v) format → Replies 3 payload (Some (ToldLines lines)) v v
+  show_replies is = record {
+    answers = answers_record 3 payload (Show format) (ToldLines lines) (state_of v) (state_of v) (refl, asked) (ap ToldLines is, refl) sound;
+    leaves = refl;
+    rightly = λ kind. absurd (omega (arith, kind));
+  }
+
+  -- of an audit
+  pub audit_replies : lines ≡ audited (state_of v) format → Replies 4 payload (Some (ToldLines lines)) v v
+  audit_replies is = record {
+    answers = answers_record 4 payload (Audit format) (ToldLines lines) (state_of v) (state_of v) (refl, asked) (ap ToldLines is, refl) sound;
+    leaves = refl;
+    rightly = λ kind. absurd (omega (arith, kind));
+  }
+
+-- ---- what is stored is told by the tallies
+
+each_told : (text : ℕ → Tallied → List ℕ) (storage : Storage) (ts : List Tallied) → AllByRecursion (λ t. count storage t.struct ≡ t.packs - t.unpacks) ts
+    → map (λ t. text (stored_of t) t) ts ≡ map (λ t. text (count storage t.struct) t) ts
+each_told text storage [] h = refl
+each_told text storage (t ∷ ts) h = ap₂ (λ x xs. x ∷ xs) (ap (λ n. text n t) (sym h.0)) (each_told text storage ts h.1)
+
+module _ (v : LedgerView) (sound : IsSoundLedger (state_of v)) where
+  pub audit-lines : audit_from v.tallies 0 ≡ audit_lines (state_of v).storage v.tallies
+  audit-lines =
+      ap₂ (λ xs n. xs ++ end_line n ∷ []) (each_told count_line (state_of v).storage v.tallies (counts-tallied (state_of v) sound.balanced)) (zero-add (length v.tallies))
+
+  pub audit-json : counts_json v.tallies ≡ audit_json (state_of v).storage v.tallies
+  audit-json = ap (json_line (codes "audit")) (each_told count_object (state_of v).storage v.tallies (counts-tallied (state_of v) sound.balanced))
+
+-- ---- how many tallies there are at most
+
+few_scarce : (m : Module) → length (scarce_indices m) ≤ length m.structs
+few_scarce m =
+    let scarce : ℕ × StructDefinition → Bool = λ p. is_scarce_struct m p.1 in
+    let all : List (ℕ × StructDefinition) = enumerate_from 0 m.structs in
+    omega (arith, length-map (filter scarce all) (λ p. p.0), length-filter scarce all, count_by-le-length scarce all, length-enumerate_from 0 m.structs)
+
+few_more : (ts : List Tally) (rest : List Tally) (n k : ℕ) → length ts ≤ 65536 → length rest ≤ 65536 * k → n ≡ k + 1 → length (ts ++ rest) ≤ 65536 * n
+few_more ts rest n k few more is = omega (arith, length-append ts rest, few, more, is)
+
+pub few_tallies : (published : List PublishedModule) (tallies : List (List Tally)) → All IsPublishable published → AreScarce (tables_in published) tallies
+    → length (all_of tallies) ≤ 65536 * length published
+few_tallies [] [] passed scarce = omega arith
+few_tallies [] (ts ∷ tss) passed scarce = absurd scarce
+few_tallies (p ∷ published) [] passed scarce = omega arith
+few_tallies (p ∷ published) (ts ∷ tss) passed scarce =
+    let one : length ts ≤ 65536 = omega (arith, length-map ts (λ t. t.index), ap length scarce.0, few_scarce p.tables, few_structs p.tables (All-head IsPublishable p published passed).spelled) in
+    few_more ts (all_of tss) (length (p ∷ published)) (length published) one (few_tallies published tss (All-tail IsPublishable p published passed) scarce.1) (omega arith)

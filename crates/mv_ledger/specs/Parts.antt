@@ -1,0 +1,11 @@
+-- What parts of the code keep, for the contracts of private functions: no public contract cites it.
+--   LayoutParts  The kinds of the leaves of structs, by what their fields are made of.
+--   BodyParts    What stands in the text of a saved ledger after its modules, read from its front.
+--   LoadedParts  The parts of which the loading of a ledger is made, and how they stand to its text.
+--   CountRows    Counts of the values of structs, module by module.
+--   Saving       How the values that are stored are written struct by struct.
+pub mod LayoutParts
+pub mod BodyParts
+pub mod LoadedParts
+pub mod CountRows
+pub mod Saving

@@ -1,0 +1,164 @@
+-- The parts of which the loading of a ledger is made, and how they stand to its text.
+--   head_from       how a text begins. read_head reads it
+--   BeginsWith      the bytes begin with this head
+--   AreJoined       what a ledger has of its modules before its tallies are read. Joined::join_offers gives it
+--   IsJoined        the same of modules that join one group after the other
+--   AreNotJoined    why it has none
+--   body_from       what follows the modules: the tallies, which Tallies::read reads, and the values, which read_storage does
+--   IsNoBody        the bytes are no such thing with nothing after it
+--   IsBody          the text of the same
+--   EachBodyIsRead, EachReadIsBody   body_from reads these texts, and no others
+--   AreCounted      the tallies are those of what is stored. are_tallied is the test
+use Rattle.std.specs.Prelude.{◌≡◌, ◌==◌, ℕ, ◌+◌, ◌*◌, ◌^◌, ◌<◌, ◌≤◌, cond, All, IsTrue, List, [], ◌++◌, map, flat_map, length, Option, Some, None, ⊤}
+use Rattle.std.specs.List.{list_all, AllByRecursion}
+use Rattle.mv_uleb.specs.Parsing.{number_from}
+use Rattle.mv_move_types.specs.declared.refusal.Refusal.{Refusal}
+use Rattle.mv_move_types.specs.declared.refusal.Refusal.TheVariants.{Phase, Memory as NoMemory}
+use Rattle.mv_move_types.specs.Options.{◌>>=◌}
+use Rattle.mv_move_types.specs.Module.{Module}
+use Rattle.mv_move_types.specs.Published.{PublishedModule}
+use Rattle.mv_module_text.specs.Laws.{AreBytes}
+use Rattle.mv_module_text.specs.Parsing.{Read, byte_from, mark_from, entries_from, counted_from}
+use Rattle.mv_machine.specs.Count.{count}
+use Rattle.mv_machine.specs.Flat.{flat_storage}
+use Rattle.mv_machine.specs.Ledger.{Offer, scarce_structs}
+use Rattle.mv_machine.specs.Lines.{Tallied}
+use Rattle.mv_machine.specs.State.{Storage}
+use Rattle.mv_machine.specs.Typed.{is_fine_storage}
+use Rattle.mv_storage.specs.FlatStorage.{FlatStorage}
+use Rattle.mv_frames.specs.Counters.{IsClear}
+use Rattle.mv_frames.specs.declared.counters.Count.{Count}
+use Rattle.mv_linker.specs.Link.{IsStore, tables_in}
+use Rattle.mv_ledger.specs.declared.loading.LoadError.{LoadError}
+use Rattle.mv_ledger.specs.declared.loading.LoadError.TheVariants.{Head as NoHead, Module as NoModule, Link as NoLink, Body as NoBody, Tally as NoTally, Memory}
+use Rattle.mv_ledger.specs.declared.loading.head.Head.{Head}
+use Rattle.mv_ledger.specs.declared.tallies.Tally.{Tally}
+use Rattle.mv_ledger.specs.Asking.{offers_of}
+use Rattle.mv_ledger.specs.Parts.BodyParts.{form_of, tally_from, storage_into}
+use Rattle.mv_ledger.specs.Counting.Kept.{IsAscending}
+use Rattle.mv_ledger.specs.Loading.{AreLinked}
+use Rattle.mv_ledger.specs.Payloads.{offer_from}
+use Rattle.mv_ledger.specs.Publishing.{AllPass, FailsAmong}
+use Rattle.mv_ledger.specs.SavedText.{Form, First, Second, tally_text, tally_fits, storage_text}
+use Rattle.mv_ledger.specs.View.{AreCountable, all_of, tallied, AreScarce, IsNamed}
+
+-- why bytes are not loaded where a part of them is refused
+abbrev pub reason_of : LoadError → Refusal → LoadError
+reason_of reason (Phase phase) = reason
+reason_of reason NoMemory = Memory
+
+-- ---- the head
+
+-- how a text begins
+pub record SavedHead : Type 0 where
+  pub form : Form
+  pub runs : ℕ
+  pub offers : List Offer
+
+-- the form of this byte
+abbrev pub form_by : ℕ → List ℕ → Read Form
+form_by b bytes = cond (b == 0x31) (Some (First, bytes)) (cond (b == 0x32) (Some (Second, bytes)) None)
+
+-- the form whose byte stands at the front
+abbrev pub form_from : List ℕ → Read Form
+form_from bytes = byte_from bytes >>= λ b. form_by b.0 b.1
+
+-- the three bytes that each text begins with
+abbrev pub marks_from : List ℕ → Option (List ℕ)
+marks_from bytes = do
+  m ← mark_from 0x4D bytes
+  v ← mark_from 0x56 m
+  mark_from 0x4C v
+
+-- these bytes, the form, the runs had, and the modules with their certificates
+abbrev pub head_from : List ℕ → Read SavedHead
+head_from bytes = do
+  rest ← marks_from bytes
+  form ← form_from rest
+  runs ← number_from 4294967296 form.1
+  offers ← counted_from 4096 offer_from runs.1
+  Some (record { form = form.0; runs = runs.0; offers = offers.0 }, offers.1)
+
+-- the beginning that was read
+abbrev pub head_of : Head → SavedHead
+head_of h = record { form = form_of h.form; runs = h.runs; offers = offers_of h.offers.items }
+
+-- the bytes begin with this head, and this is what is left of them
+pub record BeginsWith (bytes : List ℕ) (head : SavedHead) (rest : List ℕ) : Type 0 where
+  pub are : AreBytes bytes
+  pub begins : head_from bytes ≡ Some (head, rest)
+
+-- ---- the modules
+
+-- The offers pass and are linked, as these modules, and there is a tally of each of their structs with neither copy nor drop.
+-- Nothing is counted in the counters, which have room for each of those structs.
+pub record AreJoined (offers : List Offer) (published : List PublishedModule) (tallies : List (List Tally)) (counters : List (List Count)) : Type 0 where
+  pub passed : AllPass offers published
+  pub linked : AreLinked published
+  pub store : IsStore published
+  pub placed : length tallies ≡ length published
+  pub scarce : AreScarce (tables_in published) tallies
+  pub named : All (IsNamed (tables_in published)) (all_of tallies)
+  pub tallied : map (λ t. t.struct) (map (tallied (tables_in published)) (all_of tallies)) ≡ scarce_structs (tables_in published)
+  pub clear : IsClear counters
+  pub countable : AreCountable counters tallies
+
+-- what modules have that joined so far
+abbrev pub IsJoined : List PublishedModule → List (List Tally) → List (List Count) → Type 0
+IsJoined published tallies counters = (offers : List Offer) × AreJoined offers published tallies counters
+
+-- one of the offers fails a phase, or they pass and are not linked
+abbrev pub AreNotJoined : List Offer → LoadError → Type 0
+AreNotJoined offers NoModule = (phase : ℕ) × FailsAmong offers phase
+AreNotJoined offers NoLink = (published : List PublishedModule) × AllPass offers published × ¬ AreLinked published
+AreNotJoined offers Memory = ⊤
+AreNotJoined offers NoHead = ⊥
+AreNotJoined offers NoBody = ⊥
+AreNotJoined offers NoTally = ⊥
+
+-- ---- what follows the modules
+
+-- the counts of so many tallies, and what is stored
+abbrev pub body_from : Form → List Module → ℕ → List ℕ → Read (List (ℕ × ℕ) × FlatStorage)
+body_from form modules count bytes = do
+  counts ← entries_from (tally_from form) count bytes
+  stored ← storage_into modules form [] counts.1
+  Some ((counts.0, stored.0), stored.1)
+
+-- no such thing stands there with nothing after it
+abbrev pub IsNoBody : Form → List Module → ℕ → List ℕ → Type 0
+IsNoBody form modules count bytes = (body : List (ℕ × ℕ) × FlatStorage) → body_from form modules count bytes ≡ Some (body, []) → ⊥
+
+-- The bytes are what follows the modules in a ledger's text: the tallies can be written, and each stored value is one of its
+-- key's struct, which has key, by strictly ascending key.
+pub record IsBody (form : Form) (modules : List Module) (bytes : List ℕ) (tallies : List Tallied) (storage : Storage) : Type 0 where
+  pub text : bytes ≡ flat_map (tally_text form) tallies ++ storage_text form modules storage
+  pub counts : IsTrue (list_all (tally_fits form) tallies)
+  pub ascending : IsAscending storage
+  pub typed : IsTrue (is_fine_storage modules storage)
+  pub few : length storage < 2 ^ 64
+
+-- what a tally counts
+abbrev pub counted_by : Tallied → ℕ × ℕ
+counted_by t = (t.packs, t.unpacks)
+
+-- each such text is read
+abbrev pub EachBodyIsRead : Type 0
+EachBodyIsRead =
+    (form : Form) (published : List PublishedModule) (bytes : List ℕ) (tallies : List Tallied) (storage : Storage) → IsStore published → length published ≤ 65536
+    → IsBody form (tables_in published) bytes tallies storage
+    → body_from form (tables_in published) (length tallies) bytes ≡ Some ((map counted_by tallies, flat_storage storage), [])
+
+-- and what is read is such a text
+abbrev pub EachReadIsBody : Type 0
+EachReadIsBody =
+    (form : Form) (published : List PublishedModule) (bytes : List ℕ) (tallies : List Tallied) (stored : FlatStorage) → IsStore published → AreBytes bytes → length stored < 2 ^ 64
+    → body_from form (tables_in published) (length tallies) bytes ≡ Some ((map counted_by tallies, stored), [])
+    → (storage : Storage) × ((stored ≡ flat_storage storage) × IsBody form (tables_in published) bytes tallies storage)
+
+-- ---- the tallies against what is stored
+
+-- of each struct no more values were made than so many runs can have made, and as many are stored, at any depth, as were made
+-- and not taken apart
+abbrev pub AreCounted : ℕ → Storage → List Tallied → Type 0
+AreCounted runs storage tallies = AllByRecursion (λ t. (t.packs ≤ 10000000 * runs) × (count storage t.struct + t.unpacks ≡ t.packs)) tallies
