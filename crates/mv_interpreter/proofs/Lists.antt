@@ -1,5 +1,5 @@
 -- Lists: an element at a place, a list the other way round, and places up to the last one.
-pub use Rattle.mv_linker.proofs.Linkable.{at-all as All-at, mapped-at as mapped_at}
+pub use Rattle.mv_linker.proofs.LinkedCode.Linkable.{at-all as All-at, mapped-at as mapped_at}
 use Rattle.std.proofs.Common.{◌≡◌, ℕ, ◌<◌, ◌≤◌, Bool, true, false, ◌⊎◌, inl, inr, List, [], ◌∷◌, ◌++◌, map, reverse, refl, sym, ap, ◌∙◌, arith, ltb}
 use Rattle.std.proofs.lemmas.Bool.{ltb-true, ltb-false}
 use Rattle.std.proofs.lemmas.List.{reverse-append, map-append}

@@ -82,7 +82,8 @@ pub record Found {A : Type 0} (p : A → Bool) (xs : List A) (k : ℕ) : Type 0 
   pub at : slice_get xs k ≡ Some entry
   pub passes : p entry ≡ true
 
-found_step : {A : Type 0} (p : A → Bool) (y : A) (ys : List A) (k : ℕ) (b : Bool) (o : Option ℕ) → p y ≡ b → ((j : ℕ) → o ≡ Some j → Found p ys j) → cond b (Some 0) (option_map suc o) ≡ Some k → Found p (y ∷ ys) k
+found_step : {A : Type 0} (p : A → Bool) (y : A) (ys : List A) (k : ℕ) (b : Bool) (o : Option ℕ) → p y ≡ b → ((j : ℕ) → o ≡ Some j → Found p ys j) → cond b (Some 0) (option_map suc o) ≡ Some k
+    → Found p (y ∷ ys) k
 found_step p y ys k true o q rest e = record { entry = y; at = ap (slice_get (y ∷ ys)) (sym (same_Some 0 k e)); passes = q }
 found_step p y ys k false None q rest e = absurd (none-some k e)
 found_step p y ys k false (Some j) q rest e =
@@ -98,7 +99,8 @@ pub place_below : {A : Type 0} (p : A → Bool) (xs : List A) (k : ℕ) → find
 place_below p xs k e = let f = found_at p xs k e in slice_get_within xs k f.entry f.at
 
 -- none before it passes
-first_step : {A : Type 0} (p : A → Bool) (x y : A) (xs : List A) (b : Bool) (o : Option ℕ) → p x ≡ b → ((i j : ℕ) → o ≡ Some i → j < i → slice_get xs j ≡ Some y → ⊥) → (k j : ℕ) → cond b (Some 0) (option_map suc o) ≡ Some k → j < k
+first_step : {A : Type 0} (p : A → Bool) (x y : A) (xs : List A) (b : Bool) (o : Option ℕ) → p x ≡ b → ((i j : ℕ) → o ≡ Some i → j < i → slice_get xs j ≡ Some y → ⊥) → (k j : ℕ) → cond b (Some 0)
+    (option_map suc o) ≡ Some k → j < k
     → slice_get (x ∷ xs) j ≡ Some y → p y ≡ true → ⊥
 first_step p x y xs true o q rest k j e l at passes = let zero_is : 0 ≡ k = same_Some 0 k e in omega (arith, l, zero_is)
 first_step p x y xs false None q rest k j e l at passes = none-some k e
@@ -112,7 +114,8 @@ found_first p [] k e j y l at passes = none-some k e
 found_first p (x ∷ xs) k e j y l at passes = first_step p x y xs (p x) (find_index p xs) refl (λ i j f l at. found_first p xs i f j y l at passes) k j e l at passes
 
 -- the first that passes is at k, if it passes and none before does
-pub find_first : {A : Type 0} (p : A → Bool) (xs : List A) (k : ℕ) (x : A) → slice_get xs k ≡ Some x → p x ≡ true → ((j : ℕ) (y : A) → j < k → slice_get xs j ≡ Some y → p y ≡ true → ⊥) → find_index p xs ≡ Some k
+pub find_first : {A : Type 0} (p : A → Bool) (xs : List A) (k : ℕ) (x : A) → slice_get xs k ≡ Some x → p x ≡ true → ((j : ℕ) (y : A) → j < k → slice_get xs j ≡ Some y → p y ≡ true → ⊥)
+    → find_index p xs ≡ Some k
 find_first p [] k x e h never = absurd (none-some x e)
 find_first p (y ∷ ys) zero x e h never =
     ap (λ b. cond b (Some 0) (option_map suc (find_index p ys))) (subst (λ z. p z ≡ true) (sym (same_Some y x e)) h)
@@ -136,7 +139,8 @@ differ_at same (z ∷ zs) zero (suc k) x y h l e g q =
 differ_at same (z ∷ zs) (suc j) (suc k) x y h l e g q = differ_at same zs j k x y (second_so (not (list_any (same z) zs)) (all_differ same zs) h) (omega (arith, l)) e g q
 
 -- entries that the test calls one are at one place
-pub one_place : {A : Type 0} (same : A → A → Bool) (xs : List A) (j k : ℕ) (x y : A) → all_differ same xs ≡ true → slice_get xs j ≡ Some x → slice_get xs k ≡ Some y → same x y ≡ true → same y x ≡ true → j ≡ k
+pub one_place : {A : Type 0} (same : A → A → Bool) (xs : List A) (j k : ℕ) (x y : A) → all_differ same xs ≡ true → slice_get xs j ≡ Some x → slice_get xs k ≡ Some y → same x y ≡ true → same y x ≡ true
+    → j ≡ k
 one_place same xs j k x y h e g q r =
     elim (cases_order j k) [ inl p ↦ p | inr (inl l) ↦ absurd (differ_at same xs j k x y h l e g q) | inr (inr l) ↦ absurd (differ_at same xs k j y x h l g e r) ]
 
@@ -160,7 +164,8 @@ pub record Kept {A : Type 0} (p : A → Bool) (xs : List A) (x : A) : Type 0 whe
   pub place : ℕ
   pub at : slice_get xs place ≡ Some x
 
-kept_back : {A : Type 0} (p : A → Bool) (y x : A) (ys kept : List A) (b : Bool) → p y ≡ b → ((i : ℕ) → slice_get kept i ≡ Some x → Kept p ys x) → (j : ℕ) → slice_get (cond b (y ∷ kept) kept) j ≡ Some x → Kept p (y ∷ ys) x
+kept_back : {A : Type 0} (p : A → Bool) (y x : A) (ys kept : List A) (b : Bool) → p y ≡ b → ((i : ℕ) → slice_get kept i ≡ Some x → Kept p ys x) → (j : ℕ)
+    → slice_get (cond b (y ∷ kept) kept) j ≡ Some x → Kept p (y ∷ ys) x
 kept_back p y x ys kept true q rest zero e = record { passes = subst (λ z. p z ≡ true) (same_Some y x e) q; place = 0; at = e }
 kept_back p y x ys kept true q rest (suc j) e =
     let r = rest j e in
@@ -190,7 +195,8 @@ pub record Made {A B : Type 0} (f : A → Option B) (xs : List A) (y : B) : Type
   pub at : slice_get xs place ≡ Some entry
   pub makes : f entry ≡ Some y
 
-made_back : {A B : Type 0} (f : A → Option B) (z : A) (zs : List A) (made : List B) (y : B) (o : Option B) → f z ≡ o → ((i : ℕ) → slice_get made i ≡ Some y → Made f zs y) → (j : ℕ) → slice_get (cons_option o made) j ≡ Some y → Made f (z ∷ zs) y
+made_back : {A B : Type 0} (f : A → Option B) (z : A) (zs : List A) (made : List B) (y : B) (o : Option B) → f z ≡ o → ((i : ℕ) → slice_get made i ≡ Some y → Made f zs y) → (j : ℕ)
+    → slice_get (cons_option o made) j ≡ Some y → Made f (z ∷ zs) y
 made_back f z zs made y None q rest j e =
     let r = rest j e in
     record { entry = r.entry; place = suc r.place; at = r.at; makes = r.makes }

@@ -1,57 +1,21 @@
-pub mod Adding
-pub mod Members
-pub mod Upgraded
-pub mod Resolving
-pub mod Outcomes
-pub mod StillThere
-pub mod TagTests
-pub mod TypeTests
-pub mod Compatible
-pub mod Empty
-pub mod Scopes
-pub mod Keyed
-pub mod ListTests
-pub mod Depends
+-- The proofs of the store and of phase 13. Of general use are Found (entries of lists by their places), ListTests, Outcomes,
+-- NameLemmas and Members (modules by name, and among others), OwnDefinitions, TagTests and TypeTests (types by names).
+-- The rooms, each with an index at its head:
+--   Joining      a bundle joins a store
+--   Cycles       rule f, and who depends on whom
+--   StructSizes  rule g
+--   LinkedCode   the code that stands for a module's
+--   Kept         what else the store keeps
 pub mod Found
-pub mod Graphs
+pub mod ListTests
+pub mod Outcomes
 pub mod NameLemmas
 pub mod OwnDefinitions
-pub mod Rounds
-pub mod SizesStay
-pub mod Totals
-pub mod JoinedOrder
-pub mod JoinedSizes
-pub mod Assembling
-pub mod Joined
-pub mod JoinedTargets
-pub mod DependencyLemmas
-pub mod DependenciesStay
-pub mod ReachedLemmas
-pub mod FunctionLemmas
-pub mod HandleLemmas
-pub mod TopLemmas
-pub mod LinkLemmas
-pub mod SlotLemmas
-pub mod WidthLemmas
-pub mod Calls
-pub mod CodeStays
-pub mod HandlesStay
-pub mod JoinedCodes
-pub mod Bundled
-pub mod HandleDefinitions
-pub mod WithAt
-pub mod NamerLemmas
-pub mod RelinkingLemmas
-pub mod StoredCodes
-pub mod DependantLemmas
-pub mod Linkable
-pub mod PlacedCodes
-pub mod Joins
-pub mod InterfaceLemmas
-pub mod Constants
-pub mod SpanLemmas
-pub mod IdentifierLemmas
-pub mod StructNames
-pub mod ShapeLemmas
-pub mod StoredShapes
-pub mod IndexLemmas
+pub mod Members
+pub mod TagTests
+pub mod TypeTests
+pub mod Joining
+pub mod Cycles
+pub mod StructSizes
+pub mod LinkedCode
+pub mod Kept

@@ -208,11 +208,13 @@ bundle-there ms (n ∷ ns) x h (inl e) =
 bundle-there ms (n ∷ ns) x h (inr a) = bundle-there (with_table ms n) ns x (rest_differ n ns h) a
 
 -- each module there is of the bundle, or an old one that none of the bundle replaces
-pub among-result : (ms ns : List Module) (x : Module) → all_differ have_one_name ms ≡ true → Among (with_tables ms ns) x → Among ns x ⊎ (Among ms x × ((n : Module) → Among ns n → have_one_name n x ≡ false))
+pub among-result : (ms ns : List Module) (x : Module) → all_differ have_one_name ms ≡ true → Among (with_tables ms ns) x
+    → Among ns x ⊎ (Among ms x × ((n : Module) → Among ns n → have_one_name n x ≡ false))
 among-result ms [] x h a = inr (a, λ n b. absurd b)
 among-result ms (n ∷ ns) x h a = step (among-result (with_table ms n) ns x (differ-added ms n h) a)
   where
-    deeper : (Among (with_table ms n) x) → ((k : Module) → Among ns k → have_one_name k x ≡ false) → (x ≡ n) ⊎ (Among ms x × (have_one_name n x ≡ false)) → Among (n ∷ ns) x ⊎ (Among ms x × ((k : Module) → Among (n ∷ ns) k → have_one_name k x ≡ false))
+    deeper : (Among (with_table ms n) x) → ((k : Module) → Among ns k → have_one_name k x ≡ false) → (x ≡ n) ⊎ (Among ms x × (have_one_name n x ≡ false))
+        → Among (n ∷ ns) x ⊎ (Among ms x × ((k : Module) → Among (n ∷ ns) k → have_one_name k x ≡ false))
     deeper b rest (inl e) = inl (inl e)
     deeper b rest (inr r) = inr (r.0, others)
       where
@@ -220,7 +222,8 @@ among-result ms (n ∷ ns) x h a = step (among-result (with_table ms n) ns x (di
         others k (inl e) = ap (λ z. have_one_name z x) e ∙ r.1
         others k (inr c) = rest k c
 
-    step : Among ns x ⊎ (Among (with_table ms n) x × ((k : Module) → Among ns k → have_one_name k x ≡ false)) → Among (n ∷ ns) x ⊎ (Among ms x × ((k : Module) → Among (n ∷ ns) k → have_one_name k x ≡ false))
+    step : Among ns x ⊎ (Among (with_table ms n) x × ((k : Module) → Among ns k → have_one_name k x ≡ false))
+        → Among (n ∷ ns) x ⊎ (Among ms x × ((k : Module) → Among (n ∷ ns) k → have_one_name k x ≡ false))
     step (inl b) = inl (inr b)
     step (inr r) = deeper r.0 r.1 (among-added ms n x h r.0)
 
@@ -232,7 +235,8 @@ follower old ns once apart fits k m e = step (cases_Bool (list_any (is_module k)
     at : Among old m × (own_name m ≡ Some k)
     at = named-so old k m e
 
-    step : (list_any (is_module k) ns ≡ true) ⊎ (list_any (is_module k) ns ≡ false) → (n : Module) × (module_named (with_tables old ns) k ≡ Some n) × ((n ≡ m) ⊎ (Among ns n × (may_replace m n ≡ true)))
+    step : (list_any (is_module k) ns ≡ true) ⊎ (list_any (is_module k) ns ≡ false)
+        → (n : Module) × (module_named (with_tables old ns) k ≡ Some n) × ((n ≡ m) ⊎ (Among ns n × (may_replace m n ≡ true)))
     step (inl h) =
         let r = any-among (is_module k) ns h in
         let own : own_name r.0 ≡ Some k = is_module-is k r.0 r.2 in

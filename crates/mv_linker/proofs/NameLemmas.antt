@@ -79,7 +79,8 @@ module_place-is modules name k e =
     let f = found_at (is_module name) modules k e in
     (f.entry, f.at, is_module-is name f.entry f.passes)
 
-pub module_place-from : (modules : List Module) (name : ModuleName) (k : ℕ) (m : Module) → all_differ have_one_name modules ≡ true → slice_get modules k ≡ Some m → own_name m ≡ Some name → module_place modules name ≡ Some k
+pub module_place-from : (modules : List Module) (name : ModuleName) (k : ℕ) (m : Module) → all_differ have_one_name modules ≡ true → slice_get modules k ≡ Some m → own_name m ≡ Some name
+    → module_place modules name ≡ Some k
 module_place-from modules name k m once e own =
     find_first (is_module name) modules k m e (is_module-from name m own)
     (λ j y l g q. differ_at have_one_name modules j k y m once l g e (have_one_name-from y m name (is_module-is name y q) own))
@@ -124,6 +125,7 @@ depends_on-is m n h =
     not_so true p = sym p
     not_so false p = refl
 
-pub depends_on-from : (m n : Module) (name : ModuleName) (h : ℕ) → h < length m.module_handles → module_name m h ≡ Some name → own_name n ≡ Some name → have_one_name m n ≡ false → depends_on m n ≡ true
+pub depends_on-from : (m n : Module) (name : ModuleName) (h : ℕ) → h < length m.module_handles → module_name m h ≡ Some name → own_name n ≡ Some name → have_one_name m n ≡ false
+    → depends_on m n ≡ true
 depends_on-from m n name h low e own apart =
     and_from (not (have_one_name m n)) (names_module m n (length m.module_handles)) (ap not apart) (names_module-from m n name h (length m.module_handles) low e own)

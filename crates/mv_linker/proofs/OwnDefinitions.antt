@@ -74,7 +74,8 @@ defined_at home own (suc n) h defined e l = by_case (eqb h n) refl (λ l. define
     by_case : (b : Bool) → eqb h n ≡ b → (h < n → number_of h defined ≡ cond (home h == own) 1 0) → number_of h defined ≡ cond (home h == own) 1 0
     by_case true p ih =
         let same : h ≡ n = eqb-true h n p in
-        let here : count_by (λ d. d == n) defined ≡ cond (home n == own) 1 0 = eqb-true (count_by (λ d. d == n) defined) (cond (home n == own) 1 0) (first_so (count_by (λ d. d == n) defined == cond (home n == own) 1 0) (defined_once home own n defined) e) in
+        let here : count_by (λ d. d == n) defined ≡ cond (home n == own) 1 0 =
+        eqb-true (count_by (λ d. d == n) defined) (cond (home n == own) 1 0) (first_so (count_by (λ d. d == n) defined == cond (home n == own) 1 0) (defined_once home own n defined) e) in
         subst (λ (x : ℕ). number_of x defined ≡ cond (home x == own) 1 0) (sym same) (number_is n defined ∙ here)
     by_case false p ih = let far : h ≡ n → ⊥ = eqb-false h n p in ih (omega (arith, l, far))
 
@@ -115,7 +116,8 @@ module _ (m : Module) (bounds : InBounds m) where
       let name = there_below m.identifiers handle.0.name (second_so (below handle.0.address m.addresses) (below handle.0.name m.identifiers) fine) in
       (record { address = address.0; name = name.0 }, rw (handle.1, address.1, name.1) refl)
 
-  pub struct_name_by : (h : ℕ) (handle : StructHandle) (home : ModuleName) (name : List ℕ) → slice_get m.struct_handles h ≡ Some handle → module_name m handle.module ≡ Some home → slice_get m.identifiers handle.name ≡ Some name → struct_name m h ≡ Some (named_in home name)
+  pub struct_name_by : (h : ℕ) (handle : StructHandle) (home : ModuleName) (name : List ℕ) → slice_get m.struct_handles h ≡ Some handle → module_name m handle.module ≡ Some home
+      → slice_get m.identifiers handle.name ≡ Some name → struct_name m h ≡ Some (named_in home name)
   struct_name_by h handle home name p q r =
       then_found (slice_get m.struct_handles h) _ handle (Some (named_in home name)) p (then_found (module_name m handle.module) _ home (Some (named_in home name)) q (then_found (slice_get m.identifiers handle.name) _ name (Some (named_in home name)) r refl))
 
@@ -141,8 +143,10 @@ module _ (m : Module) (defined : WellDefined m) where
       let same : first ≡ second = same_Some first name e3 ∙ sym (same_Some second name g3) in
       let addresses : p ≡ q = ap (λ (z : ModuleName). z.address) same in
       let names : n ≡ o = ap (λ (z : ModuleName). z.name) same in
-      let address_at : x.address ≡ y.address = one_place ◌==◌ m.addresses x.address y.address p q defined.addresses p_is q_is (subst (λ (z : ℕ). (p == z) ≡ true) addresses (eqb-same p)) (subst (λ (z : ℕ). (z == p) ≡ true) addresses (eqb-same p)) in
-      let name_at : x.name ≡ y.name = one_place bytes_eq m.identifiers x.name y.name n o defined.identifiers n_is o_is (subst (λ (z : List ℕ). bytes_eq n z ≡ true) names (bytes-same n)) (subst (λ (z : List ℕ). bytes_eq z n ≡ true) names (bytes-same n)) in
+      let address_at : x.address ≡ y.address =
+      one_place ◌==◌ m.addresses x.address y.address p q defined.addresses p_is q_is (subst (λ (z : ℕ). (p == z) ≡ true) addresses (eqb-same p)) (subst (λ (z : ℕ). (z == p) ≡ true) addresses (eqb-same p)) in
+      let name_at : x.name ≡ y.name =
+      one_place bytes_eq m.identifiers x.name y.name n o defined.identifiers n_is o_is (subst (λ (z : List ℕ). bytes_eq n z ≡ true) names (bytes-same n)) (subst (λ (z : List ℕ). bytes_eq z n ≡ true) names (bytes-same n)) in
       one_place (λ (a b : ModuleHandle). (a.address == b.address) && (a.name == b.name)) m.module_handles a b x y defined.module_handles x_is y_is
       (and_from _ _ (subst (λ (z : ℕ). (x.address == z) ≡ true) address_at (eqb-same x.address)) (subst (λ (z : ℕ). (x.name == z) ≡ true) name_at (eqb-same x.name)))
       (and_from _ _ (subst (λ (z : ℕ). (z == x.address) ≡ true) address_at (eqb-same x.address)) (subst (λ (z : ℕ). (z == x.name) ≡ true) name_at (eqb-same x.name)))))))))
@@ -160,7 +164,8 @@ module _ (m : Module) (defined : WellDefined m) where
       let homes : p ≡ q = ap (λ (z : StructName). z.home) same in
       let names : n ≡ o = ap (λ (z : StructName). z.name) same in
       let home_at : x.module ≡ y.module = one_module_handle x.module y.module p p_is (q_is ∙ ap (λ x. Some x) (sym homes)) in
-      let name_at : x.name ≡ y.name = one_place bytes_eq m.identifiers x.name y.name n o defined.identifiers n_is o_is (subst (λ (z : List ℕ). bytes_eq n z ≡ true) names (bytes-same n)) (subst (λ (z : List ℕ). bytes_eq z n ≡ true) names (bytes-same n)) in
+      let name_at : x.name ≡ y.name =
+      one_place bytes_eq m.identifiers x.name y.name n o defined.identifiers n_is o_is (subst (λ (z : List ℕ). bytes_eq n z ≡ true) names (bytes-same n)) (subst (λ (z : List ℕ). bytes_eq z n ≡ true) names (bytes-same n)) in
       one_place (λ (a b : StructHandle). (a.module == b.module) && (a.name == b.name)) m.struct_handles a b x y defined.struct_handles x_is y_is
       (and_from _ _ (subst (λ (z : ℕ). (x.module == z) ≡ true) home_at (eqb-same x.module)) (subst (λ (z : ℕ). (x.name == z) ≡ true) name_at (eqb-same x.name)))
       (and_from _ _ (subst (λ (z : ℕ). (z == x.module) ≡ true) home_at (eqb-same x.module)) (subst (λ (z : ℕ). (z == x.name) ≡ true) name_at (eqb-same x.name)))))))))
@@ -169,10 +174,12 @@ abbrev pub handle_of : StructDefinition → ℕ
 handle_of d = d.handle
 
 -- a definition's handle is of the own module
-pub own_handle : (m : Module) → WellDefined m → (i : ℕ) (d : StructDefinition) (handle : StructHandle) → slice_get m.structs i ≡ Some d → slice_get m.struct_handles d.handle ≡ Some handle → handle.module ≡ m.own
+pub own_handle : (m : Module) → WellDefined m → (i : ℕ) (d : StructDefinition) (handle : StructHandle) → slice_get m.structs i ≡ Some d → slice_get m.struct_handles d.handle ≡ Some handle
+    → handle.module ≡ m.own
 own_handle m defined i d handle at e =
     let listed : slice_get (map handle_of m.structs) i ≡ Some d.handle = slice_get-map handle_of m.structs i ∙ ap (option_map handle_of) at in
-    let of_own : struct_home m d.handle ≡ m.own = defined_own (struct_home m) m.own (length m.struct_handles) d.handle i (map handle_of m.structs) defined.structs (slice_get_within m.struct_handles d.handle handle e) listed in
+    let of_own : struct_home m d.handle ≡ m.own =
+    defined_own (struct_home m) m.own (length m.struct_handles) d.handle i (map handle_of m.structs) defined.structs (slice_get_within m.struct_handles d.handle handle e) listed in
     sym (ap (λ (x : Option StructHandle). option_map_or (λ (s : StructHandle). s.module) x 0) e) ∙ of_own
 
 -- a module owns the structs that it defines
@@ -190,7 +197,8 @@ struct_named_so None name e = absurd (both_ways false refl e)
 struct_named_so (Some own) name e = ap (λ x. Some x) (same_struct-is own name e)
 
 -- the first definition with a name is the one of its handle
-pub definition_place : (m : Module) (defined : WellDefined m) (name : StructName) (i : ℕ) (d : StructDefinition) → slice_get m.structs i ≡ Some d → struct_name m d.handle ≡ Some name → d.handle < length m.struct_handles → find_index (is_struct m name) m.structs ≡ Some i
+pub definition_place : (m : Module) (defined : WellDefined m) (name : StructName) (i : ℕ) (d : StructDefinition) → slice_get m.structs i ≡ Some d → struct_name m d.handle ≡ Some name
+    → d.handle < length m.struct_handles → find_index (is_struct m name) m.structs ≡ Some i
 definition_place m defined name i d d_at named small =
     let listed : slice_get (map handle_of m.structs) i ≡ Some d.handle = slice_get-map handle_of m.structs i ∙ ap (option_map handle_of) d_at in
     find_first (is_struct m name) m.structs i d d_at (ap (λ (x : Option StructName). option_map_or (λ own. same_struct own name) x false) named ∙ same_struct-same name)
@@ -202,7 +210,8 @@ definition_place m defined name i d d_at named small =
     omega (arith, l, same))
 
 -- the name of a definition of a module among others stands for it
-pub own-definition : (modules : List Module) (place : ℕ) (m : Module) → all_differ have_one_name modules ≡ true → slice_get modules place ≡ Some m → InBounds m → WellDefined m → (i : ℕ) (d : StructDefinition) → slice_get m.structs i ≡ Some d
+pub own-definition : (modules : List Module) (place : ℕ) (m : Module) → all_differ have_one_name modules ≡ true → slice_get modules place ≡ Some m → InBounds m → WellDefined m → (i : ℕ)
+    (d : StructDefinition) → slice_get m.structs i ≡ Some d
     → (name : StructName) × (name_of_struct m d ≡ Some name) × (definition_of modules name ≡ Some (m, d.fields)) × (find_index (is_struct m name) m.structs ≡ Some i)
 own-definition modules place m once home_at bounds defined i d d_at =
     let fine = each (struct_in m) m.structs i d bounds.structs d_at in
@@ -226,7 +235,8 @@ abbrev pub function_handle_of : FunctionDefinition → ℕ
 function_handle_of d = d.handle
 
 -- a function definition's handle is of the own module
-own_function : (m : Module) → WellDefined m → (i : ℕ) (d : FunctionDefinition) (handle : FunctionHandle) → slice_get m.functions i ≡ Some d → slice_get m.function_handles d.handle ≡ Some handle → handle.module ≡ m.own
+own_function : (m : Module) → WellDefined m → (i : ℕ) (d : FunctionDefinition) (handle : FunctionHandle) → slice_get m.functions i ≡ Some d → slice_get m.function_handles d.handle ≡ Some handle
+    → handle.module ≡ m.own
 own_function m defined i d handle at e =
     let listed : slice_get (map function_handle_of m.functions) i ≡ Some d.handle = slice_get-map function_handle_of m.functions i ∙ ap (option_map function_handle_of) at in
     let of_own : function_home m d.handle ≡ m.own =
@@ -234,7 +244,8 @@ own_function m defined i d handle at e =
     sym (ap (λ (x : Option FunctionHandle). option_map_or (λ (f : FunctionHandle). f.module) x 0) e) ∙ of_own
 
 -- two function definitions of one identifier are one
-one_function : (m : Module) → WellDefined m → (i j : ℕ) (d e : FunctionDefinition) (name : List ℕ) → slice_get m.functions i ≡ Some d → slice_get m.functions j ≡ Some e → name_of_function m d ≡ Some name → name_of_function m e ≡ Some name → j ≡ i
+one_function : (m : Module) → WellDefined m → (i j : ℕ) (d e : FunctionDefinition) (name : List ℕ) → slice_get m.functions i ≡ Some d → slice_get m.functions j ≡ Some e
+    → name_of_function m d ≡ Some name → name_of_function m e ≡ Some name → j ≡ i
 one_function m defined i j d e name d_at e_at d_named e_named =
     on_some (slice_get m.function_handles d.handle) (λ handle. slice_get m.identifiers handle.name) name d_named (λ x x_is x_named.
     on_some (slice_get m.function_handles e.handle) (λ handle. slice_get m.identifiers handle.name) name e_named (λ y y_is y_named.
@@ -255,7 +266,8 @@ function_named_so None name e = absurd (both_ways false refl e)
 function_named_so (Some own) name e = ap Some (sym ((bytes_eq-Decides name own).0 e))
 
 -- the first definition with an identifier is the one that has it
-pub function-at : (m : Module) → WellDefined m → (name : List ℕ) (i : ℕ) (d : FunctionDefinition) → slice_get m.functions i ≡ Some d → option_map_or (bytes_eq name) (name_of_function m d) false ≡ true → function_place m name ≡ Some i
+pub function-at : (m : Module) → WellDefined m → (name : List ℕ) (i : ℕ) (d : FunctionDefinition) → slice_get m.functions i ≡ Some d → option_map_or (bytes_eq name) (name_of_function m d) false ≡ true
+    → function_place m name ≡ Some i
 function-at m defined name i d d_at passes =
     find_first (λ d. option_map_or (bytes_eq name) (name_of_function m d) false) m.functions i d d_at passes
     (λ j e l e_at too.
@@ -263,7 +275,8 @@ function-at m defined name i d d_at passes =
     omega (arith, l, same))
 
 -- and that with a name is the one that has it
-pub struct-at : (m : Module) → WellDefined m → (name : StructName) (i : ℕ) (d : StructDefinition) → slice_get m.structs i ≡ Some d → is_struct m name d ≡ true → find_index (is_struct m name) m.structs ≡ Some i
+pub struct-at : (m : Module) → WellDefined m → (name : StructName) (i : ℕ) (d : StructDefinition) → slice_get m.structs i ≡ Some d → is_struct m name d ≡ true
+    → find_index (is_struct m name) m.structs ≡ Some i
 struct-at m defined name i d d_at passes =
     let named : struct_name m d.handle ≡ Some name = struct_named_so (name_of_struct m d) name passes in
     on_some (slice_get m.struct_handles d.handle) (λ handle. module_name m handle.module >>= λ home. slice_get m.identifiers handle.name >>= λ id. Some (named_in home id)) name named

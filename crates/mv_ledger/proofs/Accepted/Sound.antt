@@ -10,7 +10,7 @@ use Rattle.mv_machine.specs.Run.{RunOutcome, Returned, Aborted, Exhausted, Fault
 use Rattle.mv_machine.specs.Lines.{Reply, Published, Refused, Rejected, Returned as RanToEnd, Aborted as RanToAbort, Exhausted as RanOut, Told}
 use Rattle.mv_machine.specs.Ledger.{Offer, LedgerState, Request, RunRequest, Publish, Run, Show, Audit, BadRun, Bad, modules_of, empty_ledger, with_bundle, with_run, with_returned, admitted, attempted, settled, Answers}
 use Rattle.mv_linker.specs.Link.{IsStore, tables_in}
-use Rattle.mv_linker.proofs.Empty.{no_modules}
+use Rattle.mv_linker.proofs.Joining.Empty.{no_modules}
 use Rattle.mv_interpreter.specs.Typing.StateTyped.{StorageTyped}
 use Rattle.mv_interpreter.specs.Typing.Watched.{Faultless}
 use Rattle.mv_interpreter.proofs.Typing.Fine.{fine_storage, typed_is_fine}

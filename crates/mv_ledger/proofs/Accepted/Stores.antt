@@ -14,7 +14,7 @@ use Rattle.mv_certificate.specs.Certificate.{Certificate}
 use Rattle.mv_certificate.specs.CertificateText.{IsCertificateText}
 use Rattle.mv_machine.specs.Ledger.{Offer, LedgerState}
 use Rattle.mv_linker.specs.Link.{IsPublishable, IsStore, tables_in}
-use Rattle.mv_linker.proofs.Joined.{joined-store}
+use Rattle.mv_linker.proofs.Joining.Joined.{joined-store}
 use Rattle.mv_interpreter.specs.Typing.Accepted.{StoreAccepted}
 use Rattle.mv_interpreter.proofs.Guided.Published.{certificates_from, published_certified}
 use Rattle.mv_interpreter.proofs.Lists.{All-at}

@@ -18,7 +18,7 @@ use Rattle.mv_move_types.specs.Published.{PublishedModule, has_name_of, with_mod
 use Rattle.mv_linker.specs.Upgrades.{same_fields, same_struct_definition, structs_stay, function_stays, may_replace}
 use Rattle.mv_linker.specs.Link.{IsStore, tables_in, are_compatible}
 use Rattle.mv_linker.specs.Scarce.{is_scarce_struct}
-use Rattle.mv_linker.proofs.Upgraded.{same_abilities-is}
+use Rattle.mv_linker.proofs.Joining.Upgraded.{same_abilities-is}
 use Rattle.mv_linker.proofs.NameLemmas.{same_module-same, is_module-is}
 use Rattle.mv_linker.proofs.Found.{each, on_some, then_found}
 use Rattle.mv_interpreter.specs.Owned.{IsOwn}

@@ -16,7 +16,7 @@ use Rattle.mv_ledger.specs.Tallying.{fresh_tally, tallies_at, with_placed, AreWi
 use Rattle.mv_ledger.proofs.Runs.TalliesByModule.{lists}
 use Rattle.mv_linker.specs.declared.New.{New}
 use Rattle.mv_linker.specs.News.{published_one, published_of}
-use Rattle.mv_linker.proofs.WithAt.{set-with_at, push-with_at, length-with_at}
+use Rattle.mv_linker.proofs.Kept.WithAt.{set-with_at, push-with_at, length-with_at}
 use Rattle.mv_linker.specs.Stored.{with_at}
 use Rattle.mv_ledger.proofs.Bundles.Places.{place-found, is_there, spot, spot-below, had}
 

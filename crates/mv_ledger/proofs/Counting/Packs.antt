@@ -24,7 +24,7 @@ use Rattle.mv_linker.specs.Links.{struct_is_there, structs_are_there}
 use Rattle.mv_machine.specs.Step.{Here, OwnStruct}
 use Rattle.mv_machine.specs.StepStructs.{own_struct}
 use Rattle.mv_machine.proofs.Laws.{on_bind, on_need}
-use Rattle.mv_linker.proofs.Upgraded.{same_abilities-is}
+use Rattle.mv_linker.proofs.Joining.Upgraded.{same_abilities-is}
 use Rattle.mv_linker.proofs.Found.{each}
 use Rattle.mv_ledger.specs.Counting.Kept.{Allows, IsKept, AreKept, StackIsKept}
 use Rattle.mv_ledger.specs.Counting.Fine.{IsAbleStore}

@@ -19,7 +19,7 @@ use Rattle.mv_move_types.specs.AbilitySets.{same_abilities, leaf_abilities, refe
 use Rattle.mv_machine.specs.Typing.{abilities_of, plain_tag, tag_of, has_tag, value_type_tag, tag_named}
 use Rattle.mv_machine.proofs.Laws.{on_bind, on_need}
 use Rattle.mv_abilities.specs.Abilities.{value_type_abilities, token_abilities}
-use Rattle.mv_linker.proofs.Upgraded.{same_abilities-is}
+use Rattle.mv_linker.proofs.Joining.Upgraded.{same_abilities-is}
 use Rattle.mv_linker.proofs.TagTests.{same_tag-is}
 use Rattle.mv_machine.proofs.Binds.{on_some, WhereOk, map-is}
 

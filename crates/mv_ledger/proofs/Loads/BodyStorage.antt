@@ -32,7 +32,7 @@ use Rattle.mv_storage.proofs.Maps.{entries_from_words}
 use Rattle.mv_linker.specs.Link.{IsStore, IsPublishable, tables_in}
 use Rattle.mv_linker.specs.Links.{struct_is_small}
 use Rattle.mv_linker.proofs.Found.{each}
-use Rattle.mv_linker.proofs.Scopes.{within_tables}
+use Rattle.mv_linker.proofs.Joining.Scopes.{within_tables}
 use Rattle.mv_ledger.specs.Counting.Kept.{IsAscending}
 use Rattle.mv_ledger.specs.Layouts.{is_keyed}
 use Rattle.mv_ledger.specs.Parts.BodyParts.{with_entry, storage_into}

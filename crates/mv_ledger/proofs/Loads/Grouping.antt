@@ -16,7 +16,7 @@ use Rattle.mv_linker.specs.declared.New.{New}
 use Rattle.mv_linker.specs.Link.{tables_in}
 use Rattle.mv_linker.specs.Links.{module_is_there, modules_are_there}
 use Rattle.mv_linker.specs.News.{published_one, published_of}
-use Rattle.mv_linker.proofs.Keyed.{position-find_index}
+use Rattle.mv_linker.proofs.Kept.Keyed.{position-find_index}
 use Rattle.mv_linker.proofs.ListTests.{list_all-maps}
 use Rattle.mv_ledger.specs.Groups.{with_next, IsNeeded, HandleHolds, HandlesHold, NameThemselves, IsGroup}
 use Rattle.mv_ledger.proofs.Bundles.Places.{spot_of, found}

@@ -27,9 +27,9 @@ use Rattle.mv_linker.specs.Link.{IsStore, tables_in}
 use Rattle.mv_linker.specs.Links.{struct_is_small}
 use Rattle.mv_linker.specs.Shapes.{AreFieldsAt, AreParts, IsMadeOf, IsPart, has_key, is_of_value}
 use Rattle.mv_linker.specs.Shapes.{is_keyed as keyed_in}
-use Rattle.mv_linker.proofs.Assembling.{passed-among}
+use Rattle.mv_linker.proofs.Joining.Assembling.{passed-among}
 use Rattle.mv_linker.proofs.Found.{on_some, then_found, each}
-use Rattle.mv_linker.proofs.HandleDefinitions.{name-found}
+use Rattle.mv_linker.proofs.Kept.HandleDefinitions.{name-found}
 use Rattle.mv_linker.proofs.Members.{among-at}
 use Rattle.mv_linker.proofs.OwnDefinitions.{own-definition}
 use Rattle.mv_interpreter.proofs.Typing.Callees.{on_found}

@@ -21,7 +21,7 @@ use Rattle.mv_machine.specs.Value.{Value, Values, Leaf, Struct, Ref, NoMore, Mor
 use Rattle.mv_machine.specs.Lines.{Tallied, address_text, struct_text, key_text, leaf_text, value_text, rest_text}
 use Rattle.mv_linker.specs.Link.{IsPublishable, IsStore, tables_in}
 use Rattle.mv_linker.proofs.Found.{each}
-use Rattle.mv_linker.proofs.Linkable.{at-all, mapped-at}
+use Rattle.mv_linker.proofs.LinkedCode.Linkable.{at-all, mapped-at}
 use Rattle.mv_interpreter.specs.Flat.Agreement.{nameless}
 use Rattle.mv_ledger.specs.declared.tallies.Tally.{Tally}
 use Rattle.mv_ledger.specs.View.{tallied}

@@ -21,7 +21,7 @@ use Rattle.mv_linker.specs.declared.shapes.Part.{Part}
 use Rattle.mv_linker.specs.declared.shapes.Part.TheVariants.{Leaf as LeafPart, Struct as StructPart, Nothing}
 use Rattle.mv_linker.specs.Link.{IsStore, tables_in}
 use Rattle.mv_linker.specs.Shapes.{AreFieldsAt, AreParts, IsMadeOf, IsPart, is_of_value}
-use Rattle.mv_linker.proofs.HandleDefinitions.{name-found}
+use Rattle.mv_linker.proofs.Kept.HandleDefinitions.{name-found}
 use Rattle.mv_ledger.specs.Showing.{PutsText, fields_text, key_value_text}
 use Rattle.mv_ledger.specs.ValueParts.{part_from, parts_from, value_at}
 use Rattle.mv_ledger.proofs.Shows.Fields.{puts_some}

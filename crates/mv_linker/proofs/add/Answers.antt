@@ -8,7 +8,7 @@ use Rattle.mv_linker.specs.Kept.{AreKeyed, published_under}
 use Rattle.mv_linker.specs.Link.{IsStore, tables_in}
 use Rattle.mv_linker.specs.Namers.{AreNamed, AreNamers}
 use Rattle.mv_linker.specs.Stored.{AreCodesOf, AreDependenciesOf, with_codes, with_dependencies}
-use Rattle.mv_linker.proofs.NamerLemmas.{namers-grow, namers-join}
+use Rattle.mv_linker.proofs.Cycles.NamerLemmas.{namers-grow, namers-join}
 use Rattle.mv_linker.proofs.add.Goals as goal
 
 -- what a store keeps holds together
@@ -17,7 +17,8 @@ IsWhole entries codes kept pairs =
     IsStore (published_under entries) × AreKeyed entries × AreCodesOf (tables_in (published_under entries)) codes × AreDependenciesOf (tables_in (published_under entries)) kept × AreNamers pairs kept
 
 -- as before, with other pairs
-still : (entries was_entries : List (Name × Texts)) (codes was_codes : List Code) (kept was_kept : List Dependencies) (pairs was : List (ℕ × ℕ)) → entries ≡ was_entries → codes ≡ was_codes → kept ≡ was_kept
+still : (entries was_entries : List (Name × Texts)) (codes was_codes : List Code) (kept was_kept : List Dependencies) (pairs was : List (ℕ × ℕ)) → entries ≡ was_entries → codes ≡ was_codes
+    → kept ≡ was_kept
     → AreNamers pairs was_kept → IsWhole was_entries was_codes was_kept was → IsWhole entries codes kept pairs
 still entries was_entries codes was_codes kept was_kept pairs was e c k namers whole =
     subst (λ l. IsWhole l codes kept pairs) (sym e)

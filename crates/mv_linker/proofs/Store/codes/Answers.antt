@@ -3,7 +3,7 @@ use Rattle.mv_linker.specs.Code.{operations}
 use Rattle.mv_linker.specs.Kept.{published_under}
 use Rattle.mv_linker.specs.Link.{tables_in}
 use Rattle.mv_linker.specs.Linked.{program_of}
-use Rattle.mv_linker.proofs.StoredCodes.{program-is}
+use Rattle.mv_linker.proofs.LinkedCode.StoredCodes.{program-is}
 use Rattle.mv_linker.proofs.Store.codes.Goals as goal
 
 pub returns-clause-code : goal.returns-clause-code

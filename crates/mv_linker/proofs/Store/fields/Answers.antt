@@ -5,8 +5,8 @@ use Rattle.mv_linker.specs.declared.shapes.Part.{Part}
 use Rattle.mv_linker.specs.Link.{tables_in}
 use Rattle.mv_linker.specs.Shapes.{AreFieldsAt}
 use Rattle.mv_linker.specs.Stored.{AreCodesOf}
-use Rattle.mv_linker.proofs.StoredCodes.{got}
-use Rattle.mv_linker.proofs.StoredShapes.{fields-known, no_fields}
+use Rattle.mv_linker.proofs.LinkedCode.StoredCodes.{got}
+use Rattle.mv_linker.proofs.Kept.StoredShapes.{fields-known, no_fields}
 use Rattle.mv_linker.proofs.Store.fields.Goals as goal
 
 pub returns-in_err-code-clause-fields : goal.returns-in_err-code-clause-fields
@@ -22,6 +22,7 @@ returns-clause-fields c =
     let codes = c.self.inside.codes.items in
     let code = c.in_ok-code.code.now in
     let are : AreCodesOf (tables_in c.args.self.now) codes = subst (λ (s : List PublishedModule). AreCodesOf (tables_in s) codes) c.self.view_is c.self.invariant.2 in
-    let at : slice_get codes c.args.d.place ≡ Some code = sym (ap₂ slice_get c.deref.ensures.value c.from.ensures) ∙ sym (got c.deref.result.now c.from.result (Some c.in_ok-code.code) c.in_ok-code.ensures.lookup) in
+    let at : slice_get codes c.args.d.place ≡ Some code =
+    sym (ap₂ slice_get c.deref.ensures.value c.from.ensures) ∙ sym (got c.deref.result.now c.from.result (Some c.in_ok-code.code) c.in_ok-code.ensures.lookup) in
     subst (λ (o : Option (List Part)). AreFieldsAt (tables_in c.args.self.now) c.args.d o) (sym (c.get-2.ensures ∙ ap (slice_get code.shapes) c.from-2.ensures))
     (fields-known (tables_in c.args.self.now) codes are c.args.d code at)

@@ -2,7 +2,7 @@ use Rattle.std.proofs.Common.{refl, ap, ◌∙◌}
 use Rattle.mv_move_types.specs.Names.{ModuleName}
 use Rattle.mv_move_types.specs.Named.{module_place}
 use Rattle.mv_linker.specs.Link.{tables_in}
-use Rattle.mv_linker.proofs.Keyed.{place-keyed}
+use Rattle.mv_linker.proofs.Kept.Keyed.{place-keyed}
 use Rattle.mv_linker.proofs.Store.find.Goals as goal
 
 pub returns : goal.returns

@@ -12,12 +12,12 @@ use Rattle.mv_linker.specs.declared.interfaces.Interface.{Interface}
 use Rattle.mv_linker.specs.Interfaces.{AreInterfacesOf}
 use Rattle.mv_linker.specs.Link.{IsStore, tables_in}
 use Rattle.mv_linker.specs.Stored.{AreCodesOf}
-use Rattle.mv_linker.proofs.Assembling.{passed-among}
+use Rattle.mv_linker.proofs.Joining.Assembling.{passed-among}
 use Rattle.mv_linker.proofs.Found.{there_at, place_below}
-use Rattle.mv_linker.proofs.InterfaceLemmas.{function-found, interface-at}
-use Rattle.mv_linker.proofs.Keyed.{position-find_index}
+use Rattle.mv_linker.proofs.Kept.InterfaceLemmas.{function-found, interface-at}
+use Rattle.mv_linker.proofs.Kept.Keyed.{position-find_index}
 use Rattle.mv_linker.proofs.Members.{among-at}
-use Rattle.mv_linker.proofs.StoredCodes.{interfaces-known}
+use Rattle.mv_linker.proofs.LinkedCode.StoredCodes.{interfaces-known}
 use Rattle.mv_linker.proofs.Store.function.Goals as goal
 use Rattle.mv_linker.proofs.Store.function.Goals.{After-index}
 

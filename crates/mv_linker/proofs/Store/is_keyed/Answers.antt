@@ -2,8 +2,8 @@ use Rattle.std.proofs.Common.{◌≡◌, List, Option, None, Some, false, slice_
 use Rattle.mv_move_types.specs.Published.{PublishedModule}
 use Rattle.mv_linker.specs.Link.{tables_in}
 use Rattle.mv_linker.specs.Stored.{AreCodesOf}
-use Rattle.mv_linker.proofs.StoredCodes.{got}
-use Rattle.mv_linker.proofs.StoredShapes.{key-known, no_key}
+use Rattle.mv_linker.proofs.LinkedCode.StoredCodes.{got}
+use Rattle.mv_linker.proofs.Kept.StoredShapes.{key-known, no_key}
 use Rattle.mv_linker.proofs.Store.is_keyed.Goals as goal
 
 pub returns-in-None : goal.returns-in-None
@@ -18,7 +18,8 @@ returns-in-Some c =
     let codes = c.self.inside.codes.items in
     let code = c.in-Some.code.now in
     let are : AreCodesOf (tables_in c.args.self.now) codes = subst (λ (s : List PublishedModule). AreCodesOf (tables_in s) codes) c.self.view_is c.self.invariant.2 in
-    let at : slice_get codes c.args.d.place ≡ Some code = sym (ap₂ slice_get c.deref.ensures.value c.from.ensures) ∙ sym (got c.deref.result.now c.from.result (Some c.in-Some.code) c.in-Some.ensures.lookup) in
+    let at : slice_get codes c.args.d.place ≡ Some code =
+    sym (ap₂ slice_get c.deref.ensures.value c.from.ensures) ∙ sym (got c.deref.result.now c.from.result (Some c.in-Some.code) c.in-Some.ensures.lookup) in
     c.unwrap_or.ensures
     ∙ ap (λ o. unwrap_or o false) (c.copied.ensures ∙ got c.deref-in-Some.result.now c.from-in-Some.result c.get-in-Some.result c.get-in-Some.ensures.lookup ∙ ap₂ slice_get c.deref-in-Some.ensures.value c.from-in-Some.ensures)
     ∙ key-known (tables_in c.args.self.now) codes are c.args.d code at

@@ -4,8 +4,8 @@ use Rattle.mv_move_types.specs.declared.refusal.Refusal.{Refusal}
 use Rattle.mv_move_types.specs.declared.refusal.Refusal.TheVariants.{Phase, Memory}
 use Rattle.mv_move_types.specs.Published.{PublishedModule}
 use Rattle.mv_binary_format.specs.Parsing.{module_of}
-use Rattle.mv_linker.proofs.Keyed.{module-at, spelled-at}
-use Rattle.mv_linker.proofs.Scopes.{tables-there}
+use Rattle.mv_linker.proofs.Kept.Keyed.{module-at, spelled-at}
+use Rattle.mv_linker.proofs.Joining.Scopes.{tables-there}
 use Rattle.mv_linker.proofs.Store.module.Goals as goal
 
 pub returns-in-Ok-clause-value : goal.returns-in-Ok-clause-value

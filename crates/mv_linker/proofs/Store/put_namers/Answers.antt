@@ -4,7 +4,7 @@ use Rattle.std.proofs.lemmas.Result.{on_ok_weaker}
 use Rattle.mv_move_types.specs.Published.{PublishedModule}
 use Rattle.mv_linker.specs.Link.{tables_in}
 use Rattle.mv_linker.specs.Stored.{AreDependenciesOf}
-use Rattle.mv_linker.proofs.NamerLemmas.{namers-of}
+use Rattle.mv_linker.proofs.Cycles.NamerLemmas.{namers-of}
 use Rattle.mv_linker.proofs.Store.put_namers.Goals as goal
 
 pub returns-clause-found : goal.returns-clause-found

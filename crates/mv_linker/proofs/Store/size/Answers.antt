@@ -3,7 +3,7 @@ use Rattle.std.proofs.lemmas.Option.{slice_get_read}
 use Rattle.mv_move_types.specs.Published.{PublishedModule}
 use Rattle.mv_linker.specs.Link.{tables_in}
 use Rattle.mv_linker.specs.Stored.{AreCodesOf}
-use Rattle.mv_linker.proofs.StoredCodes.{code-below, size-below, size-is}
+use Rattle.mv_linker.proofs.LinkedCode.StoredCodes.{code-below, size-below, size-is}
 use Rattle.mv_linker.proofs.Store.size.Goals as goal
 use Rattle.mv_linker.proofs.Store.size.Goals.{After-index}
 

@@ -3,8 +3,8 @@ use Rattle.mv_move_types.specs.Module.{name_at}
 use Rattle.mv_move_types.specs.Names.{ModuleName, StructName}
 use Rattle.mv_linker.specs.Kept.{name_in, published_under}
 use Rattle.mv_linker.specs.Link.{tables_in}
-use Rattle.mv_linker.proofs.StoredCodes.{got}
-use Rattle.mv_linker.proofs.StructNames.{named-there, unnamed-there}
+use Rattle.mv_linker.proofs.LinkedCode.StoredCodes.{got}
+use Rattle.mv_linker.proofs.Kept.StructNames.{named-there, unnamed-there}
 use Rattle.mv_linker.proofs.Store.struct_name.Goals as goal
 use Rattle.mv_linker.proofs.Store.struct_name.Goals.{After-from-2}
 
@@ -13,7 +13,8 @@ at-place : (c : After-from-2) → slice_get c.self.inside.codes.items c.args.d.p
 at-place c = sym (ap₂ slice_get c.deref.ensures.value c.from.ensures) ∙ sym (got c.deref.result.now c.from.result (Some c.in_ok-code.code) c.in_ok-code.ensures.lookup)
 
 -- the modules are those of the store
-named-same : (c : After-from-2) → (o : Option StructName) → name_at (tables_in (published_under c.self.inside.modules.entries)) c.args.d.place c.args.d.index ≡ o → o ≡ name_at (tables_in c.args.self.now) c.args.d.place c.args.d.index
+named-same : (c : After-from-2) → (o : Option StructName) → name_at (tables_in (published_under c.self.inside.modules.entries)) c.args.d.place c.args.d.index ≡ o
+    → o ≡ name_at (tables_in c.args.self.now) c.args.d.place c.args.d.index
 named-same c o e = sym e ∙ ap (λ s. name_at (tables_in s) c.args.d.place c.args.d.index) c.self.view_is
 
 pub returns-in_err-identifier : goal.returns-in_err-identifier
@@ -29,7 +30,8 @@ returns c =
     let entries = c.self.inside.modules.entries in
     let key = c.in_ok-name.name.now in
     let identifier = c.in_ok-identifier.identifier.now in
-    let found : slice_get c.in_ok-code.code.now.identifiers c.args.d.index ≡ Some identifier = sym (ap (slice_get c.in_ok-code.code.now.identifiers) c.from-2.ensures) ∙ sym c.in_ok-identifier.ensures in
+    let found : slice_get c.in_ok-code.code.now.identifiers c.args.d.index ≡ Some identifier =
+    sym (ap (slice_get c.in_ok-code.code.now.identifiers) c.from-2.ensures) ∙ sym c.in_ok-identifier.ensures in
     let key_at : slice_get entries c.args.d.place ≡ Some (key, c.in_ok-name.field-0-1.now) = sym (ap (slice_get entries) c.from-3.ensures) ∙ sym c.in_ok-name.ensures.entry in
     let home : record { address = key.address; name = c.as_slice.result.now } ≡ name_in key = ap (λ (n : List ℕ). record { address = key.address; name = n }) c.as_slice.ensures.value in
     ap Some (c.new.ensures ∙ ap (λ (h : ModuleName). record { home = h; name = identifier }) home)

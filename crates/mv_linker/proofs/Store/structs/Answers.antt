@@ -2,8 +2,8 @@ use Rattle.std.proofs.Common.{◌≡◌, List, None, Some, slice_get, sym, ap, �
 use Rattle.mv_move_types.specs.Published.{PublishedModule}
 use Rattle.mv_linker.specs.Link.{IsStore, tables_in}
 use Rattle.mv_linker.specs.Stored.{AreCodesOf}
-use Rattle.mv_linker.proofs.StoredCodes.{got}
-use Rattle.mv_linker.proofs.StoredShapes.{few-structs, no_structs, structs-known}
+use Rattle.mv_linker.proofs.LinkedCode.StoredCodes.{got}
+use Rattle.mv_linker.proofs.Kept.StoredShapes.{few-structs, no_structs, structs-known}
 use Rattle.mv_linker.proofs.Store.structs.Goals as goal
 
 pub returns-in-None : goal.returns-in-None
@@ -18,7 +18,8 @@ returns-in-Some c =
     let codes = c.self.inside.codes.items in
     let code = c.in-Some.code.now in
     let are : AreCodesOf (tables_in c.args.self.now) codes = subst (λ (s : List PublishedModule). AreCodesOf (tables_in s) codes) c.self.view_is c.self.invariant.2 in
-    let at : slice_get codes c.args.place ≡ Some code = sym (ap (λ l. slice_get l c.args.place) c.deref.ensures.value) ∙ sym (got c.deref.result.now c.args.place (Some c.in-Some.code) c.in-Some.ensures.lookup) in
+    let at : slice_get codes c.args.place ≡ Some code =
+    sym (ap (λ l. slice_get l c.args.place) c.deref.ensures.value) ∙ sym (got c.deref.result.now c.args.place (Some c.in-Some.code) c.in-Some.ensures.lookup) in
     let count = c.len.ensures ∙ code.keys.ok.0 ∙ structs-known (tables_in c.args.self.now) codes are c.args.place code at in
     let few = few-structs c.args.self.now (subst IsStore c.self.view_is c.self.invariant.0) c.args.place in
     record { count = count; few = omega (arith, count, few) }

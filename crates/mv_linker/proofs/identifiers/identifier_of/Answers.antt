@@ -1,5 +1,5 @@
 use Rattle.std.proofs.Common.{[], ◌≤◌, length, unwrap_or, sym, ap, subst}
-use Rattle.mv_linker.proofs.IdentifierLemmas.{identifier-short}
+use Rattle.mv_linker.proofs.Kept.IdentifierLemmas.{identifier-short}
 use Rattle.mv_linker.proofs.identifiers.identifier_of.Goals as goal
 
 pub returns-in-Some-clause-short : goal.returns-in-Some-clause-short

@@ -1,7 +1,7 @@
 use Rattle.std.proofs.Common.{◌≡◌, ◌+◌, ◌++◌, ◌∷◌, [], take, get_or, length, ap, sym, subst, ◌∙◌, arith}
 use Rattle.std.proofs.lemmas.List.{take_more}
 use Rattle.mv_linker.specs.Indexed.{AreIndicesOf}
-use Rattle.mv_linker.proofs.IndexLemmas.{indices-put, length-taken}
+use Rattle.mv_linker.proofs.Kept.IndexLemmas.{indices-put, length-taken}
 use Rattle.mv_linker.proofs.indexed.indices_of.Goals as goal
 
 pub loop-k-preserved : goal.loop-k-preserved

@@ -3,8 +3,8 @@ use Rattle.std.proofs.lemmas.Option.{same_Some, slice_get_read}
 use Rattle.mv_move_types.specs.Module.{FunctionDefinition}
 use Rattle.mv_linker.specs.declared.interfaces.Interface.{Interface}
 use Rattle.mv_linker.specs.Interfaces.{IsInterfaceOf}
-use Rattle.mv_linker.proofs.Calls.{last_or_before}
-use Rattle.mv_linker.proofs.InterfaceLemmas.{interface-made}
+use Rattle.mv_linker.proofs.LinkedCode.Calls.{last_or_before}
+use Rattle.mv_linker.proofs.Kept.InterfaceLemmas.{interface-made}
 use Rattle.mv_linker.proofs.interfaces.interfaces_of.Goals as goal
 
 pub loop-d-preserved : goal.loop-d-preserved

@@ -1,6 +1,6 @@
 use Rattle.std.proofs.Common.{sym, ◌∙◌}
 use Rattle.mv_linker.proofs.OwnDefinitions.{struct-at}
-use Rattle.mv_linker.proofs.StoredCodes.{got-at}
+use Rattle.mv_linker.proofs.LinkedCode.StoredCodes.{got-at}
 use Rattle.mv_linker.proofs.names.likely_struct_place.Goals as goal
 
 pub returns-then-is_named : goal.returns-then-is_named

@@ -4,7 +4,7 @@ use Rattle.mv_move_types.specs.Module.{Module}
 use Rattle.mv_move_types.specs.Named.{have_one_name}
 use Rattle.mv_bounds.specs.Definitions.{all_differ}
 use Rattle.mv_linker.specs.Order.{AreHandlePlaces, AreDependencies, others}
-use Rattle.mv_linker.proofs.Depends.{dependencies_from}
+use Rattle.mv_linker.proofs.Cycles.Depends.{dependencies_from}
 use Rattle.mv_linker.proofs.order.dependencies.Goals as goal
 
 pub returns : goal.returns

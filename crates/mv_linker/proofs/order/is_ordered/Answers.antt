@@ -3,8 +3,8 @@ use Rattle.std.proofs.lemmas.Result.{IfOk-weaker}
 use Rattle.mv_move_types.specs.Module.{Module}
 use Rattle.mv_bounds.specs.Cycles.{IsAcyclic}
 use Rattle.mv_linker.specs.Order.{IsDependencyGraph, IsOrdered, shifted}
-use Rattle.mv_linker.proofs.Depends.{ordered-acyclic}
-use Rattle.mv_linker.proofs.DependencyLemmas.{map-items}
+use Rattle.mv_linker.proofs.Cycles.Depends.{ordered-acyclic}
+use Rattle.mv_linker.proofs.Cycles.DependencyLemmas.{map-items}
 use Rattle.mv_linker.proofs.order.is_ordered.Goals as goal
 
 pub returns : goal.returns

@@ -1,4 +1,4 @@
-use Rattle.mv_linker.proofs.ReachedLemmas.{NumbersSoFar}
+use Rattle.mv_linker.proofs.Cycles.ReachedLemmas.{NumbersSoFar}
 use Rattle.mv_linker.proofs.reached.numbers_of.Given as goal
 
 abbrev pub invariant-loop-place : goal.invariant-loop-place

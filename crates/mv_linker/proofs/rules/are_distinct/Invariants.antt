@@ -1,5 +1,5 @@
 use Rattle.std.proofs.Common.{take}
-use Rattle.mv_linker.proofs.IndexLemmas.{SeenSoFar}
+use Rattle.mv_linker.proofs.Kept.IndexLemmas.{SeenSoFar}
 use Rattle.mv_linker.proofs.rules.are_distinct.Given as goal
 
 abbrev pub invariant-loop-i : goal.invariant-loop-i

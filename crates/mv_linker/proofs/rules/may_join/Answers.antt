@@ -9,8 +9,8 @@ use Rattle.mv_linker.specs.Links.{Links}
 use Rattle.mv_linker.specs.News.{published_of}
 use Rattle.mv_linker.specs.Scope.{offered, with_tables}
 use Rattle.mv_linker.specs.Stored.{Relinks, KeepsDependencies}
-use Rattle.mv_linker.proofs.Compatible.{follow-compatible, compatible-follow}
-use Rattle.mv_linker.proofs.Scopes.{offered-tables, scope-tables, with_tables-short}
+use Rattle.mv_linker.proofs.Joining.Compatible.{follow-compatible, compatible-follow}
+use Rattle.mv_linker.proofs.Joining.Scopes.{offered-tables, scope-tables, with_tables-short}
 use Rattle.mv_linker.proofs.Outcomes.{on_ok, if_err}
 use Rattle.mv_linker.proofs.rules.may_join.Goals as goal
 

@@ -10,9 +10,9 @@ use Rattle.mv_linker.specs.Indexed.{ArePlacesOf, has_name_of}
 use Rattle.mv_linker.specs.Kept.{name_in}
 use Rattle.mv_linker.specs.Link.{tables_in}
 use Rattle.mv_linker.specs.Scope.{offered, places_in, all_named, with_tables, found_among, place_for}
-use Rattle.mv_linker.proofs.DependencyLemmas.{length-places}
-use Rattle.mv_linker.proofs.IndexLemmas.{found-before, places-put}
-use Rattle.mv_linker.proofs.Scopes.{no-places, more-places, find-with_tables, place-for, offered-push}
+use Rattle.mv_linker.proofs.Cycles.DependencyLemmas.{length-places}
+use Rattle.mv_linker.proofs.Kept.IndexLemmas.{found-before, places-put}
+use Rattle.mv_linker.proofs.Joining.Scopes.{no-places, more-places, find-with_tables, place-for, offered-push}
 use Rattle.mv_linker.proofs.scope.places_of.Goals as goal
 use Rattle.mv_linker.proofs.scope.places_of.Goals.{then-place-count, else-place-count}
 

@@ -5,7 +5,7 @@ use Rattle.mv_move_types.specs.declared.token.Token.TheVariants.{Plain}
 use Rattle.mv_move_types.specs.declared.token.ValueType.TheVariants.{OfLeaf}
 use Rattle.mv_linker.specs.declared.shapes.Part.{Part}
 use Rattle.mv_linker.specs.Shapes.{part_by}
-use Rattle.mv_linker.proofs.ShapeLemmas.{parts-first, parts-more, parts-all}
+use Rattle.mv_linker.proofs.Kept.ShapeLemmas.{parts-first, parts-more, parts-all}
 use Rattle.mv_linker.proofs.shapes.put_parts.Goals as goal
 
 pub loop-field-init : goal.loop-field-init

@@ -6,7 +6,7 @@ use Rattle.mv_move_types.specs.Module.{Module}
 use Rattle.mv_linker.specs.declared.sizes.Size.{Size}
 use Rattle.mv_linker.specs.declared.sizes.Defined.{Defined}
 use Rattle.mv_linker.specs.Sizes.{next_rows}
-use Rattle.mv_linker.proofs.Rounds.{rows_more, rows_all}
+use Rattle.mv_linker.proofs.StructSizes.Rounds.{rows_more, rows_all}
 use Rattle.mv_linker.proofs.sizes.next_rows.Goals as goal
 
 pub loop-i-preserved : goal.loop-i-preserved

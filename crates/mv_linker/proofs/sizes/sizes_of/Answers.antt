@@ -3,7 +3,7 @@ use Rattle.std.specs.Prelude.{is_some}
 use Rattle.std.specs.List.{list_all}
 use Rattle.std.proofs.lemmas.Option.{MatchOption-at_some, MatchOption-at_none}
 use Rattle.mv_linker.specs.declared.sizes.Size.{Size}
-use Rattle.mv_linker.proofs.Rounds.{sizes_known, not_known}
+use Rattle.mv_linker.proofs.StructSizes.Rounds.{sizes_known, not_known}
 use Rattle.mv_linker.proofs.sizes.sizes_of.Goals as goal
 
 abbrev items : List (Vec (Option Size) Global) → List (List (Option Size))

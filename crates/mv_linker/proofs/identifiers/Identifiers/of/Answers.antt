@@ -3,8 +3,8 @@ use Rattle.std.proofs.lemmas.List.{map-append}
 use Rattle.std.proofs.lemmas.Option.{slice_get_read}
 use Rattle.mv_move_types.specs.Module.{StructDefinition}
 use Rattle.mv_linker.specs.Identifiers.{identifier_or_none}
-use Rattle.mv_linker.proofs.SpanLemmas.{AreSpanned, spanned-more}
-use Rattle.mv_linker.proofs.Linkable.{taken-more}
+use Rattle.mv_linker.proofs.Kept.SpanLemmas.{AreSpanned, spanned-more}
+use Rattle.mv_linker.proofs.LinkedCode.Linkable.{taken-more}
 use Rattle.mv_linker.proofs.identifiers.Identifiers.of.Goals as goal
 
 pub loop-d-preserved : goal.loop-d-preserved

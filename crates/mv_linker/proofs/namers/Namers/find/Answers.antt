@@ -3,7 +3,7 @@ use Rattle.std.specs.BTreeSet.{keys_between}
 use Rattle.std.specs.Map.Iter.{deref}
 use Rattle.std.proofs.lemmas.Map.Iter.{rest_more, rest_all}
 use Rattle.std.specs.declared.ops.Bound.TheVariants.{Included}
-use Rattle.mv_linker.proofs.NamerLemmas.{pair_cmp, finding-next, finding-all, found-stays, found-there, in-range}
+use Rattle.mv_linker.proofs.Cycles.NamerLemmas.{pair_cmp, finding-next, finding-all, found-stays, found-there, in-range}
 use Rattle.mv_linker.proofs.namers.Namers.find.Goals as goal
 
 pub loop-namer-preserved : goal.loop-namer-preserved

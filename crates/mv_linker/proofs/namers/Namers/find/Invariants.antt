@@ -1,4 +1,4 @@
-use Rattle.mv_linker.proofs.NamerLemmas.{IsFinding}
+use Rattle.mv_linker.proofs.Cycles.NamerLemmas.{IsFinding}
 use Rattle.mv_linker.proofs.namers.Namers.find.Given as goal
 
 abbrev pub invariant-loop-namer : goal.invariant-loop-namer

@@ -1,6 +1,6 @@
 use Rattle.std.proofs.Common.{◌≡◌, ℕ, List, slice_index_or, true, false, sym, subst}
 use Rattle.mv_linker.specs.Namers.{AreNamers, NamesAt}
-use Rattle.mv_linker.proofs.NamerLemmas.{forget-one}
+use Rattle.mv_linker.proofs.Cycles.NamerLemmas.{forget-one}
 use Rattle.mv_linker.proofs.namers.Namers.forget.Goals as goal
 use Rattle.mv_linker.proofs.namers.Namers.forget.Goals.{then-not-names_at, else-not-names_at}
 

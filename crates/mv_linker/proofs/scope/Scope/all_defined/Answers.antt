@@ -7,7 +7,7 @@ use Rattle.mv_linker.specs.Link.{tables_in}
 use Rattle.mv_linker.specs.Scope.{offered}
 use Rattle.mv_linker.specs.Sizing.{AreFoundFor}
 use Rattle.mv_linker.specs.Targets.{modules_in}
-use Rattle.mv_linker.proofs.HandleDefinitions.{struct-there, zip-more}
+use Rattle.mv_linker.proofs.Kept.HandleDefinitions.{struct-there, zip-more}
 use Rattle.mv_linker.proofs.scope.Scope.all_defined.Goals as goal
 use Rattle.mv_linker.proofs.Found.{there_at}
 
@@ -30,6 +30,7 @@ loop-n-preserved c =
     let items : List (Vec Defined Global) → List (List Defined) = map (λ (v : Vec Defined Global). v.items) in
     let v = c.in_ok-defined_for.field-0 in
     let at : slice_get names i ≡ Some n = slice_get_read names (length names) i n refl c.loop-n-test.true c.n-item.is in
-    let pushed : items c.push.new.self.items ≡ items c.loop-n.found.items ++ v.items ∷ [] = ap items c.in_ok-push.ensures.items ∙ map-append (λ (v : Vec Defined Global). v.items) c.loop-n.found.items (v ∷ []) in
+    let pushed : items c.push.new.self.items ≡ items c.loop-n.found.items ++ v.items ∷ [] =
+    ap items c.in_ok-push.ensures.items ∙ map-append (λ (v : Vec Defined Global). v.items) c.loop-n.found.items (v ∷ []) in
     subst (λ (l : List (List Defined)). AllZip (AreFoundFor (tables_in s.store.now) s.places.items) (take (i + 1) names) l) (sym pushed)
     (zip-more (AreFoundFor (tables_in s.store.now) s.places.items) names (items c.loop-n.found.items) i n v.items c.loop-n.invariant at c.in_ok-defined_for.ensures)

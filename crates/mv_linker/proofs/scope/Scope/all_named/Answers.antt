@@ -9,9 +9,9 @@ use Rattle.mv_linker.specs.Links.{names_hold}
 use Rattle.mv_linker.specs.Scope.{offered}
 use Rattle.mv_linker.specs.Stored.{AreNames}
 use Rattle.mv_linker.specs.Targets.{modules_in}
-use Rattle.mv_linker.proofs.Assembling.{named-more, offered-among, offered-at, no-names, more-names, all-names}
+use Rattle.mv_linker.proofs.Joining.Assembling.{named-more, offered-among, offered-at, no-names, more-names, all-names}
 use Rattle.mv_linker.proofs.Members.{all-among}
-use Rattle.mv_linker.proofs.Resolving.{refused_by}
+use Rattle.mv_linker.proofs.Joining.Resolving.{refused_by}
 use Rattle.mv_linker.proofs.scope.Scope.all_named.Goals as goal
 
 pub loop-i-init : goal.loop-i-init

@@ -3,7 +3,7 @@ use Rattle.std.specs.List.{list_all}
 use Rattle.mv_linker.specs.Links.{names_hold}
 use Rattle.mv_linker.specs.Scope.{offered}
 use Rattle.mv_linker.specs.Targets.{modules_in}
-use Rattle.mv_linker.proofs.Assembling.{NamesSoFar}
+use Rattle.mv_linker.proofs.Joining.Assembling.{NamesSoFar}
 use Rattle.mv_linker.proofs.scope.Scope.all_named.Given as goal
 
 abbrev pub invariant-loop-i : goal.invariant-loop-i

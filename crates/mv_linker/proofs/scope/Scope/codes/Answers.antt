@@ -8,9 +8,9 @@ use Rattle.mv_linker.specs.Link.{tables_in}
 use Rattle.mv_linker.specs.Relinked.{Joins, AreLinkable}
 use Rattle.mv_linker.specs.Stored.{Relinks}
 use Rattle.mv_linker.specs.Targets.{modules_in}
-use Rattle.mv_linker.proofs.Linkable.{are-to-link}
-use Rattle.mv_linker.proofs.PlacedCodes.{placed, relinking}
-use Rattle.mv_linker.proofs.RelinkingLemmas.{relinks}
+use Rattle.mv_linker.proofs.LinkedCode.Linkable.{are-to-link}
+use Rattle.mv_linker.proofs.LinkedCode.PlacedCodes.{placed, relinking}
+use Rattle.mv_linker.proofs.LinkedCode.RelinkingLemmas.{relinks}
 use Rattle.mv_linker.proofs.scope.Scope.codes.Goals as goal
 
 pub returns : goal.returns

@@ -5,7 +5,7 @@ use Rattle.mv_move_types.specs.declared.tables.Definition.{Definition}
 use Rattle.mv_linker.specs.declared.sizes.Defined.{Defined}
 use Rattle.mv_linker.specs.Link.{tables_in}
 use Rattle.mv_linker.specs.Sizing.{IsFoundAt}
-use Rattle.mv_linker.proofs.HandleDefinitions.{zip-more}
+use Rattle.mv_linker.proofs.Kept.HandleDefinitions.{zip-more}
 use Rattle.mv_linker.proofs.scope.Scope.defined_for.Goals as goal
 
 pub loop-d-preserved : goal.loop-d-preserved
@@ -15,6 +15,7 @@ loop-d-preserved c =
     let read = c.deref-d-items.result.now in
     let i = c.loop-d.d-index in
     let d = get_or read i (record { place = 0; index = 0 }) in
-    let at : slice_get ds i ≡ Some d = ap (λ (l : List Definition). slice_get l i) (sym {A = List Definition} c.deref-d-items.ensures.value) ∙ slice_get-get_or read i (record { place = 0; index = 0 }) c.loop-d-test.true in
+    let at : slice_get ds i ≡ Some d =
+    ap (λ (l : List Definition). slice_get l i) (sym {A = List Definition} c.deref-d-items.ensures.value) ∙ slice_get-get_or read i (record { place = 0; index = 0 }) c.loop-d-test.true in
     subst (λ (l : List Defined). AllZip (IsFoundAt (tables_in s.store.now) s.places.items) (take (i + 1) ds) l) (sym {A = List Defined} c.in_ok-push.ensures.items)
     (zip-more (IsFoundAt (tables_in s.store.now) s.places.items) ds c.loop-d.found.items i d c.defined.result c.loop-d.invariant at c.defined.ensures)

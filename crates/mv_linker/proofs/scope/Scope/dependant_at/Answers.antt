@@ -6,7 +6,7 @@ use Rattle.mv_linker.specs.Links.{names_hold}
 use Rattle.mv_linker.specs.Relinked.{NamesBundle}
 use Rattle.mv_linker.specs.Stored.{AreNames}
 use Rattle.mv_linker.specs.Targets.{modules_in}
-use Rattle.mv_linker.proofs.Joins.{kept-at, names-hold, none-of}
+use Rattle.mv_linker.proofs.Joining.Joins.{kept-at, names-hold, none-of}
 use Rattle.mv_linker.proofs.scope.Scope.dependant_at.Goals as goal
 
 pub names_bundle-requires-clause-stays : goal.names_bundle-requires-clause-stays

@@ -5,7 +5,7 @@ use Rattle.mv_linker.specs.declared.dependants.Dependant.{Dependant}
 use Rattle.mv_linker.specs.Link.{tables_in}
 use Rattle.mv_linker.specs.Namers.{AreNamersOfAll}
 use Rattle.mv_linker.specs.Relinked.{IsApart, IsDependant}
-use Rattle.mv_linker.proofs.DependantLemmas.{DependantsSoFar, no-fewer, no-dependants, next-apart, next-dependant, all-dependants, apart-far}
+use Rattle.mv_linker.proofs.Cycles.DependantLemmas.{DependantsSoFar, no-fewer, no-dependants, next-apart, next-dependant, all-dependants, apart-far}
 use Rattle.mv_linker.proofs.scope.Scope.dependants.Goals as goal
 use Rattle.mv_linker.proofs.scope.Scope.dependants.Goals.{then-place-len+in_ok-d+in-Some+in_ok-push, then-place-len+in_ok-d+in_default, else-place-len}
 
@@ -44,5 +44,6 @@ pub returns : goal.returns
 returns c =
     let s = c.args.self.now in
     let places = c.as_slice-place-items.result.now in
-    let all : AreNamersOfAll (tables_in s.store.now) s.places.items places = subst (λ (l : List ℕ). AreNamersOfAll (tables_in s.store.now) s.places.items l) (sym c.as_slice-place-items.ensures.keys) c.in_ok-namers.ensures in
+    let all : AreNamersOfAll (tables_in s.store.now) s.places.items places =
+    subst (λ (l : List ℕ). AreNamersOfAll (tables_in s.store.now) s.places.items l) (sym c.as_slice-place-items.ensures.keys) c.in_ok-namers.ensures in
     all-dependants s c.requires.joins c.loop-place.dependants.items places c.loop-place.place-index all c.loop-place.invariant (omega (arith, c.loop-place-test.false))

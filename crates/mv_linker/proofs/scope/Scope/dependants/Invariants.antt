@@ -1,4 +1,4 @@
-use Rattle.mv_linker.proofs.DependantLemmas.{DependantsSoFar}
+use Rattle.mv_linker.proofs.Cycles.DependantLemmas.{DependantsSoFar}
 use Rattle.mv_linker.proofs.scope.Scope.dependants.Given as goal
 
 abbrev pub invariant-loop-place : goal.invariant-loop-place

@@ -1,7 +1,7 @@
 use Rattle.std.proofs.Common.{map, ℕ, Vec, Global}
 use Rattle.mv_linker.specs.Scope.{offered}
 use Rattle.mv_linker.specs.Targets.{modules_in}
-use Rattle.mv_linker.proofs.DependencyLemmas.{DependenciesSoFar}
+use Rattle.mv_linker.proofs.Cycles.DependencyLemmas.{DependenciesSoFar}
 use Rattle.mv_linker.proofs.scope.Scope.dependencies.Given as goal
 
 abbrev pub invariant-loop-place : goal.invariant-loop-place

@@ -5,8 +5,8 @@ use Rattle.mv_linker.specs.Scope.{offered}
 use Rattle.mv_linker.specs.declared.targets.Target.{Target}
 use Rattle.mv_linker.specs.Targets.{modules_in}
 use Rattle.mv_linker.proofs.Members.{differ-result}
-use Rattle.mv_linker.proofs.DependencyLemmas.{dependencies-by, all-there}
-use Rattle.mv_linker.proofs.Resolving.{refused_by}
+use Rattle.mv_linker.proofs.Cycles.DependencyLemmas.{dependencies-by, all-there}
+use Rattle.mv_linker.proofs.Joining.Resolving.{refused_by}
 use Rattle.mv_linker.proofs.scope.Scope.dependencies_at.Goals as goal
 
 pub returns-in-Err-clause-refused : goal.returns-in-Err-clause-refused

@@ -6,8 +6,8 @@ use Rattle.mv_move_types.specs.Named.{module_place}
 use Rattle.mv_linker.specs.Indexed.{has_name_of}
 use Rattle.mv_linker.specs.Link.{tables_in}
 use Rattle.mv_linker.specs.Scope.{offered, found_among}
-use Rattle.mv_linker.proofs.IndexLemmas.{found-before}
-use Rattle.mv_linker.proofs.Scopes.{find-with_tables}
+use Rattle.mv_linker.proofs.Kept.IndexLemmas.{found-before}
+use Rattle.mv_linker.proofs.Joining.Scopes.{find-with_tables}
 use Rattle.mv_linker.proofs.scope.Scope.find.Goals as goal
 
 pub returns : goal.returns

@@ -5,7 +5,7 @@ use Rattle.std.proofs.lemmas.Bool.{leb-true}
 use Rattle.mv_move_types.specs.Module.{Module, FunctionDefinition, name_of_function}
 use Rattle.mv_bounds.specs.Definitions.{WellDefined}
 use Rattle.mv_linker.specs.Targets.{modules_in, tables_of, function_matches, IsFunctionIn, IsFunctionAt}
-use Rattle.mv_linker.proofs.Resolving.{function_nowhere, function_there_is, function_at, target_below}
+use Rattle.mv_linker.proofs.Joining.Resolving.{function_nowhere, function_there_is, function_at, target_below}
 use Rattle.mv_linker.proofs.scope.Scope.function.Goals as goal
 use Rattle.mv_linker.proofs.Found.{place_below}
 
@@ -17,7 +17,8 @@ returns-in_default-function_in-clause-refused c = (
   refl,
   λ e.
       let is = function_there_is (modules_in c.args.self.now) c.args.m.now c.args.targets.now c.requires.named c.args.handle c.in-Some.target.now c.in-Some.ensures.there in
-      let none : function_matches c.args.m.now c.args.handle (tables_of c.in-Some.target.now.module) ≡ false = sym (ap (λ (n : Module). function_matches c.args.m.now c.args.handle n) c.tables-module.ensures) ∙ c.in_default-function_in.ensures.none in
+      let none : function_matches c.args.m.now c.args.handle (tables_of c.in-Some.target.now.module) ≡ false =
+      sym (ap (λ (n : Module). function_matches c.args.m.now c.args.handle n) c.tables-module.ensures) ∙ c.in_default-function_in.ensures.none in
       let bad : true ≡ false = sym e ∙ is ∙ none in
       cc,
 )

@@ -4,9 +4,9 @@ use Rattle.mv_linker.specs.Link.{tables_in}
 use Rattle.mv_linker.specs.Reached.{AreNumbers, IsExtended}
 use Rattle.mv_linker.specs.Scope.{offered}
 use Rattle.mv_linker.specs.Targets.{modules_in}
-use Rattle.mv_linker.proofs.DependenciesStay.{place-there, placed-there}
+use Rattle.mv_linker.proofs.Cycles.DependenciesStay.{place-there, placed-there}
 use Rattle.mv_linker.proofs.Found.{Contains-at, at-Contains}
-use Rattle.mv_linker.proofs.ReachedLemmas.{search-begins, search-below, search-goes-on, reached-graph}
+use Rattle.mv_linker.proofs.Cycles.ReachedLemmas.{search-begins, search-below, search-goes-on, reached-graph}
 use Rattle.mv_linker.proofs.scope.Scope.graph_of.Goals as goal
 
 pub search-init : goal.search-init
@@ -50,6 +50,7 @@ returns c =
     let old = tables_in s.store.now in
     let ns = offered s.new.now in
     let graph : List (List ℕ) = map (λ (v : Vec ℕ Global). v.items) c.search.graph.items in
-    let done : length c.search.reached.keys ≤ length graph = omega (arith, length-map c.search.graph.items (λ (v : Vec ℕ Global). v.items), c.search-test.false, c.len.ensures, c.len-in-search.ensures.len, c.search.graph.ok.0) in
+    let done : length c.search.reached.keys ≤ length graph =
+    omega (arith, length-map c.search.graph.items (λ (v : Vec ℕ Global). v.items), c.search-test.false, c.len.ensures, c.len-in-search.ensures.len, c.search.graph.ok.0) in
     reached-graph (modules_in s) ns s.places.items c.search.reached.keys graph c.search.invariant c.len-in-search.ensures.unique done
     (λ n has. let x = placed-there old ns s.once n has in (x.0, subst (λ (l : List ℕ). Contains l x.0) (sym s.placed) x.1, x.2))

@@ -1,6 +1,6 @@
 use Rattle.std.proofs.Common.{◌-◌, length, map, ℕ, Vec, Global}
 use Rattle.mv_linker.specs.Targets.{modules_in}
-use Rattle.mv_linker.proofs.ReachedLemmas.{IsSearch}
+use Rattle.mv_linker.proofs.Cycles.ReachedLemmas.{IsSearch}
 use Rattle.mv_linker.proofs.scope.Scope.graph_of.Given as goal
 
 abbrev pub invariant-search : goal.invariant-search

@@ -6,9 +6,9 @@ use Rattle.mv_linker.specs.Link.{tables_in}
 use Rattle.mv_linker.specs.Order.{IsDependencyGraph}
 use Rattle.mv_linker.specs.Scope.{offered}
 use Rattle.mv_linker.specs.Targets.{modules_in}
-use Rattle.mv_linker.proofs.Assembling.{joining-offered}
-use Rattle.mv_linker.proofs.DependencyLemmas.{graph-appended}
-use Rattle.mv_linker.proofs.ReachedLemmas.{ordered-reached}
+use Rattle.mv_linker.proofs.Joining.Assembling.{joining-offered}
+use Rattle.mv_linker.proofs.Cycles.DependencyLemmas.{graph-appended}
+use Rattle.mv_linker.proofs.Cycles.ReachedLemmas.{ordered-reached}
 use Rattle.mv_linker.proofs.scope.Scope.is_ordered.Goals as goal
 
 pub returns-then-is_appended-clause-ok : goal.returns-then-is_appended-clause-ok

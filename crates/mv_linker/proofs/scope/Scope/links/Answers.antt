@@ -6,9 +6,9 @@ use Rattle.mv_linker.specs.Scope.{offered}
 use Rattle.mv_linker.specs.Stored.{KeepsDependencies}
 use Rattle.mv_linker.specs.Targets.{modules_in}
 use Rattle.mv_linker.specs.declared.dependencies.DependenciesAt.{DependenciesAt}
-use Rattle.mv_linker.proofs.Assembling.{bundle-links, links-all, joining-offered}
-use Rattle.mv_linker.proofs.DependenciesStay.{placed, keeps-dependencies}
-use Rattle.mv_linker.proofs.Resolving.{refused_by}
+use Rattle.mv_linker.proofs.Joining.Assembling.{bundle-links, links-all, joining-offered}
+use Rattle.mv_linker.proofs.Cycles.DependenciesStay.{placed, keeps-dependencies}
+use Rattle.mv_linker.proofs.Joining.Resolving.{refused_by}
 use Rattle.mv_linker.proofs.scope.Scope.links.Goals as goal
 use Rattle.mv_linker.proofs.scope.Scope.links.Goals.{In_ok-sizes}
 

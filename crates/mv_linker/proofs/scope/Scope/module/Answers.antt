@@ -6,11 +6,11 @@ use Rattle.mv_move_types.specs.Module.{Module}
 use Rattle.mv_linker.specs.declared.New.{New}
 use Rattle.mv_linker.specs.Link.{tables_in}
 use Rattle.mv_linker.specs.Scope.{offered, places_in}
-use Rattle.mv_linker.proofs.Assembling.{offered-at, passed-among}
-use Rattle.mv_linker.proofs.Bundled.{bundle-at, no-newest, old-at, place-at}
-use Rattle.mv_linker.proofs.Joins.{placed-length}
+use Rattle.mv_linker.proofs.Joining.Assembling.{offered-at, passed-among}
+use Rattle.mv_linker.proofs.Joining.Bundled.{bundle-at, no-newest, old-at, place-at}
+use Rattle.mv_linker.proofs.Joining.Joins.{placed-length}
 use Rattle.mv_linker.proofs.Members.{among-at}
-use Rattle.mv_linker.proofs.Scopes.{kept-below, tables-there}
+use Rattle.mv_linker.proofs.Joining.Scopes.{kept-below, tables-there}
 use Rattle.mv_linker.proofs.scope.Scope.module.Goals as goal
 
 pub offset_bounds-self-k : goal.offset_bounds-self-k

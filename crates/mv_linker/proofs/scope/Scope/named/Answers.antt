@@ -2,7 +2,7 @@ use Rattle.mv_linker.specs.Link.{tables_in}
 use Rattle.mv_linker.specs.Links.{Links}
 use Rattle.mv_linker.specs.Scope.{offered}
 use Rattle.mv_linker.specs.Targets.{modules_in}
-use Rattle.mv_linker.proofs.Assembling.{bundle-links}
+use Rattle.mv_linker.proofs.Joining.Assembling.{bundle-links}
 use Rattle.mv_linker.proofs.Outcomes.{if_err}
 use Rattle.mv_linker.proofs.scope.Scope.named.Goals as goal
 

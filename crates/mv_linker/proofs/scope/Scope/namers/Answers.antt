@@ -2,8 +2,8 @@ use Rattle.std.proofs.Common.{◌≡◌, ◌+◌, ℕ, List, [], Some, BuildHash
 use Rattle.std.proofs.lemmas.Option.{slice_get-get_or}
 use Rattle.mv_linker.specs.Link.{tables_in}
 use Rattle.mv_linker.specs.Namers.{AreNamersOf, HasAll}
-use Rattle.mv_linker.proofs.NamerLemmas.{FoundFor, PutSoFar, keeps-found, put-next}
-use Rattle.mv_linker.proofs.Scopes.{within_tables}
+use Rattle.mv_linker.proofs.Cycles.NamerLemmas.{FoundFor, PutSoFar, keeps-found, put-next}
+use Rattle.mv_linker.proofs.Joining.Scopes.{within_tables}
 use Rattle.mv_linker.proofs.scope.Scope.namers.Goals as goal
 use Rattle.mv_linker.proofs.scope.Scope.namers.Goals.{Joined-place-len, then-place-len+in_ok-put_namers, else-place-len}
 

@@ -1,6 +1,6 @@
 use Rattle.std.proofs.Common.{[]}
 use Rattle.mv_linker.specs.Link.{tables_in}
-use Rattle.mv_linker.proofs.NamerLemmas.{FoundFor, PutSoFar}
+use Rattle.mv_linker.proofs.Cycles.NamerLemmas.{FoundFor, PutSoFar}
 use Rattle.mv_linker.proofs.scope.Scope.namers.Given as goal
 
 abbrev pub invariant-loop-place : goal.invariant-loop-place

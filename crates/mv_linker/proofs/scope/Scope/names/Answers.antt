@@ -1,6 +1,6 @@
 use Rattle.mv_linker.specs.Targets.{modules_in}
-use Rattle.mv_linker.proofs.Assembling.{names-parts}
-use Rattle.mv_linker.proofs.Resolving.{refused_by}
+use Rattle.mv_linker.proofs.Joining.Assembling.{names-parts}
+use Rattle.mv_linker.proofs.Joining.Resolving.{refused_by}
 use Rattle.mv_linker.proofs.scope.Scope.names.Goals as goal
 
 pub returns-in-Err-clause-refused : goal.returns-in-Err-clause-refused

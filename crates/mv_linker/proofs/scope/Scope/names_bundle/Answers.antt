@@ -6,7 +6,7 @@ use Rattle.mv_move_types.specs.Module.{Module}
 use Rattle.mv_move_types.specs.Published.{PublishedModule}
 use Rattle.mv_linker.specs.Link.{tables_in}
 use Rattle.mv_linker.specs.Relinked.{NamesBundle}
-use Rattle.mv_linker.proofs.DependantLemmas.{depends-names}
+use Rattle.mv_linker.proofs.Cycles.DependantLemmas.{depends-names}
 use Rattle.mv_linker.proofs.Found.{there_at}
 use Rattle.mv_linker.proofs.scope.Scope.names_bundle.Goals as goal
 

@@ -5,10 +5,10 @@ use Rattle.std.proofs.lemmas.Option.{slice_get-map, slice_get_read, slice_get_wi
 use Rattle.mv_linker.specs.declared.New.{New}
 use Rattle.mv_linker.specs.Link.{tables_in}
 use Rattle.mv_linker.specs.Scope.{offered, places_in}
-use Rattle.mv_linker.proofs.Bundled.{no-newest, place-at}
-use Rattle.mv_linker.proofs.DependenciesStay.{bundled-dependencies, kept-dependencies}
-use Rattle.mv_linker.proofs.Joins.{placed-length}
-use Rattle.mv_linker.proofs.Scopes.{kept-below}
+use Rattle.mv_linker.proofs.Joining.Bundled.{no-newest, place-at}
+use Rattle.mv_linker.proofs.Cycles.DependenciesStay.{bundled-dependencies, kept-dependencies}
+use Rattle.mv_linker.proofs.Joining.Joins.{placed-length}
+use Rattle.mv_linker.proofs.Joining.Scopes.{kept-below}
 use Rattle.mv_linker.proofs.scope.Scope.needed_at.Goals as goal
 
 pub bounds-dependencies-k : goal.bounds-dependencies-k

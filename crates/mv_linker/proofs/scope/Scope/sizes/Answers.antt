@@ -11,8 +11,8 @@ use Rattle.mv_linker.specs.Scope.{offered}
 use Rattle.mv_linker.specs.Sizes.{AreDefined, AreSizes, AreSmall}
 use Rattle.mv_linker.specs.Sizing.{AreFoundFor}
 use Rattle.mv_linker.specs.Targets.{modules_in}
-use Rattle.mv_linker.proofs.Assembling.{joining-offered}
-use Rattle.mv_linker.proofs.HandleDefinitions.{all-defined, zip-length}
+use Rattle.mv_linker.proofs.Joining.Assembling.{joining-offered}
+use Rattle.mv_linker.proofs.Kept.HandleDefinitions.{all-defined, zip-length}
 use Rattle.mv_linker.proofs.scope.Scope.sizes.Goals as goal
 
 abbrev tables : List (Bor Module) → List Module
@@ -50,7 +50,8 @@ returns c =
     let j = joining-offered s.store.now s.new.now c.requires.store c.requires.passed c.requires.once c.requires.compatible in
     let placed = subst (λ (places : List ℕ). AllZip (AreFoundFor old places) c.args.names.now found) s.placed c.in_ok-found.ensures in
     let all : AreDefined modules ns found = all-defined old ns j c.requires.store.links.structs c.args.names.now found c.requires.names placed in
-    let defined : AreDefined modules bundle (lists c.deref-3.result.now) = subst (λ (l : List Module). AreDefined modules l (lists c.deref-3.result.now)) (sym is-bundle) (subst (AreDefined modules ns) (sym is-found) all) in
+    let defined : AreDefined modules bundle (lists c.deref-3.result.now) =
+    subst (λ (l : List Module). AreDefined modules l (lists c.deref-3.result.now)) (sym is-bundle) (subst (AreDefined modules ns) (sym is-found) all) in
     record {
       ok = IfOk-weaker c.sizes_of.result _ _ (λ v f. subst (λ (l : List Module). AreSizes modules l (map (λ (r : Vec Size Global). r.items) v.items)) is-bundle (f modules defined).0) c.sizes_of.ensures.ok;
       small = IfOk-weaker c.sizes_of.result _ _ (λ v f. subst (AreSmall modules) is-bundle (f modules defined).1) c.sizes_of.ensures.ok;

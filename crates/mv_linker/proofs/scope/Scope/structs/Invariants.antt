@@ -1,5 +1,5 @@
 use Rattle.mv_linker.specs.Targets.{modules_in}
-use Rattle.mv_linker.proofs.Resolving.{StructsSoFar}
+use Rattle.mv_linker.proofs.Joining.Resolving.{StructsSoFar}
 use Rattle.mv_linker.proofs.scope.Scope.structs.Given as goal
 
 abbrev pub invariant-loop-h : goal.invariant-loop-h

@@ -3,7 +3,7 @@ use Rattle.mv_move_types.specs.Module.{Module}
 use Rattle.mv_move_types.specs.Named.{is_struct}
 use Rattle.mv_bounds.specs.Definitions.{WellDefined}
 use Rattle.mv_linker.specs.Targets.{modules_in, tables_of, struct_matches, IsStructIn, IsStructAt}
-use Rattle.mv_linker.proofs.Resolving.{struct_nowhere, struct_there_is, struct_at, target_below}
+use Rattle.mv_linker.proofs.Joining.Resolving.{struct_nowhere, struct_there_is, struct_at, target_below}
 use Rattle.mv_linker.proofs.scope.Scope.structure.Goals as goal
 use Rattle.mv_linker.proofs.Found.{place_below}
 
@@ -15,7 +15,8 @@ returns-in_default-struct_in-clause-refused c = (
   refl,
   λ e.
       let is = struct_there_is (modules_in c.args.self.now) c.args.m.now c.args.targets.now c.requires.named c.args.h c.args.handle c.in-Some.target.now c.requires.handle c.in-Some.ensures.there in
-      let none : struct_matches c.args.m.now c.args.h c.args.handle.abilities (tables_of c.in-Some.target.now.module) ≡ false = sym (ap (λ (n : Module). struct_matches c.args.m.now c.args.h c.args.handle.abilities n) c.tables-module.ensures) ∙ c.in_default-struct_in.ensures.none in
+      let none : struct_matches c.args.m.now c.args.h c.args.handle.abilities (tables_of c.in-Some.target.now.module) ≡ false =
+      sym (ap (λ (n : Module). struct_matches c.args.m.now c.args.h c.args.handle.abilities n) c.tables-module.ensures) ∙ c.in_default-struct_in.ensures.none in
       let bad : true ≡ false = sym e ∙ is ∙ none in
       cc,
 )
@@ -30,7 +31,8 @@ definition-requires-clause-place c =
 pub definition-requires-clause-index : goal.definition-requires-clause-index
 definition-requires-clause-index c =
     let found = c.in-Some-struct_in.ensures.found in
-    let below : c.in-Some-struct_in.index < length c.tables-module.result.now.structs = place_below (is_struct c.tables-module.result.now found.name) c.tables-module.result.now.structs c.in-Some-struct_in.index found.place in
+    let below : c.in-Some-struct_in.index < length c.tables-module.result.now.structs =
+    place_below (is_struct c.tables-module.result.now found.name) c.tables-module.result.now.structs c.in-Some-struct_in.index found.place in
     omega (arith, below, c.structs-structs.ensures.few)
 
 pub returns-clause-ok : goal.returns-clause-ok

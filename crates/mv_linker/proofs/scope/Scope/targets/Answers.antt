@@ -1,7 +1,7 @@
 use Rattle.std.proofs.Common.{◌≡◌, length, true, ap, subst, arith}
 use Rattle.mv_linker.specs.Links.{modules_are_there}
 use Rattle.mv_linker.specs.Targets.{modules_in}
-use Rattle.mv_linker.proofs.Resolving.{refused_by, no-targets, more-targets, modules_there_at}
+use Rattle.mv_linker.proofs.Joining.Resolving.{refused_by, no-targets, more-targets, modules_there_at}
 use Rattle.mv_linker.proofs.scope.Scope.targets.Goals as goal
 
 pub loop-h-init : goal.loop-h-init

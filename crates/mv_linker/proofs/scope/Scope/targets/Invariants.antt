@@ -1,5 +1,5 @@
 use Rattle.mv_linker.specs.Targets.{modules_in}
-use Rattle.mv_linker.proofs.Resolving.{TargetsSoFar}
+use Rattle.mv_linker.proofs.Joining.Resolving.{TargetsSoFar}
 use Rattle.mv_linker.proofs.scope.Scope.targets.Given as goal
 
 abbrev pub invariant-loop-h : goal.invariant-loop-h

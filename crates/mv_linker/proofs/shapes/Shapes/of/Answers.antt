@@ -5,9 +5,9 @@ use Rattle.mv_move_types.specs.declared.tables.Field.{Field}
 use Rattle.mv_move_types.specs.Module.{StructDefinition}
 use Rattle.mv_linker.specs.declared.shapes.Part.{Part}
 use Rattle.mv_linker.specs.Shapes.{parts_by}
-use Rattle.mv_linker.proofs.Linkable.{taken-more}
-use Rattle.mv_linker.proofs.ShapeLemmas.{few-fields}
-use Rattle.mv_linker.proofs.SpanLemmas.{AreSpanned, spanned-more}
+use Rattle.mv_linker.proofs.LinkedCode.Linkable.{taken-more}
+use Rattle.mv_linker.proofs.Kept.ShapeLemmas.{few-fields}
+use Rattle.mv_linker.proofs.Kept.SpanLemmas.{AreSpanned, spanned-more}
 use Rattle.mv_linker.proofs.shapes.Shapes.of.Goals as goal
 use Rattle.mv_linker.proofs.shapes.Shapes.of.Goals.{After-put_parts}
 

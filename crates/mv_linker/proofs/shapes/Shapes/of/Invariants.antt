@@ -1,6 +1,6 @@
 use Rattle.std.proofs.Common.{◌*◌, ◌≤◌, map, take, vec_len}
 use Rattle.mv_linker.specs.Shapes.{parts_by}
-use Rattle.mv_linker.proofs.SpanLemmas.{AreSpanned}
+use Rattle.mv_linker.proofs.Kept.SpanLemmas.{AreSpanned}
 use Rattle.mv_linker.proofs.shapes.Shapes.of.Given as goal
 
 -- the parts of the structs so far

@@ -1,0 +1,92 @@
+-- Dependencies, place by place.
+use Rattle.std.proofs.Common.{◌≡◌, ℕ, suc, ◌+◌, ◌≤◌, ◌++◌, List, [], ◌∷◌, length, map, refl, sym, ap, subst, ◌∙◌, Vec, Global, Option, Some, None, arith}
+use Rattle.std.specs.Prelude.{slice_get, unwrap_or, IsTrue}
+use Rattle.std.proofs.lemmas.List.{length_push, map-append}
+use Rattle.std.proofs.lemmas.Option.{same_Some, none-some}
+use Rattle.mv_move_types.specs.Options.{find_index}
+use Rattle.mv_move_types.specs.Module.{Module}
+use Rattle.mv_move_types.specs.Named.{have_one_name}
+use Rattle.mv_bounds.proofs.PlaceLemmas.{slice_get-second}
+use Rattle.mv_linker.specs.Links.{Links, modules_are_there}
+use Rattle.mv_linker.specs.Order.{AreDependencies, AreHandlePlaces, IsDependencyGraph}
+use Rattle.mv_linker.specs.Ordering.{count_after, ArePlaces, AreDependenciesAt, AreDependenciesIn}
+use Rattle.mv_linker.specs.Scope.{with_tables, places_in, place_for, with_table}
+use Rattle.mv_linker.specs.Targets.{AreTargets}
+use Rattle.mv_linker.specs.declared.targets.Target.{Target}
+use Rattle.mv_linker.proofs.Found.{place_below}
+use Rattle.mv_linker.proofs.Cycles.JoinedOrder.{with_tables-appended}
+use Rattle.mv_linker.proofs.Joining.JoinedTargets.{places_of_targets, appended-joined}
+use Rattle.mv_linker.proofs.Members.{among-at, all-among}
+use Rattle.mv_linker.proofs.Joining.Resolving.{each_push}
+use Rattle.mv_linker.proofs.Joining.Scopes.{length-with_table}
+use Rattle.mv_linker.proofs.Joining.StillThere.{Joining}
+
+pub map-items : (f : List ℕ → List ℕ) (ds : List (Vec ℕ Global)) → map (λ (d : Vec ℕ Global). f d.items) ds ≡ map f (map (λ (d : Vec ℕ Global). d.items) ds)
+map-items f [] = refl
+map-items f (d ∷ ds) = ap (λ l. f d.items ∷ l) (map-items f ds)
+
+-- a bundle's places tell how many modules there are then
+pub count-places : (ms ns : List Module) → count_after (places_in ms ns) (length ms) ≡ length (with_tables ms ns)
+count-places ms [] = refl
+count-places ms (n ∷ ns) = ap (count_after (places_in (with_table ms n) ns)) (sym (length-with_table ms n)) ∙ count-places (with_table ms n) ns
+
+pub length-places : (ms ns : List Module) → length (places_in ms ns) ≡ length ns
+length-places ms [] = refl
+length-places ms (n ∷ ns) = ap suc (length-places (with_table ms n) ns)
+
+place-within : (ms : List Module) (n : Module) → place_for ms n ≤ length ms
+place-within ms n = by_place (find_index (have_one_name n) ms) refl
+  where
+    by_place : (o : Option ℕ) → find_index (have_one_name n) ms ≡ o → unwrap_or o (length ms) ≤ length ms
+    by_place None e = omega arith
+    by_place (Some k) e = (let low = place_below (have_one_name n) ms k e in omega (arith, low))
+
+-- a bundle's places are there, one after the other
+pub places-within : (ms ns : List Module) → ArePlaces (places_in ms ns) (length ms)
+places-within ms [] = tt
+places-within ms (n ∷ ns) = (place-within ms n, subst (λ c. ArePlaces (places_in (with_table ms n) ns) c) (length-with_table ms n) (places-within (with_table ms n) ns))
+
+-- what the targets of a module say of its dependencies
+pub dependencies-by : (modules : List Module) (place : ℕ) (m : Module) (targets : List Target) (places needed : List ℕ) → slice_get modules place ≡ Some m → AreTargets modules m targets
+    → places ≡ map (λ (t : Target). t.place) targets
+    → (AreHandlePlaces modules m places → AreDependencies modules m needed) → AreDependenciesAt modules place needed
+dependencies-by modules place m targets places needed at are e gives n n_at =
+    let same : m ≡ n = same_Some m n (sym at ∙ n_at) in
+    subst (λ (x : Module). AreDependencies modules x needed) same (gives (subst (λ (l : List ℕ). AreHandlePlaces modules m l) (sym e) (places_of_targets modules m targets are)))
+
+pub all-there : (modules : List Module) (place : ℕ) (m : Module) → slice_get modules place ≡ Some m → Links modules → IsTrue (modules_are_there modules m (length m.module_handles))
+all-there modules place m at links = all-among (λ m. modules_are_there modules m (length m.module_handles)) modules m links.modules (among-at modules place m at)
+
+-- the dependencies of the first modules of a bundle
+pub record DependenciesSoFar (modules bundle : List Module) (graph : List (List ℕ)) (i : ℕ) : Type 0 where
+  pub len : length graph ≡ i
+  pub each : (k : ℕ) (places : List ℕ) → slice_get graph k ≡ Some places → (n : Module) → slice_get bundle k ≡ Some n → AreDependencies modules n places
+
+pub none-yet : (modules bundle : List Module) (graph : List (Vec ℕ Global)) → graph ≡ [] → DependenciesSoFar modules bundle (map (λ (s : Vec ℕ Global). s.items) graph) 0
+none-yet modules bundle graph e =
+    let nothing : map (λ (s : Vec ℕ Global). s.items) graph ≡ [] = ap (map (λ (s : Vec ℕ Global). s.items)) e in
+    subst (λ (l : List (List ℕ)). DependenciesSoFar modules bundle l 0) (sym nothing) (record { len = refl; each = λ i places p. absurd (none-some places p) })
+
+pub one-more : (modules bundle : List Module) (graph more : List (Vec ℕ Global)) (i : ℕ) (v : Vec ℕ Global) → DependenciesSoFar modules bundle (map (λ (s : Vec ℕ Global). s.items) graph) i
+    → more ≡ graph ++ v ∷ []
+    → ((n : Module) → slice_get bundle i ≡ Some n → AreDependencies modules n v.items) → DependenciesSoFar modules bundle (map (λ (s : Vec ℕ Global). s.items) more) (i + 1)
+one-more modules bundle graph more i v s e at =
+    let items : List (Vec ℕ Global) → List (List ℕ) = map (λ (s : Vec ℕ Global). s.items) in
+    let all : items more ≡ items graph ++ v.items ∷ [] = ap items e ∙ map-append (λ (s : Vec ℕ Global). s.items) graph (v ∷ []) in
+    let P : ℕ → List ℕ → Type 0 = λ k places. (n : Module) → slice_get bundle k ≡ Some n → AreDependencies modules n places in
+    record {
+      len = omega (arith, ap length all, length_push (items graph) v.items, s.len);
+      each = λ k places p. each_push P (items graph) v.items s.each (subst (λ n. P n v.items) (sym s.len) at) k places (sym (ap (λ l. slice_get l k) all) ∙ p);
+    }
+
+-- once all were looked at
+pub all-found : (modules bundle : List Module) (graph : List (List ℕ)) (i : ℕ) → DependenciesSoFar modules bundle graph i → i ≡ length bundle → AreDependenciesIn modules bundle graph
+all-found modules bundle graph i s most = record { len = s.len ∙ most; each = λ k n places at p. s.each k places p n at }
+
+-- the graph of a bundle that replaces nothing
+pub graph-appended : (old ns : List Module) → Joining old ns → Links old → (graph : List (List ℕ)) → length (with_tables old ns) ≡ length old + length ns
+    → AreDependenciesIn (with_tables old ns) ns graph
+    → IsDependencyGraph (with_tables old ns) (length old) graph
+graph-appended old ns j links graph long d =
+    appended-joined old ns j graph links long d.len
+    (λ i m places at p. d.each i m places (sym (slice_get-second old ns (length old + i) i refl) ∙ ap (λ l. slice_get l (length old + i)) (sym (with_tables-appended old ns long)) ∙ at) p)

@@ -1,0 +1,26 @@
+-- A bundle joins a store: where its modules come to stand, what the old ones keep, and that the rules of phase 13, which are
+-- tried of the bundle, then hold of all modules. The law that `add` rests on is `joined-linked`, in Joined.
+--
+-- Read first specs/Link.antt and Links.antt (the rules), then Scopes (store and bundle looked at as one) and Assembling.
+--   Scopes         `place-for`, `within_tables`: the modules of a scope are found by name and by place
+--   Resolving      `struct-of-all`, `function-of-all`: what a handle names, in the module that its module handle leads to
+--   Empty          `store_of_nothing`: no modules are a store
+--   Bundled        `bundle-at`, `old-at`: where the modules of a bundle stand once it joins
+--   Compatible     `follow-compatible`, `compatible-follow`: what a bundle replaces, module by module
+--   Upgraded       `struct-stays`, `declared-stays`: what old modules name stays there
+--   StillThere     `structs-still-there`, `function-still-there`: handles of a module that stays lead where they led
+--   Assembling     `joining`, `links-all`: the rules of linking over all modules of a result, from those over the bundle
+--   Joins          `joining`, `names-hold`: a scope whose bundle joins its store: where its modules stand, and that what they name is there
+--   Joined         `joined-store`, `joined-linked`: a store that a bundle joined is a store
+--   JoinedTargets  `appended-joined`: what the handles of old modules lead to, for order and sizes
+pub mod Scopes
+pub mod Resolving
+pub mod Empty
+pub mod Bundled
+pub mod Compatible
+pub mod Upgraded
+pub mod StillThere
+pub mod Assembling
+pub mod Joins
+pub mod Joined
+pub mod JoinedTargets

@@ -1,0 +1,39 @@
+-- A store that a bundle joined is a store.
+use Rattle.std.proofs.Common.{◌≡◌, ℕ, Bool, true, false, cond, List, [], ◌∷◌, Option, sym, subst}
+use Rattle.std.specs.Prelude.{All}
+use Rattle.std.proofs.lemmas.List.Elements.{All-head, All-tail, All-cons, All-nil}
+use Rattle.mv_move_types.specs.Module.{Module}
+use Rattle.mv_move_types.specs.Published.{PublishedModule, has_name_of, with_module, with_modules}
+use Rattle.mv_bounds.specs.Definitions.{all_differ}
+use Rattle.mv_linker.specs.Link.{MayJoin, IsStore, IsPublishable, tables_in, have_one_name}
+use Rattle.mv_linker.specs.Stored.{LinkedBundle, IsLinkedTo, Relinks, KeepsDependencies}
+use Rattle.mv_linker.proofs.Members.{differ-result}
+use Rattle.mv_linker.proofs.Joining.Scopes.{all_tables}
+
+-- what holds of each module, and of one more
+All-with_module : (P : PublishedModule → Type 0) (ps : List PublishedModule) (q : PublishedModule) → All P ps → P q → All P (with_module ps q)
+All-with_module P [] q all one = All-cons P q [] one (All-nil P)
+All-with_module P (p ∷ ps) q all one = step (has_name_of q.tables p) (All-with_module P ps q (All-tail P p ps all) one)
+  where
+    step : (b : Bool) → All P (with_module ps q) → All P (cond b (q ∷ ps) (p ∷ with_module ps q))
+    step true rest = All-cons P q ps one (All-tail P p ps all)
+    step false rest = All-cons P p (with_module ps q) (All-head P p ps all) rest
+
+pub All-with_modules : (P : PublishedModule → Type 0) (ps qs : List PublishedModule) → All P ps → All P qs → All P (with_modules ps qs)
+All-with_modules P ps [] all more = all
+All-with_modules P ps (q ∷ qs) all more = All-with_modules P (with_module ps q) qs (All-with_module P ps q all (All-head P q qs more)) (All-tail P q qs more)
+
+-- so what may join gives a store
+pub joined-store : (sender : Option ℕ) (old bundle : List PublishedModule) → IsStore old → All IsPublishable bundle → MayJoin sender (tables_in old) (tables_in bundle)
+    (tables_in (with_modules old bundle)) → IsStore (with_modules old bundle)
+joined-store sender old bundle store passed join = record {
+  passed = All-with_modules IsPublishable old bundle store.passed passed;
+  once = subst (λ (l : List Module). all_differ have_one_name l ≡ true) (sym (all_tables old bundle)) (differ-result (tables_in old) (tables_in bundle) store.once);
+  links = join.links;
+}
+
+-- linked to it
+pub joined-linked : (sender : Option ℕ) (old : List PublishedModule) (l : LinkedBundle) → IsStore old → All IsPublishable l.published → MayJoin sender (tables_in old) (tables_in l.published)
+    (tables_in (with_modules old l.published))
+    → Relinks (tables_in old) (tables_in (with_modules old l.published)) l.codes → KeepsDependencies (tables_in old) (tables_in (with_modules old l.published)) l.dependencies → IsLinkedTo old l
+joined-linked sender old l store passed join relinks keeps = record { whole = joined-store sender old l.published store passed join; codes = relinks; dependencies = keeps }

@@ -1,0 +1,93 @@
+-- A scope whose bundle joins its store: where its modules stand, and that what they name is there.
+use Rattle.std.proofs.Common.{◌≡◌, ℕ, ◌<◌, Bool, true, false, length, List, Option, Some, None, slice_get, refl, sym, ap, ◌∙◌, arith, inl, inr}
+use Rattle.std.specs.Prelude.{◌==◌, ◌&&◌, is_some, not, position, IsSome}
+use Rattle.std.specs.List.{list_all}
+use Rattle.std.proofs.lemmas.Bool.{and_from, both_ways, eq-eqb}
+use Rattle.std.proofs.lemmas.List.{length-map}
+use Rattle.std.proofs.lemmas.Option.{slice_get_within}
+use Rattle.mv_move_types.specs.Options.{find_index}
+use Rattle.mv_move_types.specs.Module.{Module}
+use Rattle.mv_move_types.specs.Named.{have_one_name}
+use Rattle.mv_bounds.specs.Bounds.{InBounds}
+use Rattle.mv_bounds.specs.Definitions.{all_differ}
+use Rattle.mv_linker.specs.declared.New.{New}
+use Rattle.mv_linker.specs.declared.scope.Scope.{Scope}
+use Rattle.mv_linker.specs.Link.{tables_in}
+use Rattle.mv_linker.specs.Links.{Links, modules_are_there, structs_are_there, function_is_there, names_hold}
+use Rattle.mv_linker.specs.Relinked.{Joins}
+use Rattle.mv_linker.specs.Scope.{offered}
+use Rattle.mv_linker.specs.Targets.{modules_in}
+use Rattle.mv_linker.proofs.Joining.Assembling.{joining-offered}
+use Rattle.mv_linker.proofs.Joining.Bundled.{bundle-at, old-at, place-at}
+use Rattle.mv_linker.proofs.Cycles.DependencyLemmas.{length-places}
+use Rattle.mv_linker.proofs.Found.{each, some_passes, there_at}
+use Rattle.mv_linker.proofs.Kept.Keyed.{position-find_index}
+use Rattle.mv_linker.proofs.ListTests.{find_index-none}
+use Rattle.mv_linker.proofs.Members.{among-at, among-result, differ-result}
+use Rattle.mv_linker.proofs.Joining.StillThere.{Joining}
+
+-- no value
+pub none-of : {A : Type 0} (o : Option A) → is_some o ≡ false → o ≡ None
+none-of None e = refl
+none-of (Some x) e = absurd (both_ways true e refl)
+
+-- a place that is there is found
+pub position-there : (q k : ℕ) (places : List ℕ) → slice_get places k ≡ Some q → IsSome (position (λ p. p == q) places)
+position-there q k places at =
+    ap is_some (position-find_index (λ p. p == q) places)
+    ∙ not_false (is_some (find_index (λ p. p == q) places)) (find_index-none (λ p. p == q) places ∙ ap not (some_passes (λ p. p == q) places k q at (eq-eqb q q refl)))
+  where
+    not_false : (b : Bool) → not b ≡ false → b ≡ true
+    not_false true e = refl
+    not_false false e = sym e
+
+-- a bundle takes as many places as it has modules
+pub placed-length : (s : Scope) → length s.places.items ≡ length s.new.now
+placed-length s = ap length s.placed ∙ length-places (tables_in s.store.now) (offered s.new.now) ∙ length-map s.new.now (λ (n : New). n.module)
+
+-- all that a module of linked ones names is there
+pub names-hold : (modules : List Module) (place : ℕ) (m : Module) → Links modules → slice_get modules place ≡ Some m → names_hold modules m ≡ true
+names-hold modules place m links at =
+    and_from (modules_are_there modules m (length m.module_handles) && structs_are_there modules m 0 m.struct_handles) (list_all (function_is_there modules m) m.function_handles)
+    (and_from (modules_are_there modules m (length m.module_handles)) (structs_are_there modules m 0 m.struct_handles)
+    (each (λ m. modules_are_there modules m (length m.module_handles)) modules place m links.modules at)
+    (each (λ m. structs_are_there modules m 0 m.struct_handles) modules place m links.structs at))
+    (each (λ m. list_all (function_is_there modules m) m.function_handles) modules place m links.functions at)
+
+module _ (s : Scope) (joins : Joins s) where
+  pub joining : Joining (tables_in s.store.now) (offered s.new.now)
+  joining = joining-offered s.store.now s.new.now joins.store joins.passed joins.once joins.compatible
+
+  pub one-name : all_differ have_one_name (modules_in s) ≡ true
+  one-name = differ-result (tables_in s.store.now) (offered s.new.now) joins.store.once
+
+  -- a module of the bundle stands at its place
+  pub bundled-at : (k p : ℕ) (n : Module) → slice_get (offered s.new.now) k ≡ Some n → slice_get s.places.items k ≡ Some p → slice_get (modules_in s) p ≡ Some n
+  bundled-at k p n at placed = bundle-at (tables_in s.store.now) (offered s.new.now) k p n joins.once at (sym (ap (λ l. slice_get l k) s.placed) ∙ placed)
+
+  -- and the old one, where none of the bundle does
+  pub kept-at : (q : ℕ) → position (λ p. p == q) s.places.items ≡ None → slice_get (modules_in s) q ≡ slice_get (tables_in s.store.now) q
+  kept-at q none = old-at (tables_in s.store.now) (offered s.new.now) q (sym (ap (position (λ p. p == q)) s.placed) ∙ none)
+
+  -- each module of the bundle has its place
+  pub placed-at : (k : ℕ) (n : Module) → slice_get (offered s.new.now) k ≡ Some n → (p : ℕ) × (slice_get s.places.items k ≡ Some p)
+  placed-at k n at =
+      let low : k < length (offered s.new.now) = slice_get_within (offered s.new.now) k n at in
+      let long = ap length s.placed ∙ length-places (tables_in s.store.now) (offered s.new.now) in
+      there_at s.places.items k (omega (arith, low, long))
+
+  -- what stands at the place of one of the bundle
+  pub same-bundled : (k q : ℕ) → position (λ p. p == q) s.places.items ≡ Some k → slice_get (offered s.new.now) k ≡ slice_get (modules_in s) q
+  same-bundled k q found =
+      let at = place-at q k s.places.items found in
+      let low : k < length s.places.items = slice_get_within s.places.items k q at in
+      let long = ap length s.placed ∙ length-places (tables_in s.store.now) (offered s.new.now) in
+      let n = there_at (offered s.new.now) k (omega (arith, low, long)) in
+      n.1 ∙ sym (bundled-at k q n.0 n.1 at)
+
+  -- the indices of each module are in bounds
+  pub bounds-at : (q : ℕ) (m : Module) → slice_get (modules_in s) q ≡ Some m → InBounds m
+  bounds-at q m at = elim (among-result (tables_in s.store.now) (offered s.new.now) m joins.store.once (among-at (modules_in s) q m at)) [
+    | inl new ↦ joining.new_bounds m new
+    | inr old ↦ joining.bounds m old.0
+  ]

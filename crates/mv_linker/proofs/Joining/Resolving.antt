@@ -1,0 +1,282 @@
+-- What a handle names, in the module that its module handle leads to.
+use Rattle.std.proofs.Common.{◌≡◌, ℕ, zero, suc, ◌<◌, ◌≤◌, ◌+◌, Bool, true, false, cond, List, [], ◌∷◌, ◌++◌, length, refl, sym, ap, subst, ◌∙◌, Option, Some, None, option_map, ◌⊎◌, inl, inr, arith}
+use Rattle.std.specs.Prelude.{slice_get, option_and_then, ◌||◌, IsTrue}
+use Rattle.std.specs.Cmp.{first_so, second_so}
+use Rattle.std.specs.List.{list_all, list_any}
+use Rattle.std.proofs.lemmas.List.{length_push}
+use Rattle.std.specs.Option.{option_map_or}
+use Rattle.std.proofs.lemmas.Bool.{and_from, cases_eq}
+use Rattle.std.proofs.lemmas.Option.{slice_get_within, same_Some}
+use Rattle.mv_move_types.specs.declared.tables.Definition.{Definition}
+use Rattle.mv_move_types.specs.declared.tables.StructHandle.{StructHandle}
+use Rattle.mv_move_types.specs.declared.tables.FunctionHandle.{FunctionHandle}
+use Rattle.mv_move_types.specs.declared.refusal.Refusal.{Refusal}
+use Rattle.mv_move_types.specs.declared.refusal.Refusal.TheVariants.{Phase, Memory}
+use Rattle.mv_move_types.specs.Refusals.{IsRefusedIn}
+use Rattle.mv_move_types.specs.AbilitySets.{same_abilities}
+use Rattle.mv_move_types.specs.Names.{ModuleName, StructName}
+use Rattle.mv_move_types.specs.Module.{Module, module_name, struct_name}
+use Rattle.mv_move_types.specs.Named.{is_module, module_place, module_named, declared_in, declared}
+use Rattle.mv_move_types.specs.Options.{◌>>=◌}
+use Rattle.mv_linker.specs.Links.{module_is_there, modules_are_there, struct_is_there, structs_are_there, function_fits, function_named, function_is_there}
+use Rattle.mv_linker.specs.Targets.{tables_of, IsTarget, AreTargets, struct_matches, function_matches, IsStructIn, IsFunctionIn, IsStructAt, IsFunctionAt, EachAt}
+use Rattle.mv_linker.specs.declared.targets.Target.{Target}
+use Rattle.mv_linker.proofs.Members.{among-any, among-at, at-among, among-all, all-among}
+use Rattle.mv_linker.proofs.Found.{on_some, found_at, there_at, place_below}
+
+-- the module of the name that a target has
+target_named : (modules : List Module) (m : Module) (h : ℕ) (t : Target) (is : IsTarget modules m h t) → module_named modules is.name ≡ Some (tables_of t.module)
+target_named modules m h t is = ap (option_and_then (slice_get modules)) is.place ∙ is.there
+
+-- a name that is the place of no module
+pub not_there : (modules : List Module) (name : ModuleName) → module_place modules name ≡ None → list_any (is_module name) modules ≡ false
+not_there [] name e = refl
+not_there (m ∷ ms) name e = step (is_module name m) (module_place ms name) refl e (λ f. not_there ms name f)
+  where
+    step : (b : Bool) (o : Option ℕ) → module_place ms name ≡ o → cond b (Some 0) (option_map suc o) ≡ None → (module_place ms name ≡ None → list_any (is_module name) ms ≡ false)
+        → (b || list_any (is_module name) ms) ≡ false
+    step true o p e ih = absurd cc
+    step false None p e ih = ih p
+    step false (Some k) p e ih = absurd cc
+
+-- and one that is
+pub is_there : (modules : List Module) (name : ModuleName) (k : ℕ) → module_place modules name ≡ Some k → list_any (is_module name) modules ≡ true
+is_there modules name k e = let f = found_at (is_module name) modules k e in among-any (is_module name) modules f.entry (among-at modules k f.entry f.at) f.passes
+
+-- ---- refusals
+
+pub refused_by : (P Q : Type 0) (e : Refusal) → (Q → P) → IsRefusedIn 13 P e → IsRefusedIn 13 Q e
+refused_by P Q (Phase p) f r = (r.0, λ q. r.1 (f q))
+refused_by P Q Memory f r = r
+
+-- ---- structs and functions
+
+module _ (modules : List Module) (m : Module) (targets : List Target) (named : AreTargets modules m targets) where
+  pub struct_there_is : (h : ℕ) (handle : StructHandle) (t : Target) → slice_get m.struct_handles h ≡ Some handle → slice_get targets handle.module ≡ Some t
+      → struct_is_there modules m h handle ≡ struct_matches m h handle.abilities (tables_of t.module)
+  struct_there_is h handle t p q =
+      let is = named.each handle.module t q in
+      go is (slice_get m.identifiers handle.name) refl
+    where
+      named_as : (is : IsTarget modules m handle.module t) (name : Option (List ℕ)) → slice_get m.identifiers handle.name ≡ name
+          → struct_name m h ≡ (name >>= λ n. Some (record { home = is.name; name = n }))
+      named_as is name e =
+          ap (λ o. o >>= λ s. module_name m s.module >>= λ home. slice_get m.identifiers s.name >>= λ n. Some (record { home = home; name = n })) p
+          ∙ ap (λ o. o >>= λ home. slice_get m.identifiers handle.name >>= λ n. Some (record { home = home; name = n })) is.named
+          ∙ ap (λ o. o >>= λ n. Some (record { home = is.name; name = n })) e
+
+      go : (is : IsTarget modules m handle.module t) (name : Option (List ℕ)) → slice_get m.identifiers handle.name ≡ name
+          → struct_is_there modules m h handle ≡ struct_matches m h handle.abilities (tables_of t.module)
+      go is None e =
+          ap (λ o. option_map_or (λ name. option_map_or (same_abilities handle.abilities) (declared modules name) false) o false) (named_as is None e)
+          ∙ sym (ap (λ o. option_map_or (λ name. option_map_or (same_abilities handle.abilities) (declared_in name (tables_of t.module)) false) o false) (named_as is None e))
+      go is (Some n) e =
+          ap (λ o. option_map_or (λ name. option_map_or (same_abilities handle.abilities) (declared modules name) false) o false) (named_as is (Some n) e)
+          ∙ ap (λ o. option_map_or (same_abilities handle.abilities) (option_and_then (declared_in (record { home = is.name; name = n })) o) false) (target_named modules m handle.module t is)
+          ∙ sym (ap (λ o. option_map_or (λ name. option_map_or (same_abilities handle.abilities) (declared_in name (tables_of t.module)) false) o false) (named_as is (Some n) e))
+
+  pub function_there_is : (handle : FunctionHandle) (t : Target) → slice_get targets handle.module ≡ Some t → function_is_there modules m handle ≡ function_matches m handle (tables_of t.module)
+  function_there_is handle t q =
+      let is = named.each handle.module t q in
+      ap (λ o. option_map_or (λ n. option_map_or (λ name. option_map_or (function_fits m handle n) (function_named n name) false) (slice_get m.identifiers handle.name) false) (o >>= module_named modules) false) is.named
+      ∙ ap (λ o. option_map_or (λ n. option_map_or (λ name. option_map_or (function_fits m handle n) (function_named n name) false) (slice_get m.identifiers handle.name) false) o false) (target_named modules m handle.module t is)
+
+  pub struct_at : (h : ℕ) (handle : StructHandle) (t : Target) (i : ℕ) → slice_get m.struct_handles h ≡ Some handle → slice_get targets handle.module ≡ Some t → IsStructIn m h (tables_of t.module) i
+      → IsStructAt modules m h (record { place = t.place; index = i })
+  struct_at h handle t i p q s =
+      let is = named.each handle.module t q in
+      record {
+        name = s.name;
+        home = tables_of t.module;
+        named = s.named;
+        place = ap (module_place modules) (homes is) ∙ is.place;
+        there = is.there;
+        index = s.place;
+      }
+    where
+      homes : (is : IsTarget modules m handle.module t) → s.name.home ≡ is.name
+      homes is =
+          on_some (slice_get m.struct_handles h) _ s.name s.named (λ x x_is e1.
+          on_some (module_name m x.module) _ s.name e1 (λ home home_is e2.
+          on_some (slice_get m.identifiers x.name) _ s.name e2 (λ n n_is e3.
+          let full : StructName = record { home = home; name = n } in
+          let same : full ≡ s.name = same_Some full s.name e3 in
+          let handles : x ≡ handle = same_Some x handle (sym x_is ∙ p) in
+          let home_same : home ≡ is.name = same_Some home is.name (sym home_is ∙ ap (λ z. module_name m z.module) handles ∙ is.named) in
+          sym (ap (λ (z : StructName). z.home) same) ∙ home_same)))
+
+  pub function_at : (h : ℕ) (handle : FunctionHandle) (t : Target) (i : ℕ) → slice_get m.function_handles h ≡ Some handle → slice_get targets handle.module ≡ Some t
+      → IsFunctionIn m handle (tables_of t.module) i
+      → IsFunctionAt modules m h (record { place = t.place; index = i })
+  function_at h handle t i p q f =
+      let is = named.each handle.module t q in
+      record { handle = handle; name = is.name; home = tables_of t.module; is_handle = p; named = is.named; place = is.place; there = is.there; index = f }
+
+  -- a place that a target has is one
+  pub target_below : (h : ℕ) (t : Target) → slice_get targets h ≡ Some t → t.place < length modules
+  target_below h t q = place_below (is_module (named.each h t q).name) modules t.place (named.each h t q).place
+
+  -- a handle whose module handle is not there names nothing
+  pub struct_nowhere : (h : ℕ) (handle : StructHandle) → slice_get m.struct_handles h ≡ Some handle → slice_get targets handle.module ≡ None → IsTrue (struct_is_there modules m h handle) → ⊥
+  struct_nowhere h handle p q e = none (module_name m handle.module) refl
+    where
+      none : (o : Option ModuleName) → module_name m handle.module ≡ o → ⊥
+      none None r =
+          let nameless : struct_name m h ≡ None =
+          ap (λ o. o >>= λ s. module_name m s.module >>= λ home. slice_get m.identifiers s.name >>= λ n. Some (record { home = home; name = n })) p
+          ∙ ap (λ o. o >>= λ home. slice_get m.identifiers handle.name >>= λ n. Some (record { home = home; name = n })) r in
+          let bad : false ≡ true = sym (ap (λ o. option_map_or (λ name. option_map_or (same_abilities handle.abilities) (declared modules name) false) o false) nameless) ∙ e in
+          cc
+      none (Some name) r = on_some (slice_get m.module_handles handle.module) _ name r (λ x x_is rest.
+          let there = there_at targets handle.module (subst (λ n. handle.module < n) (sym named.len) (slice_get_within m.module_handles handle.module x x_is)) in
+          let clash : Some there.0 ≡ None = sym there.1 ∙ q in
+          cc)
+
+  pub function_nowhere : (handle : FunctionHandle) → slice_get targets handle.module ≡ None → IsTrue (function_is_there modules m handle) → ⊥
+  function_nowhere handle q e = none (module_name m handle.module) refl
+    where
+      none : (o : Option ModuleName) → module_name m handle.module ≡ o → ⊥
+      none None r =
+          let bad : false ≡ true =
+          sym (ap (λ o. option_map_or (λ n. option_map_or (λ name. option_map_or (function_fits m handle n) (function_named n name) false) (slice_get m.identifiers handle.name) false) (o >>= module_named modules) false) r) ∙ e in
+          cc
+      none (Some name) r = on_some (slice_get m.module_handles handle.module) _ name r (λ x x_is rest.
+          let there = there_at targets handle.module (subst (λ n. handle.module < n) (sym named.len) (slice_get_within m.module_handles handle.module x x_is)) in
+          let clash : Some there.0 ≡ None = sym there.1 ∙ q in
+          cc)
+
+-- ---- lists of handles, place by place
+
+pub modules_there_at : (modules : List Module) (m : Module) (n h : ℕ) → h < n → modules_are_there modules m n ≡ true → module_is_there modules m h ≡ true
+modules_there_at modules m zero h l e = absurd (omega (arith, l))
+modules_there_at modules m (suc n) h l e = step (cases_eq h n) (λ k. modules_there_at modules m n h k (second_so (module_is_there modules m n) (modules_are_there modules m n) e))
+  where
+    step : (h ≡ n) ⊎ (h ≡ n → ⊥) → (h < n → module_is_there modules m h ≡ true) → module_is_there modules m h ≡ true
+    step (inl p) ih = ap (module_is_there modules m) p ∙ first_so (module_is_there modules m n) (modules_are_there modules m n) e
+    step (inr p) ih = ih (omega (arith, l, p))
+
+pub structs_there_at : (modules : List Module) (m : Module) (base : ℕ) (handles : List StructHandle) (k : ℕ) (s : StructHandle) → structs_are_there modules m base handles ≡ true
+    → slice_get handles k ≡ Some s → struct_is_there modules m (base + k) s ≡ true
+structs_there_at modules m base [] k s e p = absurd cc
+structs_there_at modules m base (x ∷ xs) zero s e p =
+    let zero_right : base + 0 ≡ base = omega arith in
+    ap (λ h. struct_is_there modules m h s) zero_right ∙ ap (struct_is_there modules m base) (sym (same_Some x s p)) ∙ first_so (struct_is_there modules m base x) (structs_are_there modules m (base + 1) xs) e
+structs_there_at modules m base (x ∷ xs) (suc k) s e p =
+    let next : base + suc k ≡ base + 1 + k = omega arith in
+    ap (λ h. struct_is_there modules m h s) next ∙ structs_there_at modules m (base + 1) xs k s (second_so (struct_is_there modules m base x) (structs_are_there modules m (base + 1) xs) e) p
+
+pub structs_there_all : (modules : List Module) (m : Module) (base : ℕ) (handles : List StructHandle)
+    → ((k : ℕ) (s : StructHandle) → slice_get handles k ≡ Some s → struct_is_there modules m (base + k) s ≡ true) → structs_are_there modules m base handles ≡ true
+structs_there_all modules m base [] f = refl
+structs_there_all modules m base (x ∷ xs) f =
+    let zero_right : base + 0 ≡ base = omega arith in
+    and_from (struct_is_there modules m base x) (structs_are_there modules m (base + 1) xs)
+    (sym (ap (λ h. struct_is_there modules m h x) zero_right) ∙ f 0 x refl)
+    (structs_there_all modules m (base + 1) xs (λ k s p. let next : base + suc k ≡ base + 1 + k = omega arith in sym (ap (λ h. struct_is_there modules m h s) next) ∙ f (suc k) s p))
+
+-- one more element
+pub each_push : {A : Type 0} (P : ℕ → A → Type 0) (xs : List A) (x : A) → EachAt P xs → P (length xs) x → (k : ℕ) (y : A) → slice_get (xs ++ x ∷ []) k ≡ Some y → P k y
+each_push P [] x all last zero y e = subst (P 0) (same_Some x y e) last
+each_push P [] x all last (suc k) y e = absurd cc
+each_push P (z ∷ xs) x all last zero y e = all 0 y e
+each_push P (z ∷ xs) x all last (suc k) y e = each_push (λ j. P (suc j)) xs x (λ j w p. all (suc j) w p) last k y e
+
+-- a handle whose module has no place
+pub nowhere : (modules : List Module) (m : Module) (h : ℕ) (name : ModuleName) → Some name ≡ module_name m h → None ≡ module_place modules name → IsTrue (module_is_there modules m h) → ⊥
+nowhere modules m h name named none e =
+    let yes : list_any (is_module name) modules ≡ true = ap (λ o. option_map_or (λ name. list_any (is_module name) modules) o false) named ∙ e in
+    let no : list_any (is_module name) modules ≡ false = not_there modules name (sym none) in
+    cc
+
+-- ---- what was found of the first handles
+
+pub record TargetsSoFar (modules : List Module) (m : Module) (targets : List Target) (h : ℕ) : Type 0 where
+  pub len : length targets ≡ h
+  pub each : (k : ℕ) (t : Target) → slice_get targets k ≡ Some t → IsTarget modules m k t
+  pub there : modules_are_there modules m h ≡ true
+
+nothing_at : {A : Type 0} (xs : List A) (k : ℕ) (x : A) → xs ≡ [] → slice_get xs k ≡ Some x → ⊥
+nothing_at xs k x e p = let q : slice_get [] k ≡ Some x = sym (ap (λ l. slice_get l k) e) ∙ p in cc
+
+pub no-targets : (modules : List Module) (m : Module) (targets : List Target) → targets ≡ [] → TargetsSoFar modules m targets 0
+no-targets modules m targets e = record { len = ap length e; each = λ k t p. absurd (nothing_at targets k t e p); there = refl }
+
+pub more-targets : (modules : List Module) (m : Module) (targets more : List Target) (h : ℕ) (t : Target) → TargetsSoFar modules m targets h → more ≡ targets ++ t ∷ [] → IsTarget modules m h t
+    → TargetsSoFar modules m more (h + 1)
+more-targets modules m targets more h t s e is =
+    let next : h + 1 ≡ suc h = omega arith in
+    let there : module_is_there modules m h ≡ true =
+    ap (λ o. option_map_or (λ name. list_any (is_module name) modules) o false) is.named ∙ is_there modules is.name t.place is.place in
+    record {
+      len = ap length e ∙ length_push targets t ∙ ap (λ n. n + 1) s.len;
+      each = λ k x p. each_push (IsTarget modules m) targets t s.each (subst (λ n. IsTarget modules m n t) (sym s.len) is) k x (sym (ap (λ l. slice_get l k) e) ∙ p);
+      there = subst (λ n. modules_are_there modules m n ≡ true) (sym next) (and_from (module_is_there modules m h) (modules_are_there modules m h) there s.there);
+    }
+
+pub record StructsSoFar (modules : List Module) (m : Module) (ds : List Definition) (h : ℕ) : Type 0 where
+  pub len : length ds ≡ h
+  pub each : (k : ℕ) (d : Definition) → slice_get ds k ≡ Some d → IsStructAt modules m k d
+  pub there : (k : ℕ) (s : StructHandle) → k < h → slice_get m.struct_handles k ≡ Some s → struct_is_there modules m k s ≡ true
+
+pub no-structs : (modules : List Module) (m : Module) (ds : List Definition) → ds ≡ [] → StructsSoFar modules m ds 0
+no-structs modules m ds e = record { len = ap length e; each = λ k d p. absurd (nothing_at ds k d e p); there = λ k s l p. absurd (omega (arith, l)) }
+
+pub more-structs : (modules : List Module) (m : Module) (ds more : List Definition) (h : ℕ) (handle : StructHandle) (d : Definition) → StructsSoFar modules m ds h → more ≡ ds ++ d ∷ []
+    → slice_get m.struct_handles h ≡ Some handle → IsStructAt modules m h d → struct_is_there modules m h handle ≡ true → StructsSoFar modules m more (h + 1)
+more-structs modules m ds more h handle d s e at is there = record {
+  len = ap length e ∙ length_push ds d ∙ ap (λ n. n + 1) s.len;
+  each = λ k x p. each_push (IsStructAt modules m) ds d s.each (subst (λ n. IsStructAt modules m n d) (sym s.len) is) k x (sym (ap (λ l. slice_get l k) e) ∙ p);
+  there = λ k x l p. step k x l p (cases_eq k h);
+}
+  where
+    step : (k : ℕ) (x : StructHandle) → k < h + 1 → slice_get m.struct_handles k ≡ Some x → (k ≡ h) ⊎ (k ≡ h → ⊥) → struct_is_there modules m k x ≡ true
+    step k x l p (inl q) =
+        let same : x ≡ handle = same_Some x handle (sym p ∙ ap (slice_get m.struct_handles) q ∙ at) in
+        ap (λ n. struct_is_there modules m n x) q ∙ ap (struct_is_there modules m h) same ∙ there
+    step k x l p (inr q) = s.there k x (omega (arith, l, q)) p
+
+pub all-structs : (modules : List Module) (m : Module) (ds : List Definition) (h : ℕ) → StructsSoFar modules m ds h → length m.struct_handles ≤ h
+    → structs_are_there modules m 0 m.struct_handles ≡ true
+all-structs modules m ds h s most = structs_there_all modules m 0 m.struct_handles (λ k x p.
+    let zero_left : 0 + k ≡ k = omega arith in
+    let low = slice_get_within m.struct_handles k x p in
+    ap (λ n. struct_is_there modules m n x) zero_left ∙ s.there k x (omega (arith, low, most)) p)
+
+pub struct-of-all : (modules : List Module) (m : Module) (h : ℕ) (handle : StructHandle) → slice_get m.struct_handles h ≡ Some handle → structs_are_there modules m 0 m.struct_handles ≡ true
+    → struct_is_there modules m h handle ≡ true
+struct-of-all modules m h handle p e =
+    let zero_left : 0 + h ≡ h = omega arith in
+    sym (ap (λ n. struct_is_there modules m n handle) zero_left) ∙ structs_there_at modules m 0 m.struct_handles h handle e p
+
+pub record FunctionsSoFar (modules : List Module) (m : Module) (ds : List Definition) (h : ℕ) : Type 0 where
+  pub len : length ds ≡ h
+  pub each : (k : ℕ) (d : Definition) → slice_get ds k ≡ Some d → IsFunctionAt modules m k d
+  pub there : (k : ℕ) (f : FunctionHandle) → k < h → slice_get m.function_handles k ≡ Some f → function_is_there modules m f ≡ true
+
+pub no-functions : (modules : List Module) (m : Module) (ds : List Definition) → ds ≡ [] → FunctionsSoFar modules m ds 0
+no-functions modules m ds e = record { len = ap length e; each = λ k d p. absurd (nothing_at ds k d e p); there = λ k s l p. absurd (omega (arith, l)) }
+
+pub more-functions : (modules : List Module) (m : Module) (ds more : List Definition) (h : ℕ) (handle : FunctionHandle) (d : Definition) → FunctionsSoFar modules m ds h → more ≡ ds ++ d ∷ []
+    → slice_get m.function_handles h ≡ Some handle → IsFunctionAt modules m h d → function_is_there modules m handle ≡ true → FunctionsSoFar modules m more (h + 1)
+more-functions modules m ds more h handle d s e at is there = record {
+  len = ap length e ∙ length_push ds d ∙ ap (λ n. n + 1) s.len;
+  each = λ k x p. each_push (IsFunctionAt modules m) ds d s.each (subst (λ n. IsFunctionAt modules m n d) (sym s.len) is) k x (sym (ap (λ l. slice_get l k) e) ∙ p);
+  there = λ k x l p. step k x l p (cases_eq k h);
+}
+  where
+    step : (k : ℕ) (x : FunctionHandle) → k < h + 1 → slice_get m.function_handles k ≡ Some x → (k ≡ h) ⊎ (k ≡ h → ⊥) → function_is_there modules m x ≡ true
+    step k x l p (inl q) =
+        let same : x ≡ handle = same_Some x handle (sym p ∙ ap (slice_get m.function_handles) q ∙ at) in
+        ap (function_is_there modules m) same ∙ there
+    step k x l p (inr q) = s.there k x (omega (arith, l, q)) p
+
+pub all-functions : (modules : List Module) (m : Module) (ds : List Definition) (h : ℕ) → FunctionsSoFar modules m ds h → length m.function_handles ≤ h
+    → list_all (function_is_there modules m) m.function_handles ≡ true
+all-functions modules m ds h s most = among-all (function_is_there modules m) m.function_handles (λ x a.
+    let at = at-among m.function_handles x a in
+    let low = slice_get_within m.function_handles at.0 x at.1 in
+    s.there at.0 x (omega (arith, low, most)) at.1)
+
+pub function-of-all : (modules : List Module) (m : Module) (h : ℕ) (handle : FunctionHandle) → slice_get m.function_handles h ≡ Some handle
+    → list_all (function_is_there modules m) m.function_handles ≡ true → function_is_there modules m handle ≡ true
+function-of-all modules m h handle p e = all-among (function_is_there modules m) m.function_handles handle e (among-at m.function_handles h handle p)

@@ -1,0 +1,141 @@
+-- What the old modules name stays there once a bundle joins that replaces what it may.
+use Rattle.std.proofs.Common.{◌≡◌, ℕ, zero, suc, ◌<◌, Bool, true, false, List, [], ◌∷◌, refl, sym, ap, ap₂, subst, ◌∙◌, Option, Some, None, option_map, arith}
+use Rattle.std.specs.Prelude.{slice_get, ◌&&◌, option_and_then}
+use Rattle.std.specs.Bool.{beq}
+use Rattle.std.specs.Cmp.{first_so, second_so, booleans_Decides}
+use Rattle.std.specs.Option.{option_map_or}
+use Rattle.std.specs.Str.{bytes_eq}
+use Rattle.std.proofs.lemmas.Bool.{and_parts}
+use Rattle.std.proofs.lemmas.Slice.Eq.{bytes_eq-Decides}
+use Rattle.mv_move_types.specs.declared.token.Abilities.{Abilities}
+use Rattle.mv_move_types.specs.declared.tables.StructHandle.{StructHandle}
+use Rattle.mv_move_types.specs.AbilitySets.{same_abilities}
+use Rattle.mv_move_types.specs.Names.{ModuleName, StructName, same_struct}
+use Rattle.mv_move_types.specs.Module.{Module, StructDefinition, own_name, name_of_struct, struct_abilities}
+use Rattle.mv_move_types.specs.Named.{is_struct, declared_in}
+use Rattle.mv_move_types.specs.Options.{find_index, ◌>>=◌}
+use Rattle.mv_bounds.specs.Bounds.{InBounds}
+use Rattle.mv_bounds.specs.Definitions.{WellDefined}
+use Rattle.mv_linker.specs.TypesByName.{both_there}
+use Rattle.mv_linker.specs.Upgrades.{same_fields, same_struct_definition, structs_stay}
+use Rattle.std.proofs.lemmas.Option.{same_Some}
+use Rattle.mv_linker.proofs.NameLemmas.{same_struct-same}
+use Rattle.mv_linker.proofs.Found.{find_first, found_at, found_first}
+use Rattle.mv_linker.proofs.OwnDefinitions.{struct_named_so, owns-structs}
+
+-- ---- tests of two parts that are there
+
+pub both-there : {A B : Type 0} (same : A → B → Bool) (a : Option A) (b : Option B) → both_there same a b ≡ true → (x : A) × (y : B) × (a ≡ Some x) × (b ≡ Some y) × (same x y ≡ true)
+both-there same None b e = absurd cc
+both-there same (Some x) None e = absurd cc
+both-there same (Some x) (Some y) e = (x, y, refl, refl, e)
+
+abbrev abilities_of : Bool → Bool → Bool → Bool → Abilities
+abilities_of copy drop store key = record { copy = copy; drop = drop; store = store; key = key }
+
+-- abilities that are one by the test are one
+pub same_abilities-is : (a b : Abilities) → same_abilities a b ≡ true → a ≡ b
+same_abilities-is a b h =
+    let one = and_parts (beq a.copy b.copy && beq a.drop b.drop && beq a.store b.store) (beq a.key b.key) h in
+    let two = and_parts (beq a.copy b.copy && beq a.drop b.drop) (beq a.store b.store) one.0 in
+    let three = and_parts (beq a.copy b.copy) (beq a.drop b.drop) two.0 in
+    let copy : a.copy ≡ b.copy = (booleans_Decides a.copy b.copy).0 three.0 in
+    let drop : a.drop ≡ b.drop = (booleans_Decides a.drop b.drop).0 three.1 in
+    let store : a.store ≡ b.store = (booleans_Decides a.store b.store).0 two.1 in
+    let key : a.key ≡ b.key = (booleans_Decides a.key b.key).0 one.1 in
+    ap (λ x. abilities_of x a.drop a.store a.key) copy ∙ ap (λ x. abilities_of b.copy x a.store a.key) drop
+    ∙ ap (λ x. abilities_of b.copy b.drop x a.key) store ∙ ap (λ x. abilities_of b.copy b.drop b.store x) key
+
+-- ---- structs of a replaced module
+
+-- the definition at a place stays there
+stays-at : (m n : Module) (ds es : List StructDefinition) (k : ℕ) (d : StructDefinition) → structs_stay m ds n es ≡ true → slice_get ds k ≡ Some d
+    → (e : StructDefinition) × (slice_get es k ≡ Some e) × (same_struct_definition m d n e ≡ true)
+stays-at m n [] es k d h p = absurd cc
+stays-at m n (x ∷ ds) [] k d h p = absurd cc
+stays-at m n (x ∷ ds) (y ∷ es) zero d h p = (y, refl, subst (λ z. same_struct_definition m z n y ≡ true) (same_Some x d p) (first_so (same_struct_definition m x n y) (structs_stay m ds n es) h))
+stays-at m n (x ∷ ds) (y ∷ es) (suc k) d h p = stays-at m n ds es k d (second_so (same_struct_definition m x n y) (structs_stay m ds n es) h) p
+
+-- and those before were there before
+stayed-at : (m n : Module) (ds es : List StructDefinition) (j k : ℕ) (d e : StructDefinition) → structs_stay m ds n es ≡ true → slice_get ds k ≡ Some d → j < k → slice_get es j ≡ Some e
+    → (c : StructDefinition) × (slice_get ds j ≡ Some c) × (same_struct_definition m c n e ≡ true)
+stayed-at m n [] es j k d e h p l q = absurd cc
+stayed-at m n (x ∷ ds) [] j k d e h p l q = absurd cc
+stayed-at m n (x ∷ ds) (y ∷ es) j zero d e h p l q = absurd (omega (arith, l))
+stayed-at m n (x ∷ ds) (y ∷ es) zero (suc k) d e h p l q = (x, refl, subst (λ z. same_struct_definition m x n z ≡ true) (same_Some y e q) (first_so (same_struct_definition m x n y) (structs_stay m ds n es) h))
+stayed-at m n (x ∷ ds) (y ∷ es) (suc j) (suc k) d e h p l q = stayed-at m n ds es j k d e (second_so (same_struct_definition m x n y) (structs_stay m ds n es) h) p (omega (arith, l)) q
+
+-- a struct's name by its parts
+abbrev name_with : ModuleName → List ℕ → StructName
+name_with home name = record { home = home; name = name }
+
+so-struct : (m : Module) (name : StructName) (d : StructDefinition) → name_of_struct m d ≡ Some name → is_struct m name d ≡ true
+so-struct m name d e = subst (λ (x : Option StructName). option_map_or (λ own. same_struct own name) x false ≡ true) (sym e) (same_struct-same name)
+
+-- a module that takes another's place, both of one name and with their own structs
+pub record Replaces (m n : Module) : Type 0 where
+  pub bounds : InBounds m
+  pub defined : WellDefined m
+  pub new_bounds : InBounds n
+  pub new_defined : WellDefined n
+  pub named : own_name m ≡ own_name n
+  pub stays : structs_stay m m.structs n n.structs ≡ true
+
+module _ (m n : Module) (r : Replaces m n) where
+  -- the parts of a definition that stays
+  parts : (d e : StructDefinition) → same_struct_definition m d n e ≡ true
+      → (both_there (λ (a b : StructName). bytes_eq a.name b.name) (name_of_struct m d) (name_of_struct n e) ≡ true) × (both_there same_abilities (struct_abilities m d) (struct_abilities n e) ≡ true) × (same_fields m d.fields n e.fields ≡ true)
+  parts d e h =
+      let one = and_parts (both_there (λ (a b : StructName). bytes_eq a.name b.name) (name_of_struct m d) (name_of_struct n e) && both_there same_abilities (struct_abilities m d) (struct_abilities n e)) (same_fields m d.fields n e.fields) h in
+      let two = and_parts (both_there (λ (a b : StructName). bytes_eq a.name b.name) (name_of_struct m d) (name_of_struct n e)) (both_there same_abilities (struct_abilities m d) (struct_abilities n e)) one.0 in
+      (two.0, two.1, one.1)
+
+  -- definitions that are one have one name
+  one_name : (j : ℕ) (d e : StructDefinition) → slice_get m.structs j ≡ Some d → slice_get n.structs j ≡ Some e → same_struct_definition m d n e ≡ true
+      → (name : StructName) × (name_of_struct m d ≡ Some name) × (name_of_struct n e ≡ Some name)
+  one_name j d e p q h =
+      let b = both-there (λ (a b : StructName). bytes_eq a.name b.name) (name_of_struct m d) (name_of_struct n e) (parts d e h).0 in
+      let homes : b.0.home ≡ b.1.home = same_Some b.0.home b.1.home (sym (owns-structs m r.defined j d b.0 p b.2) ∙ r.named ∙ owns-structs n r.new_defined j e b.1 q b.3) in
+      let names : b.0.name ≡ b.1.name = (bytes_eq-Decides b.0.name b.1.name).0 b.4 in
+      (b.0, b.2, b.3 ∙ ap Some (sym (ap₂ name_with homes names)))
+
+  -- an old struct is found at its place
+  pub struct-stays : (name : StructName) (k : ℕ) → find_index (is_struct m name) m.structs ≡ Some k → find_index (is_struct n name) n.structs ≡ Some k
+  struct-stays name k e =
+      let f = found_at (is_struct m name) m.structs k e in
+      let s = stays-at m n m.structs n.structs k f.entry r.stays f.at in
+      let o = one_name k f.entry s.0 f.at s.1 s.2 in
+      let same : o.0 ≡ name = same_Some o.0 name (sym o.1 ∙ struct_named_so (name_of_struct m f.entry) name f.passes) in
+      find_first (is_struct n name) n.structs k s.0 s.1 (so-struct n name s.0 (o.2 ∙ ap Some same)) (λ j y l at passes.
+      let b = stayed-at m n m.structs n.structs j k f.entry y r.stays f.at l at in
+      let p = one_name j b.0 y b.1 at b.2 in
+      let again : p.0 ≡ name = same_Some p.0 name (sym p.2 ∙ struct_named_so (name_of_struct n y) name passes) in
+      found_first (is_struct m name) m.structs k e j b.0 l b.1 (so-struct m name b.0 (p.1 ∙ ap Some again)))
+
+  -- with its abilities
+  pub declared-stays : (name : StructName) (a : Abilities) → declared_in name m ≡ Some a → declared_in name n ≡ Some a
+  declared-stays name a e = step (find_index (is_struct m name) m.structs) refl e
+    where
+      one : (m : Module) (d : StructDefinition) → struct_abilities m d ≡ option_map (λ (h : StructHandle). h.abilities) (slice_get m.struct_handles d.handle)
+      one m d = go (slice_get m.struct_handles d.handle)
+        where
+          go : (o : Option StructHandle) → (o >>= λ h. Some h.abilities) ≡ option_map (λ (h : StructHandle). h.abilities) o
+          go None = refl
+          go (Some h) = refl
+
+      step : (o : Option ℕ) → find_index (is_struct m name) m.structs ≡ o
+          → option_and_then (λ i. option_and_then (λ (d : StructDefinition). option_map (λ (h : StructHandle). h.abilities) (slice_get m.struct_handles d.handle)) (slice_get m.structs i)) o ≡ Some a
+          → declared_in name n ≡ Some a
+      step None p g = absurd cc
+      step (Some k) p g =
+          let f = found_at (is_struct m name) m.structs k p in
+          let s = stays-at m n m.structs n.structs k f.entry r.stays f.at in
+          let b = both-there same_abilities (struct_abilities m f.entry) (struct_abilities n s.0) (parts f.entry s.0 s.2).1 in
+          let old : option_map (λ (h : StructHandle). h.abilities) (slice_get m.struct_handles f.entry.handle) ≡ Some a =
+          sym (ap (option_and_then (λ (d : StructDefinition). option_map (λ (h : StructHandle). h.abilities) (slice_get m.struct_handles d.handle))) f.at) ∙ g in
+          let is : b.0 ≡ a = same_Some b.0 a (sym b.2 ∙ one m f.entry ∙ old) in
+          let new : option_map (λ (h : StructHandle). h.abilities) (slice_get n.struct_handles s.0.handle) ≡ Some a =
+          sym (one n s.0) ∙ b.3 ∙ ap Some (sym (same_abilities-is b.0 b.1 b.4) ∙ is) in
+          ap (option_and_then (λ i. option_and_then (λ (d : StructDefinition). option_map (λ (h : StructHandle). h.abilities) (slice_get n.struct_handles d.handle)) (slice_get n.structs i))) (struct-stays name k p)
+          ∙ ap (option_and_then (λ (d : StructDefinition). option_map (λ (h : StructHandle). h.abilities) (slice_get n.struct_handles d.handle))) s.1
+          ∙ new

@@ -1,0 +1,26 @@
+-- What the store keeps beside code, place by place, and that it is what the modules' texts say: names, identifiers, what structs
+-- are made of, interfaces of functions.
+--
+-- Read first specs/Kept.antt and Stored.antt, then Keyed (the map of names) and WithAt (lists in which entries were put).
+--   Keyed              `place-keyed`, `module-at`: a map from names to texts finds and takes what the list of its modules says
+--   WithAt             `put-at`, `from-put_all`: lists in which entries were put at places, each at one that was there or at the next one
+--   Adding             `adding-done`, `putting-done`: a bundle's modules go into a store's map, a module at a time
+--   IndexLemmas        `places-put`, `indices-put`: the modules of a bundle are found in maps as the lists say
+--   SpanLemmas         `spanned-more`: lists that stand in one list, one after the other
+--   IdentifierLemmas   `identifier-short`: the identifiers of structs
+--   StructNames        `named-there`: the names of a store's structs, by the name of their module and their identifiers there
+--   HandleDefinitions  `struct-there`, `all-defined`: where the structs of a bundle's handles are defined, once it joins
+--   ShapeLemmas        `shapes-are`: of what the structs of a module are made, by where those that its handles name are defined
+--   StoredShapes       `fields-known`: of what the structs of a store's modules are made, as its codes say
+--   InterfaceLemmas    `function-found`, `interface-at`: how interfaces are made, and that they find a function by its identifier
+pub mod Keyed
+pub mod WithAt
+pub mod Adding
+pub mod IndexLemmas
+pub mod SpanLemmas
+pub mod IdentifierLemmas
+pub mod StructNames
+pub mod HandleDefinitions
+pub mod ShapeLemmas
+pub mod StoredShapes
+pub mod InterfaceLemmas

@@ -1,0 +1,146 @@
+-- The modules of a bundle are found in maps as the lists say.
+use Rattle.std.proofs.Common.{◌≡◌, ℕ, zero, suc, ◌≤◌, ◌<◌, Bool, true, false, cond, List, [], ◌∷◌, ◌++◌, length, take, Option, Some, None, option_map, refl, sym, ap, ◌∙◌, arith}
+use Rattle.std.specs.Prelude.{◌==◌, ◌&&◌, ◌||◌, not, is_some, position}
+use Rattle.std.specs.List.{list_any}
+use Rattle.std.specs.Map.{lookup}
+use Rattle.std.specs.Option.{option_or, option_map_or}
+use Rattle.std.proofs.lemmas.List.Folds.{list_any-append}
+use Rattle.mv_move_types.specs.Names.{ModuleName, same_module}
+use Rattle.mv_move_types.specs.Module.{Module, own_name}
+use Rattle.mv_move_types.specs.Named.{is_module, have_one_name}
+use Rattle.mv_move_types.specs.Options.{find_index}
+use Rattle.mv_bounds.specs.Definitions.{all_differ}
+use Rattle.mv_linker.specs.declared.entry.Name.{Name}
+use Rattle.mv_linker.specs.Indexed.{ArePlacesOf, AreIndicesOf, AreNamesIn, PutsPlace, PutsName, PutsFirst}
+use Rattle.mv_linker.specs.Kept.{Kept, name_in}
+use Rattle.mv_linker.specs.Scope.{found_among}
+use Rattle.mv_linker.proofs.Kept.Keyed.{position-find_index, same_module-turns}
+
+-- the first of two, and then a third
+or-or : {A : Type 0} (o : Option A) (p : A) (before : Option A) → option_or (option_or o (Some p)) before ≡ option_or o (Some p)
+or-or None p before = refl
+or-or (Some x) p before = refl
+
+-- what is found among a bundle comes before what was found before
+pub found-before : (name : ModuleName) (ns : List Module) (places : List ℕ) (before : Option ℕ) → found_among name ns places before ≡ option_or (found_among name ns places None) before
+found-before name [] places before = refl
+found-before name (n ∷ ns) [] before = refl
+found-before name (n ∷ ns) (p ∷ places) before = step (is_module name n) (found-before name ns places (Some p)) (found-before name ns places before)
+  where
+    step : (b : Bool) → found_among name ns places (Some p) ≡ option_or (found_among name ns places None) (Some p)
+        → found_among name ns places before ≡ option_or (found_among name ns places None) before
+        → found_among name ns places (cond b (Some p) before) ≡ option_or (found_among name ns places (cond b (Some p) None)) before
+    step true f g = f ∙ sym (or-or (found_among name ns places None) p before) ∙ ap (λ (o : Option ℕ). option_or o before) (sym f)
+    step false f g = g
+
+-- one more of a bundle is found at its place
+found-push : (name : ModuleName) (ns : List Module) (places : List ℕ) (n : Module) (p : ℕ) (before : Option ℕ) → length places ≡ length ns
+    → found_among name (ns ++ n ∷ []) (places ++ p ∷ []) before ≡ cond (is_module name n) (Some p) (found_among name ns places before)
+found-push name [] [] n p before e = refl
+found-push name [] (x ∷ places) n p before e = absurd (omega (arith, e))
+found-push name (m ∷ ns) [] n p before e = absurd (omega (arith, e))
+found-push name (m ∷ ns) (x ∷ places) n p before e = found-push name ns places n p (cond (is_module name m) (Some x) before) (omega (arith, e))
+
+-- whether a module has a name, by its own
+has-name : (n : Module) (own name : ModuleName) → own_name n ≡ Some own → is_module name n ≡ same_module own name
+has-name n own name e = ap (λ o. option_map_or (λ own. same_module own name) o false) e
+
+pub places-put : (old new : List (Name × ℕ)) (ns : List Module) (places : List ℕ) (n : Module) (own : Name) (p : ℕ) → ArePlacesOf old ns places → PutsPlace old new own p
+    → own_name n ≡ Some (name_in own) → length places ≡ length ns → ArePlacesOf new (ns ++ n ∷ []) (places ++ p ∷ [])
+places-put old new ns places n own p so puts named len q =
+    puts q
+    ∙ ap (cond (same_module (name_in own) (name_in q)) (Some p)) (so q)
+    ∙ ap (λ b. cond b (Some p) (found_among (name_in q) ns places None)) (sym (has-name n (name_in own) (name_in q) named))
+    ∙ sym (found-push (name_in q) ns places n p None len)
+
+-- one more is first where none was before
+find-push : {A : Type 0} (f : A → Bool) (xs : List A) (x : A) → find_index f (xs ++ x ∷ []) ≡ option_or (find_index f xs) (cond (f x) (Some (length xs)) None)
+find-push f [] x = refl
+find-push f (y ∷ ys) x = step (f y) (find_index f ys) (f x) (find-push f ys x)
+  where
+    step : (b : Bool) (o : Option ℕ) (c : Bool) → find_index f (ys ++ x ∷ []) ≡ option_or o (cond c (Some (length ys)) None)
+        → cond b (Some 0) (option_map suc (find_index f (ys ++ x ∷ []))) ≡ option_or (cond b (Some 0) (option_map suc o)) (cond c (Some (suc (length ys))) None)
+    step true o c e = refl
+    step false (Some k) c e = ap (option_map suc) e
+    step false None true e = ap (option_map suc) e
+    step false None false e = ap (option_map suc) e
+
+pub indices-put : (old new : List (ℕ × ℕ)) (places : List ℕ) (p k : ℕ) → AreIndicesOf old places → PutsFirst old new p k → k ≡ length places → AreIndicesOf new (places ++ p ∷ [])
+indices-put old new places p k so puts len q =
+    puts q
+    ∙ ap (λ (o : Option ℕ). option_or o (cond (p == q) (Some k) None)) (so q ∙ position-find_index (λ p. p == q) places)
+    ∙ ap (λ n. option_or (find_index (λ p. p == q) places) (cond (p == q) (Some n) None)) len
+    ∙ sym (find-push (λ p. p == q) places p)
+    ∙ sym (position-find_index (λ p. p == q) (places ++ p ∷ []))
+
+-- ---- names that differ
+
+or-false : (b : Bool) → (b || false) ≡ b
+or-false true = refl
+or-false false = refl
+
+pub differ-push : {A : Type 0} (same : A → A → Bool) (xs : List A) (x : A) → all_differ same (xs ++ x ∷ []) ≡ (all_differ same xs && not (list_any (λ y. same y x) xs))
+differ-push same [] x = refl
+differ-push same (y ∷ ys) x =
+    ap (λ b. not b && all_differ same (ys ++ x ∷ [])) (list_any-append (same y) ys (x ∷ []) ∙ ap (λ b. list_any (same y) ys || b) (or-false (same y x)))
+    ∙ ap (λ b. not (list_any (same y) ys || same y x) && b) (differ-push same ys x)
+    ∙ step (list_any (same y) ys) (same y x) (all_differ same ys) (list_any (λ y. same y x) ys)
+  where
+    step : (a b c d : Bool) → (not (a || b) && (c && not d)) ≡ ((not a && c) && not (b || d))
+    step true b c d = refl
+    step false true true d = refl
+    step false true false d = refl
+    step false false c d = refl
+
+-- a module has the name of one whose name is known exactly where it is the module of that name
+one-name : (m n : Module) (own : ModuleName) → own_name n ≡ Some own → have_one_name m n ≡ is_module own m
+one-name m n own e = step (own_name m)
+  where
+    step : (o : Option ModuleName) → option_map_or (λ name. is_module name n) o false ≡ option_map_or (λ name. same_module name own) o false
+    step None = refl
+    step (Some name) = has-name n own name e ∙ same_module-turns own name
+
+any-same : (kept : List Kept) (n : Module) (own : ModuleName) → own_name n ≡ Some own
+    → list_any (λ (k : Kept). have_one_name k.published.tables n) kept ≡ list_any (λ (k : Kept). is_module own k.published.tables) kept
+any-same [] n own e = refl
+any-same (k ∷ kept) n own e =
+    ap (λ b. b || list_any (λ (k : Kept). have_one_name k.published.tables n) kept) (one-name k.published.tables n own e)
+    ∙ ap (λ b. is_module own k.published.tables || b) (any-same kept n own e)
+
+abbrev pub differ : List Kept → Bool
+differ kept = all_differ (λ (j k : Kept). have_one_name j.published.tables k.published.tables) kept
+
+-- the names of the first entries are there, and whether they differ is known
+pub record SeenSoFar {V : Type 0} (entries : List (Name × V)) (kept : List Kept) (so : Bool) : Type 0 where
+  pub names : AreNamesIn entries kept
+  pub differ : so ≡ differ kept
+
+pub seen-none : {V : Type 0} (entries : List (Name × V)) → entries ≡ [] → SeenSoFar entries [] true
+seen-none entries e = record { names = λ q. ap (λ l. is_some (lookup (λ k. same_module (name_in q) (name_in k)) l)) e; differ = refl }
+
+pub seen-more : {V : Type 0} (old new : List (Name × V)) (kept : List Kept) (k : Kept) (own : Name) (so is_new next : Bool) → SeenSoFar old kept so → PutsName old new own
+    → is_new ≡ not (is_some (lookup (λ k. same_module (name_in own) (name_in k)) old)) → own_name k.published.tables ≡ Some (name_in own) → next ≡ (so && is_new)
+    → SeenSoFar new (kept ++ k ∷ []) next
+seen-more old new kept k own so is_new next seen puts is named e = record {
+  names = λ q.
+      puts q ∙ ap (cond (same_module (name_in own) (name_in q)) true) (seen.names q)
+      ∙ ap (λ b. cond b true (list_any (λ (k : Kept). is_module (name_in q) k.published.tables) kept)) (sym (has-name k.published.tables (name_in own) (name_in q) named))
+      ∙ either (is_module (name_in q) k.published.tables) (list_any (λ (k : Kept). is_module (name_in q) k.published.tables) kept)
+      ∙ sym (list_any-append (λ (k : Kept). is_module (name_in q) k.published.tables) kept (k ∷ []));
+  differ =
+      e ∙ ap (λ b. b && is_new) seen.differ
+      ∙ ap (λ b. differ kept && b) (is ∙ ap not (seen.names own ∙ sym (any-same kept k.published.tables (name_in own) named)))
+      ∙ sym (differ-push (λ (j k : Kept). have_one_name j.published.tables k.published.tables) kept k);
+}
+  where
+    either : (a b : Bool) → cond a true b ≡ (b || (a || false))
+    either true true = refl
+    either true false = refl
+    either false true = refl
+    either false false = refl
+
+-- the first so many are so many
+pub length-taken : {A : Type 0} (xs : List A) (k : ℕ) → k ≤ length xs → length (take k xs) ≡ k
+length-taken xs zero h = refl
+length-taken [] (suc k) h = absurd (omega (arith, h))
+length-taken (x ∷ xs) (suc k) h = ap suc (length-taken xs k (omega (arith, h)))

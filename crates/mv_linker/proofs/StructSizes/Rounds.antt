@@ -1,0 +1,348 @@
+-- Sizes by rounds: what is known after a round, of rows and of structs.
+use Rattle.std.proofs.Common.{◌≡◌, ℕ, zero, suc, ◌+◌, ◌<◌, ◌≤◌, Bool, true, false, cond, List, [], ◌∷◌, ◌++◌, length, map, take, Option, Some, None, option_map, slice_get, unwrap_or, refl, sym, ap, ap₂, ◌∙◌, subst, arith, inl, inr, leb, ltb, add-one}
+use Rattle.std.specs.Prelude.{◌&&◌, is_some}
+use Rattle.std.specs.List.{list_all}
+use Rattle.std.specs.Option.{option_map_or}
+use Rattle.std.proofs.lemmas.Bool.{leb-true, leb-false, le-leb, lt-leb, lt-ltb, ltb-true, cases_lt, both_ways}
+use Rattle.std.proofs.lemmas.List.{length-map}
+use Rattle.std.proofs.lemmas.Option.{same_Some, none-some, slice_get-map, slice_get_within, slice_get_past, cond_some}
+use Rattle.mv_move_types.specs.Options.{◌>>=◌}
+use Rattle.mv_move_types.specs.declared.token.Token.{Token}
+use Rattle.mv_move_types.specs.declared.token.Token.TheVariants.{Plain, Reference, MutableReference}
+use Rattle.mv_move_types.specs.declared.token.ValueType.TheVariants.{OfLeaf, OfStruct}
+use Rattle.mv_move_types.specs.declared.tables.Field.{Field}
+use Rattle.mv_move_types.specs.declared.tables.StructHandle.{StructHandle}
+use Rattle.mv_move_types.specs.Names.{StructName}
+use Rattle.mv_move_types.specs.Module.{Module, StructDefinition, struct_name, name_of_struct, name_at, module_name}
+use Rattle.mv_move_types.specs.Named.{definition_of}
+use Rattle.mv_move_types.specs.Leaves.{leaves_within, leaves_of, sum_of_fields}
+use Rattle.mv_linker.specs.Links.{struct_is_small}
+use Rattle.mv_linker.specs.declared.sizes.Size.{Size}
+use Rattle.mv_linker.specs.declared.sizes.Defined.{Defined}
+use Rattle.mv_linker.specs.declared.sizes.Defined.TheVariants.{Published, Bundled}
+use Rattle.mv_linker.specs.Sizes.{IsSized, IsDefined, AreDefined, AreSizes, AreSmall, Total, greater, total_of, small_size, size_at, size_of_token, size_of_struct, row_of, next_rows, rows_after}
+use Rattle.mv_linker.proofs.Found.{on_some, then_found, there_at, each, all_from, some_fails}
+use Rattle.mv_linker.proofs.StructSizes.Totals.{greater-left, greater-right}
+
+-- the rows of the first modules, and of one more
+pub rows_more : (rows : List (List (Option Size))) (ms : List Module) (ds : List (List Defined)) (i : ℕ) (m : Module) (d : List Defined) → slice_get ms i ≡ Some m → slice_get ds i ≡ Some d
+    → next_rows rows (take (i + 1) ms) (take (i + 1) ds) ≡ next_rows rows (take i ms) (take i ds) ++ row_of rows m d ∷ []
+rows_more rows ms ds i m d e f = ap (λ n. next_rows rows (take n ms) (take n ds)) (add-one i) ∙ more ms ds i e f
+  where
+    more : (ms : List Module) (ds : List (List Defined)) (i : ℕ) → slice_get ms i ≡ Some m → slice_get ds i ≡ Some d
+        → next_rows rows (take (suc i) ms) (take (suc i) ds) ≡ next_rows rows (take i ms) (take i ds) ++ row_of rows m d ∷ []
+    more [] ds i e f = absurd (none-some m e)
+    more (x ∷ xs) [] i e f = absurd (none-some d f)
+    more (x ∷ xs) (y ∷ ys) zero e f = ap₂ (λ a b. row_of rows a b ∷ []) (same_Some x m e) (same_Some y d f)
+    more (x ∷ xs) (y ∷ ys) (suc i) e f = ap (λ l. row_of rows x y ∷ l) (more xs ys i e f)
+
+pub rows_all : (rows : List (List (Option Size))) (ms : List Module) (ds : List (List Defined)) (n : ℕ) → length ms ≤ n → next_rows rows (take n ms) (take n ds) ≡ next_rows rows ms ds
+rows_all rows [] ds zero h = refl
+rows_all rows [] ds (suc n) h = refl
+rows_all rows (m ∷ ms) ds zero h = absurd (omega (arith, h))
+rows_all rows (m ∷ ms) [] (suc n) h = refl
+rows_all rows (m ∷ ms) (d ∷ ds) (suc n) h = ap (λ l. row_of rows m d ∷ l) (rows_all rows ms ds n (omega (arith, h)))
+
+-- a row by its module's place
+row_at : (rows : List (List (Option Size))) (ms : List Module) (ds : List (List Defined)) (i : ℕ) (m : Module) (d : List Defined) → slice_get ms i ≡ Some m → slice_get ds i ≡ Some d
+    → slice_get (next_rows rows ms ds) i ≡ Some (row_of rows m d)
+row_at rows [] ds i m d e f = absurd (none-some m e)
+row_at rows (x ∷ xs) [] i m d e f = absurd (none-some d f)
+row_at rows (x ∷ xs) (y ∷ ys) zero m d e f = ap₂ (λ a b. Some (row_of rows a b)) (same_Some x m e) (same_Some y d f)
+row_at rows (x ∷ xs) (y ∷ ys) (suc i) m d e f = row_at rows xs ys i m d e f
+
+length-rows : (rows : List (List (Option Size))) (ms : List Module) (ds : List (List Defined)) → length ds ≡ length ms → length (next_rows rows ms ds) ≡ length ms
+length-rows rows [] ds h = refl
+length-rows rows (x ∷ xs) [] h = absurd (omega (arith, h))
+length-rows rows (x ∷ xs) (y ∷ ys) h = (let r = length-rows rows xs ys (omega (arith, h)) in omega (arith, r))
+
+-- what is known of a struct within a nesting: its size, which is small, or that it has more leaves if it has any
+abbrev KnownWithin : List Module → ℕ → StructName → Option Size → Type 0
+KnownWithin modules k name None = (n : ℕ) → leaves_within k modules name ≡ Some n → 256 < n
+KnownWithin modules k name (Some s) = IsSized modules name s × (s.leaves ≤ 256) × (s.nesting ≤ 8)
+
+abbrev at_place : List (List (Option Size)) → ℕ → ℕ → Option Size
+at_place rows i j = slice_get rows i >>= λ row. unwrap_or (slice_get row j) None
+
+-- what is known of fields within a nesting
+abbrev HasLeaves : (ℕ → Option ℕ) → ℕ → ℕ → Type 0
+HasLeaves leaves n nesting = (q : ℕ) → leaves q ≡ cond (leb nesting q) (Some n) None
+
+-- two sums
+sum_two : (a b n m q : ℕ) → (cond (leb a q) (Some n) None >>= λ x. cond (leb b q) (Some m) None >>= λ y. Some (x + y)) ≡ cond (leb (greater a b) q) (Some (n + m)) None
+sum_two a b n m q = elim (cases_lt q a) [
+  | inl deep ↦
+      let above : a ≤ greater a b = greater_first a b in
+      ap (λ t. cond t (Some n) None >>= λ x. cond (leb b q) (Some m) None >>= λ y. Some (x + y)) (lt-leb a q deep)
+      ∙ sym (ap (λ t. cond t (Some (n + m)) None) (lt-leb (greater a b) q (omega (arith, deep, above))))
+  | inr fine ↦
+      ap (λ t. cond t (Some n) None >>= λ x. cond (leb b q) (Some m) None >>= λ y. Some (x + y)) (le-leb a q fine)
+      ∙ elim (cases_lt q b) [
+        | inl deep ↦
+            let above : b ≤ greater a b = greater_second a b in
+            ap (λ t. cond t (Some m) None >>= λ y. Some (n + y)) (lt-leb b q deep)
+            ∙ sym (ap (λ t. cond t (Some (n + m)) None) (lt-leb (greater a b) q (omega (arith, deep, above))))
+        | inr low ↦
+            ap (λ t. cond t (Some m) None >>= λ y. Some (n + y)) (le-leb b q low)
+            ∙ sym (ap (λ t. cond t (Some (n + m)) None) (le-leb (greater a b) q (greater_least a b q fine low)))
+      ]
+]
+  where
+    greater_first : (a b : ℕ) → a ≤ greater a b
+    greater_first a b = elim (cases_lt b a) [
+      | inl low ↦ (let e = greater-left a b (omega (arith, low)) in omega (arith, e))
+      | inr high ↦ (let e = greater-right a b high in omega (arith, e, high))
+    ]
+
+    greater_second : (a b : ℕ) → b ≤ greater a b
+    greater_second a b = elim (cases_lt b a) [
+      | inl low ↦ (let e = greater-left a b (omega (arith, low)) in omega (arith, e, low))
+      | inr high ↦ (let e = greater-right a b high in omega (arith, e))
+    ]
+
+    greater_least : (a b q : ℕ) → a ≤ q → b ≤ q → greater a b ≤ q
+    greater_least a b q h k = elim (cases_lt b a) [
+      | inl low ↦ (let e = greater-left a b (omega (arith, low)) in omega (arith, e, h))
+      | inr high ↦ (let e = greater-right a b high in omega (arith, e, k))
+    ]
+
+module _ (modules bundle : List Module) (handles : List (List Defined)) (a : AreDefined modules bundle handles) where
+  -- what is known of each struct of the bundle
+  abbrev Knows : ℕ → List (List (Option Size)) → Type 0
+  Knows k rows = (i j : ℕ) (name : StructName) → name_at bundle i j ≡ Some name → KnownWithin modules k name (at_place rows i j)
+
+  abbrev leaves_at : ℕ → Module → Token → Option ℕ
+  leaves_at q m t = leaves_of (leaves_within q modules) m t
+
+  abbrev TokenKnown : ℕ → Module → Token → Option Size → Type 0
+  TokenKnown k m t None = (n : ℕ) → leaves_at k m t ≡ Some n → 256 < n
+  TokenKnown k m t (Some s) = HasLeaves (λ q. leaves_at q m t) s.leaves s.nesting
+
+  -- a struct that a field holds
+  struct_known : (k : ℕ) (m : Module) (h : ℕ) (name : StructName) (o : Option Size) → struct_name m h ≡ Some name → KnownWithin modules k name o → TokenKnown k m (Plain (OfStruct h)) o
+  struct_known k m h name None e known = λ n f. known n (sym (ap (λ o. o >>= leaves_within k modules) e) ∙ f)
+  struct_known k m h name (Some s) e known = λ q. ap (λ o. o >>= leaves_within q modules) e ∙ known.0 q
+
+  defined_known : (k : ℕ) (rows : List (List (Option Size))) → Knows k rows → (m : Module) (h : ℕ) (d : Defined) → IsDefined modules bundle m h d → TokenKnown k m (Plain (OfStruct h)) (size_at rows d)
+  defined_known k rows knows m h (Published size) is = λ q. ap (λ o. o >>= leaves_within q modules) is.1 ∙ is.2 q
+  defined_known k rows knows m h (Bundled i j) is = struct_known k m h is.0 (at_place rows i j) is.1 (knows i j is.0 is.2)
+
+  struct_none : (m : Module) (h : ℕ) → slice_get m.struct_handles h ≡ None → struct_name m h ≡ None
+  struct_none m h e = ap (λ o. o >>= λ (handle : StructHandle). module_name m handle.module >>= λ home. slice_get m.identifiers handle.name >>= λ name. Some (record { home = home; name = name })) e
+
+  token_known : (k : ℕ) (rows : List (List (Option Size))) → Knows k rows → (i : ℕ) (m : Module) (ds : List Defined) → slice_get bundle i ≡ Some m → slice_get handles i ≡ Some ds → (t : Token)
+      → TokenKnown k m t (size_of_token rows ds t)
+  token_known k rows knows i m ds e f (Plain (OfLeaf kind)) = λ q. sym (ap (λ b. cond b (Some 1) None) (le-leb 0 q (omega arith)))
+  token_known k rows knows i m ds e f (Reference t) = λ n g. absurd (none-some n g)
+  token_known k rows knows i m ds e f (MutableReference t) = λ n g. absurd (none-some n g)
+  token_known k rows knows i m ds e f (Plain (OfStruct h)) = by_defined (slice_get ds h) refl
+    where
+      by_defined : (o : Option Defined) → slice_get ds h ≡ o → TokenKnown k m (Plain (OfStruct h)) (o >>= size_at rows)
+      by_defined (Some d) g = defined_known k rows knows m h d (a.each i h m ds d e f g)
+      by_defined None g = λ n l. absurd (none-some n (sym (ap (λ o. o >>= leaves_within k modules) (struct_none m h missing)) ∙ l))
+        where
+          missing : slice_get m.struct_handles h ≡ None
+          missing = elim (cases_lt h (length ds)) [
+            | inl low ↦ (let there = there_at ds h low in absurd (none-some there.0 (sym g ∙ there.1)))
+            | inr high ↦ slice_get_past m.struct_handles h (let c = a.count i m ds e f in omega (arith, high, c))
+          ]
+
+  abbrev fields_at : ℕ → Module → List Field → Option ℕ
+  fields_at q m fs = sum_of_fields (leaves_at q m) fs
+
+  abbrev FieldsKnown : ℕ → Module → List Field → Option Total → Type 0
+  FieldsKnown k m fs None = (n : ℕ) → fields_at k m fs ≡ Some n → 256 < n
+  FieldsKnown k m fs (Some t) = HasLeaves (λ q. fields_at q m fs) t.leaves t.nesting
+
+  -- one more field before the others
+  field_more : (k : ℕ) (m : Module) (f : Field) (fs : List Field) (s : Option Size) (r : Option Total) → TokenKnown k m f.token s → FieldsKnown k m fs r
+      → FieldsKnown k m (f ∷ fs) (s >>= λ s. r >>= λ r. Some (record { leaves = s.leaves + r.leaves; nesting = greater s.nesting r.nesting }))
+  field_more k m f fs None r token rest = λ n e.
+      on_some (leaves_at k m f.token) (λ x. fields_at k m fs >>= λ y. Some (x + y)) n e
+      (λ x is e1. on_some (fields_at k m fs) (λ y. Some (x + y)) n e1
+      (λ y is2 e2. (let big = token x is in let sum = same_Some (x + y) n e2 in omega (arith, big, sum))))
+  field_more k m f fs (Some s) None token rest = λ n e.
+      on_some (leaves_at k m f.token) (λ x. fields_at k m fs >>= λ y. Some (x + y)) n e
+      (λ x is e1. on_some (fields_at k m fs) (λ y. Some (x + y)) n e1
+      (λ y is2 e2. (let big = rest y is2 in let sum = same_Some (x + y) n e2 in omega (arith, big, sum))))
+  field_more k m f fs (Some s) (Some r) token rest = λ q.
+      ap₂ (λ x y. x >>= λ a. y >>= λ b. Some (a + b)) (token q) (rest q) ∙ sum_two s.nesting r.nesting s.leaves r.leaves q
+
+  fields_known : (k : ℕ) (rows : List (List (Option Size))) → Knows k rows → (i : ℕ) (m : Module) (ds : List Defined) → slice_get bundle i ≡ Some m → slice_get handles i ≡ Some ds → (fs : List Field)
+      → FieldsKnown k m fs (total_of (size_of_token rows ds) fs)
+  fields_known k rows knows i m ds e f [] = λ q. sym (ap (λ b. cond b (Some 0) None) (le-leb 0 q (omega arith)))
+  fields_known k rows knows i m ds e f (g ∷ gs) =
+      field_more k m g gs (size_of_token rows ds g.token) (total_of (size_of_token rows ds) gs) (token_known k rows knows i m ds e f g.token) (fields_known k rows knows i m ds e f gs)
+
+  -- a struct of fields
+  abbrev sized_as : Total → Size
+  sized_as t = record { leaves = t.leaves; nesting = t.nesting + 1 }
+
+  struct_of_fields : (k : ℕ) (m : Module) (name : StructName) (fs : List Field) (o : Option Total) → definition_of modules name ≡ Some (m, fs) → k < 8 → FieldsKnown k m fs o
+      → KnownWithin modules (suc k) name (o >>= small_size)
+  struct_of_fields k m name fs None e low known = λ n g. known n (sym (ap (λ o. o >>= λ d. sum_of_fields (leaves_of (leaves_within k modules) d.0) d.1) e) ∙ g)
+  struct_of_fields k m name fs (Some t) e low known = by_leaves (leb t.leaves 256) (ltb t.nesting 8) refl refl
+    where
+      within : (q : ℕ) → leaves_within (suc q) modules name ≡ cond (leb t.nesting q) (Some t.leaves) None
+      within q = ap (λ o. o >>= λ d. sum_of_fields (leaves_of (leaves_within q modules) d.0) d.1) e ∙ known q
+
+      exact : IsSized modules name (sized_as t)
+      exact zero = sym (ap (λ b. cond b (Some t.leaves) None) (lt-leb (t.nesting + 1) 0 (omega arith)))
+      exact (suc q) = within q ∙ ap (λ b. cond b (Some t.leaves) None) (elim (cases_lt q t.nesting) [
+        | inl deep ↦ lt-leb t.nesting q deep ∙ sym (lt-leb (t.nesting + 1) (suc q) (omega (arith, deep)))
+        | inr fine ↦ le-leb t.nesting q fine ∙ sym (le-leb (t.nesting + 1) (suc q) (omega (arith, fine)))
+      ])
+
+      by_leaves : (b c : Bool) → leb t.leaves 256 ≡ b → ltb t.nesting 8 ≡ c → KnownWithin modules (suc k) name (cond (b && c) (Some (sized_as t)) None)
+      by_leaves true true p q =
+          let few = leb-true t.leaves 256 p in
+          let shallow = ltb-true t.nesting 8 q in
+          (exact, few, omega (arith, shallow))
+      by_leaves true false p q = λ n g.
+          let had = cond_some (leb t.nesting k) t.leaves n (sym (within k) ∙ g) in
+          let shallow = leb-true t.nesting k had.0 in
+          absurd (both_ways (ltb t.nesting 8) q (lt-ltb t.nesting 8 (omega (arith, shallow, low))))
+      by_leaves false c p q = λ n g.
+          let had = cond_some (leb t.nesting k) t.leaves n (sym (within k) ∙ g) in
+          let many = leb-false t.leaves 256 p in
+          (let same = had.1 in omega (arith, same, many))
+
+  -- a struct of the bundle, and where it stands
+  record IsAt (i j : ℕ) (name : StructName) : Type 0 where
+    pub home : Module
+    pub definition : StructDefinition
+    pub handles_there : List Defined
+    pub at_home : slice_get bundle i ≡ Some home
+    pub at_index : slice_get home.structs j ≡ Some definition
+    pub at_handles : slice_get handles i ≡ Some handles_there
+    pub named : name_of_struct home definition ≡ Some name
+
+  is_at : (i j : ℕ) (name : StructName) → name_at bundle i j ≡ Some name → IsAt i j name
+  is_at i j name e =
+      on_some (slice_get bundle i) (λ m. slice_get m.structs j >>= λ d. name_of_struct m d) name e
+      (λ m is e1. on_some (slice_get m.structs j) (λ d. name_of_struct m d) name e1
+      (λ d is2 e2.
+      let low = slice_get_within bundle i m is in
+      let there = there_at handles i (omega (arith, low, a.len)) in
+      record { home = m; definition = d; handles_there = there.0; at_home = is; at_index = is2; at_handles = there.1; named = e2 }))
+
+  -- the entry of a row
+  entry_is : (rows : List (List (Option Size))) (i j : ℕ) (name : StructName) (s : IsAt i j name)
+      → at_place (next_rows rows bundle handles) i j ≡ size_of_struct rows s.handles_there s.definition.fields
+  entry_is rows i j name s =
+      ap (λ o. o >>= λ row. unwrap_or (slice_get row j) None) (row_at rows bundle handles i s.home s.handles_there s.at_home s.at_handles)
+      ∙ ap (λ o. unwrap_or o None) (slice_get-map (λ (d : StructDefinition). size_of_struct rows s.handles_there d.fields) s.home.structs j ∙ ap (option_map (λ (d : StructDefinition). size_of_struct rows s.handles_there d.fields)) s.at_index)
+
+  round_knows : (k : ℕ) (rows : List (List (Option Size))) → k < 8 → Knows k rows → Knows (suc k) (next_rows rows bundle handles)
+  round_knows k rows low knows i j name e =
+      let s = is_at i j name e in
+      let own = a.own i j s.home s.definition s.at_home s.at_index in
+      let same : own.0 ≡ name = same_Some own.0 name (sym own.1 ∙ s.named) in
+      let defined : definition_of modules name ≡ Some (s.home, s.definition.fields) = ap (definition_of modules) (sym same) ∙ own.2 in
+      subst (λ (o : Option Size). KnownWithin modules (suc k) name o) (sym (entry_is rows i j name s))
+      (struct_of_fields k s.home name s.definition.fields (total_of (size_of_token rows s.handles_there) s.definition.fields) defined low (fields_known k rows knows i s.home s.handles_there s.at_home s.at_handles s.definition.fields))
+
+  rows_know : (k : ℕ) → k ≤ 8 → Knows k (rows_after k bundle handles)
+  rows_know zero low = λ i j name e n g. absurd (none-some n g)
+  rows_know (suc k) low = round_knows k (rows_after k bundle handles) (omega (arith, low)) (rows_know k (omega (arith, low)))
+
+  abbrev last : List (List (Option Size))
+  last = rows_after 8 bundle handles
+
+  knows_last : Knows 8 last
+  knows_last = rows_know 8 (omega arith)
+
+  length_last : length last ≡ length bundle
+  length_last = length-rows (rows_after 7 bundle handles) bundle handles a.len
+
+  last_row : (i : ℕ) (m : Module) → slice_get bundle i ≡ Some m → (row : List (Option Size)) × (slice_get last i ≡ Some row) × (length row ≡ length m.structs)
+  last_row i m e =
+      let low = slice_get_within bundle i m e in
+      let there = there_at handles i (omega (arith, low, a.len)) in
+      let rows = rows_after 7 bundle handles in
+      (row_of rows m there.0, row_at rows bundle handles i m there.0 e there.1, length-map m.structs (λ (d : StructDefinition). size_of_struct rows there.0 d.fields))
+
+  -- a struct is small exactly where its size is known
+  small_from : (m : Module) (d : StructDefinition) (name : StructName) (s : Size) → name_of_struct m d ≡ Some name → KnownWithin modules 8 name (Some s) → struct_is_small modules m d ≡ true
+  small_from m d name s e known =
+      ap (λ o. option_map_or (λ n. leb n 256) o false) (ap (λ o. o >>= leaves_within 8 modules) e ∙ known.0 8 ∙ ap (λ b. cond b (Some s.leaves) None) (le-leb s.nesting 8 known.2))
+      ∙ le-leb s.leaves 256 known.1
+
+  not_small : (m : Module) (d : StructDefinition) (name : StructName) → name_of_struct m d ≡ Some name → KnownWithin modules 8 name None → struct_is_small modules m d ≡ true → ⊥
+  not_small m d name e known small = by_leaves (leaves_within 8 modules name) refl
+    where
+      seen : option_map_or (λ n. leb n 256) (leaves_within 8 modules name) false ≡ true
+      seen = sym (ap (λ o. option_map_or (λ n. leb n 256) (o >>= leaves_within 8 modules) false) e) ∙ small
+
+      by_leaves : (o : Option ℕ) → leaves_within 8 modules name ≡ o → ⊥
+      by_leaves None g = both_ways (option_map_or (λ n. leb n 256) (leaves_within 8 modules name) false) (ap (λ o. option_map_or (λ n. leb n 256) o false) g) seen
+      by_leaves (Some n) g =
+          let few = leb-true n 256 (sym (ap (λ o. option_map_or (λ n. leb n 256) o false) g) ∙ seen) in
+          let many = known n g in
+          omega (arith, few, many)
+
+  pub not_known : (rows : List (List (Option Size))) → rows ≡ last → list_all (list_all is_some) rows ≡ false → AreSmall modules bundle → ⊥
+  not_known rows is fails small =
+      let r = some_fails (list_all is_some) rows fails in
+      let entry = some_fails is_some r.1 r.3 in
+      let i = r.0 in
+      let j = entry.0 in
+      let at : slice_get last i ≡ Some r.1 = sym (ap (λ l. slice_get l i) is) ∙ r.2 in
+      let low = slice_get_within last i r.1 at in
+      let m = there_at bundle i (omega (arith, low, length_last)) in
+      let row = last_row i m.0 m.1 in
+      let same : row.0 ≡ r.1 = same_Some row.0 r.1 (sym row.1 ∙ at) in
+      let inside = slice_get_within r.1 j entry.1 entry.2 in
+      let long : length r.1 ≡ length m.0.structs = sym (ap length same) ∙ row.2 in
+      let d = there_at m.0.structs j (omega (arith, inside, long)) in
+      let own = a.own i j m.0 d.0 m.1 d.1 in
+      let named : name_at bundle i j ≡ Some own.0 =
+      then_found (slice_get bundle i) (λ m. slice_get m.structs j >>= λ d. name_of_struct m d) m.0 (Some own.0) m.1 (then_found (slice_get m.0.structs j) (λ d. name_of_struct m.0 d) d.0 (Some own.0) d.1 own.1) in
+      let unknown : at_place last i j ≡ None =
+      ap (λ o. o >>= λ row. unwrap_or (slice_get row j) None) at ∙ ap (λ o. unwrap_or o None) entry.2 ∙ none_is entry.1 entry.3 in
+      not_small m.0 d.0 own.0 own.1 (subst (λ (o : Option Size). KnownWithin modules 8 own.0 o) unknown (knows_last i j own.0 named))
+      (each (struct_is_small modules m.0) m.0.structs j d.0 (each (λ m. list_all (struct_is_small modules m) m.structs) bundle i m.0 small m.1) d.1)
+    where
+      none_is : (o : Option Size) → is_some o ≡ false → o ≡ None
+      none_is None h = refl
+      none_is (Some s) h = absurd (both_ways true h refl)
+
+  -- where each is known
+  size_at_last : (sizes : List (List Size)) → last ≡ map (map (λ (s : Size). Some s)) sizes → (i j : ℕ) (row : List Size) (s : Size) → slice_get sizes i ≡ Some row → slice_get row j ≡ Some s
+      → at_place last i j ≡ Some s
+  size_at_last sizes is i j row s e f =
+      ap (λ rows. at_place rows i j) is
+      ∙ ap (λ o. o >>= λ row. unwrap_or (slice_get row j) None) (slice_get-map (map (λ (s : Size). Some s)) sizes i ∙ ap (option_map (map (λ (s : Size). Some s))) e)
+      ∙ ap (λ o. unwrap_or o None) (slice_get-map (λ (s : Size). Some s) row j ∙ ap (option_map (λ (s : Size). Some s)) f)
+
+  pub sizes_known : (sizes : List (List Size)) → last ≡ map (map (λ (s : Size). Some s)) sizes → AreSizes modules bundle sizes × AreSmall modules bundle
+  sizes_known sizes is = (
+    record {
+      len = long;
+      count = λ i m row e f.
+          let r = last_row i m e in
+          let same : r.0 ≡ map (λ (s : Size). Some s) row =
+          same_Some r.0 (map (λ (s : Size). Some s) row) (sym r.1 ∙ ap (λ l. slice_get l i) is ∙ slice_get-map (map (λ (s : Size). Some s)) sizes i ∙ ap (option_map (map (λ (s : Size). Some s))) f) in
+          sym (length-map row (λ (s : Size). Some s)) ∙ sym (ap length same) ∙ r.2;
+      each = λ i j name row s e f g.
+          subst (λ (o : Option Size). KnownWithin modules 8 name o) (size_at_last sizes is i j row s f g) (knows_last i j name e);
+    },
+    all_from (λ m. list_all (struct_is_small modules m) m.structs) bundle
+        (λ i m e. all_from (struct_is_small modules m) m.structs
+        (λ j d f.
+        let own = a.own i j m d e f in
+        let named : name_at bundle i j ≡ Some own.0 =
+        then_found (slice_get bundle i) (λ m. slice_get m.structs j >>= λ d. name_of_struct m d) m (Some own.0) e (then_found (slice_get m.structs j) (λ d. name_of_struct m d) d (Some own.0) f own.1) in
+        let low = slice_get_within bundle i m e in
+        let row = there_at sizes i (omega (arith, low, long)) in
+        let r = last_row i m e in
+        let same : r.0 ≡ map (λ (s : Size). Some s) row.0 =
+        same_Some r.0 (map (λ (s : Size). Some s) row.0) (sym r.1 ∙ ap (λ l. slice_get l i) is ∙ slice_get-map (map (λ (s : Size). Some s)) sizes i ∙ ap (option_map (map (λ (s : Size). Some s))) row.1) in
+        let inside = slice_get_within m.structs j d f in
+        let wide : length row.0 ≡ length m.structs = sym (length-map row.0 (λ (s : Size). Some s)) ∙ sym (ap length same) ∙ r.2 in
+        let s = there_at row.0 j (omega (arith, inside, wide)) in
+        small_from m d own.0 s.0 own.1 (subst (λ (o : Option Size). KnownWithin modules 8 own.0 o) (size_at_last sizes is i j row.0 s.0 row.1 s.1) (knows_last i j own.0 named)))),
+  )
+    where
+      long : length sizes ≡ length bundle
+      long = sym (length-map sizes (map (λ (s : Size). Some s))) ∙ sym (ap length is) ∙ length_last
