@@ -10,6 +10,7 @@ pub mod Linked
 pub mod LinkedBy
 pub mod Links
 pub mod Namers
+pub mod NamerSteps
 pub mod News
 pub mod Operations
 pub mod Order

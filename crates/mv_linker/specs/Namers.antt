@@ -1,21 +1,11 @@
 -- Which modules of a store name which others, by pairs of places: the module that is named, and the one that names it.
 --   AreNamedBy pairs namer places    what one module names is among the pairs
 --   AreNamers pairs kept             what the modules name whose dependencies are kept is
---   AreNamed pairs more              what the modules name whose dependencies are to be put is
 --   AreNamersOf modules named found  the modules that name one are among those that were found
 use Rattle.std.specs.Prelude.{◌≡◌, ℕ, ◌<◌, List, Contains, IsTrue, Some, slice_get}
 use Rattle.mv_move_types.specs.Module.{Module}
 use Rattle.mv_linker.specs.declared.dependencies.Dependencies.{Dependencies}
-use Rattle.mv_linker.specs.declared.dependencies.DependenciesAt.{DependenciesAt}
 use Rattle.mv_linker.specs.Links.{depends_on}
-
--- all that one list has, another one has
-abbrev pub HasAll : {A : Type 0} → List A → List A → Type 0
-HasAll {A} old new = (x : A) → Contains old x → Contains new x
-
--- and all but this
-abbrev pub HasOthers : {A : Type 0} → List A → List A → A → Type 0
-HasOthers {A} old new gone = (x : A) → Contains old x → (x ≡ gone → ⊥) → Contains new x
 
 -- what a module at a place names is among the pairs, which have places of 16 bits
 abbrev pub AreNamedBy : List (ℕ × ℕ) → ℕ → List ℕ → Type 0
@@ -24,10 +14,6 @@ AreNamedBy pairs namer places = (named : ℕ) → Contains places named → name
 -- what each module names is, by its kept dependencies; there may be other pairs
 abbrev pub AreNamers : List (ℕ × ℕ) → List Dependencies → Type 0
 AreNamers pairs kept = (place : ℕ) (d : Dependencies) → slice_get kept place ≡ Some d → AreNamedBy pairs place d.places.items
-
--- what each of these modules names is
-abbrev pub AreNamed : List (ℕ × ℕ) → List DependenciesAt → Type 0
-AreNamed pairs more = (d : DependenciesAt) → Contains more d → AreNamedBy pairs d.place d.dependencies.places.items
 
 -- the module at a place names another one, by its kept dependencies
 abbrev pub NamesAt : List Dependencies → ℕ → ℕ → Type 0

@@ -1,7 +1,8 @@
 // Which modules of a store name which others: those that name one are found without a look at any other.
 ghost use Rattle.std.specs.Prelude.{◌≡◌, ◌<◌, ◌≤◌, ℕ, [], Contains, IsTrue, OnOk, Some, length};
 ghost use Rattle.mv_linker.specs.Link.{tables_in};
-ghost use Rattle.mv_linker.specs.Namers.{AreNamed, AreNamedBy, AreNamers, AreNamersOf, HasAll, HasOthers, NamesAt};
+ghost use Rattle.mv_linker.specs.Namers.{AreNamedBy, AreNamers, AreNamersOf, NamesAt};
+ghost use Rattle.mv_linker.specs.NamerSteps.{AreNamed, HasAll, HasOthers};
 
 use crate::Store;
 use crate::dependencies::{Dependencies, DependenciesAt};

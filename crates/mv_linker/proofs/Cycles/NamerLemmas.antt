@@ -24,7 +24,8 @@ use Rattle.std.proofs.lemmas.Option.{same_Some, none-some, slice_get_within}
 use Rattle.mv_move_types.specs.Module.{Module}
 use Rattle.mv_linker.specs.declared.dependencies.Dependencies.{Dependencies}
 use Rattle.mv_linker.specs.declared.dependencies.DependenciesAt.{DependenciesAt}
-use Rattle.mv_linker.specs.Namers.{AreNamed, AreNamedBy, AreNamers, AreNamersOf, HasAll, HasOthers, NamesAt}
+use Rattle.mv_linker.specs.Namers.{AreNamedBy, AreNamers, AreNamersOf, NamesAt}
+use Rattle.mv_linker.specs.NamerSteps.{AreNamed, HasAll, HasOthers}
 use Rattle.mv_linker.specs.Ordering.{ArePlaces}
 use Rattle.mv_linker.specs.Stored.{AreDependenciesOf, KeepsDependencies, with_dependencies}
 use Rattle.mv_linker.proofs.Found.{Contains-at, at-Contains, kept_at, there_at}

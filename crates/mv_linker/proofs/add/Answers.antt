@@ -6,7 +6,8 @@ use Rattle.mv_linker.specs.declared.entry.Name.{Name}
 use Rattle.mv_linker.specs.declared.entry.Texts.{Texts}
 use Rattle.mv_linker.specs.Kept.{AreKeyed, published_under}
 use Rattle.mv_linker.specs.Link.{IsStore, tables_in}
-use Rattle.mv_linker.specs.Namers.{AreNamed, AreNamers}
+use Rattle.mv_linker.specs.Namers.{AreNamers}
+use Rattle.mv_linker.specs.NamerSteps.{AreNamed}
 use Rattle.mv_linker.specs.Stored.{AreCodesOf, AreDependenciesOf, with_codes, with_dependencies}
 use Rattle.mv_linker.proofs.Cycles.NamerLemmas.{namers-grow, namers-join}
 use Rattle.mv_linker.proofs.add.Goals as goal
