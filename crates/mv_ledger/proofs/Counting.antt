@@ -1,3 +1,16 @@
+-- The count holds: of each struct with neither copy nor drop as many values are stored as were packed and not unpacked in runs
+-- that returned, by code of the struct's own module. The laws are `EveryRunConserves` (specs/Counting/Conservation.antt),
+-- `EveryRunIsOwnWork` and `EveryCountIsTallied` (Headline.antt beside it).
+--
+-- Read first specs/Counting (Held and Kept count values, Effects has what an instruction does to them), then:
+--   Effects                        `rule-ends`: each instruction's rule is one of ten effects on values
+--   Runs, Own                      `run-keeps`, `run-own`: what every step keeps a run keeps; values are made by their own module's code
+--   Counts, Keys, Stored, Frames   `kept-append`, `kept-with`, `kept-root`: counts in values, in the storage, in frames and states
+--   Tags, Packs, Declared, Scarce  `packed-kept`, `declared-by`, `scarce-all`: what abilities say of a struct's values; which have a tally
+--   Keeps, Conserved               `effect-balances`, `run-conserves`: an effect balances what is held against what is made and unmade
+--   Typed, Admitted                `fine-kept`, `admitted-entry`: what the store and admission give a run to begin with
+--   Tallied, Ended                 `returned-balanced`, `bundle-balanced`, `counts-tallied`: the ledger's tallies stay balanced
+--   Worked                         the words at work
 pub mod Effects
 pub mod Runs
 pub mod Own

@@ -1,3 +1,8 @@
+-- The proofs of the ledger's calls. The theories, each with an index at its head: Counting (the count holds) and Accepted (a ledger
+-- stays sound). The rooms, after what the calls do: Bundles, Runs, Shows, Saves, Loads. Of use in several:
+--   Shapes, ShapesOfArguments, Spelling   payloads and texts are read exactly where they have their shape
+--   Phases, Replying, Ledgers             which phase is answered, what is replied, and that what a ledger holds stays as it has to
+--   SavedOnce, SavedFails                 one ledger to a text, and one reason where there is none
 pub mod Spelling
 pub mod Ledgers
 pub mod Phases

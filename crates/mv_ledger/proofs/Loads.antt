@@ -1,7 +1,7 @@
 -- The proofs of loading: the head, the modules group by group, what follows them, and the tallies against what is stored.
 --   LoadedHead      A head is read exactly where the text of one stands.
 --   Grouping        Which of the next modules name none that comes later.
---   LoadedModules   Modules of a saved ledger that join one group after the other: a group joins those that are there exactly where all of them together
+--   LoadedModules   Modules of a saved ledger join one group after the other exactly where all of them are linked together.
 --   BodyReading     Reading what stands after the modules of a saved ledger: how far it has come.
 --   BodyTallies     Reading the tallies of all modules: how far it has come, and what stays.
 --   BodyEntries     The text of a stored value is read as its key and leaves, and what is read is such a text.
