@@ -41,13 +41,15 @@ lines_text : (n : ℕ) (reply : Reply) (t : Told) (text : List ℕ) → told rep
 lines_text n reply t text is line = ap (numbered n) line ∙ sym (ap (flat_map (numbered n)) (one_line reply t is) ∙ append-nil (numbered n (line_of t)))
 
 -- a line of what is told was written
-pub reply_is_written : (n : ℕ) (reply : Reply) (held holds : Option (List ℕ)) (text : List ℕ) → ((t : Told) × ((told reply ≡ Some t) × (text ≡ line_of t))) → Appends held holds (numbered n text) → WritesReply n (told reply) held holds
+pub reply_is_written : (n : ℕ) (reply : Reply) (held holds : Option (List ℕ)) (text : List ℕ) → ((t : Told) × ((told reply ≡ Some t) × (text ≡ line_of t))) → Appends held holds (numbered n text)
+    → WritesReply n (told reply) held holds
 reply_is_written n reply held holds text h w =
     let P : Option Told → Type 0 = λ o. WritesReply n o held holds in
     subst P (sym h.1.0) (subst (Appends held holds) (lines_text n reply h.0 text h.1.0 h.1.1) w)
 
 -- a prefix of it was
-pub reply_is_begun : (n : ℕ) (reply : Reply) (held holds : Option (List ℕ)) (text part : List ℕ) → ((t : Told) × ((told reply ≡ Some t) × (text ≡ line_of t))) → StartsWith (numbered n text) part → Appends held holds part
+pub reply_is_begun : (n : ℕ) (reply : Reply) (held holds : Option (List ℕ)) (text part : List ℕ) → ((t : Told) × ((told reply ≡ Some t) × (text ≡ line_of t))) → StartsWith (numbered n text) part
+    → Appends held holds part
     → WritesReplyPart n (told reply) held holds
 reply_is_begun n reply held holds text part h front w =
     let P : Option Told → Type 0 = λ o. WritesReplyPart n o held holds in
@@ -56,34 +58,40 @@ reply_is_begun n reply held holds text part h front w =
 
 -- ---- it answers its record
 
-answered : (n kind : ℕ) (payload : List ℕ) (reply : Option Told) (old new : LedgerView) (held holds : Option (List ℕ)) → Replies kind payload reply old new → WritesReply n reply held holds → IsAnswered n kind payload old new held holds
+answered : (n kind : ℕ) (payload : List ℕ) (reply : Option Told) (old new : LedgerView) (held holds : Option (List ℕ)) → Replies kind payload reply old new → WritesReply n reply held holds
+    → IsAnswered n kind payload old new held holds
 answered n kind payload None old new held holds replies written = absurd written
 answered n kind payload (Some t) old new held holds replies written = (reply_lines t, ((t, (answers_whole kind payload t old new replies, refl)), written))
 
-may_be_answered : (n kind : ℕ) (payload : List ℕ) (reply : Option Told) (old new : LedgerView) (held holds : Option (List ℕ)) → Replies kind payload reply old new → WritesReplyPart n reply held holds → MayBeAnswered n kind payload old new held holds
+may_be_answered : (n kind : ℕ) (payload : List ℕ) (reply : Option Told) (old new : LedgerView) (held holds : Option (List ℕ)) → Replies kind payload reply old new → WritesReplyPart n reply held holds
+    → MayBeAnswered n kind payload old new held holds
 may_be_answered n kind payload None old new held holds replies written = inl (replies, written)
 may_be_answered n kind payload (Some t) old new held holds replies written = inr (reply_lines t, ((t, (answers_whole kind payload t old new replies, refl)), written))
 
-pub written_answers : {T E : Type 0} (n kind same : ℕ) (payload : List ℕ) (reply : Option Told) (old new : LedgerView) (held holds : Option (List ℕ)) (r : Result T E) → kind ≡ same → Replies same payload reply old new
+pub written_answers : {T E : Type 0} (n kind same : ℕ) (payload : List ℕ) (reply : Option Told) (old new : LedgerView) (held holds : Option (List ℕ)) (r : Result T E) → kind ≡ same
+    → Replies same payload reply old new
     → OnOk r (WritesReply n reply held holds) → OnOk r (IsAnswered n kind payload old new held holds)
 written_answers n kind same payload reply old new held holds (Ok v) is replies written =
     let P : ℕ → Type 0 = λ k. Replies k payload reply old new in
     answered n kind payload reply old new held holds (subst P (sym is) replies) written
 written_answers n kind same payload reply old new held holds (Err e) is replies written = tt
 
-pub begun_answers : {T E : Type 0} (read : E) (n kind same : ℕ) (payload : List ℕ) (reply : Option Told) (old new : LedgerView) (held holds : Option (List ℕ)) (r : Result T E) → kind ≡ same → Replies same payload reply old new
+pub begun_answers : {T E : Type 0} (read : E) (n kind same : ℕ) (payload : List ℕ) (reply : Option Told) (old new : LedgerView) (held holds : Option (List ℕ)) (r : Result T E) → kind ≡ same
+    → Replies same payload reply old new
     → IfErr r (λ e. (e ≢ read) × WritesReplyPart n reply held holds) → IfErr r (λ e. (e ≢ read) × MayBeAnswered n kind payload old new held holds)
 begun_answers read n kind same payload reply old new held holds (Ok v) is replies written = tt
 begun_answers read n kind same payload reply old new held holds (Err e) is replies written =
     let P : ℕ → Type 0 = λ k. Replies k payload reply old new in
     (written.0, may_be_answered n kind payload reply old new held holds (subst P (sym is) replies) written.1)
 
-is_begun : (n kind : ℕ) (payload : List ℕ) (reply : Option Told) (old new : LedgerView) (held holds : Option (List ℕ)) → (reply ≢ None) → Replies kind payload reply old new → WritesReplyPart n reply held holds → IsBegun n kind payload old new held holds
+is_begun : (n kind : ℕ) (payload : List ℕ) (reply : Option Told) (old new : LedgerView) (held holds : Option (List ℕ)) → (reply ≢ None) → Replies kind payload reply old new
+    → WritesReplyPart n reply held holds → IsBegun n kind payload old new held holds
 is_begun n kind payload None old new held holds some replies written = absurd (some refl)
 is_begun n kind payload (Some t) old new held holds some replies written = (reply_lines t, ((t, (answers_whole kind payload t old new replies, refl)), written))
 
 -- a write fails only where something is told
-pub failed_write_begins : {T E : Type 0} (read write : E) (n kind same : ℕ) (payload : List ℕ) (reply : Option Told) (old new : LedgerView) (held holds : Option (List ℕ)) (r : Result T E) → kind ≡ same → Replies same payload reply old new
+pub failed_write_begins : {T E : Type 0} (read write : E) (n kind same : ℕ) (payload : List ℕ) (reply : Option Told) (old new : LedgerView) (held holds : Option (List ℕ)) (r : Result T E)
+    → kind ≡ same → Replies same payload reply old new
     → IfErr r (λ e. (e ≢ read) × WritesReplyPart n reply held holds) → (r ≡ Err write → reply ≢ None) → r ≡ Err write → IsBegun n kind payload old new held holds
 failed_write_begins read write n kind same payload reply old new held holds (Ok v) is replies written some failed = cc
 failed_write_begins read write n kind same payload reply old new held holds (Err e) is replies written some failed =

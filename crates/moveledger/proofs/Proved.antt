@@ -44,7 +44,8 @@ module _ (m : Module) (c : Certificate) (passes : PassesCheck m c) where
   passes-acquires = decided _ (λ out. no-phase 12 (passes (Phase 12) (bad_acquires passes-holds out)))
 
 -- the text of a certificate that was made proves the module, and is accepted
-module _ (bytes text : List ℕ) (short : IsShort bytes) (m : Module) (spells : Spells bytes m) (sound : IsSound m) (c : Certificate) (shape : AllStatedFit m m.functions c) (check : PassesCheck m c) where
+module _ (bytes text : List ℕ) (short : IsShort bytes) (m : Module) (spells : Spells bytes m) (sound : IsSound m) (c : Certificate) (shape : AllStatedFit m m.functions c)
+    (check : PassesCheck m c) where
   passed : Passes (offer_of bytes (certificate_text c)) m c
   passed = record { text = spells; sound = sound; certificate = (refl, shape); holds = passes-holds m c check; acquires = passes-acquires m c check }
 

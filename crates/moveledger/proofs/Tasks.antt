@@ -10,12 +10,14 @@ now_of None d = refl
 now_of (Some s) d = refl
 
 -- the name of the subcommand that was entered stands with its rows
-pub name_with_rows : {A : Type 0} (name : A → Text) (rows : A → List Row) (o : Option A) → option_map name o ≡ option_map (λ (p : Text × List Row). p.0) (option_map {U = Text × List Row} (λ x. (name x, rows x)) o)
+pub name_with_rows : {A : Type 0} (name : A → Text) (rows : A → List Row) (o : Option A)
+    → option_map name o ≡ option_map (λ (p : Text × List Row). p.0) (option_map {U = Text × List Row} (λ x. (name x, rows x)) o)
 name_with_rows name rows None = refl
 name_with_rows name rows (Some x) = refl
 
 -- the task of a name and rows is that of the subcommand which has them
-pub task_of_named : (o : Option (Text × List Row)) (name : Text) (rows : List Row) (task : Seen) → Some name ≡ option_map (λ (p : Text × List Row). p.0) o → Some rows ≡ option_map (λ (p : Text × List Row). p.1) o → task ≡ named_task name rows → task ≡ task_in o
+pub task_of_named : (o : Option (Text × List Row)) (name : Text) (rows : List Row) (task : Seen) → Some name ≡ option_map (λ (p : Text × List Row). p.0) o
+    → Some rows ≡ option_map (λ (p : Text × List Row). p.1) o → task ≡ named_task name rows → task ≡ task_in o
 task_of_named None name rows task n r t = cc
 task_of_named (Some p) name rows task n r t =
     let name_is : name ≡ p.0 = cc in

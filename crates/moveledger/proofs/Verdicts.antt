@@ -36,7 +36,8 @@ module _ (bytes : List ℕ) where
     refused-in_module (Phase p) h = in_module p h
     refused-in_module Memory h = tt
 
-    pub refused-in_digits : (m : Module) (e : Refusal) → Spells bytes m → IsSound m → (e ≡ Phase 9) ⊎ (e ≡ Memory) → (e ≡ Phase 9 → (certificate : List ℕ) → IsHexadecimal digits certificate → ⊥) → IsRefusedWith bytes digits e
+    pub refused-in_digits : (m : Module) (e : Refusal) → Spells bytes m → IsSound m → (e ≡ Phase 9) ⊎ (e ≡ Memory) → (e ≡ Phase 9 → (certificate : List ℕ) → IsHexadecimal digits certificate → ⊥)
+        → IsRefusedWith bytes digits e
     refused-in_digits m Memory text sound is none = tt
     refused-in_digits m (Phase p) text sound (inl is) none = let same : p ≡ 9 = cc in subst (FailsWith bytes digits) (sym same) (not_hexadecimal m text sound (none is))
     refused-in_digits m (Phase p) text sound (inr is) none = cc
@@ -92,7 +93,8 @@ module _ (bytes digits : List ℕ) (reads : IsReadByText) (one : IsOfOneCertific
       never-fails (offer_of bytes passes.certificate) passes.tables passes.stated reads one are passes.passes (alone passes.certificate)
   never-with (not_hexadecimal m text sound none) = none passes.certificate passes.spelled
   never-with (in_certificate certificate phase spelled fails) =
-      let same : certificate ≡ passes.certificate = decode_of-same digits certificate passes.certificate (decode_of-hexadecimal digits certificate spelled) (decode_of-hexadecimal digits passes.certificate passes.spelled) in
+      let same : certificate ≡ passes.certificate =
+      decode_of-same digits certificate passes.certificate (decode_of-hexadecimal digits certificate spelled) (decode_of-hexadecimal digits passes.certificate passes.spelled) in
       never-fails (offer_of bytes passes.certificate) passes.tables passes.stated reads one are passes.passes (subst (λ (l : List ℕ). FailsAt (offer_of bytes l) phase) same fails)
 
 never-fails-check : (bytes text : List ℕ) → IsReadByText → IsOfOneCertificate → AreBytes bytes → IsAccepted bytes text → {p : ℕ} → FailsCheck bytes text p → ⊥

@@ -24,7 +24,8 @@ HasWritten n all left held holds = (done : List (List ℕ)) × ((all ≡ done ++
 pub HasWritten-start : (n : ℕ) (all : List (List ℕ)) (held : Option (List ℕ)) → HasWritten n all all held held
 HasWritten-start n all held = ([], (refl, Appends-nil held))
 
-pub HasWritten-next : (n : ℕ) (all left rest : List (List ℕ)) (line : List ℕ) (a b c : Option (List ℕ)) → HasWritten n all left a b → left ≡ line ∷ rest → Appends b c (numbered n line) → HasWritten n all rest a c
+pub HasWritten-next : (n : ℕ) (all left rest : List (List ℕ)) (line : List ℕ) (a b c : Option (List ℕ)) → HasWritten n all left a b → left ≡ line ∷ rest → Appends b c (numbered n line)
+    → HasWritten n all rest a c
 HasWritten-next n all left rest line a b c h e w =
     let f : List (List ℕ) → List ℕ = flat_map (numbered n) in
     let text : f (h.0 ++ line ∷ []) ≡ f h.0 ++ numbered n line = flat_map-append (numbered n) h.0 (line ∷ []) ∙ ap (λ l. f h.0 ++ l) (append-nil (numbered n line)) in
@@ -40,7 +41,8 @@ HasWritten-part n all left a b h =
     let f : List (List ℕ) → List ℕ = flat_map (numbered n) in
     (f h.0, starts_with (f all) (f h.0) (f left) (ap f h.1.0 ∙ flat_map-append (numbered n) h.0 left), h.1.1)
 
-pub HasWritten-begun : (n : ℕ) (all left rest : List (List ℕ)) (line part : List ℕ) (a b c : Option (List ℕ)) → HasWritten n all left a b → left ≡ line ∷ rest → StartsWith (numbered n line) part → Appends b c part
+pub HasWritten-begun : (n : ℕ) (all left rest : List (List ℕ)) (line part : List ℕ) (a b c : Option (List ℕ)) → HasWritten n all left a b → left ≡ line ∷ rest → StartsWith (numbered n line) part
+    → Appends b c part
     → WritesPart n all a c
 HasWritten-begun n all left rest line part a b c h e front w =
     let f : List (List ℕ) → List ℕ = flat_map (numbered n) in

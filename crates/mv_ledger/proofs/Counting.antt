@@ -1,6 +1,6 @@
 -- The count holds: of each struct with neither copy nor drop as many values are stored as were packed and not unpacked in runs
--- that returned, by code of the struct's own module. The laws are `EveryRunConserves` (specs/Counting/Conservation.antt),
--- `EveryRunIsOwnWork` and `EveryCountIsTallied` (Headline.antt beside it).
+-- that returned, by code of the struct's own module. The laws are `EveryRunConserves` and `EveryRunIsOwnWork`
+-- (specs/Counting/Conservation.antt), and `EveryCountIsTallied` (Headline.antt beside it).
 --
 -- Read first specs/Counting (Held and Kept count values, Effects has what an instruction does to them), then:
 --   Effects                        `rule-ends`: each instruction's rule is one of ten effects on values
