@@ -8,7 +8,7 @@ import subprocess
 import time
 from pathlib import Path
 
-from files import AT_ADDRESS, BLOCKS, FUNCTIONS, ROUNDS_OF_A_LOOP, UPGRADED_AMONG, WORK
+from files import AT_ADDRESS, BLOCKS, FUNCTIONS, PROGRAM, ROUNDS_OF_A_LOOP, UPGRADED_AMONG, WORK
 
 STEPS = 10_000_000
 # What the number of a sender is multiplied by: so that addresses ascend, or come in no order.
@@ -26,7 +26,7 @@ class Clock:
 
     def __init__(self, folder):
         self.folder = folder
-        self.program = folder / "crates/moveledger_program/out/moveledger_program"
+        self.program = folder / PROGRAM
         self.bench = folder / "crates/mv_bench/out/mv_bench"
         self.baseline = folder / "baseline"
 

@@ -5,6 +5,9 @@ import subprocess
 import inputs
 from inputs import model, publish, record, run, u64
 
+# Where a build leaves the program.
+PROGRAM = "crates/moveledger_program/out/moveledger_program"
+
 # How many modules there are of each kind, and how many stand in a chain.
 CHAINED, CHAIN = 4_000, 100
 # Among how many of these modules some are replaced, and how many are: whole chains.
@@ -48,7 +51,7 @@ def measured_modules():
 
 def certificate(folder, file):
     """The certificate that the program makes for a module."""
-    program = folder / "crates/moveledger_program/out/moveledger_program"
+    program = folder / PROGRAM
     out = subprocess.run([program, "prove", file], check=True, capture_output=True, text=True, cwd=folder).stdout
     return bytes.fromhex(out.strip())
 

@@ -3,6 +3,7 @@
 import sys
 from pathlib import Path
 
+import beside
 import costs
 import growth
 import files
@@ -164,6 +165,8 @@ def main():
     saved.tell(clock.program, folder)
     costs.tell(clock.program, folder)
     growth.tell(clock.program, folder)
+    if (folder / beside.PLAIN).exists():
+        beside.tell(folder, clock.program)
 
 
 main()
