@@ -53,15 +53,6 @@ fn stop_word(stop: Stop) -> &'static str
     }
 }
 
-/// A word, with the blank after it, and a number.
-fn counted_text(alloc: Global, word: &str, n: u64) -> Result<String, AllocError>
-    ensures { IfOk result (λ text. string_bytes text ≡ word.now ++ decimal n) }
-{
-    let mut text = String::from_str(alloc, word)?;
-    write!(text, "{n}")?;
-    Ok(text)
-}
-
 /// The words for an abort: its kind, its number and the steps.
 fn aborted_text(alloc: Global, kind: Kind, n: u64, steps: u64) -> Result<String, AllocError>
     ensures { IfOk result (λ text. string_bytes text ≡ codes "aborted " ++ kind_text kind ++ codes " " ++ decimal n ++ codes " " ++ decimal steps) }
@@ -86,32 +77,11 @@ fn exhausted_text(alloc: Global, stop: Stop, steps: u64) -> Result<String, Alloc
     Ok(text)
 }
 
-/// The words for a run that was had.
-fn ended_text(alloc: Global, ending: Ending, steps: u64) -> Result<String, AllocError>
-    ensures { IfOk result (λ text. string_bytes text ≡ line_of (told_ending ending steps)) }
-{
-    match ending {
-        Ending::Returned => counted_text(alloc, "returned ", steps),
-        Ending::Aborted(kind, n) => aborted_text(alloc, kind, n, steps),
-        Ending::Exhausted(stop) => exhausted_text(alloc, stop, steps),
-    }
-}
+// The most digits of a number of 64 bits.
+const MOST_DIGITS: usize = 20;
 
-/// The words for a reply; none where an allocation failed.
-fn words(alloc: Global, reply: Reply) -> Result<Option<String>, AllocError>
-    ensures { IfOk result (λ words. MatchOption words (told reply ≡ None) (λ text. (t : Told) × ((told reply ≡ Some t) × (string_bytes text ≡ line_of t)))) }
-{
-    Ok(match reply {
-        Reply::Published(count) => Some(counted_text(alloc, "published ", count)?),
-        Reply::Refused(phase) => Some(counted_text(alloc, "refused ", u64::from(phase))?),
-        Reply::Rejected(reason) => Some(counted_text(alloc, "rejected ", u64::from(reason))?),
-        Reply::Ran(outcome) => Some(ended_text(alloc, outcome.ending, outcome.steps)?),
-        Reply::Memory => None,
-    })
-}
-
-// The bytes of a line that stand around its text at most: 20 digits, a blank and a line end.
-const NUMBER_ROOM: usize = 22;
+// The bytes of a line that stand around its text at most: a number's digits, a blank and a line end.
+const NUMBER_ROOM: usize = MOST_DIGITS + 2;
 
 /// A line of the report: the record's number, a blank, the text and a line end.
 fn numbered_line(alloc: Global, number: u64, text: &[u8]) -> Result<Vec<u8>, AllocError>
@@ -124,6 +94,53 @@ fn numbered_line(alloc: Global, number: u64, text: &[u8]) -> Result<Vec<u8>, All
     line.extend_from_slice(text)?;
     line.push(b'\n')?;
     Ok(line)
+}
+
+/// The line of a word, with the blank after it, and a number.
+fn counted_line(alloc: Global, number: u64, word: &str, n: u64) -> Result<Vec<u8>, AllocError>
+    ensures { IfOk result (λ line. line.items ≡ numbered number (word.now ++ decimal n)) }
+{
+    let mut digits = Buffer::new();
+    let room = word.len().saturating_add(MOST_DIGITS + NUMBER_ROOM);
+    let mut line = Vec::with_capacity(alloc, room)?;
+    line.extend_from_slice(digits.format(number).as_bytes())?;
+    line.push(b' ')?;
+    line.extend_from_slice(word.as_bytes())?;
+    line.extend_from_slice(digits.format(n).as_bytes())?;
+    line.push(b'\n')?;
+    Ok(line)
+}
+
+/// The line of a run that was had.
+fn ended_line(alloc: Global, number: u64, ending: Ending, steps: u64) -> Result<Vec<u8>, AllocError>
+    ensures { IfOk result (λ line. line.items ≡ numbered number (line_of (told_ending ending steps))) }
+{
+    match ending {
+        Ending::Returned => counted_line(alloc, number, "returned ", steps),
+        Ending::Aborted(kind, n) => {
+            let text = aborted_text(alloc, kind, n, steps)?;
+            numbered_line(alloc, number, text.as_bytes())
+        }
+        Ending::Exhausted(stop) => {
+            let text = exhausted_text(alloc, stop, steps)?;
+            numbered_line(alloc, number, text.as_bytes())
+        }
+    }
+}
+
+/// The line of a reply; none where an allocation failed.
+fn reply_line(alloc: Global, number: u64, reply: Reply) -> Result<Option<Vec<u8>>, AllocError>
+    ensures { IfOk result (λ line. MatchOption line (told reply ≡ None) (λ l. (t : Told) × ((told reply ≡ Some t) × (l.items ≡ numbered number (line_of t))))) }
+{
+    Ok(match reply {
+        Reply::Published(count) => Some(counted_line(alloc, number, "published ", count)?),
+        Reply::Refused(phase) => Some(counted_line(alloc, number, "refused ", u64::from(phase))?),
+        Reply::Rejected(reason) => {
+            Some(counted_line(alloc, number, "rejected ", u64::from(reason))?)
+        }
+        Reply::Ran(outcome) => Some(ended_line(alloc, number, outcome.ending, outcome.steps)?),
+        Reply::Memory => None,
+    })
 }
 
 /// Writes a line of the report: the record's number, a blank, the text and a line end.
@@ -170,8 +187,8 @@ pub fn write_reply<W: Write>(
         × WritesReplyPart number (told reply) (W.contents writer.old) (W.contents writer.new)) }
     ensures write { result ≡ Err EngineError.Write → told reply ≢ None }
 {
-    match words(alloc, reply)? {
-        Some(text) => write_line(alloc, writer, number, text.as_bytes()),
+    match reply_line(alloc, number, reply)? {
+        Some(line) => write_text(writer, &line),
         None => Err(EngineError::Memory),
     }
 }
