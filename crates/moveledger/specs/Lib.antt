@@ -9,6 +9,7 @@ pub mod Answered
 pub mod Line
 pub mod Status
 pub mod Saved
+pub mod Keeping
 pub mod Hexadecimal
 pub mod Checking
 pub mod Proving

@@ -18,6 +18,7 @@ mod checking;
 pub mod command;
 pub mod engine;
 mod inputs;
+mod keeping;
 mod modules;
 mod pacing;
 mod printing;
@@ -29,6 +30,7 @@ pub mod status;
 
 pub use authoring::{check_module, prove_module};
 pub use checking::check_text;
+pub use keeping::keep;
 pub use pacing::{AfterRecord, Gathering, Prompt};
 pub use proving::prove_text;
 pub use reporting::report;

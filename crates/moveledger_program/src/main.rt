@@ -9,11 +9,8 @@
 //! ```
 #![tactic(auto)]
 
-mod keeping;
 mod meter;
 mod program;
-#[cfg(test)]
-mod tests;
 
 use std::process::ExitCode;
 

@@ -2,12 +2,11 @@
 ghost use Rattle.std.specs.Prelude.{◌≡◌, ◌+◌, ◌-◌, ◌^◌, IfOk, IfSome, None, min, unwrap_or};
 ghost use Rattle.std.specs.Fs.{file_type, metadata_len, IsFile};
 
-use crate::keeping::keep;
 use crate::meter::{Counted, Meter, Report, Screen};
 use moveledger::command::{LineError, Task, command, not_text};
 use moveledger::status::{End, end_of_words, ended};
 use moveledger::{
-    Gathering, Prompt, check_module, end_of_text, loaded, migrated, prove_module, report,
+    Gathering, Prompt, check_module, end_of_text, keep, loaded, migrated, prove_module, report,
     text_to_keep,
 };
 use mv_ledger::Ledger;

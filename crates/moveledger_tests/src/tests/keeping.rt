@@ -1,7 +1,6 @@
 // A disk whose calls fail, one after the other: what stands in a file's place, and what is left beside it.
 
-use crate::keeping::keep;
-use moveledger::KeepError;
+use moveledger::{KeepError, keep};
 use std::alloc::{Allocator, Global};
 use std::cell::Cell;
 use std::fs::{Metadata, OpenFile, OpenOptions, Permissions};

@@ -2,9 +2,9 @@
 ghost use Rattle.std.specs.Prelude.{◌≡◌, IfOk, OnOk, string_bytes};
 ghost use Rattle.std.specs.Io.KnownBytes.{Appends};
 ghost use Rattle.std.specs.Path.{path_bytes};
-ghost use Rattle.moveledger_program.specs.Keeping.{folder_of, new_name};
+ghost use Rattle.moveledger.specs.Keeping.{folder_of, new_name};
 
-use moveledger::KeepError;
+use crate::saved::KeepError;
 use std::alloc::{AllocError, Global};
 use std::fs::{self, File, Metadata, OpenFile, OpenOptions, Permissions};
 use std::io::{self, ErrorKind, Write};
