@@ -1,35 +1,59 @@
-"""Builds the libraries of a repository from nothing, several crates at a time. `rt` works on one crate of a copy of the repository
-at once, so that each crate is built in a folder of its own, with the libraries below it as they were built; what it leaves goes to
-the crate's folder out/, where `rt` finds it later. The crate that most others wait for comes first, and the processors that no
-other crate waits for work on the same one."""
+"""Builds the libraries of a repository where no check has left work to begin with, several crates at a time, each once those that
+it uses are built. A library is proved as the gate proves it: in one go, and of the libraries below it is read what they state and not
+their proofs. That takes a third less of the processors than a build by `rt lib`, which leaves work for later checks of the same crate.
+The crates of the longest chain of those that wait for one another have the processors first, the others what these leave.
+usage: scripts/lanes.py NAME JOBS    builds one library, over those below it as they were built"""
 
+import importlib.util
 import os
 import shutil
 import subprocess
+import sys
 import time
 
-ROOMS = "crates/moveledger_program/out/lanes"
+TOP = os.path.dirname(os.path.dirname(os.path.realpath(__file__)))
 PARTS = "src", "specs", "proofs"
 # A check loads its libraries and ends on one processor, so that there are more jobs than processors.
-JOBS_A_PROCESSOR = 1.5
-MOST_JOBS = 4
+JOBS_A_PROCESSOR = 2
+# How many jobs a crate gets, on the longest chain and beside it, and how much the latter gives way (see nice(1)).
+MOST_JOBS, JOBS_BESIDE = 4, 2
+GIVES_WAY = 10
 # The free memory, in kB, below which no other crate is begun beside one.
 ROOM = 5_000_000
 
 
+def toolchain():
+    """The part of `rt` that calls the compiler, which lies beside it."""
+    folder = os.path.dirname(os.path.realpath(shutil.which("rt")))
+    spec = importlib.util.spec_from_file_location("rtlib", f"{folder}/rtlib.py")
+    made = importlib.util.module_from_spec(spec)
+    spec.loader.exec_module(made)
+    return made
+
+
 class Crate:
-    """A library of the repository: those that it uses, its sources' bytes, and the bytes of the longest chain that waits for it."""
+    """A library of the repository: those that it uses, its sources' bytes, and the bytes of the longest chain of crates below it and
+    of those that wait for it, its own in both."""
 
     def __init__(self, name, used):
-        self.name, self.used, self.behind = name, used, 0
+        self.name, self.used, self.before, self.behind = name, used, 0, 0
         folders = [f"crates/{name}/{it}" for it in PARTS]
         self.size = sum(os.path.getsize(f"{at}/{it}") for top in folders for at, _, names in os.walk(top) for it in names)
 
+    def chain(self):
+        return self.before + self.behind - self.size
 
-def linked(source, target):
-    """Gives the files of a folder second names, which costs no copy."""
-    if os.path.isdir(source):
-        shutil.copytree(source, target, copy_function=os.link)
+
+def libraries(uses, program):
+    """The libraries that the program stands on, each by its name, after those that it uses, with the chains through it reckoned."""
+    crates = {name: Crate(name, used) for name, used in uses.items() if name != program}
+    for crate in crates.values():
+        crate.before = crate.size + max((crates[it].before for it in crate.used), default=0)
+    for crate in reversed(crates.values()):
+        crate.behind += crate.size
+        for it in crate.used:
+            crates[it].behind = max(crates[it].behind, crate.behind)
+    return crates
 
 
 def has_room():
@@ -38,87 +62,60 @@ def has_room():
         return next(int(it.split()[1]) for it in lines if it.startswith("MemAvailable:")) > ROOM
 
 
-def below(crates, name):
-    """The names of the crates that one stands on."""
-    found = set()
-    for it in crates[name].used:
-        found |= {it} | below(crates, it)
-    return found
-
-
 class Lane:
-    """A build of one crate, in a room of its own."""
+    """A build of one crate."""
 
-    def __init__(self, crates, crate, jobs, log):
-        self.crate, self.jobs, self.room = crate, jobs, f"{ROOMS}/{crate.name}"
-        for it in {crate.name} | below(crates, crate.name):
-            for part in PARTS:
-                if os.path.isdir(f"crates/{it}/{part}"):
-                    shutil.copytree(f"crates/{it}/{part}", f"{self.room}/crates/{it}/{part}")
-            linked(f"crates/{it}/out/rlib", f"{self.room}/crates/{it}/out/rlib")
-        linked(f"crates/{crate.name}/out/incremental", f"{self.room}/crates/{crate.name}/out/incremental")
-        with open("crates.txt", encoding="utf-8") as lines, open(f"{self.room}/crates.txt", "w", encoding="utf-8") as here:
-            here.writelines(it for it in lines if os.path.isdir(f"{self.room}/crates/{it.partition(':')[0].split()[0]}"))
-        shutil.copy("HANDLES", self.room)
-        how = {"cwd": f"{self.room}/crates/{crate.name}", "stdin": subprocess.DEVNULL, "stdout": log, "stderr": log}
-        self.run = subprocess.Popen(["rt", "lib", "--jobs", str(jobs)], **how)
-
-    def end(self):
-        """Brings back what the build left, finished or not."""
-        self.run.wait()
-        for part in "rlib", "incremental":
-            made, kept = f"{self.room}/crates/{self.crate.name}/out/{part}", f"crates/{self.crate.name}/out/{part}"
-            if os.path.isdir(made):
-                shutil.rmtree(kept, ignore_errors=True)
-                os.makedirs(os.path.dirname(kept), exist_ok=True)
-                os.rename(made, kept)
-        shutil.rmtree(self.room, ignore_errors=True)
-        return self.run.returncode == 0
+    def __init__(self, crate, longest, log):
+        is_on_chain = crate.chain() == longest
+        self.crate, self.jobs = crate, MOST_JOBS if is_on_chain else JOBS_BESIDE
+        words = ["nice", "-n", "0" if is_on_chain else str(GIVES_WAY), sys.executable, os.path.realpath(__file__)]
+        self.run = subprocess.Popen([*words, crate.name, str(self.jobs)], stdin=subprocess.DEVNULL, stdout=log, stderr=log)
 
 
-def is_from_nothing(names):
-    """Whether no library of the repository was built here yet."""
-    return not any(os.path.exists(f"crates/{it}/out/rlib") for it in names)
-
-
-def libraries(uses, program):
-    """The libraries that the program stands on, each by its name, with what waits for it reckoned."""
-    crates = {name: Crate(name, used) for name, used in uses.items() if name != program}
-
-    def reckon(name, behind):
-        crate = crates[name]
-        if behind + crate.size > crate.behind:
-            crate.behind = behind + crate.size
-            for it in crate.used:
-                reckon(it, crate.behind)
-
-    for it in uses[program]:
-        reckon(it, 0)
-    return crates
+def are_new(names):
+    """Whether no check has left work of a crate here."""
+    return not any(os.path.exists(f"crates/{it}/out/incremental") for it in names)
 
 
 def build(uses, program, processors, log, tell):
-    """Builds the libraries, and returns whether all are. `tell` is called now and then with the names of those that are."""
-    crates, built, running, well = libraries(uses, program), [], [], True
-    left = sorted(crates.values(), key=lambda it: -it.behind)
-    shutil.rmtree(ROOMS, ignore_errors=True)
-    try:
-        while running or (left and well):
-            ready = [it for it in left if well and all(used in built for used in it.used)]
-            for at, crate in enumerate(ready):
-                idle = int(JOBS_A_PROCESSOR * processors) - sum(it.jobs for it in running)
-                if idle > 0 and (not running or has_room()):
-                    left.remove(crate)
-                    # those that most wait for get more
-                    running.append(Lane(crates, crate, min(MOST_JOBS, -(-idle // (len(ready) - at))), log))
-            time.sleep(0.2)
-            tell(built)
-            for lane in [it for it in running if it.run.poll() is not None]:
-                running.remove(lane)
-                well = lane.end() and well
-                built.append(lane.crate.name)
-    finally:
-        for lane in running:
-            lane.end()
-        shutil.rmtree(ROOMS, ignore_errors=True)
+    """Builds the libraries that aren't built, and returns whether all are. `tell` is called now and then with the names of those that are."""
+    rtlib, crates = toolchain(), libraries(uses, program)
+    of_rt = {name: rtlib.Crate(f"{TOP}/crates/{name}", TOP, {}) for name in crates}
+    with_lock = rtlib.lock(of_rt.values())
+    built, running, well = [name for name, it in of_rt.items() if it.is_built()], [], True
+    left = sorted((it for it in crates.values() if it.name not in built), key=lambda it: -it.behind)
+    longest = max((it.chain() for it in crates.values()), default=0)
+    while running or (left and well):
+        for crate in [it for it in left if well and all(used in built for used in it.used)]:
+            idle = JOBS_A_PROCESSOR * processors - sum(it.jobs for it in running)
+            if idle > 0 and (not running or has_room()):
+                left.remove(crate)
+                running.append(Lane(crate, longest, log))
+        time.sleep(0.2)
+        tell(built)
+        for lane in [it for it in running if it.run.poll() is not None]:
+            running.remove(lane)
+            well = lane.run.returncode == 0 and well
+            built.append(lane.crate.name)
+    for it in with_lock:
+        os.close(it)
     return well
+
+
+def prove(name, jobs):
+    """Proves and builds one library, and marks it as built from its sources, by which `rt` knows it again. Returns the status."""
+    rtlib = toolchain()
+    crate = rtlib.Crate(f"{TOP}/crates/{name}", TOP, {})
+    stamp, folder = crate.stamp(), os.path.dirname(crate.rlib)
+    shutil.rmtree(folder, ignore_errors=True)
+    os.makedirs(folder)
+    words = crate.words(["--jobs", jobs], keeps=False)
+    status = crate.call(rtlib.RATTLE, "build", *words, "--statements", "-o", crate.rlib)
+    if not status and stamp == crate.stamp():
+        with open(f"{folder}/stamp", "w", encoding="utf-8") as mark:
+            mark.write(stamp)
+    return status
+
+
+if __name__ == "__main__":
+    sys.exit(prove(*sys.argv[1:]))
