@@ -71,6 +71,11 @@ class Lane:
         words = ["nice", "-n", "0" if is_on_chain else str(GIVES_WAY), sys.executable, os.path.realpath(__file__)]
         self.run = subprocess.Popen([*words, crate.name, str(self.jobs)], stdin=subprocess.DEVNULL, stdout=log, stderr=log)
 
+    def end(self):
+        """Gives the build up; its compiler ends with it."""
+        self.run.terminate()
+        self.run.wait()
+
 
 def are_new(names):
     """Whether no check has left work of a crate here."""
@@ -85,20 +90,24 @@ def build(uses, program, processors, log, tell):
     built, running, well = [name for name, it in of_rt.items() if it.is_built()], [], True
     left = sorted((it for it in crates.values() if it.name not in built), key=lambda it: -it.behind)
     longest = max((it.chain() for it in crates.values()), default=0)
-    while running or (left and well):
-        for crate in [it for it in left if well and all(used in built for used in it.used)]:
-            idle = JOBS_A_PROCESSOR * processors - sum(it.jobs for it in running)
-            if idle > 0 and (not running or has_room()):
-                left.remove(crate)
-                running.append(Lane(crate, longest, log))
-        time.sleep(0.2)
-        tell(built)
-        for lane in [it for it in running if it.run.poll() is not None]:
-            running.remove(lane)
-            well = lane.run.returncode == 0 and well
-            built.append(lane.crate.name)
-    for it in with_lock:
-        os.close(it)
+    try:
+        while running or (left and well):
+            for crate in [it for it in left if well and all(used in built for used in it.used)]:
+                idle = JOBS_A_PROCESSOR * processors - sum(it.jobs for it in running)
+                if idle > 0 and (not running or has_room()):
+                    left.remove(crate)
+                    running.append(Lane(crate, longest, log))
+            time.sleep(0.2)
+            tell(built)
+            for lane in [it for it in running if it.run.poll() is not None]:
+                running.remove(lane)
+                well = lane.run.returncode == 0 and well
+                built.append(lane.crate.name)
+    finally:
+        for lane in running:
+            lane.end()
+        for it in with_lock:
+            os.close(it)
     return well
 
 
