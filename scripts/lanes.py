@@ -77,9 +77,9 @@ class Lane:
         self.run.wait()
 
 
-def are_new(names):
-    """Whether no check has left work of a crate here."""
-    return not any(os.path.exists(f"crates/{it}/out/incremental") for it in names)
+def are_new(uses, program):
+    """Whether no check has left work of a library here."""
+    return not any(os.path.exists(f"crates/{it}/out/incremental") for it in uses if it != program)
 
 
 def build(uses, program, processors, log, tell):
