@@ -11,6 +11,8 @@
 
 mod meter;
 mod program;
+#[cfg(test)]
+mod tests;
 
 use std::process::ExitCode;
 

@@ -1,5 +1,5 @@
-//! Tests of the engine over whole inputs, and of what the program puts together: the calls are those of moveledger. They are a crate of
-//! their own, so that they are proved beside the program, and none of its functions once more with them.
+//! Tests of the engine over whole inputs, of certificates that are made and checked, and of saved ledgers, all by the calls of moveledger.
+//! They are a crate of their own, so that they are proved beside the program, and none of its functions once more with them.
 #![tactic(auto)]
 
 #[cfg(test)]

@@ -4,8 +4,6 @@ mod altered;
 mod authoring;
 mod fakes;
 mod faults;
-mod keeping;
-mod line;
 mod rows;
 mod saved;
 
