@@ -1,5 +1,6 @@
 -- Reading the parts of a certificate one after another.
-use Rattle.std.proofs.Common.{◌≡◌, ℕ, ◌-◌, ◌+◌, ◌<◌, ◌≤◌, zero, List, [], ◌∷◌, ◌++◌, length, map, drop, get_or, drop-cons, Bool, true, false, true≢false, Option, Some, None, option_map, arith, refl, ap, suc, sym, ◌∙◌, append_assoc, append-nil}
+use Rattle.std.proofs.Common.{◌≡◌, ℕ, ◌-◌, ◌+◌, ◌<◌, ◌≤◌, zero, List, [], ◌∷◌, ◌++◌, length, map, drop, get_or, drop-cons, Bool, true, false, true≢false, Option, Some, None, option_map, arith, refl, ap, suc, sym, subst, ◌∙◌, append_assoc, append-nil}
+use Rattle.std.specs.Prelude.{if◌then◌else◌}
 use Rattle.std.specs.Bool.{then_some}
 use Rattle.std.proofs.lemmas.Bool.{and_parts, and_from}
 use Rattle.std.proofs.lemmas.List.{drop-map}
@@ -7,8 +8,8 @@ use Rattle.mv_uleb.specs.Parsing.{number_from}
 use Rattle.mv_move_types.specs.Options.{◌>>=◌}
 use Rattle.mv_move_types.specs.Module.{Module, FunctionDefinition}
 use Rattle.mv_module_text.specs.Parsing.{Read, entries_from, counted_from}
-use Rattle.mv_module_text.proofs.Entries.{after, ReadsOn, ReadsOn-end}
-use Rattle.mv_edges.specs.Edges.{Edge}
+use Rattle.mv_module_text.proofs.Entries.{after, ReadsOn, ReadsOn-next, ReadsOn-end}
+use Rattle.mv_edges.specs.Edges.{Label, Edge, extended}
 use Rattle.mv_edges.specs.Ascending.{edge_before, are_ascending}
 use Rattle.mv_certificate.specs.Certificate.{Known, Stated}
 use Rattle.mv_certificate.specs.Parsing.{edge_from, edges_from, block_from, stated_from}
@@ -31,6 +32,13 @@ pub ReadsOn-whole : {A : Type 0} (each : List ℕ → Read A) (n i : ℕ) (start
 ReadsOn-whole each n i start items cur le g =
     let k : n - i ≡ 0 = omega arith in
     g.goes ∙ ap (λ z. option_map (after items) (entries_from each z cur)) k ∙ ap (λ z. Some (z, cur)) (append-nil items)
+
+-- one more position is read, of an exact label
+pub position-next : (n i : ℕ) (start cur next : List ℕ) (f : ℕ) (old new : Label) → i < n → number_from 31 cur ≡ Some (f, next) → new ≡ extended f old
+    → ReadsOn (number_from 31) n i start old.path cur × (old.is_open ≡ false) → ReadsOn (number_from 31) n (i + 1) start new.path next × (new.is_open ≡ false)
+position-next n i start cur next f old new lt e is (g, exact) =
+    let longer : new.path ≡ old.path ++ f ∷ [] = ap (λ (l : Label). l.path) is ∙ ap (λ b. if b then old.path else (old.path ++ f ∷ [])) exact in
+    (subst (λ z. ReadsOn (number_from 31) n (i + 1) start z next) (sym longer) (ReadsOn-next (number_from 31) n i start old.path cur next f lt e g), ap (λ (l : Label). l.is_open) is ∙ exact)
 
 -- the first of ascending edges ascend
 pub ascending-front : (xs ys : List Edge) → are_ascending (xs ++ ys) ≡ true → are_ascending xs ≡ true

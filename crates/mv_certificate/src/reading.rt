@@ -19,7 +19,6 @@ use mv_locals_safety::Availabilities;
 use mv_module_text::Reader;
 use mv_move_types::{Availability, Node, Refusal};
 use mv_type_states::Typed;
-use smallvec::SmallVec;
 use std::alloc::Global;
 
 // What the reader refuses malformed bytes with. So do the functions here.
@@ -89,17 +88,18 @@ fn read_openness(reader: &mut Reader<'_>) -> Result<bool, Refusal>
     }
 }
 
-/// Reads field positions, of which there are at most eight, each below 32.
-fn read_path(alloc: Global, reader: &mut Reader<'_>) -> Result<SmallVec<u8, 8>, Refusal>
-    ensures ok { IfOk result (λ v. counted_from 8 (number_from 31) reader.old ≡ Some (v.items, reader.new)) }
+/// Reads field positions, of which there are at most eight, each below 32: the exact label of them.
+fn read_path(alloc: Global, reader: &mut Reader<'_>) -> Result<Label, Refusal>
+    ensures ok { IfOk result (λ v. counted_from 8 (number_from 31) reader.old ≡ Some (v.path, reader.new)) }
+    ensures exact { IfOk result (λ v. v.is_open ≡ false) }
     ensures refused { result ≡ Err (Refusal.Phase 2) → counted_from 8 (number_from 31) reader.old ≡ None }
     ensures errors { IfErr result (λ e. (e ≡ Refusal.Phase 2) ⊎ (e ≡ Refusal.Memory)) }
 {
     let count = reader.number(MOST_POSITIONS)?;
-    let mut path = SmallVec::new(alloc);
+    let mut path = Label::here(alloc);
     'path: for _ in 0..count {
         let position = reader.number(LAST_POSITION)?;
-        path.push(position as u8).map_err(|_| Refusal::Memory)?;
+        path = path.extended(alloc, position as u8)?;
     }
     Ok(path)
 }
@@ -110,9 +110,12 @@ fn read_label(alloc: Global, reader: &mut Reader<'_>) -> Result<Label, Refusal>
     ensures refused { result ≡ Err (Refusal.Phase 2) → label_from reader.old ≡ None }
     ensures errors { IfErr result (λ e. (e ≡ Refusal.Phase 2) ⊎ (e ≡ Refusal.Memory)) }
 {
-    let path = read_path(alloc, reader)?;
-    let is_open = read_openness(reader)?;
-    Ok(Label::from_slice(alloc, path.as_slice(), is_open)?)
+    let exact = read_path(alloc, reader)?;
+    if read_openness(reader)? {
+        Ok(exact.opened(alloc)?)
+    } else {
+        Ok(exact)
+    }
 }
 
 /// Reads an edge, which has to fit the function.
