@@ -1,20 +1,23 @@
 -- Lists whose entries differ.
-use Rattle.std.proofs.Common.{◌≡◌, ℕ, suc, ap₂, ◌≤◌, Bool, true, false, cond, eqb, ◌&&◌, ◌||◌, not, List, [], ◌∷◌, length, map, Result, sym, refl, ap, ◌∙◌, arith}
+use Rattle.std.proofs.Common.{◌≡◌, ℕ, suc, ap₂, ◌≤◌, Bool, true, false, cond, eqb, ◌&&◌, ◌||◌, not, List, [], ◌∷◌, length, map, Result, sym, refl, ap, ◌∙◌, arith, inl, inr, eq-eqb, ne_eqb}
 use Rattle.std.specs.Result.{IfOk}
 use Rattle.std.specs.List.{list_any}
 use Rattle.std.specs.Set.{distinct_count, unique_keys}
 use Rattle.std.proofs.lemmas.Map.Made.{distinct_count-le}
 use Rattle.std.proofs.lemmas.Result.{IfOk-weaker}
-use Rattle.std.proofs.lemmas.Bool.Decides.{nat_tests}
+use Rattle.std.proofs.lemmas.Bool.{cases_eq}
 use Rattle.mv_bounds.specs.Definitions.{all_differ}
 
 -- numbers are equal where the next ones are
 eqb_next : (a b : ℕ) → eqb (suc a) (suc b) ≡ eqb a b
-eqb_next a b = grind (arith, nat_tests)
+eqb_next a b = elim (cases_eq a b) [
+  | inl e ↦ eq-eqb (suc a) (suc b) (ap (λ n. suc n) e) ∙ sym (eq-eqb a b e)
+  | inr ne ↦ ne_eqb (suc a) (suc b) (λ e. ne (omega (arith, e))) ∙ sym (ne_eqb a b ne)
+]
 
 -- one entry more, which is among the others or not
 count_step : {K : Type 0} (b : Bool) (x : K) (us : List K) (n : ℕ) (r : Bool) → length us ≤ n → eqb (length us) n ≡ r → eqb (length (cond b us (x ∷ us))) (suc n) ≡ (not b && r)
-count_step true x us n r le e = grind (arith, nat_tests)
+count_step true x us n r le e = ne_eqb (length us) (suc n) (λ same. omega (arith, same, le))
 count_step false x us n r le e = eqb_next (length us) n ∙ e
 
 -- there are as many different entries as entries, exactly where no two are equal

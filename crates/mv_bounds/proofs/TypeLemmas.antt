@@ -1,7 +1,7 @@
 -- Types are one exactly where their numbers are equal.
-use Rattle.std.proofs.Common.{◌≡◌, ℕ, ◌+◌, ◌*◌, ◌<◌, Bool, false, eqb, List, [], ◌∷◌, map, refl, ap₂, ◌&&◌, ◌∙◌, arith}
+use Rattle.std.proofs.Common.{◌≡◌, ℕ, ◌+◌, ◌*◌, ◌<◌, Bool, false, eqb, List, [], ◌∷◌, map, refl, sym, ap, ap₂, ◌&&◌, ◌∙◌, arith, inl, inr, eq-eqb, ne_eqb}
 use Rattle.std.specs.Cmp.Lexicographic.{pointwise}
-use Rattle.std.proofs.lemmas.Bool.Decides.{nat_tests}
+use Rattle.std.proofs.lemmas.Bool.{cases_eq}
 use Rattle.mv_move_types.specs.declared.token.Width.TheVariants.{U8, U16, U32, U64, U128}
 use Rattle.mv_move_types.specs.declared.token.LeafKind.{LeafKind}
 use Rattle.mv_move_types.specs.declared.token.LeafKind.TheVariants.{Boolean, Number, Address, Signer}
@@ -11,6 +11,13 @@ use Rattle.mv_move_types.specs.declared.token.Token.{Token}
 use Rattle.mv_move_types.specs.declared.token.Token.TheVariants.{Plain, Reference, MutableReference}
 use Rattle.mv_move_types.specs.Tokens.{kind_code, same_value_type, same_token, same_tokens}
 use Rattle.mv_bounds.specs.Codes.{value_code, token_code}
+
+-- two pairs of numbers of which both are equal or neither
+same_test : (a b x y : ℕ) → (a ≡ b → x ≡ y) → (x ≡ y → a ≡ b) → eqb a b ≡ eqb x y
+same_test a b x y there back = elim (cases_eq x y) [
+  | inl e ↦ eq-eqb a b (back e) ∙ sym (eq-eqb x y e)
+  | inr ne ↦ ne_eqb a b (λ e. ne (there e)) ∙ sym (ne_eqb x y ne)
+]
 
 -- a leaf's number is small
 kind_small : (kind : LeafKind) → kind_code kind < 256
@@ -25,13 +32,13 @@ kind_small (Number U128) = omega arith
 
 -- a small number is none of a struct's
 leaf_is_no_struct : (k h : ℕ) → k < 256 → eqb k (256 + h) ≡ false
-leaf_is_no_struct k h small = grind (arith, nat_tests)
+leaf_is_no_struct k h small = ne_eqb k (256 + h) (λ e. omega (arith, e, small))
 
 struct_is_no_leaf : (k h : ℕ) → k < 256 → eqb (256 + h) k ≡ false
-struct_is_no_leaf k h small = grind (arith, nat_tests)
+struct_is_no_leaf k h small = ne_eqb (256 + h) k (λ e. omega (arith, e, small))
 
 structs_by_number : (h k : ℕ) → eqb (256 + h) (256 + k) ≡ eqb h k
-structs_by_number h k = grind (arith, nat_tests)
+structs_by_number h k = same_test (256 + h) (256 + k) h k (λ e. omega (arith, e)) (ap (λ n. 256 + n))
 
 -- types that are no references
 values_by_code : (a b : ValueType) → eqb (value_code a) (value_code b) ≡ same_value_type a b
@@ -42,28 +49,28 @@ values_by_code (OfStruct h) (OfStruct k) = structs_by_number h k
 
 -- three times a number, and the rest, tell the number and the rest
 same_rest : (x y r : ℕ) → eqb (3 * x + r) (3 * y + r) ≡ eqb x y
-same_rest x y r = grind (arith, nat_tests)
+same_rest x y r = same_test (3 * x + r) (3 * y + r) x y (λ e. omega (arith, e)) (ap (λ n. 3 * n + r))
 
 plain_by_number : (x y : ℕ) → eqb (3 * x) (3 * y) ≡ eqb x y
-plain_by_number x y = grind (arith, nat_tests)
+plain_by_number x y = same_test (3 * x) (3 * y) x y (λ e. omega (arith, e)) (ap (λ n. 3 * n))
 
 first_rest : (x y : ℕ) → eqb (3 * x) (3 * y + 1) ≡ false
-first_rest x y = grind (arith, nat_tests)
+first_rest x y = ne_eqb (3 * x) (3 * y + 1) (λ e. omega (arith, e))
 
 second_rest : (x y : ℕ) → eqb (3 * x) (3 * y + 2) ≡ false
-second_rest x y = grind (arith, nat_tests)
+second_rest x y = ne_eqb (3 * x) (3 * y + 2) (λ e. omega (arith, e))
 
 third_rest : (x y : ℕ) → eqb (3 * x + 1) (3 * y) ≡ false
-third_rest x y = grind (arith, nat_tests)
+third_rest x y = ne_eqb (3 * x + 1) (3 * y) (λ e. omega (arith, e))
 
 fourth_rest : (x y : ℕ) → eqb (3 * x + 1) (3 * y + 2) ≡ false
-fourth_rest x y = grind (arith, nat_tests)
+fourth_rest x y = ne_eqb (3 * x + 1) (3 * y + 2) (λ e. omega (arith, e))
 
 fifth_rest : (x y : ℕ) → eqb (3 * x + 2) (3 * y) ≡ false
-fifth_rest x y = grind (arith, nat_tests)
+fifth_rest x y = ne_eqb (3 * x + 2) (3 * y) (λ e. omega (arith, e))
 
 sixth_rest : (x y : ℕ) → eqb (3 * x + 2) (3 * y + 1) ≡ false
-sixth_rest x y = grind (arith, nat_tests)
+sixth_rest x y = ne_eqb (3 * x + 2) (3 * y + 1) (λ e. omega (arith, e))
 
 -- types are one where their numbers are equal
 pub tokens_by_code : (a b : Token) → eqb (token_code a) (token_code b) ≡ same_token a b
