@@ -5,7 +5,7 @@
 --   Depends           `ordered-acyclic`: dependencies by their places: a cycle of modules is a cycle of places
 --   Graphs            `whole-graph`, `appended-graph`: graphs of dependencies: of all modules, of modules after others, and where a store grows
 --   JoinedOrder       `names-stay`: the order of modules once a bundle joins
---   DependencyLemmas  `dependencies-by`, `graph-appended`: dependencies, place by place
+--   DependencyLemmas  `one-more`, `graph-appended`: dependencies, place by place
 --   DependenciesStay  `dependencies-stay`, `keeps-dependencies`: those of a module that stays are the same
 --   ReachedLemmas     `reached-graph`, `ordered-reached`: the search from a bundle; a chain that leads back is of what it reaches
 --   NamerLemmas       `keeps-of`, `finding-all`: which modules of a store name which others: sets of pairs, and what is found in them

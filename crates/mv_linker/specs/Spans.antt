@@ -1,7 +1,7 @@
 -- Lists that stand in one list, one after the other.
 --   spanned all s       the list that a span of it is
 --   is_span_in all s    the span stands among the elements
-use Rattle.std.specs.Prelude.{ℕ, Bool, ◌&&◌, nat_le, List, length}
+use Rattle.std.specs.Prelude.{Bool, ◌&&◌, nat_le, List, length}
 use Rattle.std.specs.List.{between}
 use Rattle.mv_linker.specs.declared.spans.Span.{Span}
 

@@ -1,7 +1,6 @@
 // A published module as the store keeps it: its name, by which it is found, and its texts.
-ghost use Rattle.std.specs.Prelude.{◌≡◌, List, length, map, Option, Some, option_map, All, IfOk, OnOk};
+ghost use Rattle.std.specs.Prelude.{◌≡◌, Some, All, IfOk, OnOk};
 ghost use Rattle.mv_move_types.specs.Module.{own_name};
-ghost use Rattle.mv_move_types.specs.Named.{is_module};
 ghost use Rattle.mv_linker.specs.Kept.{name_in, published_as, published_in};
 ghost use Rattle.mv_linker.specs.News.{HasItsTexts, AreTexts, published_of, published_one};
 ghost use Rattle.mv_linker.specs.Link.{IsPublishable};

@@ -1,5 +1,5 @@
 // Rules d and e of linking: the structs and functions that a module's handles name are there as the handles say.
-ghost use Rattle.std.specs.Prelude.{◌≡◌, ◌<◌, ◌≤◌, ◌++◌, ◌∷◌, [], true, false, length, slice_get, IsTrue, IfOk, IfErr, IfSome, IfNone, OnSome, OnOk};
+ghost use Rattle.std.specs.Prelude.{◌≡◌, ◌<◌, ◌≤◌, true, false, length, slice_get, IsTrue, IfOk, IfErr, IfSome, IfNone, OnSome, OnOk};
 ghost use Rattle.std.specs.List.{list_all};
 ghost use Rattle.mv_move_types.specs.Refusals.{IsRefusedIn};
 ghost use Rattle.mv_move_types.specs.Named.{have_one_name as are_of_one_name, is_public as may_be_called};

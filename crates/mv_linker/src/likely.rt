@@ -16,6 +16,13 @@ struct Asked<'m> {
 }
 
 impl<'m> Asked<'m> {
+    /// No handles.
+    fn new(alloc: Global) -> Self {
+        Asked {
+            handles: BTreeMap::new(alloc),
+        }
+    }
+
     /// Puts a handle, unless its definition is known or its identifier is missing.
     fn put(
         &mut self,
@@ -31,32 +38,6 @@ impl<'m> Asked<'m> {
             }
         }
         Ok(())
-    }
-
-    /// The struct handles of a module, but those whose definitions are known.
-    fn structs(alloc: Global, m: &Module<'m>, known: &[Option<usize>]) -> Result<Self, AllocError> {
-        let handles = BTreeMap::new(alloc);
-        let mut asked = Asked { handles };
-        for (h, handle) in m.struct_handles().iter().enumerate() {
-            let name = m.identifier(handle.name as usize);
-            asked.put(known.get(h), handle.module, name, h)?;
-        }
-        Ok(asked)
-    }
-
-    /// The function handles of a module, likewise.
-    fn functions(
-        alloc: Global,
-        m: &Module<'m>,
-        known: &[Option<usize>],
-    ) -> Result<Self, AllocError> {
-        let handles = BTreeMap::new(alloc);
-        let mut asked = Asked { handles };
-        for (h, handle) in m.function_handles().iter().enumerate() {
-            let name = m.identifier(handle.name as usize);
-            asked.put(known.get(h), handle.module, name, h)?;
-        }
-        Ok(asked)
     }
 
     /// Notes for the handle that leads to a definition, if there is one, at which index it is.
@@ -79,24 +60,6 @@ impl<'m> Asked<'m> {
         }
     }
 
-    /// Notes where the structs of a module are, to which a module handle leads.
-    fn note_structs_of(&self, module: usize, n: &Module<'m>, likely: &mut [Option<usize>])
-        ensures { length likely.new ≡ length likely.old }
-    {
-        for (index, d) in n.structs().iter().enumerate() {
-            self.note(module, struct_identifier(n, d), index, likely);
-        }
-    }
-
-    /// Notes where the functions of a module are, likewise.
-    fn note_functions_of(&self, module: usize, n: &Module<'m>, likely: &mut [Option<usize>])
-        ensures { length likely.new ≡ length likely.old }
-    {
-        for (index, d) in n.functions().iter().enumerate() {
-            self.note(module, function_name(n, d), index, likely);
-        }
-    }
-
     /// Notes where the structs are to which the handles lead, each in the module that its module handle leads to.
     fn note_structs(&self, targets: &[Target<'m>], likely: &mut [Option<usize>])
         ensures { length likely.new ≡ length likely.old }
@@ -105,7 +68,10 @@ impl<'m> Asked<'m> {
             return;
         }
         for (module, target) in targets.iter().enumerate() {
-            self.note_structs_of(module, target.module.tables(), likely);
+            let n = target.module.tables();
+            for (index, d) in n.structs().iter().enumerate() {
+                self.note(module, struct_identifier(n, d), index, likely);
+            }
         }
     }
 
@@ -117,7 +83,10 @@ impl<'m> Asked<'m> {
             return;
         }
         for (module, target) in targets.iter().enumerate() {
-            self.note_functions_of(module, target.module.tables(), likely);
+            let n = target.module.tables();
+            for (index, d) in n.functions().iter().enumerate() {
+                self.note(module, function_name(n, d), index, likely);
+            }
         }
     }
 }
@@ -132,7 +101,11 @@ pub fn likely_structs<'m>(
     ensures { IfOk result (λ v. length v.items ≡ length m.now.struct_handles) }
 {
     let mut likely = struct_places(alloc, m)?;
-    let asked = Asked::structs(alloc, m, &likely)?;
+    let mut asked = Asked::new(alloc);
+    for (h, handle) in m.struct_handles().iter().enumerate() {
+        let name = m.identifier(handle.name as usize);
+        asked.put(likely.get(h), handle.module, name, h)?;
+    }
     asked.note_structs(targets, &mut likely);
     Ok(likely)
 }
@@ -146,7 +119,11 @@ pub fn likely_functions<'m>(
     ensures { IfOk result (λ v. length v.items ≡ length m.now.function_handles) }
 {
     let mut likely = function_places(alloc, m)?;
-    let asked = Asked::functions(alloc, m, &likely)?;
+    let mut asked = Asked::new(alloc);
+    for (h, handle) in m.function_handles().iter().enumerate() {
+        let name = m.identifier(handle.name as usize);
+        asked.put(likely.get(h), handle.module, name, h)?;
+    }
     asked.note_functions(targets, &mut likely);
     Ok(likely)
 }

@@ -30,9 +30,10 @@ impl Model for Namers {
 fn pair_of(named: usize, namer: usize) -> Option<(u16, u16)>
     ensures { named < 65536 → namer < 65536 → result ≡ Some (named, namer) }
 {
-    match (u16::try_from(named), u16::try_from(namer)) {
-        (Ok(named), Ok(namer)) => Some((named, namer)),
-        _ => None,
+    if named < 65536 && namer < 65536 {
+        Some((named as u16, namer as u16))
+    } else {
+        None
     }
 }
 

@@ -1,5 +1,5 @@
 // The order of modules: none depends on itself by a chain of others.
-ghost use Rattle.std.specs.Prelude.{◌≡◌, ◌↔◌, ℕ, List, length, map, filter, IsTrue, IfOk, Some, slice_get};
+ghost use Rattle.std.specs.Prelude.{◌≡◌, ◌↔◌, List, map, IsTrue, IfOk, Some, slice_get};
 ghost use Rattle.mv_move_types.specs.Module.{Module};
 ghost use Rattle.mv_move_types.specs.Named.{have_one_name};
 ghost use Rattle.mv_bounds.specs.Definitions.{all_differ};

@@ -1,20 +1,16 @@
 // Rule f of linking: no module that a store has once a bundle joins depends on itself by a chain.
-ghost use Rattle.std.specs.Prelude.{◌≡◌, ◌↔◌, ◌+◌, ◌<◌, ◌≤◌, ◌^◌, ◌++◌, ◌∷◌, [], All, length, map, IsTrue, IfOk, IfErr, OnOk};
-ghost use Rattle.mv_move_types.specs.Refusals.{IsRefusedIn};
-ghost use Rattle.mv_bounds.specs.Definitions.{all_differ};
-ghost use Rattle.mv_linker.specs.Link.{IsStore, IsPublishable, tables_in, have_one_name, are_compatible};
-ghost use Rattle.mv_linker.specs.Links.{Links};
-ghost use Rattle.mv_linker.specs.News.{published_of};
+ghost use Rattle.std.specs.Prelude.{◌≡◌, ◌↔◌, ◌+◌, ◌<◌, ◌≤◌, ◌^◌, length, map, IsTrue, IfOk};
+ghost use Rattle.mv_linker.specs.Link.{IsStore};
 ghost use Rattle.mv_linker.specs.Order.{IsOrdered};
-ghost use Rattle.mv_linker.specs.Ordering.{count_after as counted_after, AreDependenciesAt, AreDependenciesIn};
+ghost use Rattle.mv_linker.specs.Ordering.{count_after as counted_after, AreDependenciesIn};
+ghost use Rattle.mv_linker.specs.Relinked.{IsFitting};
 ghost use Rattle.mv_linker.specs.Scope.{offered};
+ghost use Rattle.mv_linker.specs.Stored.{AreNamesOf};
 ghost use Rattle.mv_linker.specs.Targets.{modules_in};
 
+use crate::links::Names;
 use crate::order::{dependencies, is_ordered};
-use crate::pushed::pushed;
 use crate::scope::Scope;
-use crate::targets::Target;
-use mv_move_types::Refusal;
 use std::alloc::{AllocError, Global};
 
 /// How many modules there are, once those before are so many and modules took these places.
@@ -31,17 +27,6 @@ fn count_after(places: &[usize], count: usize) -> usize
     }
 }
 
-/// The places of targets.
-fn places_of(alloc: Global, targets: &[Target<'_>]) -> Result<Vec<usize>, AllocError>
-    ensures { IfOk result (λ v. v.items ≡ map (λ t. t.place) targets.now) }
-{
-    let mut places = Vec::new(alloc);
-    for t in targets {
-        places.push(t.place)?;
-    }
-    Ok(places)
-}
-
 impl<'a> Scope<'a> {
     /// How many modules there are.
     fn len(&self) -> usize
@@ -51,35 +36,19 @@ impl<'a> Scope<'a> {
         count_after(&self.places, self.store.len())
     }
 
-    /// The places that the module at a place depends on; `Phase(13)`, where it names a module that is not there.
-    fn dependencies_at(&self, alloc: Global, place: usize) -> Result<Vec<usize>, Refusal>
+    /// The places that each module of the bundle depends on, by what its handles name.
+    pub fn dependencies(
+        &self,
+        alloc: Global,
+        names: &[Names],
+    ) -> Result<Vec<Vec<usize>>, AllocError>
         requires store { IsStore self.now.store.now }
-        requires place { place < length (modules_in self.now) }
-        ensures ok { IfOk result (λ v. AreDependenciesAt (modules_in self.now) place v.items) }
-        ensures refused { IfErr result (IsRefusedIn 13 (Links (modules_in self.now))) }
+        requires names { AreNamesOf (modules_in self.now) (offered self.now.new.now) names.now }
+        ensures { IfOk result (λ v. AreDependenciesIn (modules_in self.now) (offered self.now.new.now) (map (λ s. s.items) v.items)) }
     {
-        let found = self.module(place)?;
-        let targets = match self.targets(alloc, found.tables()) {
-            Ok(targets) => targets,
-            Err(e) => return Err(e),
-        };
-        let places = places_of(alloc, &targets)?;
-        let needed = dependencies(alloc, place, &places)?;
-        Ok(needed)
-    }
-
-    /// The places that each module of the bundle depends on; `Phase(13)`, where one names a module that is not there.
-    pub fn dependencies(&self, alloc: Global) -> Result<Vec<Vec<usize>>, Refusal>
-        requires { IsStore self.now.store.now }
-        ensures ok { IfOk result (λ v. AreDependenciesIn (modules_in self.now) (offered self.now.new.now) (map (λ s. s.items) v.items)) }
-        ensures refused { IfErr result (IsRefusedIn 13 (Links (modules_in self.now))) }
-    {
-        let mut graph = Vec::new(alloc);
-        for place in &self.places {
-            match self.dependencies_at(alloc, *place) {
-                Ok(places) => pushed(&mut graph, places)?,
-                Err(e) => return Err(e),
-            }
+        let mut graph = Vec::with_capacity(alloc, names.len())?;
+        for k in 0..names.len() {
+            graph.push(dependencies(alloc, self.places[k], &names[k].modules)?)?;
         }
         Ok(graph)
     }
@@ -95,22 +64,16 @@ impl<'a> Scope<'a> {
     /// Whether no module depends on itself by a chain; `dependencies` has those of the bundle's modules. Where the bundle
     /// replaces nothing, a chain that leads back is one of its own modules; otherwise it is one of modules that are reached
     /// from them.
-    pub fn is_ordered(&self, alloc: Global, dependencies: &[Vec<usize>]) -> Result<bool, Refusal>
+    pub fn is_ordered(&self, alloc: Global, dependencies: &[Vec<usize>]) -> Result<bool, AllocError>
         requires room { length self.now.store.now + length self.now.new.now ≤ 65536 }
-        requires store { IsStore self.now.store.now }
-        requires passed { All IsPublishable (published_of self.now.new.now) }
-        requires once { IsTrue (all_differ have_one_name (offered self.now.new.now)) }
-        requires compatible { IsTrue (are_compatible (tables_in self.now.store.now) (offered self.now.new.now)) }
+        requires fits { IsFitting self.now }
         requires dependencies { AreDependenciesIn (modules_in self.now) (offered self.now.new.now) (map (λ s. s.items) dependencies.now) }
-        ensures ok { IfOk result (λ b. IsTrue b ↔ IsOrdered (modules_in self.now)) }
-        ensures refused { IfErr result (IsRefusedIn 13 (Links (modules_in self.now))) }
+        ensures { IfOk result (λ b. IsTrue b ↔ IsOrdered (modules_in self.now)) }
     {
         if self.is_appended() {
-            let ordered = is_ordered(alloc, self.store.len(), dependencies)?;
-            return Ok(ordered);
+            return is_ordered(alloc, self.store.len(), dependencies);
         }
         let graph = self.reached(alloc, dependencies)?;
-        let ordered = is_ordered(alloc, 0, &graph)?;
-        Ok(ordered)
+        is_ordered(alloc, 0, &graph)
     }
 }

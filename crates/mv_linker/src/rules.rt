@@ -77,7 +77,10 @@ fn each_sent(sender: u128, added: &[Entry]) -> bool
 fn names_differ(alloc: Global, added: &[Entry]) -> Result<bool, AllocError>
     ensures { IfOk result (λ b. b ≡ all_differ have_one_name (tables_in (published_in added.now))) }
 {
-    are_distinct(alloc, added)
+    match added {
+        [_] => Ok(true),
+        _ => are_distinct(alloc, added),
+    }
 }
 
 /// Whether a module's address is the sender's.

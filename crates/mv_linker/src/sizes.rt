@@ -3,8 +3,10 @@ ghost use Rattle.std.specs.Prelude.{◌≡◌, ◌≤◌, List, length, map, is_
 ghost use Rattle.std.specs.List.{list_all};
 ghost use Rattle.mv_move_types.specs.Module.{Module as Tables};
 ghost use Rattle.mv_move_types.specs.Refusals.{IsRefusedIn};
+ghost use Rattle.mv_linker.specs.Scope.{offered};
 ghost use Rattle.mv_linker.specs.Sizes.{AreDefined, AreSizes, AreSmall, greater, size_at, size_of_token, size_of_struct, row_of, next_rows, rows_after};
 
+use crate::New;
 use mv_binary_format::Module;
 use mv_move_types::{Field, Refusal, Token, ValueType};
 use std::alloc::{AllocError, Global};
@@ -113,15 +115,16 @@ fn row_of(
 fn next_rows(
     alloc: Global,
     rows: &[Vec<Option<Size>>],
-    bundle: &[&Module<'_>],
-    defined: &[&[Defined]],
+    bundle: &[New<'_>],
+    defined: &[Vec<Defined>],
 ) -> Result<Vec<Vec<Option<Size>>>, AllocError>
     requires { length bundle.now ≤ length defined.now }
-    ensures { IfOk result (λ v. map (λ r. r.items) v.items ≡ next_rows (map (λ r. r.items) rows.now) (map (λ m. m.now) bundle.now) (map (λ d. d.now) defined.now)) }
+    ensures { IfOk result (λ v. map (λ r. r.items) v.items ≡ next_rows (map (λ r. r.items) rows.now) (offered bundle.now) (map (λ d. d.items) defined.now)) }
 {
-    let mut next = Vec::new(alloc);
+    let mut next = Vec::with_capacity(alloc, bundle.len())?;
     for i in 0..bundle.len() {
-        next.push(row_of(alloc, rows, bundle[i], defined[i])?)?;
+        let m = bundle[i].module.module();
+        next.push(row_of(alloc, rows, m, &defined[i])?)?;
     }
     Ok(next)
 }
@@ -129,11 +132,11 @@ fn next_rows(
 /// What is known of the bundle's structs after 8 rounds: the sizes of all that are small.
 fn rows_of(
     alloc: Global,
-    bundle: &[&Module<'_>],
-    defined: &[&[Defined]],
+    bundle: &[New<'_>],
+    defined: &[Vec<Defined>],
 ) -> Result<Vec<Vec<Option<Size>>>, AllocError>
     requires { length bundle.now ≤ length defined.now }
-    ensures { IfOk result (λ v. map (λ r. r.items) v.items ≡ rows_after 8 (map (λ m. m.now) bundle.now) (map (λ d. d.now) defined.now)) }
+    ensures { IfOk result (λ v. map (λ r. r.items) v.items ≡ rows_after 8 (offered bundle.now) (map (λ d. d.items) defined.now)) }
 {
     let mut rows = Vec::new(alloc);
     for _round in 0..DEEPEST {
@@ -181,14 +184,14 @@ fn known_rows(
 /// `Phase(13)`, where a struct has more than 256 leaf values or nests deeper than 8; `Memory`, where an allocation failed.
 pub fn sizes_of(
     alloc: Global,
-    bundle: &[&Module<'_>],
-    defined: &[&[Defined]],
+    bundle: &[New<'_>],
+    defined: &[Vec<Defined>],
 ) -> Result<Vec<Vec<Size>>, Refusal>
     requires { length bundle.now ≤ length defined.now }
-    ensures ok { IfOk result (λ v. (modules : List Tables) → AreDefined modules (map (λ m. m.now) bundle.now) (map (λ d. d.now) defined.now)
-        → AreSizes modules (map (λ m. m.now) bundle.now) (map (λ r. r.items) v.items) × AreSmall modules (map (λ m. m.now) bundle.now)) }
-    ensures refused { IfErr result (λ e. (modules : List Tables) → AreDefined modules (map (λ m. m.now) bundle.now) (map (λ d. d.now) defined.now)
-        → IsRefusedIn 13 (AreSmall modules (map (λ m. m.now) bundle.now)) e) }
+    ensures ok { IfOk result (λ v. (modules : List Tables) → AreDefined modules (offered bundle.now) (map (λ d. d.items) defined.now)
+        → AreSizes modules (offered bundle.now) (map (λ r. r.items) v.items) × AreSmall modules (offered bundle.now)) }
+    ensures refused { IfErr result (λ e. (modules : List Tables) → AreDefined modules (offered bundle.now) (map (λ d. d.items) defined.now)
+        → IsRefusedIn 13 (AreSmall modules (offered bundle.now)) e) }
 {
     let rows = rows_of(alloc, bundle, defined)?;
     match known_rows(alloc, &rows)? {

@@ -1,5 +1,5 @@
 // The modules that a store has once a bundle joins it, found by name and by place.
-ghost use Rattle.std.specs.Prelude.{◌≡◌, ◌<◌, ◌++◌, ◌∷◌, [], Some, length, slice_get, IsTrue, IfOk, IfErr, OnOk};
+ghost use Rattle.std.specs.Prelude.{◌≡◌, ◌<◌, Some, length, map, slice_get, IsTrue, IfOk, IfErr, OnOk};
 ghost use Rattle.mv_move_types.specs.Refusals.{IsRefusedIn};
 ghost use Rattle.mv_move_types.specs.Named.{module_place};
 ghost use Rattle.mv_bounds.specs.Definitions.{WellDefined};
@@ -55,6 +55,17 @@ fn asked_for(address: u128, name: &[u8]) -> Name<'_>
     }
 }
 
+/// The places of targets.
+pub fn places_of(alloc: Global, targets: &[Target<'_>]) -> Result<Vec<usize>, AllocError>
+    ensures { IfOk result (λ v. v.items ≡ map (λ t. t.place) targets.now) }
+{
+    let mut places = Vec::new(alloc);
+    for t in targets {
+        places.push(t.place)?;
+    }
+    Ok(places)
+}
+
 impl<'a> Scope<'a> {
     /// The place of the module with this address and identifier.
     pub fn find(&self, address: u128, name: &[u8]) -> Option<usize>
@@ -97,7 +108,7 @@ impl<'a> Scope<'a> {
         ensures there { OnOk result (IsTrue (modules_are_there (modules_in self.now) m.now (length m.now.module_handles))) }
         ensures refused { IfErr result (IsRefusedIn 13 (IsTrue (modules_are_there (modules_in self.now) m.now (length m.now.module_handles)))) }
     {
-        let mut targets = Vec::new(alloc);
+        let mut targets = Vec::with_capacity(alloc, m.module_handles().len())?;
         for h in 0..m.module_handles().len() {
             match self.target(m, h) {
                 Ok(target) => pushed(&mut targets, target)?,

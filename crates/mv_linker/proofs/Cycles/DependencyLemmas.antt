@@ -2,20 +2,18 @@
 use Rattle.std.proofs.Common.{◌≡◌, ℕ, suc, ◌+◌, ◌≤◌, ◌++◌, List, [], ◌∷◌, length, map, refl, sym, ap, subst, ◌∙◌, Vec, Global, Option, Some, None, arith}
 use Rattle.std.specs.Prelude.{slice_get, unwrap_or, IsTrue}
 use Rattle.std.proofs.lemmas.List.{length_push, map-append}
-use Rattle.std.proofs.lemmas.Option.{same_Some, none-some}
+use Rattle.std.proofs.lemmas.Option.{none-some}
 use Rattle.mv_move_types.specs.Options.{find_index}
 use Rattle.mv_move_types.specs.Module.{Module}
 use Rattle.mv_move_types.specs.Named.{have_one_name}
 use Rattle.mv_bounds.proofs.PlaceLemmas.{slice_get-second}
 use Rattle.mv_linker.specs.Links.{Links, modules_are_there}
-use Rattle.mv_linker.specs.Order.{AreDependencies, AreHandlePlaces, IsDependencyGraph}
-use Rattle.mv_linker.specs.Ordering.{count_after, ArePlaces, AreDependenciesAt, AreDependenciesIn}
+use Rattle.mv_linker.specs.Order.{AreDependencies, IsDependencyGraph}
+use Rattle.mv_linker.specs.Ordering.{count_after, ArePlaces, AreDependenciesIn}
 use Rattle.mv_linker.specs.Scope.{with_tables, places_in, place_for, with_table}
-use Rattle.mv_linker.specs.Targets.{AreTargets}
-use Rattle.mv_linker.specs.declared.targets.Target.{Target}
 use Rattle.mv_linker.proofs.Found.{place_below}
 use Rattle.mv_linker.proofs.Cycles.JoinedOrder.{with_tables-appended}
-use Rattle.mv_linker.proofs.Joining.JoinedTargets.{places_of_targets, appended-joined}
+use Rattle.mv_linker.proofs.Joining.JoinedTargets.{appended-joined}
 use Rattle.mv_linker.proofs.Members.{among-at, all-among}
 use Rattle.mv_linker.proofs.Joining.Resolving.{each_push}
 use Rattle.mv_linker.proofs.Joining.Scopes.{length-with_table}
@@ -45,14 +43,6 @@ place-within ms n = by_place (find_index (have_one_name n) ms) refl
 pub places-within : (ms ns : List Module) → ArePlaces (places_in ms ns) (length ms)
 places-within ms [] = tt
 places-within ms (n ∷ ns) = (place-within ms n, subst (λ c. ArePlaces (places_in (with_table ms n) ns) c) (length-with_table ms n) (places-within (with_table ms n) ns))
-
--- what the targets of a module say of its dependencies
-pub dependencies-by : (modules : List Module) (place : ℕ) (m : Module) (targets : List Target) (places needed : List ℕ) → slice_get modules place ≡ Some m → AreTargets modules m targets
-    → places ≡ map (λ (t : Target). t.place) targets
-    → (AreHandlePlaces modules m places → AreDependencies modules m needed) → AreDependenciesAt modules place needed
-dependencies-by modules place m targets places needed at are e gives n n_at =
-    let same : m ≡ n = same_Some m n (sym at ∙ n_at) in
-    subst (λ (x : Module). AreDependencies modules x needed) same (gives (subst (λ (l : List ℕ). AreHandlePlaces modules m l) (sym e) (places_of_targets modules m targets are)))
 
 pub all-there : (modules : List Module) (place : ℕ) (m : Module) → slice_get modules place ≡ Some m → Links modules → IsTrue (modules_are_there modules m (length m.module_handles))
 all-there modules place m at links = all-among (λ m. modules_are_there modules m (length m.module_handles)) modules m links.modules (among-at modules place m at)

@@ -1,5 +1,5 @@
 -- Dependencies by their places: a cycle of modules is a cycle of places.
-use Rattle.std.proofs.Common.{◌≡◌, ◌↔◌, ℕ, ◌+◌, ◌-◌, ◌<◌, ◌≤◌, Bool, true, cond, List, [], map, length, take, Some, None, option_map, slice_get, Contains, sym, ap, ◌∙◌, subst, arith, inl, inr, eqb, leb}
+use Rattle.std.proofs.Common.{◌≡◌, ◌↔◌, ℕ, ◌+◌, ◌-◌, ◌<◌, ◌≤◌, Bool, true, cond, List, map, length, take, Some, None, option_map, slice_get, Contains, sym, ap, ◌∙◌, subst, arith, inl, inr, eqb, leb}
 use Rattle.std.specs.Prelude.{not, nat_le}
 use Rattle.std.proofs.lemmas.Bool.{both_ways, eqb-false, ne_eqb, leb-true, le-leb, cases_lt, false_from_ne_true, not-true}
 use Rattle.std.proofs.lemmas.Option.{same_Some, slice_get_within, slice_get-map, cond_some}

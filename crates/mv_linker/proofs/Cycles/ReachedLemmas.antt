@@ -16,13 +16,13 @@ use Rattle.mv_move_types.specs.Named.{have_one_name}
 use Rattle.mv_bounds.specs.Definitions.{all_differ}
 use Rattle.mv_bounds.proofs.PlaceLemmas.{slice_get-first, slice_get-second}
 use Rattle.mv_linker.specs.Links.{Links, depends_on, Reaches, directly, further}
-use Rattle.mv_linker.specs.Order.{AreDependencies, IsDependencyGraph, IsOrdered}
+use Rattle.mv_linker.specs.Order.{AreDependencies, IsOrdered}
 use Rattle.mv_linker.specs.Ordering.{AreDependenciesAt}
 use Rattle.mv_linker.specs.Reached.{AreReached, IsReachedGraph, IsExtended, AreNumbers}
 use Rattle.mv_linker.specs.Scope.{with_tables}
 use Rattle.mv_linker.proofs.Found.{Contains-at, at-Contains, there_at}
 use Rattle.mv_linker.proofs.Cycles.Graphs.{whole-graph}
-use Rattle.mv_linker.proofs.Members.{Among, among-at, at-among, among-result}
+use Rattle.mv_linker.proofs.Members.{among-at, at-among, among-result}
 use Rattle.mv_linker.proofs.Joining.Resolving.{each_push}
 
 -- ---- one more place

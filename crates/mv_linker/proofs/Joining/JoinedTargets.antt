@@ -15,7 +15,7 @@ use Rattle.mv_linker.specs.Order.{AreHandlePlaces, AreDependencies, IsDependency
 use Rattle.mv_linker.specs.Sizes.{IsSized}
 use Rattle.mv_linker.specs.declared.sizes.Size.{Size}
 use Rattle.mv_linker.specs.declared.targets.Target.{Target}
-use Rattle.mv_linker.proofs.Found.{on_some, then_found, each}
+use Rattle.mv_linker.proofs.Found.{on_some, then_found}
 use Rattle.mv_linker.proofs.Cycles.Graphs.{appended-graph}
 use Rattle.mv_linker.proofs.Cycles.JoinedOrder.{with_tables-appended}
 use Rattle.mv_linker.proofs.StructSizes.JoinedSizes.{keeps-joined}

@@ -23,7 +23,7 @@ use Rattle.mv_module_text.specs.Fits.{field_fits, is_index, struct_definition_fi
 use Rattle.mv_linker.specs.declared.shapes.Part.{Part}
 use Rattle.mv_linker.specs.declared.shapes.Part.TheVariants.{Struct, Nothing}
 use Rattle.mv_linker.specs.Handles.{AreStructsAt}
-use Rattle.mv_linker.specs.Shapes.{AreParts, AreShapes, IsPart, is_of_value, part_by, parts_by, shapes_by}
+use Rattle.mv_linker.specs.Shapes.{AreParts, AreShapes, IsPart, part_by, parts_by, shapes_by}
 use Rattle.mv_linker.proofs.Found.{each, on_some, there_at}
 
 -- a struct has at most 32 fields

@@ -1,4 +1,4 @@
-use Rattle.std.proofs.Common.{◌≡◌, List, Option, None, Some, false, slice_get, unwrap_or, sym, ap, ap₂, ◌∙◌, subst}
+use Rattle.std.proofs.Common.{◌≡◌, List, None, Some, false, slice_get, unwrap_or, sym, ap, ap₂, ◌∙◌, subst}
 use Rattle.mv_move_types.specs.Published.{PublishedModule}
 use Rattle.mv_linker.specs.Link.{tables_in}
 use Rattle.mv_linker.specs.Stored.{AreCodesOf}

@@ -1,4 +1,4 @@
-use Rattle.std.proofs.Common.{◌≡◌, ◌+◌, ◌++◌, ◌∷◌, [], take, get_or, length, ap, sym, subst, ◌∙◌, arith}
+use Rattle.std.proofs.Common.{◌≡◌, ◌+◌, ◌++◌, ◌∷◌, [], take, get_or, length, sym, subst, arith}
 use Rattle.std.proofs.lemmas.List.{take_more}
 use Rattle.mv_linker.specs.Indexed.{AreIndicesOf}
 use Rattle.mv_linker.proofs.Kept.IndexLemmas.{indices-put, length-taken}

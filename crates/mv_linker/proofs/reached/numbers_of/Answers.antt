@@ -1,4 +1,4 @@
-use Rattle.std.proofs.Common.{◌≡◌, ◌+◌, ℕ, Some, get_or, length, slice_get, arith}
+use Rattle.std.proofs.Common.{◌≡◌, Some, get_or, slice_get, arith}
 use Rattle.std.proofs.lemmas.Option.{slice_get-get_or}
 use Rattle.mv_linker.proofs.Cycles.ReachedLemmas.{no-numbers, more-numbers, all-numbers}
 use Rattle.mv_linker.proofs.reached.numbers_of.Goals as goal

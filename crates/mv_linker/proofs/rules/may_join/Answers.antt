@@ -1,10 +1,11 @@
 use Rattle.std.proofs.Common.{◌≡◌, true, false, List, length, IfOk, refl, sym, ap, subst, ◌∙◌, arith}
+use Rattle.std.specs.Prelude.{All}
 use Rattle.std.proofs.lemmas.List.{length-map}
 use Rattle.mv_move_types.specs.Module.{Module}
 use Rattle.mv_move_types.specs.Published.{PublishedModule, with_modules}
 use Rattle.mv_bounds.specs.Definitions.{all_differ}
 use Rattle.mv_linker.specs.declared.New.{New}
-use Rattle.mv_linker.specs.Link.{MayJoin, AreSentBy, IsStore, tables_in, have_one_name, are_compatible, all_follow}
+use Rattle.mv_linker.specs.Link.{MayJoin, AreSentBy, IsPublishable, IsStore, tables_in, have_one_name, are_compatible, all_follow}
 use Rattle.mv_linker.specs.Links.{Links}
 use Rattle.mv_linker.specs.News.{published_of}
 use Rattle.mv_linker.specs.Scope.{offered, with_tables}
@@ -59,26 +60,24 @@ links-requires-clause-few c =
       c.requires.few,
     )
 
-pub links-requires-clause-store : goal.links-requires-clause-store
-links-requires-clause-store c = subst (λ (l : List PublishedModule). IsStore l) (sym c.in_ok-scope.ensures.store) c.in_ok-scope.ensures.sound
-
 pub of-requires-clause-once : goal.of-requires-clause-once
 of-requires-clause-once c =
     subst (λ (l : List Module). all_differ have_one_name l ≡ true) (offered-tables c.args.new.now)
     (sym (ap (λ (l : List PublishedModule). all_differ have_one_name (tables_in l)) c.requires.same) ∙ sym c.in_ok-differ.ensures ∙ c.if-not-differ.false)
 
-pub links-requires-clause-once : goal.links-requires-clause-once
-links-requires-clause-once c =
-    subst (λ (l : List New). all_differ have_one_name (offered l) ≡ true) (sym c.in_ok-scope.ensures.new)
-    (subst (λ (l : List Module). all_differ have_one_name l ≡ true) (offered-tables c.args.new.now)
-    (sym (ap (λ (l : List PublishedModule). all_differ have_one_name (tables_in l)) c.requires.same) ∙ sym c.in_ok-differ.ensures ∙ c.if-not-differ.false))
-
-pub links-requires-clause-compatible : goal.links-requires-clause-compatible
-links-requires-clause-compatible c =
+pub links-requires-clause-fits : goal.links-requires-clause-fits
+links-requires-clause-fits c =
     let follow : all_follow (tables_in c.args.s.now) (offered c.args.new.now) ≡ true = sym c.in_ok-all_follow.ensures ∙ c.if-not-branch.false in
     let fits = follow-compatible (tables_in c.args.s.now) (offered c.args.new.now) c.in_ok-scope.ensures.sound.once follow in
-    subst (λ (l : List PublishedModule). are_compatible (tables_in l) (offered c.in_ok-scope.scope.new.now) ≡ true) (sym c.in_ok-scope.ensures.store)
-    (subst (λ (l : List New). are_compatible (tables_in c.args.s.now) (offered l) ≡ true) (sym c.in_ok-scope.ensures.new) fits)
+    record {
+      store = subst (λ (l : List PublishedModule). IsStore l) (sym c.in_ok-scope.ensures.store) c.in_ok-scope.ensures.sound;
+      passed = subst (λ (l : List New). All IsPublishable (published_of l)) (sym c.in_ok-scope.ensures.new) c.requires.passed;
+      once = subst (λ (l : List New). all_differ have_one_name (offered l) ≡ true) (sym c.in_ok-scope.ensures.new)
+          (subst (λ (l : List Module). all_differ have_one_name l ≡ true) (offered-tables c.args.new.now)
+          (sym (ap (λ (l : List PublishedModule). all_differ have_one_name (tables_in l)) c.requires.same) ∙ sym c.in_ok-differ.ensures ∙ c.if-not-differ.false));
+      compatible = subst (λ (l : List PublishedModule). are_compatible (tables_in l) (offered c.in_ok-scope.scope.new.now) ≡ true) (sym c.in_ok-scope.ensures.store)
+          (subst (λ (l : List New). are_compatible (tables_in c.args.s.now) (offered l) ≡ true) (sym c.in_ok-scope.ensures.new) fits);
+    }
 
 pub returns-clause-ok : goal.returns-clause-ok
 returns-clause-ok c =

@@ -1,9 +1,19 @@
-use Rattle.std.proofs.Common.{◌≡◌, IfOk, subst, sym}
+use Rattle.std.proofs.Common.{◌≡◌, List, [], ◌∷◌, length, true, IfOk, refl, subst, sym, arith}
 use Rattle.mv_move_types.specs.Published.{PublishedModule}
-use Rattle.mv_linker.specs.Kept.{Kept}
-use Rattle.mv_linker.specs.Link.{have_one_name}
+use Rattle.mv_bounds.specs.Definitions.{all_differ}
+use Rattle.mv_linker.specs.Kept.{Kept, published_in}
+use Rattle.mv_linker.specs.Link.{tables_in, have_one_name}
 use Rattle.mv_linker.proofs.ListTests.{all_differ-maps}
 use Rattle.mv_linker.proofs.rules.names_differ.Goals as goal
 
-pub returns : goal.returns
-returns c = subst (λ d. IfOk c.are_distinct.result (λ b. b ≡ d)) (sym (all_differ-maps (λ (p : PublishedModule). p.tables) (λ (k : Kept). k.published) have_one_name c.args.added.now)) c.are_distinct.ensures
+-- a module alone differs from all others
+alone : (added : List Kept) → length added ≡ 1 → true ≡ all_differ have_one_name (tables_in (published_in added))
+alone [] e = absurd (omega (arith, e))
+alone (k ∷ []) e = refl
+alone (k ∷ j ∷ added) e = absurd (omega (arith, e))
+
+pub returns-in-len1 : goal.returns-in-len1
+returns-in-len1 c = alone c.args.added.now (omega (arith, c.in-len1.len_at_least, c.in-len1.len_below))
+
+pub returns-in_default : goal.returns-in_default
+returns-in_default c = subst (λ d. IfOk c.are_distinct.result (λ b. b ≡ d)) (sym (all_differ-maps (λ (p : PublishedModule). p.tables) (λ (k : Kept). k.published) have_one_name c.args.added.now)) c.are_distinct.ensures

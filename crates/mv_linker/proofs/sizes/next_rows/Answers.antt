@@ -1,11 +1,14 @@
-use Rattle.std.proofs.Common.{◌≡◌, ◌≤◌, ◌<◌, ◌++◌, [], ◌∷◌, ◌∙◌, sym, ap, refl, map, take, length, get_or, Option, Vec, Global, Bor, List, Some, slice_get, arith}
+use Rattle.std.proofs.Common.{◌≡◌, ◌≤◌, ◌<◌, ◌++◌, [], ◌∷◌, ◌∙◌, sym, ap, refl, map, take, length, Option, Vec, Global, List, Some, slice_get, arith}
 use Rattle.std.specs.Prelude.{option_map}
 use Rattle.std.proofs.lemmas.List.{length-map, map-append}
-use Rattle.std.proofs.lemmas.Option.{slice_get-map, slice_get-get_or, slice_get_read}
+use Rattle.std.proofs.lemmas.Option.{slice_get-map, slice_get_read}
 use Rattle.mv_move_types.specs.Module.{Module}
 use Rattle.mv_linker.specs.declared.sizes.Size.{Size}
 use Rattle.mv_linker.specs.declared.sizes.Defined.{Defined}
+use Rattle.mv_linker.specs.declared.New.{New}
+use Rattle.mv_linker.specs.Scope.{offered}
 use Rattle.mv_linker.specs.Sizes.{next_rows}
+use Rattle.mv_linker.proofs.Joining.Assembling.{offered-at}
 use Rattle.mv_linker.proofs.StructSizes.Rounds.{rows_more, rows_all}
 use Rattle.mv_linker.proofs.sizes.next_rows.Goals as goal
 
@@ -13,26 +16,27 @@ pub loop-i-preserved : goal.loop-i-preserved
 loop-i-preserved c =
     let items : List (Vec (Option Size) Global) → List (List (Option Size)) = map (λ (r : Vec (Option Size) Global). r.items) in
     let rows = items c.args.rows.now in
-    let modules : List Module = map (λ (m : Bor Module). m.now) c.args.bundle.now in
-    let handles : List (List Defined) = map (λ (d : Bor (List Defined)). d.now) c.args.defined.now in
+    let modules = offered c.args.bundle.now in
+    let handles : List (List Defined) = map (λ (d : Vec Defined Global). d.items) c.args.defined.now in
     let i = c.loop-i.i in
-    let m = c.index-bundle-i.result in
-    let none : Bor (List Defined) = record { ref_ptr = (0, 0); now = [] } in
-    let d = get_or c.args.defined.now i none in
+    let n = c.index-bundle-i.result in
+    let m = c.module-m.result.now in
+    let d = c.index-defined-i.result in
     let low : i < length c.args.defined.now = omega (arith, c.loop-i-test.true, c.requires) in
     let row = c.in_ok-row_of.field-0 in
-    let at_module : slice_get modules i ≡ Some m.now =
-    slice_get-map (λ (m : Bor Module). m.now) c.args.bundle.now i ∙ ap (option_map (λ (m : Bor Module). m.now)) (slice_get_read c.args.bundle.now (length c.args.bundle.now) i m refl c.loop-i-test.true c.index-bundle-i.is) in
-    let at_handles : slice_get handles i ≡ Some d.now =
-    slice_get-map (λ (d : Bor (List Defined)). d.now) c.args.defined.now i ∙ ap (option_map (λ (d : Bor (List Defined)). d.now)) (slice_get-get_or c.args.defined.now i none low) in
+    let at_module : slice_get modules i ≡ Some m =
+    offered-at c.args.bundle.now i n (slice_get_read c.args.bundle.now (length c.args.bundle.now) i n refl c.loop-i-test.true c.index-bundle-i.is) ∙ ap (λ (x : Module). Some x) (sym (c.module-m.ensures.value ∙ ap (λ (x : New). x.module) (sym c.index-bundle-i.is))) in
+    let at_handles : slice_get handles i ≡ Some c.deref.result.now =
+    slice_get-map (λ (d : Vec Defined Global). d.items) c.args.defined.now i ∙ ap (option_map (λ (d : Vec Defined Global). d.items)) (slice_get_read c.args.defined.now (length c.args.defined.now) i d refl low c.index-defined-i.is)
+    ∙ ap (λ (l : List Defined). Some l) (sym c.deref.ensures.value) in
     ap items c.in_ok-push.ensures.items ∙ map-append (λ (r : Vec (Option Size) Global). r.items) c.loop-i.next.items (row ∷ [])
     ∙ ap (λ (l : List (List (Option Size))). l ++ row.items ∷ []) c.loop-i.invariant
     ∙ ap (λ (r : List (Option Size)). next_rows rows (take i modules) (take i handles) ++ r ∷ []) c.in_ok-row_of.ensures
-    ∙ sym (rows_more rows modules handles i m.now d.now at_module at_handles)
+    ∙ sym (rows_more rows modules handles i m c.deref.result.now at_module at_handles)
 
 pub returns : goal.returns
 returns c =
-    let modules : List Module = map (λ (m : Bor Module). m.now) c.args.bundle.now in
-    let handles : List (List Defined) = map (λ (d : Bor (List Defined)). d.now) c.args.defined.now in
-    let long : length modules ≤ c.loop-i.i = omega (arith, c.loop-i-test.false, length-map c.args.bundle.now (λ (m : Bor Module). m.now)) in
+    let modules = offered c.args.bundle.now in
+    let handles : List (List Defined) = map (λ (d : Vec Defined Global). d.items) c.args.defined.now in
+    let long : length modules ≤ c.loop-i.i = omega (arith, c.loop-i-test.false, length-map c.args.bundle.now (λ (n : New). n.module)) in
     c.loop-i.invariant ∙ rows_all (map (λ (r : Vec (Option Size) Global). r.items) c.args.rows.now) modules handles c.loop-i.i long

@@ -5,7 +5,7 @@ use Rattle.mv_linker.specs.declared.dependants.Dependant.{Dependant}
 use Rattle.mv_linker.specs.declared.to_link.ToLink.{ToLink}
 use Rattle.mv_linker.specs.Coded.{AreToLink, AreCodes}
 use Rattle.mv_linker.specs.Link.{tables_in}
-use Rattle.mv_linker.specs.Relinked.{Joins, AreLinkable}
+use Rattle.mv_linker.specs.Relinked.{AreLinkable}
 use Rattle.mv_linker.specs.Stored.{Relinks}
 use Rattle.mv_linker.specs.Targets.{modules_in}
 use Rattle.mv_linker.proofs.LinkedCode.Linkable.{are-to-link}
@@ -16,7 +16,6 @@ use Rattle.mv_linker.proofs.scope.Scope.codes.Goals as goal
 pub returns : goal.returns
 returns c =
     let s = c.args.self.now in
-    let joins : Joins s = record { store = c.requires.store; passed = c.requires.passed; once = c.requires.once; compatible = c.requires.compatible; links = c.requires.links } in
     let dependants = c.in_ok-dependants.dependants.items in
     let linking = c.in_ok-linking.linking.items in
     let codes = c.in_ok-codes.codes.items in
@@ -26,7 +25,7 @@ returns c =
     let to_link : AreToLink (modules_in s) linking = are-to-link (modules_in s) s.places.items (places_of dependants) linking linkable in
     let coded : AreCodes (modules_in s) linking codes =
     subst (λ (l : List ToLink). AreCodes (modules_in s) l codes) c.deref-2.ensures.value (c.in_ok-codes.ensures (modules_in s) (subst (λ (l : List ToLink). AreToLink (modules_in s) l) (sym c.deref-2.ensures.value) to_link)) in
-    let linked = relinks (tables_in s.store.now) (modules_in s) (placed linking codes) (relinking s joins dependants c.in_ok-dependants.ensures linking codes linkable coded) in
+    let linked = relinks (tables_in s.store.now) (modules_in s) (placed linking codes) (relinking s c.requires.joins dependants c.in_ok-dependants.ensures linking codes linkable coded) in
     IfOk-weaker c.placed.result (λ (v : Vec CodeAt Global). v.items ≡ placed c.deref-3.result.now codes) (λ (v : Vec CodeAt Global). Relinks (tables_in s.store.now) (modules_in s) v.items)
     (λ v is. subst (λ (l : List CodeAt). Relinks (tables_in s.store.now) (modules_in s) l) (sym (is ∙ ap (λ (l : List ToLink). placed l codes) c.deref-3.ensures.value)) linked)
     c.placed.ensures

@@ -1,36 +1,39 @@
-use Rattle.std.proofs.Common.{◌≡◌, ◌<◌, ℕ, Some, get_or, length, slice_get, refl, sym, ap, ◌∙◌, arith}
-use Rattle.std.proofs.lemmas.Option.{slice_get-get_or}
+use Rattle.std.proofs.Common.{◌≡◌, ◌<◌, ℕ, List, Some, length, slice_get, refl, sym, ap, subst, ◌∙◌, arith}
+use Rattle.std.proofs.lemmas.List.{length-map}
+use Rattle.std.proofs.lemmas.Option.{slice_get_read}
+use Rattle.mv_move_types.specs.Module.{Module}
+use Rattle.mv_linker.specs.declared.New.{New}
+use Rattle.mv_linker.specs.declared.links.Names.{Names}
 use Rattle.mv_linker.specs.Link.{tables_in}
+use Rattle.mv_linker.specs.Order.{AreHandlePlaces}
 use Rattle.mv_linker.specs.Scope.{offered, places_in}
 use Rattle.mv_linker.specs.Targets.{modules_in}
 use Rattle.mv_linker.proofs.Joining.Bundled.{bundle-at}
-use Rattle.mv_linker.proofs.Cycles.DependenciesStay.{place-there}
-use Rattle.mv_linker.proofs.Cycles.DependencyLemmas.{length-places, none-yet, one-more, all-found}
+use Rattle.mv_linker.proofs.Joining.Joins.{placed-length}
+use Rattle.mv_linker.proofs.Cycles.DependencyLemmas.{none-yet, one-more, all-found}
+use Rattle.mv_linker.proofs.Members.{differ-result}
 use Rattle.mv_linker.proofs.scope.Scope.dependencies.Goals as goal
 
-pub loop-place-init : goal.loop-place-init
-loop-place-init c = none-yet _ _ _ c.new-graph.ensures.items
+pub loop-k-init : goal.loop-k-init
+loop-k-init c = none-yet _ _ _ c.in_ok-graph.ensures.items
 
-pub dependencies_at-requires-clause-place : goal.dependencies_at-requires-clause-place
-dependencies_at-requires-clause-place c =
-    let s = c.args.self.now in
-    let k = c.loop-place.place-index in
-    let items = c.deref-place-items.result.now in
-    let placed : slice_get (places_in (tables_in s.store.now) (offered s.new.now)) k ≡ Some (get_or items k 0) =
-    ap (λ l. slice_get l k) (sym (c.deref-place-items.ensures.value ∙ s.placed)) ∙ slice_get-get_or items k 0 (omega arith) in
-    place-there (tables_in s.store.now) (offered s.new.now) s.once k (get_or items k 0) placed
+pub index-requires : goal.index-requires
+index-requires c = let s = c.args.self.now in omega (arith, placed-length s, s.places.ok.0, c.requires.names.len, length-map s.new.now (λ (n : New). n.module))
 
-pub loop-place-preserved : goal.loop-place-preserved
-loop-place-preserved c =
+pub loop-k-preserved : goal.loop-k-preserved
+loop-k-preserved c =
     let s = c.args.self.now in
-    let k = c.loop-place.place-index in
-    let items = c.deref-place-items.result.now in
-    let placed : slice_get (places_in (tables_in s.store.now) (offered s.new.now)) k ≡ Some (get_or items k 0) =
-    ap (λ l. slice_get l k) (sym (c.deref-place-items.ensures.value ∙ s.placed)) ∙ slice_get-get_or items k 0 (omega arith) in
-    one-more _ _ _ _ _ c.in-Ok.places c.loop-place.invariant c.in_ok-pushed-in-Ok.ensures.ok
-    (λ n at. c.in-Ok.ensures.ok n (bundle-at (tables_in s.store.now) (offered s.new.now) k (get_or items k 0) n s.once at placed))
+    let k = c.loop-k.k in
+    let n = c.index-names-k.result in
+    let own = c.index.result.now in
+    let low : k < length s.places.items = omega (arith, placed-length s, c.requires.names.len, length-map s.new.now (λ (n : New). n.module)) in
+    let placed : slice_get (places_in (tables_in s.store.now) (offered s.new.now)) k ≡ Some own =
+    ap (λ l. slice_get l k) (sym s.placed) ∙ slice_get_read s.places.items (length s.places.items) k own refl low c.index.ensures in
+    let named = slice_get_read c.args.names.now (length c.args.names.now) k n refl (omega arith) c.index-names-k.is in
+    one-more _ _ _ _ _ c.in_ok-dependencies.field-0 c.loop-k.invariant c.in_ok-push.ensures.items
+    (λ (m : Module) at. c.in_ok-dependencies.ensures (modules_in s) m (bundle-at (tables_in s.store.now) (offered s.new.now) k own m s.once at placed)
+    (differ-result (tables_in s.store.now) (offered s.new.now) c.requires.store.once)
+    (subst (λ (l : List ℕ). AreHandlePlaces (modules_in s) m l) (sym (c.deref.ensures.value ∙ ap (λ (x : Names). x.modules.items) (sym c.index-names-k.is))) (c.requires.names.each k m n at named).places))
 
-pub returns-clause-ok : goal.returns-clause-ok
-returns-clause-ok c =
-    let s = c.args.self.now in
-    all-found _ _ _ _ c.loop-place.invariant (omega (arith, ap length s.placed, length-places (tables_in s.store.now) (offered s.new.now)))
+pub returns : goal.returns
+returns c = all-found _ _ _ _ c.loop-k.invariant (omega (arith, c.requires.names.len))

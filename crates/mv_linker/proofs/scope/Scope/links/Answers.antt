@@ -16,7 +16,7 @@ pub returns-then-not-branch-clause-refused : goal.returns-then-not-branch-clause
 returns-then-not-branch-clause-refused c = (
   refl,
   λ links.
-      let yes : c.in_ok-is_ordered.field-0 ≡ true = c.in_ok-is_ordered.ensures.ok.1 links.ordered in
+      let yes : c.in_ok-is_ordered.field-0 ≡ true = c.in_ok-is_ordered.ensures.1 links.ordered in
       let no : c.in_ok-is_ordered.field-0 ≡ false = c.if-not-branch.true in
       cc,
 )
@@ -25,11 +25,17 @@ returns-then-not-branch-clause-refused c = (
 all-linked : (c : In_ok-sizes) → Links (modules_in c.args.self.now)
 all-linked c =
     let s = c.args.self.now in
-    let j = joining-offered s.store.now s.new.now c.requires.store c.requires.passed c.requires.once c.requires.compatible in
-    links-all (tables_in s.store.now) (offered s.new.now) j c.requires.store.links (record { named = c.in_ok-names.ensures.ok; ordered = c.in_ok-is_ordered.ensures.ok.0 c.if-not-branch.false; small = c.in_ok-sizes.ensures.small })
+    let j = joining-offered s.store.now s.new.now c.requires.fits.store c.requires.fits.passed c.requires.fits.once c.requires.fits.compatible in
+    links-all (tables_in s.store.now) (offered s.new.now) j c.requires.fits.store.links (record { named = c.in_ok-names.ensures.ok; ordered = c.in_ok-is_ordered.ensures.0 c.if-not-branch.false; small = c.in_ok-sizes.ensures.small })
 
-pub codes-requires-clause-links : goal.codes-requires-clause-links
-codes-requires-clause-links c = all-linked (goal.at.codes-requires-clause-links c).In_ok-sizes
+pub codes-requires-clause-joins : goal.codes-requires-clause-joins
+codes-requires-clause-joins c = record {
+  store = c.requires.fits.store;
+  passed = c.requires.fits.passed;
+  once = c.requires.fits.once;
+  compatible = c.requires.fits.compatible;
+  links = all-linked (goal.at.codes-requires-clause-joins c).In_ok-sizes;
+}
 
 pub returns-clause-ok : goal.returns-clause-ok
 returns-clause-ok c = all-linked (goal.at.returns-clause-ok c).In_ok-sizes
@@ -38,12 +44,12 @@ pub returns-clause-dependencies : goal.returns-clause-dependencies
 returns-clause-dependencies c =
     let s = c.args.self.now in
     let needed = c.in_ok-needed.needed.items in
-    let is : c.in_ok-dependencies.dependencies.items ≡ placed s.places.items needed = c.in_ok-dependencies.ensures ∙ ap (λ (l : List ℕ). placed l needed) c.deref-5.ensures.value in
+    let is : c.in_ok-dependencies.dependencies.items ≡ placed s.places.items needed = c.in_ok-dependencies.ensures ∙ ap (λ (l : List ℕ). placed l needed) c.deref-6.ensures.value in
     subst (λ (l : List DependenciesAt). KeepsDependencies (tables_in s.store.now) (modules_in s) l) (sym is)
-    (keeps-dependencies (tables_in s.store.now) (offered s.new.now) c.requires.store.once c.requires.once c.requires.store.links s.places.items s.placed needed c.in_ok-needed.ensures.ok)
+    (keeps-dependencies (tables_in s.store.now) (offered s.new.now) c.requires.fits.store.once c.requires.fits.once c.requires.fits.store.links s.places.items s.placed needed c.in_ok-needed.ensures)
 
 pub returns-in_err-sizes-clause-refused : goal.returns-in_err-sizes-clause-refused
 returns-in_err-sizes-clause-refused c =
     let s = c.args.self.now in
     let p = err_from_is_err_and c.from_residual-in_err-sizes.result c.from_residual-in_err-sizes.ensures.1 in
-    rw (p.1, p.2) (refused_by _ _ _ (λ (links : Links (modules_in s)). (bundle-links (tables_in s.store.now) (offered s.new.now) c.requires.once links).small) c.in_err-sizes.ensures.refused)
+    rw (p.1, p.2) (refused_by _ _ _ (λ (links : Links (modules_in s)). (bundle-links (tables_in s.store.now) (offered s.new.now) c.requires.fits.once links).small) c.in_err-sizes.ensures.refused)

@@ -10,7 +10,7 @@ use Rattle.mv_linker.proofs.Joining.Assembling.{offered-at, passed-among}
 use Rattle.mv_linker.proofs.Joining.Bundled.{bundle-at, no-newest, old-at, place-at}
 use Rattle.mv_linker.proofs.Joining.Joins.{placed-length}
 use Rattle.mv_linker.proofs.Members.{among-at}
-use Rattle.mv_linker.proofs.Joining.Scopes.{kept-below, tables-there}
+use Rattle.mv_linker.proofs.Joining.Scopes.{kept-below}
 use Rattle.mv_linker.proofs.scope.Scope.module.Goals as goal
 
 pub offset_bounds-self-k : goal.offset_bounds-self-k

@@ -5,7 +5,7 @@ use Rattle.mv_linker.proofs.Joining.Resolving.{refused_by, no-targets, more-targ
 use Rattle.mv_linker.proofs.scope.Scope.targets.Goals as goal
 
 pub loop-h-init : goal.loop-h-init
-loop-h-init c = no-targets _ _ _ c.new-targets.ensures.items
+loop-h-init c = no-targets _ _ _ c.in_ok-targets.ensures.items
 
 pub returns-in-Err-clause-refused : goal.returns-in-Err-clause-refused
 returns-in-Err-clause-refused c =

@@ -1,6 +1,6 @@
 use Rattle.std.proofs.Common.{◌≡◌, map, take}
 use Rattle.mv_linker.specs.declared.targets.Target.{Target}
-use Rattle.mv_linker.proofs.ordering.places_of.Given as goal
+use Rattle.mv_linker.proofs.targets.places_of.Given as goal
 
 abbrev pub invariant-loop-t : goal.invariant-loop-t
 invariant-loop-t l = l.places.items ≡ map (λ (t : Target). t.place) (take l.t-index l.targets)

@@ -1,7 +1,7 @@
 use Rattle.std.proofs.Common.{◌≡◌, ◌+◌, ◌++◌, ◌∷◌, [], take, map, ap, sym, ◌∙◌, arith}
 use Rattle.std.proofs.lemmas.List.{take_more, map-append}
 use Rattle.mv_linker.specs.declared.targets.Target.{Target}
-use Rattle.mv_linker.proofs.ordering.places_of.Goals as goal
+use Rattle.mv_linker.proofs.targets.places_of.Goals as goal
 
 pub loop-t-preserved : goal.loop-t-preserved
 loop-t-preserved c =

@@ -4,10 +4,10 @@ use Rattle.mv_linker.specs.Links.{names_hold}
 use Rattle.mv_linker.specs.Scope.{offered}
 use Rattle.mv_linker.specs.Targets.{modules_in}
 use Rattle.mv_linker.proofs.Joining.Assembling.{NamesSoFar}
-use Rattle.mv_linker.proofs.scope.Scope.all_named.Given as goal
+use Rattle.mv_linker.proofs.scope.Scope.named.Given as goal
 
 abbrev pub invariant-loop-i : goal.invariant-loop-i
 invariant-loop-i l = record {
-  hold : list_all (names_hold (modules_in l.self)) (offered (take l.i l.new)) ≡ true;
-  names : NamesSoFar (modules_in l.self) (offered l.new) l.all.items l.i;
+  hold : list_all (names_hold (modules_in l.self)) (offered (take l.i l.self.new.now)) ≡ true;
+  names : NamesSoFar (modules_in l.self) (offered l.self.new.now) l.all.items l.i;
 }
