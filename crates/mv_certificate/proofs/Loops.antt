@@ -8,11 +8,11 @@ use Rattle.mv_uleb.specs.Parsing.{number_from}
 use Rattle.mv_move_types.specs.Options.{◌>>=◌}
 use Rattle.mv_move_types.specs.Module.{Module, FunctionDefinition}
 use Rattle.mv_module_text.specs.Parsing.{Read, entries_from, counted_from}
-use Rattle.mv_module_text.proofs.Entries.{after, ReadsOn, ReadsOn-next, ReadsOn-end}
-use Rattle.mv_edges.specs.Edges.{Label, Edge, extended}
+use Rattle.mv_module_text.proofs.Entries.{after, ReadsOn, ReadsOn-next, ReadsOn-stops, ReadsOn-end}
+use Rattle.mv_edges.specs.Edges.{Label, Edge, extended, opened}
 use Rattle.mv_edges.specs.Ascending.{edge_before, are_ascending}
 use Rattle.mv_certificate.specs.Certificate.{Known, Stated}
-use Rattle.mv_certificate.specs.Parsing.{edge_from, edges_from, block_from, stated_from}
+use Rattle.mv_certificate.specs.Parsing.{openness_from, label_from, edge_from, edges_from, block_from, stated_from}
 
 -- an entry that can't be read
 entries_from-none : {A : Type 0} (each : List ℕ → Read A) (k : ℕ) (cur : List ℕ) → each cur ≡ None → entries_from each (suc k) cur ≡ None
@@ -39,6 +39,41 @@ pub position-next : (n i : ℕ) (start cur next : List ℕ) (f : ℕ) (old new :
 position-next n i start cur next f old new lt e is (g, exact) =
     let longer : new.path ≡ old.path ++ f ∷ [] = ap (λ (l : Label). l.path) is ∙ ap (λ b. if b then old.path else (old.path ++ f ∷ [])) exact in
     (subst (λ z. ReadsOn (number_from 31) n (i + 1) start z next) (sym longer) (ReadsOn-next (number_from 31) n i start old.path cur next f lt e g), ap (λ (l : Label). l.is_open) is ∙ exact)
+
+-- a label of positions
+abbrev of : List ℕ → Bool → Label
+of path is_open = record { path = path; is_open = is_open }
+
+-- a label at the front, after its positions
+abbrev with_openness : List ℕ → Read Bool → Read Label
+with_openness path found = found >>= λ is_open. Some (of path is_open.0, is_open.1)
+
+label-at : (n i : ℕ) (bytes start path cur : List ℕ) → number_from 8 bytes ≡ Some (n, start) → n ≤ i → ReadsOn (number_from 31) n i start path cur
+    → label_from bytes ≡ with_openness path (openness_from cur)
+label-at n i bytes start path cur e le g = ap (λ r. r >>= λ p. with_openness p.0 (openness_from p.1)) (ReadsOn-end (number_from 31) 8 n i bytes start path cur e le g)
+
+-- one of its positions can't be read
+pub label-stops : (n i : ℕ) (bytes start path cur : List ℕ) → number_from 8 bytes ≡ Some (n, start) → i < n → number_from 31 cur ≡ None → ReadsOn (number_from 31) n i start path cur
+    → label_from bytes ≡ None
+label-stops n i bytes start path cur e lt none g =
+    ap (λ r. r >>= λ p. with_openness p.0 (openness_from p.1)) (ReadsOn-stops (number_from 31) 8 n i bytes start path cur e lt none g)
+
+-- whether it is open can't be read
+pub label-unread : (n i : ℕ) (bytes start path cur : List ℕ) → number_from 8 bytes ≡ Some (n, start) → n ≤ i → openness_from cur ≡ None → ReadsOn (number_from 31) n i start path cur
+    → label_from bytes ≡ None
+label-unread n i bytes start path cur e le none g = label-at n i bytes start path cur e le g ∙ ap (with_openness path) none
+
+-- it is open
+pub label-open : (n i : ℕ) (bytes start cur next : List ℕ) (exact new : Label) (b : Bool) → number_from 8 bytes ≡ Some (n, start) → n ≤ i → openness_from cur ≡ Some (b, next) → b ≡ true
+    → new ≡ opened exact → ReadsOn (number_from 31) n i start exact.path cur → label_from bytes ≡ Some (new, next)
+label-open n i bytes start cur next exact new b e le read is_true is g =
+    label-at n i bytes start exact.path cur e le g ∙ ap (with_openness exact.path) read ∙ ap (λ z. Some (of exact.path z, next)) is_true ∙ ap (λ (l : Label). Some (l, next)) (sym is)
+
+-- it is exact
+pub label-exact : (n i : ℕ) (bytes start cur next : List ℕ) (exact : Label) (b : Bool) → number_from 8 bytes ≡ Some (n, start) → n ≤ i → openness_from cur ≡ Some (b, next) → b ≡ false
+    → ReadsOn (number_from 31) n i start exact.path cur × (exact.is_open ≡ false) → label_from bytes ≡ Some (exact, next)
+label-exact n i bytes start cur next exact b e le read is_false (g, closed) =
+    label-at n i bytes start exact.path cur e le g ∙ ap (with_openness exact.path) read ∙ ap (λ z. Some (of exact.path z, next)) (is_false ∙ sym closed)
 
 -- the first of ascending edges ascend
 pub ascending-front : (xs ys : List Edge) → are_ascending (xs ++ ys) ≡ true → are_ascending xs ≡ true

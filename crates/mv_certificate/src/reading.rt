@@ -8,7 +8,7 @@ ghost use Rattle.mv_module_text.specs.Reads.{Reads};
 ghost use Rattle.mv_certificate.specs.CertificateText.{IsCertificateText};
 ghost use Rattle.mv_certificate.specs.Certificate.{Certificate};
 ghost use Rattle.mv_certificate.specs.Reads.{IsReadAt, IsUnreadAt};
-ghost use Rattle.mv_certificate.specs.Parsing.{availability_from, node_from, openness_from, label_from, edge_from, edges_from, known_from, block_from, stated_from};
+ghost use Rattle.mv_certificate.specs.Parsing.{availability_from, node_from, openness_from, label_from, edge_from, edges_from, block_from, stated_from};
 
 use super::certificate::{Cert, Known, Stated};
 use super::shape;
@@ -88,30 +88,20 @@ fn read_openness(reader: &mut Reader<'_>) -> Result<bool, Refusal>
     }
 }
 
-/// Reads field positions, of which there are at most eight, each below 32: the exact label of them.
-fn read_path(alloc: Global, reader: &mut Reader<'_>) -> Result<Label, Refusal>
-    ensures ok { IfOk result (λ v. counted_from 8 (number_from 31) reader.old ≡ Some (v.path, reader.new)) }
-    ensures exact { IfOk result (λ v. v.is_open ≡ false) }
-    ensures refused { result ≡ Err (Refusal.Phase 2) → counted_from 8 (number_from 31) reader.old ≡ None }
-    ensures errors { IfErr result (λ e. (e ≡ Refusal.Phase 2) ⊎ (e ≡ Refusal.Memory)) }
-{
-    let count = reader.number(MOST_POSITIONS)?;
-    let mut path = Label::here(alloc);
-    'path: for _ in 0..count {
-        let position = reader.number(LAST_POSITION)?;
-        path = path.extended(alloc, position as u8)?;
-    }
-    Ok(path)
-}
-
-/// Reads a label: its positions, and whether it is open.
+/// Reads a label: its field positions, of which there are at most eight, each below 32, and whether it is open.
 fn read_label(alloc: Global, reader: &mut Reader<'_>) -> Result<Label, Refusal>
     ensures ok { IfOk result (λ v. label_from reader.old ≡ Some (v, reader.new)) }
     ensures refused { result ≡ Err (Refusal.Phase 2) → label_from reader.old ≡ None }
     ensures errors { IfErr result (λ e. (e ≡ Refusal.Phase 2) ⊎ (e ≡ Refusal.Memory)) }
 {
-    let exact = read_path(alloc, reader)?;
-    if read_openness(reader)? {
+    let count = reader.number(MOST_POSITIONS)?;
+    let mut exact = Label::here(alloc);
+    'positions: for _ in 0..count {
+        let position = reader.number(LAST_POSITION)?;
+        exact = exact.extended(alloc, position as u8)?;
+    }
+    let is_open = read_openness(reader)?;
+    if is_open {
         Ok(exact.opened(alloc)?)
     } else {
         Ok(exact)
@@ -174,29 +164,7 @@ fn read_edges(
     Ok(edges)
 }
 
-/// Reads what is known: an availability for each local, and the edges.
-fn read_known(
-    alloc: Global,
-    reader: &mut Reader<'_>,
-    m: &Module<'_>,
-    d: &FunctionDefinition,
-) -> Result<Known, Refusal>
-    ensures ok { IfOk result (λ v. known_from m.now d.now reader.old ≡ Some (v, reader.new)) }
-    ensures refused { result ≡ Err (Refusal.Phase 2) → known_from m.now d.now reader.old ≡ None }
-    ensures errors { IfErr result (λ e. (e ≡ Refusal.Phase 2) ⊎ (e ≡ Refusal.Memory)) }
-{
-    let Some(count) = shape::local_count(m, d) else {
-        return Err(MALFORMED);
-    };
-    let locals = read_availabilities(alloc, reader, count)?;
-    let edges = read_edges(alloc, reader, m, d)?;
-    Ok(Known {
-        locals: Availabilities::new(locals),
-        edges,
-    })
-}
-
-/// Reads what is stated of a block, which is reached or not.
+/// Reads what is stated of a block: of one that is reached, an availability for each local, and the edges; else nothing.
 fn read_block(
     alloc: Global,
     reader: &mut Reader<'_>,
@@ -208,14 +176,18 @@ fn read_block(
     ensures refused { result ≡ Err (Refusal.Phase 2) → block_from m.now d.now reached reader.old ≡ None }
     ensures errors { IfErr result (λ e. (e ≡ Refusal.Phase 2) ⊎ (e ≡ Refusal.Memory)) }
 {
-    if reached {
-        reader.mark(1)?;
-        let known = read_known(alloc, reader, m, d)?;
-        Ok(Some(known))
-    } else {
+    if !reached {
         reader.mark(0)?;
-        Ok(None)
+        return Ok(None);
     }
+    reader.mark(1)?;
+    let Some(count) = shape::local_count(m, d) else {
+        return Err(MALFORMED);
+    };
+    let locals = read_availabilities(alloc, reader, count)?;
+    let edges = read_edges(alloc, reader, m, d)?;
+    let locals = Availabilities::new(locals);
+    Ok(Some(Known { locals, edges }))
 }
 
 /// Reads what is stated of the blocks of a function.

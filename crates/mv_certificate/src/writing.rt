@@ -21,12 +21,20 @@ fn availability_byte(a: Availability) -> u8
     }
 }
 
+/// Writes one byte.
+fn write_byte(byte: u8, out: &mut Vec<u8>) -> Result<(), AllocError>
+    ensures { OnOk result (out.new.items ≡ out.old.items ++ byte ∷ []) }
+{
+    out.push(byte)?;
+    Ok(())
+}
+
 /// Writes availabilities, one byte each.
 fn write_availabilities(locals: &[Availability], out: &mut Vec<u8>) -> Result<(), AllocError>
     ensures { OnOk result (out.new.items ≡ out.old.items ++ map availability_code locals.now) }
 {
     for local in locals {
-        out.push(availability_byte(*local))?;
+        write_byte(availability_byte(*local), out)?;
     }
     Ok(())
 }
@@ -56,7 +64,7 @@ fn index_of(node: Node) -> u16
 fn write_node(node: Node, out: &mut Vec<u8>) -> Result<(), AllocError>
     ensures { OnOk result (out.new.items ≡ out.old.items ++ node_text node) }
 {
-    out.push(kind_byte(node))?;
+    write_byte(kind_byte(node), out)?;
     mv_uleb::write(u64::from(index_of(node)), out)
 }
 
@@ -78,8 +86,7 @@ fn write_edge(e: &Edge, out: &mut Vec<u8>) -> Result<(), AllocError>
     write_node(e.from(), out)?;
     write_node(e.to(), out)?;
     write_path(e.label().path(), out)?;
-    out.push(u8::from(e.label().is_open()))?;
-    Ok(())
+    write_byte(u8::from(e.label().is_open()), out)
 }
 
 /// Writes edges after their number.
@@ -99,16 +106,13 @@ fn write_block(block: &Option<Known>, out: &mut Vec<u8>) -> Result<(), AllocErro
     ensures { OnOk result (out.new.items ≡ out.old.items ++ stated_text block.now) }
 {
     match block {
-        None => {
-            out.push(0)?;
-        }
+        None => write_byte(0, out),
         Some(known) => {
-            out.push(1)?;
+            write_byte(1, out)?;
             write_availabilities(known.locals.as_slice(), out)?;
-            write_edges(&known.edges, out)?;
+            write_edges(&known.edges, out)
         }
     }
-    Ok(())
 }
 
 /// Writes what is stated of the blocks of a function.

@@ -1,0 +1,7 @@
+use Rattle.std.proofs.Common.{◌≡◌, false}
+use Rattle.mv_uleb.specs.Parsing.{number_from}
+use Rattle.mv_module_text.proofs.Entries.{ReadsOn}
+use Rattle.mv_certificate.proofs.reading.read_label.Given as goal
+
+abbrev pub invariant-positions : goal.invariant-positions
+invariant-positions l = ReadsOn (number_from 31) l.count l.counter l.initial.reader l.exact.path l.reader × (l.exact.is_open ≡ false)
