@@ -1,5 +1,5 @@
 // A show and an audit in one line of JSON: the value that is written, and its text.
-ghost use Rattle.std.specs.Prelude.{◌≡◌, ◌++◌, ℕ, List, [], ◌∷◌, codes, length, map, IfOk};
+ghost use Rattle.std.specs.Prelude.{◌≡◌, ℕ, List, codes, length, map, IfOk};
 ghost use Rattle.serde_json.specs.Data.{object as object_of, no_members};
 ghost use Rattle.serde_json.specs.View.{view};
 ghost use Rattle.mv_linker.specs.Link.{tables_in};

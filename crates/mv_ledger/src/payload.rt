@@ -1,5 +1,5 @@
 // The payloads of publish and run records.
-ghost use Rattle.std.specs.Prelude.{◌≡◌, ◌⊎◌, [], ◌∷◌, None, Some, Err, IfOk, IfErr, OnErr, IsTrue};
+ghost use Rattle.std.specs.Prelude.{◌≡◌, ◌⊎◌, None, Some, Err, IfOk, IfErr, IsTrue};
 ghost use Rattle.std.specs.List.{list_all};
 ghost use Rattle.mv_interpreter.specs.declared.Arg.{Arg as Argument};
 ghost use Rattle.mv_interpreter.specs.Runs.{number_fits};
@@ -174,7 +174,7 @@ fn arguments(alloc: Global, reader: &mut Reader<'_>) -> Result<Vec<Arg>, Refusal
     ensures errors { IfErr result (λ e. (e ≡ Refusal.Phase 2) ⊎ (e ≡ Refusal.Memory)) }
 {
     let count = reader.number(MOST_ARGUMENTS)?;
-    let mut all = Vec::new(alloc);
+    let mut all = Vec::with_capacity(alloc, count as usize)?;
     'each: for _ in 0..count {
         let next = argument(reader)?;
         all.push(next).map_err(AllocError::from)?;

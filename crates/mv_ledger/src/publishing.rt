@@ -3,7 +3,6 @@ ghost use Rattle.std.specs.Prelude.{◌≡◌, ℕ, ◌+◌, ◌^◌, ◌<◌, �
 ghost use Rattle.mv_move_types.specs.Module.{own_name};
 ghost use Rattle.mv_move_types.specs.Named.{module_place};
 ghost use Rattle.mv_ledger.specs.declared.tallies.Placed.{Placed as Standing};
-ghost use Rattle.mv_move_types.specs.Published.{with_modules};
 ghost use Rattle.mv_binary_format.specs.Parsing.{module_of};
 ghost use Rattle.mv_certificate.specs.Certificate.{Certificate};
 ghost use Rattle.mv_certificate.specs.Verified.{IsCertifiedBy};

@@ -1,5 +1,5 @@
 // A ledger as bytes: the runs had, the modules, the tallies, and what is stored, struct by struct.
-ghost use Rattle.std.specs.Prelude.{◌≡◌, ◌+◌, ◌*◌, ◌^◌, ◌<◌, ◌≤◌, [], ◌∷◌, ◌++◌, All, IsTrue, IsSome, List, length, map, option_copied, slice_get, IfOk, IfSome, OnOk};
+ghost use Rattle.std.specs.Prelude.{◌≡◌, ◌+◌, ◌*◌, ◌^◌, ◌<◌, ◌≤◌, [], ◌++◌, All, IsTrue, IsSome, List, length, map, option_copied, IfOk, IfSome, OnOk};
 ghost use Rattle.std.specs.List.{flat_map};
 ghost use Rattle.mv_uleb.specs.Uleb.{uleb};
 ghost use Rattle.mv_move_types.specs.Tokens.{width_bits};
@@ -13,7 +13,7 @@ ghost use Rattle.mv_ledger.specs.Publishing.{offered};
 ghost use Rattle.mv_ledger.specs.RecordText.{leaf_bytes, offer_text, sized};
 ghost use Rattle.mv_ledger.specs.SavedText.{head_text, keyed_from, struct_text, Second};
 ghost use Rattle.mv_ledger.specs.Parts.Saving.{counts_text, section_at, sections_of, struct_of, AddsValue, AreSections, IsEmpty, IsWritable, KnowsKinds, written};
-ghost use Rattle.mv_ledger.specs.View.{all_of, IsSmall};
+ghost use Rattle.mv_ledger.specs.View.{all_of};
 
 use crate::layouts::Layouts;
 use crate::loading::counts::{Counts, stored_counts};

@@ -1,9 +1,7 @@
 // Reading the stored values of a saved ledger.
-ghost use Rattle.std.specs.Prelude.{◌≡◌, ◌⊎◌, [], None, Some, Err, IfOk, IfErr, OnOk, cond, is_some, not, option_map};
-ghost use Rattle.mv_move_types.specs.declared.tables.Definition.{Definition as DefinitionAt};
+ghost use Rattle.std.specs.Prelude.{◌≡◌, ◌⊎◌, [], None, Some, Err, IfOk, IfErr, OnOk, cond, is_some, not};
 ghost use Rattle.mv_storage.specs.FlatStorage.{words_under, with_words};
-ghost use Rattle.mv_ledger.specs.Parts.BodyParts.{form_of, leaves_from, struct_from, entry_from, is_after, rising_into, group_into, groups_into, storage_into};
-ghost use Rattle.mv_ledger.specs.Layouts.{kinds_under};
+ghost use Rattle.mv_ledger.specs.Parts.BodyParts.{form_of, leaves_from, struct_from, entry_from, is_after, group_into, groups_into, storage_into};
 
 use crate::layouts::Layouts;
 use crate::loading::head::SavedForm;

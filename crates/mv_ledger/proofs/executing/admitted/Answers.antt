@@ -114,16 +114,14 @@ found-of c =
 pub returns-then-not-function-clause-admitted : goal.returns-then-not-function-clause-admitted
 returns-then-not-function-clause-admitted c =
     let f = found-of (goal.at.returns-then-not-function-clause-admitted c).In_ok-index in
-    let private : c.in_ok-index.function.now.is_entry ≡ false = first_of (cc, grind arith) in
-    no_entry c.args.store.now c.args.runs (request_of c.args.asked) c.in_ok-place.place f.home c.in_ok-index.index f.definition f.found (f.entry ∙ private)
+    no_entry c.args.store.now c.args.runs (request_of c.args.asked) c.in_ok-place.place f.home c.in_ok-index.index f.definition f.found (f.entry ∙ c.if-not-function.true)
 
 -- its parameters' types, and whether the arguments are of them
 types-found : (c : After-are_passed) → (f : Finds c.args.store.now c.args.runs (request_of c.args.asked) c.in_ok-place.place c.in_ok-index.index c.in_ok-index.function.now)
     → FindsTypes c.args.store.now c.args.runs (request_of c.args.asked) c.in_ok-place.place f.home c.in_ok-index.index f.definition c.as_slice-tokens.result.now
 types-found c f =
-    let entry : c.in_ok-index.function.now.is_entry ≡ true = first_of (cc, grind arith) in
     types-of c.args.store.now c.args.runs (request_of c.args.asked) c.in_ok-place.place c.in_ok-index.index c.in_ok-index.function.now c.as_slice-tokens.result.now f c.as_slice-tokens.ensures.value
-    entry
+    c.if-not-function.false
 
 same-arguments : (c : After-are_passed)
     → are_arguments c.as_slice-tokens.result.now (with_sender c.args.asked.sender c.as_slice-tokens.result.now (map arg_value c.args.asked.arguments.items)) ≡ c.are_passed.result
@@ -134,23 +132,20 @@ pub returns-then-not-are_passed-clause-admitted : goal.returns-then-not-are_pass
 returns-then-not-are_passed-clause-admitted c =
     let here = (goal.at.returns-then-not-are_passed-clause-admitted c).After-are_passed in
     let f = found-of (goal.at.returns-then-not-are_passed-clause-admitted c).In_ok-index in
-    let differ : c.are_passed.result ≡ false = first_of (cc, grind arith) in
     no_arguments c.args.store.now c.args.runs (request_of c.args.asked) c.in_ok-place.place f.home c.in_ok-index.index f.definition c.as_slice-tokens.result.now (types-found here f)
-    (same-arguments here ∙ differ)
+    (same-arguments here ∙ c.if-not-are_passed.true)
 
 pub returns-then-runs-ge-MOST_RUNS-clause-admitted : goal.returns-then-runs-ge-MOST_RUNS-clause-admitted
 returns-then-runs-ge-MOST_RUNS-clause-admitted c =
     let here = (goal.at.returns-then-runs-ge-MOST_RUNS-clause-admitted c).After-are_passed in
     let f = found-of (goal.at.returns-then-runs-ge-MOST_RUNS-clause-admitted c).In_ok-index in
-    let fit : c.are_passed.result ≡ true = first_of (cc, grind arith) in
     no_runs c.args.store.now c.args.runs (request_of c.args.asked) c.in_ok-place.place f.home c.in_ok-index.index f.definition c.as_slice-tokens.result.now (types-found here f)
-    (same-arguments here ∙ fit) (omega (arith, c.if-runs-ge-MOST_RUNS.true))
+    (same-arguments here ∙ c.if-not-are_passed.false) (omega (arith, c.if-runs-ge-MOST_RUNS.true))
 
 pub returns-clause-admitted : goal.returns-clause-admitted
 returns-clause-admitted c =
     let here = (goal.at.returns-clause-admitted c).After-are_passed in
     let f = found-of (goal.at.returns-clause-admitted c).In_ok-index in
-    let fit : c.are_passed.result ≡ true = first_of (cc, grind arith) in
     let made : List Value → FunctionCall = λ vs. record { function = record { place = c.in_ok-place.place; index = c.in_ok-index.index }; arguments = vs } in
     admits c.args.store.now c.args.runs (request_of c.args.asked) c.in_ok-place.place f.home c.in_ok-index.index f.definition c.as_slice-tokens.result.now _ (types-found here f)
-    (same-arguments here ∙ fit) (omega (arith, c.if-runs-ge-MOST_RUNS.false)) (ap made c.in_ok-arguments.ensures.value) refl
+    (same-arguments here ∙ c.if-not-are_passed.false) (omega (arith, c.if-runs-ge-MOST_RUNS.false)) (ap made c.in_ok-arguments.ensures.value) refl
