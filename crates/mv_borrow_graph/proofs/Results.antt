@@ -1,5 +1,5 @@
 -- What a call's results take over from edges that are gathered once.
-use Rattle.std.proofs.Common.{◌≡◌, ℕ, Bool, true, false, cond, List, [], ◌∷◌, ◌++◌, length, get_or, map, filter, Contains, ◌+◌, ◌<◌, refl, sym, ap, ◌∙◌, subst, append-nil}
+use Rattle.std.proofs.Common.{◌≡◌, ℕ, Bool, true, cond, List, [], ◌∷◌, ◌++◌, length, get_or, map, filter, Contains, ◌+◌, ◌<◌, refl, sym, ap, ◌∙◌, subst, append-nil}
 use Rattle.std.specs.List.{list_any}
 use Rattle.std.proofs.lemmas.List.{map-append}
 use Rattle.std.proofs.lemmas.List.Elements.{filter-append}
@@ -11,7 +11,7 @@ use Rattle.mv_move_types.specs.declared.token.Token.TheVariants.{Plain, Referenc
 use Rattle.mv_move_types.specs.declared.token.ValueType.{ValueType}
 use Rattle.mv_edges.specs.declared.label.Change.TheVariants.{Kept, Opened}
 use Rattle.mv_edges.specs.Ascending.{are_ascending}
-use Rattle.mv_edges.specs.Edges.{Edge, same_node, changed, into, inherited, an_edge}
+use Rattle.mv_edges.specs.Edges.{Edge, same_node, changed, into, inherited}
 use Rattle.mv_edges.specs.Equality.{same_node_decides}
 use Rattle.mv_edges.specs.Sorted.{sorted}
 use Rattle.mv_edges.proofs.Changes.{contains-filter, contains_from_filter, contains-map, contains_from_map}

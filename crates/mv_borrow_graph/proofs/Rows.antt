@@ -17,7 +17,7 @@ use Rattle.mv_move_types.specs.Module.{own_acquires}
 use Rattle.mv_type_states.specs.TypesHold.{Point}
 use Rattle.mv_edges.specs.declared.label.Change.TheVariants.{Kept, Extended, Opened}
 use Rattle.mv_lattice.specs.declared.StepError.{StepError}
-use Rattle.mv_edges.specs.Edges.{Edge, is_global_node, same_node, here, changed, extended, opened, inherited, out_of, without, an_edge}
+use Rattle.mv_edges.specs.Edges.{Edge, is_global_node, same_node, here, changed, inherited, without, an_edge}
 use Rattle.mv_edges.specs.Ascending.{are_ascending}
 use Rattle.mv_edges.specs.Sorted.{sorted}
 use Rattle.mv_edges.proofs.Passed.{without-swap}

@@ -1,12 +1,11 @@
 -- How high a function's stack gets, and the step at a place.
-use Rattle.std.specs.Prelude.{◌==◌, IfSome, IsSome, IsTrue, OnOk, is_some}
-use Rattle.std.proofs.Common.{◌≡◌, ◌≤◌, reverse, arith, ℕ, Bool, true, false, cond, List, [], ◌∷◌, length, slice_range, ◌+◌, nat_le, Option, Some, None, slice_get, Result, Ok, Err, IfOk, IsErrOf, map, option_map, refl, sym, ap, ◌∙◌, subst}
+use Rattle.std.specs.Prelude.{◌==◌, IsSome, IsTrue, OnOk, is_some}
+use Rattle.std.proofs.Common.{◌≡◌, ◌≤◌, reverse, arith, ℕ, Bool, true, false, cond, List, [], ◌∷◌, length, slice_range, ◌+◌, nat_le, Option, Some, None, slice_get, Result, Ok, Err, IsErrOf, option_map, refl, sym, ap, ◌∙◌, subst}
 use Rattle.std.specs.List.{list_all, flat_map}
 use Rattle.std.specs.Option.{option_map_or}
 use Rattle.std.proofs.lemmas.Bool.{and_parts, and_from, leb-true}
 use Rattle.std.proofs.lemmas.List.{length-reverse}
 use Rattle.mv_move_types.specs.declared.token.Token.{Token}
-use Rattle.std.proofs.lemmas.Option.{slice_get-map}
 use Rattle.std.proofs.lemmas.List.Folds.{list_all-append}
 use Rattle.mv_move_types.specs.declared.instruction.Instruction.{Instruction}
 use Rattle.mv_move_types.specs.Options.{◌>>=◌}
@@ -15,7 +14,7 @@ use Rattle.mv_cfg.specs.Blocks.{BasicBlock, blocks}
 use Rattle.mv_type_states.specs.TypeRules.{Types, types_after}
 use Rattle.mv_type_states.specs.TypesHold.{Point, types_through, block_is_typed, function_is_typed, TypesHold}
 use Rattle.mv_type_states.specs.Sound.{types_each, types_before}
-use Rattle.mv_borrow_graph.specs.Domain.{Function, is_low, point_at, ordered, edges_step, places_reference, Follows}
+use Rattle.mv_borrow_graph.specs.Domain.{is_low, point_at, ordered, edges_step, places_reference, Follows}
 use Rattle.mv_borrow_graph.specs.BorrowRules.{edges_after}
 use Rattle.mv_edges.specs.Edges.{Edge}
 use Rattle.mv_edges.specs.Ascending.{are_ascending}

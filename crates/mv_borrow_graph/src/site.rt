@@ -7,7 +7,7 @@ ghost use Rattle.mv_type_states.specs.TypesHold.{Point};
 ghost use Rattle.mv_edges.specs.Edges.{Edge as EdgeRecord, out_of};
 ghost use Rattle.mv_edges.specs.Ascending.{are_ascending};
 ghost use Rattle.mv_borrow_graph.specs.BorrowRules.{edges_after, is_mutable, next_temp, top_temp, no_mutable_from};
-ghost use Rattle.mv_borrow_graph.specs.Domain.{Finds, Follows, ordered, places_reference};
+ghost use Rattle.mv_borrow_graph.specs.Domain.{Follows, ordered, places_reference};
 
 use crate::changes::{keep, release};
 use crate::nodes::{is_free, is_mutable_reference};
@@ -69,20 +69,10 @@ impl<'d, 'm> Model for Site<'d, 'm> {
 
 impl<'d, 'm> Site<'d, 'm> {
     /// The type of a local, if it is there.
-    fn local(&self, local: u16) -> Option<Token>
+    pub fn local(&self, local: u16) -> Option<Token>
         ensures { result ≡ type_of_local self.now.home self.now.function local }
     {
         self.module.local(self.place, local)
-    }
-
-    /// The type of a local.
-    pub fn type_of(&self, local: u16) -> Result<Token, StepError>
-        ensures { Finds result (type_of_local self.now.home self.now.function local) }
-    {
-        match self.local(local) {
-            Some(token) => Ok(token),
-            None => Err(StepError::Need),
-        }
     }
 
     /// The type of an operand by its place from the bottom, if it is there.

@@ -31,7 +31,9 @@ impl<'d, 'm> Site<'d, 'm> {
         ensures after { Follows result s.new (ordered (edges_after self.now (Instruction.CopyLoc local) s.old)) }
         ensures memory { result ≡ Err StepError.Memory → IsTrue (places_reference self.now.home self.now.function (Instruction.CopyLoc local)) }
     {
-        let token = self.type_of(local)?;
+        let Some(token) = self.local(local) else {
+            return Err(StepError::Need);
+        };
         let slot = Node::Slot(local);
         match token {
             Token::Plain(_) => keep(self.is_readable(Node::Own(local), s), s),
@@ -53,7 +55,9 @@ impl<'d, 'm> Site<'d, 'm> {
         ensures after { Follows result s.new (ordered (edges_after self.now (Instruction.MoveLoc local) s.old)) }
         ensures memory { result ≡ Err StepError.Memory → IsTrue (places_reference self.now.home self.now.function (Instruction.MoveLoc local)) }
     {
-        let token = self.type_of(local)?;
+        let Some(token) = self.local(local) else {
+            return Err(StepError::Need);
+        };
         match token {
             Token::Plain(_) => keep(is_free(Node::Own(local), s), s),
             Token::Reference(_) | Token::MutableReference(_) => {
@@ -69,7 +73,9 @@ impl<'d, 'm> Site<'d, 'm> {
         ensures after { Follows result s.new (ordered (edges_after self.now (Instruction.StLoc local) s.old)) }
         ensures memory { result ≡ Err StepError.Memory → IsTrue (places_reference self.now.home self.now.function (Instruction.StLoc local)) }
     {
-        let token = self.type_of(local)?;
+        let Some(token) = self.local(local) else {
+            return Err(StepError::Need);
+        };
         match token {
             Token::Plain(_) => keep(is_free(Node::Own(local), s), s),
             Token::Reference(_) | Token::MutableReference(_) => {

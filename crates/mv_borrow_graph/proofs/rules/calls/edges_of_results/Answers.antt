@@ -1,4 +1,4 @@
-use Rattle.std.proofs.Common.{◌+◌, ◌++◌, sym, ap, ◌∙◌, arith}
+use Rattle.std.proofs.Common.{◌+◌, ◌∙◌}
 use Rattle.mv_move_types.specs.declared.borrow.Node.TheVariants.{Temp}
 use Rattle.mv_edges.specs.Sorted.{sorted}
 use Rattle.mv_borrow_graph.specs.BorrowRules.{result_edges}

@@ -1,5 +1,4 @@
-use Rattle.std.proofs.Common.{◌≡◌, ◌-◌, ◌<◌, length, ap, sym, ◌∙◌, arith}
-use Rattle.mv_borrow_graph.specs.BorrowRules.{without_all}
+use Rattle.std.proofs.Common.{◌∙◌, arith}
 use Rattle.mv_borrow_graph.proofs.Rows.{without_last}
 use Rattle.mv_borrow_graph.proofs.rules.calls.remove_at_all.Goals as goal
 

@@ -1,4 +1,4 @@
-use Rattle.std.proofs.Common.{◌≡◌, ℕ, ◌-◌, ◌<◌, ◌≤◌, true, false, ◌&&◌, length, take, filter, get_or}
+use Rattle.std.proofs.Common.{◌≡◌, ◌-◌, ◌<◌, ◌≤◌, true, false, ◌&&◌, length, take, filter, get_or}
 use Rattle.std.specs.List.{list_any}
 use Rattle.mv_edges.specs.Edges.{Edge, same_node, agrees}
 use Rattle.mv_borrow_graph.specs.BorrowRules.{is_mutable}
