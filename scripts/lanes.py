@@ -1,7 +1,7 @@
 """Builds the libraries of a repository where no check has left work to begin with, several crates at a time, each once those that
 it uses are built. A library is proved as the gate proves it: in one go, and of the libraries below it is read what they state and not
 their proofs. That takes a third less of the processors than a build by `rt lib`, which leaves work for later checks of the same crate.
-The crates of the longest chain of those that wait for one another have the processors first, the others what these leave.
+The crates that the longest chain of others waits for have the processors first, the others what these leave.
 usage: scripts/lanes.py NAME JOBS    builds one library, over those below it as they were built"""
 
 import importlib.util
@@ -15,9 +15,10 @@ TOP = os.path.dirname(os.path.dirname(os.path.realpath(__file__)))
 PARTS = "src", "specs", "proofs"
 # A check loads its libraries and ends on one processor, so that there are more jobs than processors.
 JOBS_A_PROCESSOR = 2
-# How many jobs a crate gets, on the longest chain and beside it, and how much the latter gives way (see nice(1)).
+# How many jobs a crate gets that most waits for, and one beside it.
 MOST_JOBS, JOBS_BESIDE = 4, 2
-GIVES_WAY = 10
+# A crate gives way (see nice(1)) where less than this share waits for it of what waits for that one.
+URGENT, GIVES_WAY = 0.95, 10
 # The free memory, in kB, below which no other crate is begun beside one.
 ROOM = 5_000_000
 
@@ -32,23 +33,17 @@ def toolchain():
 
 
 class Crate:
-    """A library of the repository: those that it uses, its sources' bytes, and the bytes of the longest chain of crates below it and
-    of those that wait for it, its own in both."""
+    """A library of the repository: those that it uses, its sources' bytes, and with these the bytes of the longest chain that waits for it."""
 
     def __init__(self, name, used):
-        self.name, self.used, self.before, self.behind = name, used, 0, 0
+        self.name, self.used, self.behind = name, used, 0
         folders = [f"crates/{name}/{it}" for it in PARTS]
         self.size = sum(os.path.getsize(f"{at}/{it}") for top in folders for at, _, names in os.walk(top) for it in names)
 
-    def chain(self):
-        return self.before + self.behind - self.size
-
 
 def libraries(uses, program):
-    """The libraries that the program stands on, each by its name, after those that it uses, with the chains through it reckoned."""
+    """The libraries that the program stands on, each by its name, after those that it uses, with what waits for it reckoned."""
     crates = {name: Crate(name, used) for name, used in uses.items() if name != program}
-    for crate in crates.values():
-        crate.before = crate.size + max((crates[it].before for it in crate.used), default=0)
     for crate in reversed(crates.values()):
         crate.behind += crate.size
         for it in crate.used:
@@ -65,10 +60,10 @@ def has_room():
 class Lane:
     """A build of one crate."""
 
-    def __init__(self, crate, longest, log):
-        is_on_chain = crate.chain() == longest
-        self.crate, self.jobs = crate, MOST_JOBS if is_on_chain else JOBS_BESIDE
-        words = ["nice", "-n", "0" if is_on_chain else str(GIVES_WAY), sys.executable, os.path.realpath(__file__)]
+    def __init__(self, crate, most, log):
+        self.crate, self.jobs = crate, MOST_JOBS if crate.behind == most else JOBS_BESIDE
+        level = 0 if crate.behind >= URGENT * most else GIVES_WAY
+        words = ["nice", "-n", str(level), sys.executable, os.path.realpath(__file__)]
         self.run = subprocess.Popen([*words, crate.name, str(self.jobs)], stdin=subprocess.DEVNULL, stdout=log, stderr=log)
 
     def end(self):
@@ -89,14 +84,14 @@ def build(uses, program, processors, log, tell):
     with_lock = rtlib.lock(of_rt.values())
     built, running, well = [name for name, it in of_rt.items() if it.is_built()], [], True
     left = sorted((it for it in crates.values() if it.name not in built), key=lambda it: -it.behind)
-    longest = max((it.chain() for it in crates.values()), default=0)
     try:
         while running or (left and well):
             for crate in [it for it in left if well and all(used in built for used in it.used)]:
                 idle = JOBS_A_PROCESSOR * processors - sum(it.jobs for it in running)
                 if idle > 0 and (not running or has_room()):
+                    most = max(it.behind for it in crates.values() if it.name not in built)
                     left.remove(crate)
-                    running.append(Lane(crate, longest, log))
+                    running.append(Lane(crate, most, log))
             time.sleep(0.2)
             tell(built)
             for lane in [it for it in running if it.run.poll() is not None]:
