@@ -174,7 +174,7 @@ fn arguments(alloc: Global, reader: &mut Reader<'_>) -> Result<Vec<Arg>, Refusal
     ensures errors { IfErr result (λ e. (e ≡ Refusal.Phase 2) ⊎ (e ≡ Refusal.Memory)) }
 {
     let count = reader.number(MOST_ARGUMENTS)?;
-    let mut all = Vec::with_capacity(alloc, count as usize)?;
+    let mut all = Vec::new(alloc);
     'each: for _ in 0..count {
         let next = argument(reader)?;
         all.push(next).map_err(AllocError::from)?;
