@@ -1,4 +1,5 @@
-//! The engine, the command line and the statuses of moveledger: all of it but the files, which the program above this crate opens.
+//! The engine, the command line and the statuses of moveledger, and how a saved ledger takes its file's place: all of it but the
+//! files that are read, which the program above this crate opens.
 //!
 //! ```
 //! use moveledger::engine::{EngineError, engine};
