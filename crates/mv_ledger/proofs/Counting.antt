@@ -2,17 +2,15 @@
 -- that returned, by code of the struct's own module. The laws are `EveryRunConserves` and `EveryRunIsOwnWork`
 -- (specs/Counting/Conservation.antt), and `EveryCountIsTallied` (Headline.antt beside it).
 --
--- Read first specs/Counting (Held and Kept count values, Effects has what an instruction does to them), then:
---   Effects                        `rule-ends`: each instruction's rule is one of ten effects on values
---   Runs, Own                      `run-keeps`, `run-own`: what every step keeps a run keeps; values are made by their own module's code
+-- Read first specs/Counting (Held and Kept count values) and of mv_machine proofs/Effects (what an instruction does to values),
+-- RuleEffects (`rule-ends`: each instruction's rule is one of these ten) and Runs (`run-keeps`: what every step keeps a run keeps), then:
+--   Own                            `run-own`: values are made by their own module's code
 --   Counts, Keys, Stored, Frames   `kept-append`, `kept-with`, `kept-root`: counts in values, in the storage, in frames and states
 --   Tags, Packs, Declared, Scarce  `packed-kept`, `declared-by`, `scarce-all`: what abilities say of a struct's values; which have a tally
 --   Keeps, Conserved               `effect-balances`, `run-conserves`: an effect balances what is held against what is made and unmade
 --   Typed, Admitted                `fine-kept`, `admitted-entry`: what the store and admission give a run to begin with
 --   Tallied, Ended                 `returned-balanced`, `bundle-balanced`, `counts-tallied`: the ledger's tallies stay balanced
 --   Worked                         the words at work
-pub mod Effects
-pub mod Runs
 pub mod Own
 pub mod Counts
 pub mod Keys

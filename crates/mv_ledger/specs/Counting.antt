@@ -1,8 +1,6 @@
 -- How the values of structs are counted over a run, and what of them the ledger promises.
 pub mod Held
 pub mod Kept
-pub mod Effects
-pub mod Returns
 pub mod Fine
 pub mod Headline
 pub mod Conservation

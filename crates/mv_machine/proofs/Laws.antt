@@ -38,7 +38,7 @@ own_struct-own h i s e =
 
 -- how many steps a run took
 abbrev pub steps_taken : RunOutcome → ℕ
-steps_taken (Returned steps storage tally) = steps
+steps_taken (Returned steps storage events) = steps
 steps_taken (Aborted kind number steps) = steps
 steps_taken (Exhausted stop steps) = steps
 steps_taken (Faulted fault steps) = steps

@@ -1,20 +1,24 @@
--- What an operator gives for its operands: a leaf.
+-- What a load of a constant and an operator give: a leaf.
 use Rattle.std.proofs.Common.{◌≡◌, ℕ, Bool, true, List, [], ◌∷◌, ◌++◌, Ok, refl, sym, ap, subst, ◌∙◌}
-use Rattle.std.specs.Prelude.{not, ◌&&◌}
+use Rattle.std.specs.Prelude.{not, ◌&&◌, slice_get}
 use Rattle.std.specs.Cmp.{first_so, second_so}
 use Rattle.std.specs.List.{AllByRecursion}
 use Rattle.mv_move_types.specs.declared.token.Width.{Width}
 use Rattle.mv_move_types.specs.declared.token.Width.TheVariants.{U8}
 use Rattle.mv_move_types.specs.declared.token.LeafKind.{LeafKind}
 use Rattle.mv_move_types.specs.declared.token.LeafKind.TheVariants.{Boolean, Number, Address, Signer}
+use Rattle.mv_move_types.specs.declared.token.Token.{Token}
+use Rattle.mv_move_types.specs.declared.token.Token.TheVariants.{Plain, Reference, MutableReference}
+use Rattle.mv_move_types.specs.declared.token.ValueType.TheVariants.{OfLeaf, OfStruct}
+use Rattle.mv_move_types.specs.Numbers.{leaf_number}
 use Rattle.mv_move_types.specs.Tokens.{same_width}
 use Rattle.mv_machine.specs.Value.{Value, Leaf}
 use Rattle.mv_machine.specs.Typing.{tag_of, has_tag}
 use Rattle.mv_machine.specs.Numbers.{Operator, fitting}
-use Rattle.mv_machine.specs.StepParts.{Here, can_drop, is_reference_tag}
-use Rattle.mv_machine.specs.StepNumbers.{binary, comparison, shift, cast, logic, negation, equality}
+use Rattle.mv_machine.specs.StepParts.{Here, Turn, can_drop, is_reference_tag, pushes}
+use Rattle.mv_machine.specs.StepNumbers.{binary, comparison, shift, cast, logic, negation, equality, constant_value, constant}
 use Rattle.mv_machine.proofs.Laws.{on_bind, on_need}
-use Rattle.mv_machine.proofs.Binds.{on_some, on_operand, on_number, on_boolean, WhereOk}
+use Rattle.mv_machine.proofs.Binds.{ok-is, on_some, on_operand, on_number, on_boolean, WhereOk}
 
 -- an operator gave a leaf for operands that may be dropped
 pub record GivesLeaf (h : Here) (stack after : List Value) : Type 0 where
@@ -118,3 +122,23 @@ equality-gives h answer stack after e =
     on_need (not (is_reference_tag tag)) _ _ after e4 (λ plain e5.
     on_need (can_drop h w && can_drop h v) _ _ after e5 (λ d e6.
     subst (WhereOk (GivesLeaf h stack)) e6 (two h stack below rest v w _ _ s s2 (second_so (can_drop h w) (can_drop h v) d) (first_so (can_drop h w) (can_drop h v) d))))))))
+
+-- a LdConst
+pub record ConstantIs (h : Here) (t : Turn) : Type 0 where
+  pub kind : LeafKind
+  pub number : ℕ
+  pub left : pushes h (Leaf kind number) ≡ Ok t
+
+constant_value-leaf : (token : Token) (bytes : List ℕ) (v : Value) → constant_value token bytes ≡ Ok v → (kind : LeafKind) × (n : ℕ) × (v ≡ Leaf kind n)
+constant_value-leaf (Plain (OfLeaf kind)) bytes v e = on_some (leaf_number kind bytes) _ _ v e (λ n n_is e1. (kind, n, sym (ok-is (Leaf kind n) v e1)))
+constant_value-leaf (Plain (OfStruct i)) bytes v e = absurd cc
+constant_value-leaf (Reference to) bytes v e = absurd cc
+constant_value-leaf (MutableReference to) bytes v e = absurd cc
+
+pub constant-is : (h : Here) (i : ℕ) (t : Turn) → constant h i ≡ Ok t → ConstantIs h t
+unfolding constant
+constant-is h i t e =
+    on_some (slice_get h.home.constants i) _ _ t e (λ c c_is e1.
+    on_bind (constant_value c.token c.bytes) _ t e1 (λ v v_is e2.
+    let l = constant_value-leaf c.token c.bytes v v_is in
+    record { kind = l.0; number = l.1; left = subst (λ x. pushes h x ≡ Ok t) l.2 e2 }))

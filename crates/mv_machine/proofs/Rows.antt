@@ -70,7 +70,7 @@ abbrev pub beside : Instruction → Module
 beside borrow = one_function [] (two_numbers ∷ MutableReferenceTo (OfStruct 0) ∷ []) (LdU64 1 ∷ LdU64 2 ∷ Pack 0 ∷ StLoc 0 ∷ MutBorrowLoc 0 ∷ StLoc 1 ∷ CopyLoc 1 ∷ ImmBorrowField 0 ∷ LdU64 3 ∷ MoveLoc 1 ∷ borrow ∷ WriteRef ∷ ReadRef ∷ Pop ∷ Ret ∷ [])
 
 abbrev pub steps_of : RunOutcome → ℕ
-steps_of (Returned n storage tally) = n
+steps_of (Returned n storage events) = n
 steps_of _ = 0
 
 other_field : steps_of (of_f (beside (MutBorrowField 1)) [] 100) ≡ 15

@@ -12,6 +12,7 @@ pub mod StepReferences
 pub mod StepGlobals
 pub mod Step
 pub mod Run
+pub mod Returns
 pub mod Count
 pub mod Flat
 pub mod Typed

@@ -1,6 +1,5 @@
 -- The machine's rules taken apart: what they take off the stack and put on it.
-use Rattle.mv_interpreter.proofs.Borrows.Common.{◌≡◌, ℕ, zero, suc, List, [], ◌∷◌, ◌++◌, map, reverse, Bool, true, false, refl, sym, ◌∙◌, ap, subst, Option, Some, None, Result, Ok, Err, ap₂, option_and_then, ⊤, reverse_onto, Module, Token, Plain, ReferenceTo, MutableReferenceTo, beq, option_map_or, and_parts, State, place_value, tag_named, Faults, TypeFault, entry, has_tag, Tag, token_kind, operand_kind, need, ◌>>>◌, Value, Leaf, Struct, Ref, reference_of, Here, operand, as_fields, on_bind, ok-is, operand-is}
-use Rattle.std.proofs.Common.{drop}
+use Rattle.mv_interpreter.proofs.Borrows.Common.{◌≡◌, List, [], ◌∷◌, ◌++◌, map, reverse, Bool, true, false, refl, sym, ◌∙◌, ap, subst, Option, Some, None, Result, Ok, Err, ap₂, option_and_then, ⊤, reverse_onto, Module, Token, Plain, ReferenceTo, MutableReferenceTo, beq, option_map_or, and_parts, State, place_value, tag_named, Faults, entry, has_tag, Tag, token_kind, operand_kind, ◌>>>◌, Value, Leaf, Struct, Ref, reference_of, Here, on_bind, ok-is}
 use Rattle.std.specs.Prelude.{option_map}
 use Rattle.mv_move_types.specs.Names.{StructName}
 use Rattle.mv_move_types.specs.Module.{struct_name}
@@ -11,9 +10,8 @@ use Rattle.mv_machine.specs.Typing.{linked, LinkageFault, value_type_tag, have_t
 use Rattle.mv_move_types.specs.Tags.{LeafTag, ReferenceTag, StructTag, same_tag}
 use Rattle.mv_move_types.specs.AbilitySets.{same_abilities}
 use Rattle.mv_move_types.specs.Named.{declared}
-use Rattle.mv_interpreter.specs.Borrows.Hypotheses.{NoneOf, HoldsNone}
-use Rattle.mv_move_types.specs.Results.{for_each, ◌>>=◌, ◌>>◌}
-use Rattle.mv_machine.specs.Value.{list_of}
+use Rattle.mv_interpreter.specs.Borrows.Hypotheses.{NoneOf}
+use Rattle.mv_move_types.specs.Results.{for_each, ◌>>=◌}
 use Rattle.mv_machine.proofs.Laws.{on_need}
 use Rattle.mv_interpreter.proofs.Borrows.Kept.{Falls, falls-popped, falls-pushed, falls-then, falls-same}
 use Rattle.mv_machine.proofs.Operations.{GivesLeaf}
@@ -24,25 +22,13 @@ pub on_result : {A B E : Type 0} {P : Type 1} (r : Result A E) (f : A → Result
 on_result (Ok x) f y e go = go x refl e
 on_result (Err d) f y e go = absurd cc
 
-pub on_passed : {B E : Type 0} {P : Type 1} (b : Bool) (d : E) (r : Result B E) (y : B) → (need b d >> r) ≡ Ok y → (b ≡ true → r ≡ Ok y → P) → P
-on_passed true d r y e go = go refl e
-on_passed false d r y e go = absurd cc
-
 pub on_option : {A B : Type 0} {P : Type 1} (r : Option A) (f : A → Option B) (y : B) → (r >>> f) ≡ Some y → ((x : A) → r ≡ Some x → f x ≡ Some y → P) → P
 on_option (Some x) f y e go = go x refl e
 on_option None f y e go = absurd cc
 
-pub fields-are : (name : StructName) (v : Value) (fs : List Value) → as_fields name v ≡ Ok fs → HoldsNone v → NoneOf fs
-fields-are name (Leaf j n) fs h k = absurd cc
-fields-are name (Ref r) fs h k = absurd cc
-fields-are name (Struct own vs) fs h k = on_need (same_tag (StructTag own) (StructTag name)) (Faults TypeFault) _ fs h (λ m e. subst NoneOf (ok-is (list_of vs) fs e) k)
-
 -- ---- what falls
 
-pub one-off : (s : List Value) (a : Value × List Value) → operand s ≡ Ok a → Falls (map reference_of s) (map reference_of a.1)
-one-off s a h = falls-popped (map reference_of s) (map reference_of a.1) (reference_of a.0) (ap (map reference_of) (operand-is s a h))
-
-taken-falls : (taken rest : List Value) → Falls (map reference_of (taken ++ rest)) (map reference_of rest)
+pub taken-falls : (taken rest : List Value) → Falls (map reference_of (taken ++ rest)) (map reference_of rest)
 taken-falls [] rest = falls-same (map reference_of rest)
 taken-falls (v ∷ taken) rest =
     falls-then (map reference_of (v ∷ taken ++ rest)) (map reference_of (taken ++ rest)) (map reference_of rest)
@@ -54,12 +40,6 @@ leaf-falls h s r g =
     subst (λ (x : List Value). Falls (map reference_of x) (map reference_of r)) (sym g.before)
     (subst (λ (x : List Value). Falls (map reference_of (g.taken ++ g.rest)) (map reference_of x)) (sym g.afterwards)
     (falls-pushed (map reference_of (g.taken ++ g.rest)) (map reference_of g.rest) (reference_of (Leaf g.kind g.number)) refl (taken-falls g.taken g.rest)))
-
-pub drop-falls : (n : ℕ) (s : List Value) → Falls (map reference_of s) (map reference_of (drop n s))
-drop-falls zero s = falls-same (map reference_of s)
-drop-falls (suc n) [] = falls-same []
-drop-falls (suc n) (v ∷ s) =
-    falls-then (map reference_of (v ∷ s)) (map reference_of s) (map reference_of (drop n s)) (falls-popped (map reference_of (v ∷ s)) (map reference_of s) (reference_of v) refl) (drop-falls n s)
 
 pub none-more : (xs : List Value) (s t : List Value) → NoneOf xs → Falls (map reference_of s) (map reference_of t) → Falls (map reference_of s) (map reference_of (xs ++ t))
 none-more [] s t h f = f

@@ -1,14 +1,13 @@
 -- The frame at work stands on the chain of frames: what its next step may be proved from, and how a step ends that keeps the chain.
-use Rattle.mv_interpreter.proofs.Borrows.Common.{◌≡◌, ℕ, suc, ◌+◌, ◌-◌, List, [], ◌∷◌, map, length, ◌⊎◌, refl, sym, ◌∙◌, ap, arith, subst, Option, Some, None, Result, Ok, Err, slice_get, option_and_then, ⊤, same_Some, Temp, Token, Instruction, Call, Reference, Value, Leaf, Struct, Ref, Frame, State, reference_of, successors, Edge, without, Point, Types, alone, activation, kind_at, layer_of, Here, Turn, gives, with_top, operand, as_reference, Layer, Chain, Kinds, home_of, Fits, token_kind, operand_kind, ok-is, operand-is}
+use Rattle.mv_interpreter.proofs.Borrows.Common.{◌≡◌, ℕ, suc, ◌+◌, ◌-◌, List, [], ◌∷◌, map, length, ◌⊎◌, refl, sym, ◌∙◌, ap, arith, subst, Option, Some, None, Result, Ok, Err, slice_get, option_and_then, ⊤, same_Some, Temp, Token, Instruction, Call, Reference, Value, Frame, State, reference_of, successors, Edge, without, Point, Types, alone, activation, kind_at, layer_of, Here, Turn, gives, with_top, Layer, Chain, Kinds, home_of, Fits, token_kind, operand_kind, ok-is}
 use Rattle.mv_move_types.specs.declared.instruction.Instruction.TheVariants.{Ret}
 use Rattle.mv_move_types.specs.Module.{local_type}
 use Rattle.mv_machine.specs.Typing.{Failure}
-use Rattle.mv_machine.specs.StepParts.{Goes, Returns, pushes, operands, as_address}
+use Rattle.mv_machine.specs.StepParts.{Goes, Returns, pushes, operands}
 use Rattle.mv_interpreter.specs.Borrows.Hypotheses.{NoneInside}
 use Rattle.mv_interpreter.proofs.Borrows.Same.{SameFrames, same-all}
 use Rattle.mv_interpreter.proofs.Borrows.Mutability.{kinds, kinds-length}
 use Rattle.mv_interpreter.proofs.Borrows.Kept.{Falls, falls-pushed, falls-same, below-from, kept-falls, kept-drop, Stand}
-use Rattle.mv_machine.proofs.Binds.{reference-is}
 use Rattle.mv_interpreter.proofs.Borrows.Operands.{on_result, leaf-falls}
 use Rattle.mv_machine.proofs.Operations.{GivesLeaf}
 
@@ -125,19 +124,6 @@ module _ (this : Standing) where
   calm-pushes i v y es' next e g none =
       ends i (with_top h.state (record (h.state.top) { stack = v ∷ h.state.top.stack; at = h.state.top.at + 1 })) y es es' e (same_Some es es' g)
       (calm (v ∷ h.state.top.stack) (h.state.top.at + 1) (falls-pushed os os (reference_of v) none (falls-same os)), (refl, refl, refl, same-all h.state.below, refl, next))
-
-  -- an operand that is a reference
-  pub ref-top : (top : Value × List Value) (r : Reference) → operand h.state.top.stack ≡ Ok top → as_reference top.0 ≡ Ok r → os ≡ Some r ∷ map reference_of top.1
-  ref-top top r is ref =
-      ap (map reference_of) (operand-is h.state.top.stack top is) ∙ ap (λ (v : Value). reference_of v ∷ map reference_of top.1) (reference-is top.0 r ref)
-
-  pub address-top : (top : Value × List Value) (a : ℕ) → operand h.state.top.stack ≡ Ok top → as_address top.0 ≡ Ok a → os ≡ None ∷ map reference_of top.1
-  address-top top a is e = ap (map reference_of) (operand-is h.state.top.stack top is) ∙ ap (λ (x : Option Reference). x ∷ map reference_of top.1) (no-ref top.0 a e)
-    where
-      no-ref : (v : Value) (a : ℕ) → as_address v ≡ Ok a → reference_of v ≡ None
-      no-ref (Leaf k n) a e = refl
-      no-ref (Struct n fs) a e = refl
-      no-ref (Ref r) a e = absurd cc
 
   -- the operand on top goes, with its edges
   pub dropped : (v : Value) (s : List Value) → h.state.top.stack ≡ v ∷ s → StandList h.state.top.locals (map reference_of s) (without (Temp (length types - 1)) es)

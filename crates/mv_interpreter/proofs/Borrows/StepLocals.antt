@@ -1,17 +1,16 @@
 -- A step on a local keeps the chain of frames: copies, moves, stores and borrows.
-use Rattle.mv_interpreter.proofs.Borrows.Common.{◌≡◌, ℕ, zero, suc, ◌+◌, List, [], ◌∷◌, ◌++◌, map, length, Bool, true, false, not, inl, refl, sym, ◌∙◌, ap, subst, Option, Some, None, Ok, slice_get, slice_set, same_Some, Slot, Own, Temp, Token, Plain, ReferenceTo, MutableReferenceTo, Instruction, need, ◌>>>◌, Reference, Value, Ref, Frame, reference_of, live, is_frozen_by, successors, Faults, TypeFault, LostFault, FrozenFault, entry, tag_named, has_tag, Tag, Edge, here, without, inherited, renamed, an_edge, no_edge_out, no_mutable_from, edges_of, kind_at, Turn, with_top, with_stack, operand, TheLabel, TheNode, AtOwn, Bars, token_kind, operand_kind, on_bind, found-is, operand-is}
+use Rattle.mv_interpreter.proofs.Borrows.Common.{◌≡◌, ℕ, zero, suc, ◌+◌, List, [], ◌∷◌, ◌++◌, map, length, Bool, true, false, inl, refl, sym, ◌∙◌, ap, subst, Option, Some, None, Ok, slice_get, slice_set, same_Some, Slot, Own, Temp, Token, Plain, ReferenceTo, MutableReferenceTo, Instruction, need, ◌>>>◌, Reference, Value, Ref, Frame, reference_of, successors, entry, tag_named, Tag, Edge, here, without, inherited, renamed, an_edge, no_edge_out, no_mutable_from, edges_of, kind_at, Turn, with_top, TheLabel, TheNode, AtOwn, Bars, token_kind, operand_kind, on_bind, found-is}
 use Rattle.mv_move_types.specs.declared.instruction.Instruction.TheVariants.{CopyLoc, MoveLoc, StLoc, MutBorrowLoc, ImmBorrowLoc}
 use Rattle.mv_move_types.specs.Module.{local_tokens, local_type}
 use Rattle.mv_machine.specs.Typing.{linked}
 use Rattle.mv_borrow_graph.specs.BorrowRules.{edges_after, copy_edges, move_edges, store_edges}
-use Rattle.mv_machine.specs.StepParts.{can_copy, may_drop, is_reference_tag}
-use Rattle.mv_machine.specs.StepLocals.{copy_local, move_local, store_local, borrow_local, held, local_place, local_tag}
+use Rattle.mv_machine.specs.StepLocals.{copy_local, move_local, store_local, borrow_local, local_place, local_tag}
 use Rattle.mv_interpreter.proofs.Borrows.Same.{same-all}
 use Rattle.mv_interpreter.proofs.Borrows.Edges.{free_out, free_mutable, then-some}
 use Rattle.mv_interpreter.proofs.Borrows.Mutability.{operand-plain}
 use Rattle.mv_interpreter.proofs.Borrows.Kept.{falls-pushed, falls-popped, falls-same, below-from, kept-falls, kept-copy, kept-copy-mutable, kept-move, kept-store, kept-borrow-local}
-use Rattle.mv_machine.proofs.Binds.{held-is}
-use Rattle.mv_interpreter.proofs.Borrows.Operands.{on_result, on_passed, on_option, tag-kind}
+use Rattle.mv_machine.proofs.LocalRules.{copy-is, move-is, store-is, borrow-is}
+use Rattle.mv_interpreter.proofs.Borrows.Operands.{on_option, tag-kind}
 use Rattle.mv_interpreter.proofs.Borrows.Standing.{Standing, view, Among, at_next, at_top, local-kind, ends, calm, StandTop, Kept, typed}
 
 kind-some : (o : Option Reference) (b : Bool) → Some b ≡ operand_kind o → (r : Reference) × (o ≡ Some r) × (r.is_mutable ≡ b)
@@ -54,13 +53,12 @@ module _ (this : Standing) where
       (kept-copy-mutable depends through no_cycle h.function.acquires h.state.top rest h.state.top.locals os es stands l v r.0 (kind_at p) (typed this) at r.1 r.2 (free_out place (Slot l) es b.0)))
 
   pub step-copy : (l : ℕ) (y : Turn) (es' : List Edge) → copy_local h l ≡ Ok y → edges_after p (CopyLoc l) es ≡ Some es' → Kept this (CopyLoc l) es' (Ok y)
-  unfolding copy_local edges_after
+  unfolding edges_after
   step-copy l y es' e g =
-      on_result (held h l) _ y e (λ v v_is e1.
-      on_passed (can_copy h v) (Faults LostFault) _ y e1 (λ ok e2.
+      let c = copy-is h l y e in
       on_option (local_type h.home h.function l) _ es' g (λ t t_is g1.
-      ends this (CopyLoc l) (with_top h.state (record (h.state.top) { stack = v ∷ h.state.top.stack; at = h.state.top.at + 1 })) y es' es' e2 refl
-      (copy-by l v es' t (held-is h l v v_is) (local-kind this l v t (held-is h l v v_is) t_is) g1, (refl, refl, refl, same-all h.state.below, refl, inl refl)))))
+      ends this (CopyLoc l) (with_top h.state (record (h.state.top) { stack = c.value ∷ h.state.top.stack; at = h.state.top.at + 1 })) y es' es' c.left refl
+      (copy-by l c.value es' t c.stands (local-kind this l c.value t c.stands t_is) g1, (refl, refl, refl, same-all h.state.below, refl, inl refl)))
 
   abbrev moved_frame : ℕ → Value → Frame
   moved_frame l v = record (h.state.top) { stack = v ∷ h.state.top.stack; at = h.state.top.at + 1; locals = slice_set h.state.top.locals l None }
@@ -84,13 +82,12 @@ module _ (this : Standing) where
       (kept-move depends through no_cycle h.function.acquires h.state.top rest h.state.top.locals os es stands l v r.0 (kind_at p) (typed this) at r.1))
 
   pub step-move : (l : ℕ) (y : Turn) (es' : List Edge) → move_local h l ≡ Ok y → edges_after p (MoveLoc l) es ≡ Some es' → Kept this (MoveLoc l) es' (Ok y)
-  unfolding move_local edges_after
+  unfolding edges_after
   step-move l y es' e g =
-      on_result (held h l) _ y e (λ v v_is e1.
-      on_passed (not (is_frozen_by (live h.state) (local_place h l))) (Faults FrozenFault) _ y e1 (λ ok e2.
+      let m = move-is h l y e in
       on_option (local_type h.home h.function l) _ es' g (λ t t_is g1.
-      ends this (MoveLoc l) (with_top h.state (moved_frame l v)) y es' es' e2 refl
-      (move-by l v es' t (held-is h l v v_is) (local-kind this l v t (held-is h l v v_is) t_is) g1, (refl, refl, refl, same-all h.state.below, refl, inl refl)))))
+      ends this (MoveLoc l) (with_top h.state (moved_frame l m.value)) y es' es' m.left refl
+      (move-by l m.value es' t m.stands (local-kind this l m.value t m.stands t_is) g1, (refl, refl, refl, same-all h.state.below, refl, inl refl)))
 
   abbrev stored_frame : ℕ → Value → List Value → Frame
   stored_frame l v s = record (h.state.top) { stack = s; at = h.state.top.at + 1; locals = slice_set h.state.top.locals l (Some v) }
@@ -122,21 +119,16 @@ module _ (this : Standing) where
       (t, ap (λ o. o >>> λ tokens. slice_get tokens l) (found-is (local_tokens h.home h.function) _ tokens tokens_is) ∙ found-is (slice_get tokens l) _ t t_is, e2)))
 
   pub step-store : (l : ℕ) (y : Turn) (es' : List Edge) → store_local h l ≡ Ok y → edges_after p (StLoc l) es ≡ Some es' → Kept this (StLoc l) es' (Ok y)
-  unfolding store_local edges_after
+  unfolding edges_after
   step-store l y es' e g =
-      on_result (operand h.state.top.stack) _ y e (λ top top_is e1.
-      on_result (entry h.state.top.locals l) _ y e1 (λ old old_is e2.
-      on_result (local_tag h l) _ y e2 (λ tag tag_is e3.
-      on_passed (has_tag h.state top.0 tag) (Faults TypeFault) _ y e3 (λ fit e4.
-      on_passed (may_drop h old) (Faults LostFault) _ y e4 (λ drops e5.
-      on_passed (not (is_frozen_by (live (with_stack h.state top.1)) (local_place h l))) (Faults FrozenFault) _ y e5 (λ ok e6.
+      let x = store-is h l y e in
       on_option (local_type h.home h.function l) _ es' g (λ t t_is g1.
-      let u = local-tag-is l tag tag_is in
-      ends this (StLoc l) (with_top h.state (stored_frame l top.0 top.1)) y es' es' e6 refl (
-        store-by l top.0 top.1 es' t (ap (map reference_of) (operand-is h.state.top.stack top top_is))
-            (ap token_kind (same_Some t u.0 (sym t_is ∙ u.1)) ∙ tag-kind h.modules h.home h.state top.0 u.0 tag u.2 fit) g1,
+      let u = local-tag-is l x.tag x.tag_is in
+      ends this (StLoc l) (with_top h.state (stored_frame l x.value x.below)) y es' es' x.left refl (
+        store-by l x.value x.below es' t (ap (map reference_of) x.taken)
+            (ap token_kind (same_Some t u.0 (sym t_is ∙ u.1)) ∙ tag-kind h.modules h.home h.state x.value u.0 x.tag u.2 x.typed) g1,
         (refl, refl, refl, same-all h.state.below, refl, inl refl),
-      ))))))))
+      ))
 
   -- ---- borrows
   abbrev borrowed_local : Bool → ℕ → Frame
@@ -151,13 +143,9 @@ module _ (this : Standing) where
   borrow-local-by : (m : Bool) (i : Instruction) (l : ℕ) (y : Turn) (es' : List Edge) → Among (h.state.top.at + 1) (successors h.state.top.at i) → borrow_local m h l ≡ Ok y
       → es' ≡ es ++ an_edge (Own l) here (Temp (length types)) ∷ []
       → ((x : TheLabel) (c : TheNode) → edges_of place es (AtOwn l) x c → Bars m (kind_at p) c → ⊥) → Kept this i es' (Ok y)
-  unfolding borrow_local
   borrow-local-by m i l y es' next e g need =
-      on_result (held h l) _ y e (λ v v_is e1.
-      on_result (local_tag h l) _ y e1 (λ tag tag_is e2.
-      on_passed (not (is_reference_tag tag)) (Faults TypeFault) _ y e2 (λ ok e3.
-      ends this i (with_top h.state (borrowed_local m l)) y (es ++ an_edge (Own l) here (Temp (length types)) ∷ []) es' e3 (sym g)
-      (local-borrowed m l need, (refl, refl, refl, same-all h.state.below, refl, next)))))
+      ends this i (with_top h.state (borrowed_local m l)) y (es ++ an_edge (Own l) here (Temp (length types)) ∷ []) es' (borrow-is m h l y e).left (sym g)
+      (local-borrowed m l need, (refl, refl, refl, same-all h.state.below, refl, next))
 
   pub step-borrow-mutable : (l : ℕ) (y : Turn) (es' : List Edge) → borrow_local true h l ≡ Ok y → edges_after p (MutBorrowLoc l) es ≡ Some es' → Kept this (MutBorrowLoc l) es' (Ok y)
   unfolding edges_after

@@ -1,11 +1,8 @@
 -- A step on references keeps the chain of frames: fields, FreezeRef, reads and writes.
-use Rattle.mv_interpreter.proofs.Borrows.Common.{◌≡◌, ℕ, ◌+◌, ◌-◌, List, [], ◌∷◌, ◌++◌, map, length, Bool, true, false, not, inl, refl, sym, ◌∙◌, ap, subst, Some, None, Ok, slice_get, ok_or, ◌&&◌, ◌||◌, ◌==◌, filter, list_any, not-true, and_from, eq-eqb, same_Some, Temp, Instruction, need, ◌>>>◌, Reference, Value, Ref, Frame, place_value, reference_of, live, is_frozen_by, successors, Faults, TypeFault, LostFault, FrozenFault, entry, has_tag, Edge, Label, same_node, without, inherited, extended, is_mutable, no_edge_out, no_mutable_from, edges_of, kind_at, label_from, Member, Turn, gives, with_top, with_stack, operand, can_drop, as_reference, as_fields, TheLabel, TheNode, AtTemp, Chain, home_of, Descending, begins, on_bind, ok-is, found-is, operand-is}
+use Rattle.mv_interpreter.proofs.Borrows.Common.{◌≡◌, ℕ, ◌+◌, ◌-◌, List, [], ◌∷◌, ◌++◌, map, length, Bool, true, false, not, inl, refl, sym, ◌∙◌, ap, subst, Some, None, Ok, slice_get, ◌&&◌, ◌||◌, ◌==◌, filter, list_any, not-true, and_from, eq-eqb, same_Some, Temp, Instruction, need, ◌>>>◌, Reference, Value, Ref, Frame, reference_of, successors, entry, Edge, Label, same_node, without, inherited, extended, is_mutable, no_edge_out, no_mutable_from, edges_of, kind_at, label_from, Member, Turn, gives, with_top, with_stack, TheLabel, TheNode, AtTemp, Chain, home_of, Descending, begins, on_bind, ok-is, found-is}
 use Rattle.mv_move_types.specs.declared.instruction.Instruction.TheVariants.{MutBorrowField, ImmBorrowField, ReadRef, WriteRef, FreezeRef}
-use Rattle.mv_machine.specs.State.{with_place}
-use Rattle.mv_machine.specs.Typing.{DanglingFault, tag_of}
 use Rattle.mv_edges.specs.Edges.{out_of, agrees}
 use Rattle.mv_borrow_graph.specs.BorrowRules.{edges_after, position_of, field_edges, top_temp}
-use Rattle.mv_machine.specs.StepParts.{can_copy, follow}
 use Rattle.mv_machine.specs.StepStructs.{OwnStruct, own_struct}
 use Rattle.mv_machine.specs.StepReferences.{borrow_field, write_reference, read_reference, freeze, own_field, lends}
 use Rattle.mv_borrow_graph.specs.Abstract.Places.{Agrees, AgreesWith, steps}
@@ -13,9 +10,9 @@ use Rattle.mv_borrow_graph.specs.Abstract.Rows.{BorrowField, Need}
 use Rattle.mv_interpreter.proofs.Borrows.Same.{SameSeen, same-all, layer-same, write-same, plain-tagged}
 use Rattle.mv_interpreter.proofs.Borrows.Edges.{kind_of_node, free_mutable, then-some, none_any, node_of-inj, node-is, member_filter}
 use Rattle.mv_interpreter.proofs.Borrows.Kept.{Falls, falls-pushed, falls-popped, falls-same, kept-borrow-field, kept-freeze}
-use Rattle.mv_machine.proofs.Binds.{reference-is}
-use Rattle.mv_interpreter.proofs.Borrows.Operands.{on_result, on_passed, on_option}
-use Rattle.mv_interpreter.proofs.Borrows.Standing.{Standing, view, Among, at_top, under, ends, StandTop, Kept, dropped-calm, ref-top, typed}
+use Rattle.mv_machine.proofs.ReferenceRules.{borrow_field-is, read-is, write-is, freeze-is}
+use Rattle.mv_interpreter.proofs.Borrows.Operands.{on_result, on_option}
+use Rattle.mv_interpreter.proofs.Borrows.Standing.{Standing, view, Among, at_top, under, ends, StandTop, Kept, dropped-calm, typed}
 
 agrees-begins : (l : List ℕ) (i : ℕ) → AgreesWith l i → (begins l (i ∷ []) || begins (i ∷ []) l) ≡ true
 agrees-begins [] i a = refl
@@ -75,20 +72,14 @@ module _ (this : Standing) where
   borrow-field-by : (m : Bool) (ins : Instruction) (i f : ℕ) (y : Turn) (es' : List Edge) → Among (h.state.top.at + 1) (successors h.state.top.at ins) → borrow_field m h i ≡ Ok y
       → position_of p i ≡ Some f → es' ≡ field_edges p f es
       → ((n : ℕ) → n ≡ length types - 1 → Need (BorrowField m f) n (kind_at p) (edges_of place es)) → Kept this ins es' (Ok y)
-  unfolding borrow_field
   borrow-field-by m ins i f y es' next e position g need =
-      on_result (own_field h i) _ y e (λ field field_is e1.
-      on_result (operand h.state.top.stack) _ y e1 (λ top top_is e2.
-      on_result (as_reference top.0) _ y e2 (λ r r_is e3.
-      on_passed (lends m r) (Faults TypeFault) _ y e3 (λ lent e4.
-      on_result (follow h.state r) _ y e4 (λ v v_is e5.
-      on_result (as_fields field.0.name v) _ y e5 (λ fields fields_is e6.
-      let same : field.1 ≡ f = same_Some field.1 f (sym (own-field-is i field field_is) ∙ position) in
-      ends this ins (with_top h.state (field_frame m field.1 r top.1)) y es' es' e6 refl (
-        subst (λ j. StandTop this (field_frame m j r top.1) es') (sym same)
-            (field-by m f r top.1 es' (ref-top this top r top_is r_is) (lends-is m r lent) need g),
+      let b = borrow_field-is m h i y e in
+      let same : b.field.1 ≡ f = same_Some b.field.1 f (sym (own-field-is i b.field b.field_is) ∙ position) in
+      ends this ins (with_top h.state (field_frame m b.field.1 b.reference b.below)) y es' es' b.left refl (
+        subst (λ j. StandTop this (field_frame m j b.reference b.below) es') (sym same)
+            (field-by m f b.reference b.below es' (ap (map reference_of) b.taken) (lends-is m b.reference b.lent) need g),
         (refl, refl, refl, same-all h.state.below, refl, next),
-      )))))))
+      )
 
   pub step-field-mutable : (i : ℕ) (y : Turn) (es' : List Edge) → borrow_field true h i ≡ Ok y → edges_after p (MutBorrowField i) es ≡ Some es' → Kept this (MutBorrowField i) es' (Ok y)
   unfolding edges_after
@@ -107,71 +98,52 @@ module _ (this : Standing) where
       (λ n is. free-field-mutable f n (subst (λ k. not (list_any (λ e. is_mutable p e.to && agrees f e.label) (out_of (Temp k) es)) ≡ true) (sym is) b.0)))
 
   pub step-freeze : (y : Turn) (es' : List Edge) → gives h (freeze h h.state.top.stack) ≡ Ok y → edges_after p FreezeRef es ≡ Some es' → Kept this FreezeRef es' (Ok y)
-  unfolding freeze edges_after
+  unfolding edges_after
   step-freeze y es' e g =
       on_result (freeze h h.state.top.stack) _ y e (λ s s_is e0.
-      on_result (operand h.state.top.stack) _ s s_is (λ top top_is q1.
-      on_result (as_reference top.0) _ s q1 (λ r r_is q2.
-      on_passed r.is_mutable (Faults TypeFault) _ s q2 (λ ok q3.
-      on_result (follow h.state r) _ s q3 (λ v v_is q4.
+      let f = freeze-is h h.state.top.stack s s_is in
+      let top : os ≡ Some f.reference ∷ map reference_of f.below = ap (map reference_of) f.taken in
       let b = then-some (no_mutable_from p (top_temp p) es) (filter (λ e. not (same_node e.from (top_temp p))) es) es' g in
       ends this FreezeRef (with_top h.state (record (h.state.top) { stack = s; at = h.state.top.at + 1 })) y (filter (λ e. not (same_node e.from (top_temp p))) es) es' e0 (sym b.1) (
-        subst (λ u. StandTop this (record (h.state.top) { stack = u; at = h.state.top.at + 1 }) (filter (λ e. not (same_node e.from (top_temp p))) es))
-            (ok-is (Ref (record { is_mutable = false; place = r.place }) ∷ top.1) s q4)
+        subst (λ u. StandTop this (record (h.state.top) { stack = u; at = h.state.top.at + 1 }) (filter (λ e. not (same_node e.from (top_temp p))) es)) (sym f.afterwards)
             (at_top this (λ n. filter (λ e. not (same_node e.from (Temp n))) es) h.state.top.locals
-            (Some (record { is_mutable = false; place = r.place }) ∷ map reference_of top.1) (map reference_of top.1) (Some r)
-            (ref-top this top r top_is r_is)
-            (kept-freeze depends through no_cycle h.function.acquires h.state.top rest h.state.top.locals os es stands r
-            (map reference_of top.1) (kind_at p) (typed this) (ref-top this top r top_is r_is)
-            (λ x c z k. free_mutable p place (Temp (length (map reference_of top.1))) es
-            (subst (λ n. no_mutable_from p (Temp n) es ≡ true) (under this (map reference_of top.1) (Some r) (ref-top this top r top_is r_is)) b.0) x c z k))),
+            (Some (record { is_mutable = false; place = f.reference.place }) ∷ map reference_of f.below) (map reference_of f.below) (Some f.reference) top
+            (kept-freeze depends through no_cycle h.function.acquires h.state.top rest h.state.top.locals os es stands f.reference
+            (map reference_of f.below) (kind_at p) (typed this) top
+            (λ x c z k. free_mutable p place (Temp (length (map reference_of f.below))) es
+            (subst (λ n. no_mutable_from p (Temp n) es ≡ true) (under this (map reference_of f.below) (Some f.reference) top) b.0) x c z k))),
         (refl, refl, refl, same-all h.state.below, refl, inl refl),
-      ))))))
+      ))
 
   pub step-read : (y : Turn) (es' : List Edge) → gives h (read_reference h h.state.top.stack) ≡ Ok y → edges_after p ReadRef es ≡ Some es' → Kept this ReadRef es' (Ok y)
-  unfolding read_reference edges_after
+  unfolding edges_after
   step-read y es' e g =
       on_result (read_reference h h.state.top.stack) _ y e (λ s s_is e0.
-      on_result (operand h.state.top.stack) _ s s_is (λ top top_is q1.
-      on_result (as_reference top.0) _ s q1 (λ r r_is q2.
-      on_result (follow h.state r) _ s q2 (λ v v_is q3.
-      on_passed (can_copy h v) (Faults LostFault) _ s q3 (λ ok q4.
+      let r = read-is h h.state.top.stack s s_is in
       let b = then-some (no_mutable_from p (top_temp p) es) (without (top_temp p) es) es' g in
       ends this ReadRef (with_top h.state (record (h.state.top) { stack = s; at = h.state.top.at + 1 })) y (without (top_temp p) es) es' e0 (sym b.1) (
-        dropped-calm this top.0 top.1 s (h.state.top.at + 1) (operand-is h.state.top.stack top top_is)
-            (subst (λ (x : List Value). Falls (map reference_of top.1) (map reference_of x)) (ok-is (v ∷ top.1) s q4)
-            (falls-pushed (map reference_of top.1) (map reference_of top.1) (reference_of v)
-            (inside.led_to r top.1 v (operand-is h.state.top.stack top top_is ∙ ap (λ (u : Value). u ∷ top.1) (reference-is top.0 r r_is)) (found-is (place_value h.state r.place) _ v v_is))
-            (falls-same (map reference_of top.1)))),
+        dropped-calm this (Ref r.reference) r.below s (h.state.top.at + 1) r.taken
+            (subst (λ (x : List Value). Falls (map reference_of r.below) (map reference_of x)) (sym r.afterwards)
+            (falls-pushed (map reference_of r.below) (map reference_of r.below) (reference_of r.value) (inside.led_to r.reference r.below r.value r.taken r.found)
+            (falls-same (map reference_of r.below)))),
         (refl, refl, refl, same-all h.state.below, refl, inl refl),
-      ))))))
+      ))
 
   pub step-write : (y : Turn) (es' : List Edge) → Descending (h.state.top ∷ h.state.below) → write_reference h ≡ Ok y → edges_after p WriteRef es ≡ Some es' → Kept this WriteRef es' (Ok y)
-  unfolding write_reference edges_after
+  unfolding edges_after
   step-write y es' ordered e g =
-      on_result (operand h.state.top.stack) _ y e (λ top top_is e1.
-      on_result (operand top.1) _ y e1 (λ lower lower_is e2.
-      on_result (as_reference top.0) _ y e2 (λ r r_is e3.
-      on_passed r.is_mutable (Faults TypeFault) _ y e3 (λ mutable e4.
-      on_result (follow h.state r) _ y e4 (λ old old_is e5.
-      on_result (ok_or (tag_of h.state old) (Faults TypeFault)) _ y e5 (λ tag tag_is e6.
-      on_passed (has_tag h.state lower.0 tag) (Faults TypeFault) _ y e6 (λ fit e7.
-      on_passed (can_drop h old) (Faults LostFault) _ y e7 (λ drops e8.
-      on_passed (not (is_frozen_by (live (with_stack h.state lower.1)) r.place)) (Faults FrozenFault) _ y e8 (λ ok e9.
-      on_result (ok_or (with_place (with_stack h.state lower.1) r.place lower.0) (Faults DanglingFault)) _ y e9 (λ t t_is e10.
-      let old_none : reference_of old ≡ None =
-      inside.led_to r top.1 old (operand-is h.state.top.stack top top_is ∙ ap (λ (u : Value). u ∷ top.1) (reference-is top.0 r r_is)) (found-is (place_value h.state r.place) _ old old_is) in
-      let w = write-same (with_stack h.state lower.1) r.place old lower.0 t ordered (found-is (place_value h.state r.place) _ old old_is) old_none
-      (plain-tagged h.state old lower.0 tag old_none (found-is (tag_of h.state old) _ tag tag_is) fit) (found-is (with_place (with_stack h.state lower.1) r.place lower.0) _ t t_is) in
+      let x = write-is h y e in
+      let old_none : reference_of x.old ≡ None = inside.led_to x.reference (x.new ∷ x.below) x.old x.taken x.found in
+      let w = write-same (with_stack h.state x.below) x.reference.place x.old x.new x.next ordered x.found old_none (plain-tagged h.state x.old x.new x.tag old_none x.tag_is x.typed) x.next_is in
       let b = then-some (no_edge_out (top_temp p) es) (without (top_temp p) es) es' g in
-      ends this WriteRef (with_top t (record (t.top) { at = t.top.at + 1 })) y (without (top_temp p) es) es' e10 (sym b.1) (
+      ends this WriteRef (with_top x.next (record (x.next.top) { at = x.next.top.at + 1 })) y (without (top_temp p) es) es' x.left (sym b.1) (
         subst (λ u. Chain depends home_of (u ∷ rest))
-            (layer-same h.function.acquires [] (record (h.state.top) { stack = lower.1; at = h.state.top.at + 1 })
-            (record (t.top) { at = t.top.at + 1 }) (without (top_temp p) es) (same-on h.state.top t.top lower.1 w.0))
-            (dropped-calm this top.0 top.1 lower.1 (h.state.top.at + 1) (operand-is h.state.top.stack top top_is)
-            (falls-popped (map reference_of top.1) (map reference_of lower.1) (reference_of lower.0) (ap (map reference_of) (operand-is top.1 lower lower_is)))),
+            (layer-same h.function.acquires [] (record (h.state.top) { stack = x.below; at = h.state.top.at + 1 })
+            (record (x.next.top) { at = x.next.top.at + 1 }) (without (top_temp p) es) (same-on h.state.top x.next.top x.below w.0))
+            (dropped-calm this (Ref x.reference) (x.new ∷ x.below) x.below (h.state.top.at + 1) x.taken
+            (falls-popped (map reference_of (x.new ∷ x.below)) (map reference_of x.below) (reference_of x.new) refl)),
         (w.0.number, w.0.function, w.0.entered_with, w.1, w.2, inl (ap (λ n. n + 1) w.0.at)),
-      )))))))))))
+      )
     where
       same-on : (f g : Frame) (s : List Value) → SameSeen (record f { stack = s }) g → SameSeen (record f { stack = s; at = f.at + 1 }) (record g { at = g.at + 1 })
       same-on f g s x = record { number = x.number; function = x.function; entered_with = x.entered_with; at = ap (λ n. n + 1) x.at; stack = x.stack; locals = x.locals }

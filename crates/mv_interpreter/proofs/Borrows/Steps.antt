@@ -1,98 +1,71 @@
 -- One step of the machine keeps the chain of frames: every instruction but Call and Ret, in one table over the families.
-use Rattle.mv_interpreter.proofs.Borrows.Common.{◌≡◌, ℕ, ◌+◌, ◌-◌, List, ◌∷◌, ◌++◌, map, length, reverse, Bool, true, false, not, cond, inl, inr, refl, sym, ap, subst, Some, None, Result, Ok, Err, ok_or, ◌&&◌, ◌||◌, beq, same_Some, Temp, Token, Plain, ReferenceTo, MutableReferenceTo, Instruction, Call, Value, Leaf, Struct, reference_of, successors, Faults, TypeFault, LostFault, entry, tag_named, Edge, without, Turn, gives, with_top, with_stack, operand, can_drop, as_fields, Descending, on_bind, ok-is, operand-is}
+use Rattle.mv_interpreter.proofs.Borrows.Common.{◌≡◌, ℕ, ◌+◌, ◌-◌, List, ◌∷◌, ◌++◌, map, length, reverse, Bool, true, false, not, cond, inl, inr, refl, sym, ap, subst, Some, None, Ok, ◌&&◌, ◌||◌, ◌==◌, beq, same_Some, Temp, Instruction, Call, Value, Leaf, Struct, reference_of, successors, Edge, without, Turn, gives, with_top, with_stack, Descending}
 use Rattle.std.specs.Prelude.{nat_le, bit_or, bit_and, bit_xor, nat_lt}
 use Rattle.mv_move_types.specs.declared.token.Width.TheVariants.{U8, U16, U32, U64, U128}
 use Rattle.mv_move_types.specs.declared.instruction.Instruction.TheVariants.{Pop, Ret, BrTrue, BrFalse, Branch, LdU64, LdConst, LdTrue, LdFalse, CopyLoc, MoveLoc, StLoc, MutBorrowLoc, ImmBorrowLoc, MutBorrowField, ImmBorrowField, Pack, Unpack, ReadRef, WriteRef, Add, Sub, Mul, Mod, Div, BitOr, BitAnd, Xor, Or, And, Not, Eq, Neq, Lt, Gt, Le, Ge, Abort, Nop, Exists, MutBorrowGlobal, ImmBorrowGlobal, MoveFrom, MoveTo, FreezeRef, Shl, Shr, LdU8, LdU128, CastU8, CastU64, CastU128, LdU16, LdU32, CastU16, CastU32}
-use Rattle.mv_move_types.specs.Results.{for_each}
-use Rattle.mv_machine.specs.Value.{fields_of}
-use Rattle.mv_move_types.specs.Tokens.{same_width}
-use Rattle.mv_machine.specs.Typing.{Failure, Aborts, have_tags}
-use Rattle.mv_machine.specs.declared.Kind.TheVariants.{Code}
+use Rattle.mv_machine.specs.Value.{fields_of, list_of}
 use Rattle.mv_borrow_graph.specs.BorrowRules.{edges_after}
 use Rattle.mv_interpreter.specs.Borrows.Links.{Reaches}
 use Rattle.mv_machine.specs.Numbers.{sum_of, difference_of, product_of, remainder_of, quotient_of, shifted_left, shifted_right}
-use Rattle.mv_machine.specs.StepParts.{goes_to, operands, as_boolean, as_number, truth}
-use Rattle.mv_machine.specs.StepStructs.{pack, unpack, own_struct, tallied}
+use Rattle.mv_machine.specs.StepParts.{goes_to, truth}
+use Rattle.mv_machine.specs.StepStructs.{pack, unpack, noted}
 use Rattle.mv_machine.specs.Step.{rule}
 use Rattle.mv_machine.specs.StepLocals.{pop}
-use Rattle.mv_machine.specs.StepNumbers.{constant, constant_value}
-use Rattle.mv_machine.specs.StepControl.{branch_if, abort}
-use Rattle.mv_move_types.specs.declared.token.ValueType.TheVariants.{OfLeaf, OfStruct}
+use Rattle.mv_machine.specs.StepNumbers.{constant}
+use Rattle.mv_machine.specs.StepControl.{branch_if}
 use Rattle.mv_move_types.specs.declared.token.LeafKind.TheVariants.{Number}
-use Rattle.mv_move_types.specs.Numbers.{leaf_number}
 use Rattle.mv_interpreter.proofs.Borrows.Same.{same-all}
-use Rattle.mv_interpreter.proofs.Borrows.Kept.{Falls, falls-pushed, falls-same}
-use Rattle.mv_machine.proofs.Laws.{on_need}
-use Rattle.mv_machine.proofs.Binds.{operands-is}
-use Rattle.mv_interpreter.proofs.Borrows.Operands.{on_result, on_passed, fields-are, one-off, none-more, none-reverse, drop-falls}
-use Rattle.mv_machine.proofs.Operations.{binary-gives, comparison-gives, shift-gives, cast-gives, logic-gives, negation-gives, equality-gives}
-use Rattle.mv_interpreter.proofs.Borrows.Standing.{Standing, view, Among, IsTransfer, ends, calm, calm-leaf, calm-pushes, StandTop, Kept, dropped-calm}
+use Rattle.mv_interpreter.proofs.Borrows.Kept.{Falls, falls-popped, falls-pushed, falls-same}
+use Rattle.mv_machine.proofs.LocalRules.{pop-is}
+use Rattle.mv_machine.proofs.StructRules.{pack-is, unpack-is}
+use Rattle.mv_machine.proofs.Operations.{binary-gives, comparison-gives, shift-gives, cast-gives, logic-gives, negation-gives, equality-gives, constant-is}
+use Rattle.mv_machine.proofs.Transfers.{branch-is, no-abort}
+use Rattle.mv_interpreter.proofs.Borrows.Operands.{on_result, taken-falls, none-more, none-reverse}
+use Rattle.mv_interpreter.proofs.Borrows.Standing.{Standing, view, Among, IsTransfer, ends, calm, calm-leaf, calm-pushes, Kept, dropped-calm}
 use Rattle.mv_interpreter.proofs.Borrows.StepLocals.{step-copy, step-move, step-store, step-borrow-mutable, step-borrow-immutable}
 use Rattle.mv_interpreter.proofs.Borrows.StepReferences.{step-field-mutable, step-field-immutable, step-freeze, step-read, step-write}
 use Rattle.mv_interpreter.proofs.Borrows.StepGlobals.{step-global-mutable, step-global-immutable, step-move-from, step-move-to, step-exists}
-
-constant-none : (t : Token) (bytes : List ℕ) (v : Value) → constant_value t bytes ≡ Ok v → reference_of v ≡ None
-constant-none (Plain (OfLeaf kind)) bytes v e = on_bind (ok_or (leaf_number kind bytes) (Faults TypeFault)) _ v e (λ n n_is e1. ap reference_of (sym (ok-is (Leaf kind n) v e1)))
-constant-none (Plain (OfStruct i)) bytes v e = absurd cc
-constant-none (ReferenceTo t) bytes v e = absurd cc
-constant-none (MutableReferenceTo t) bytes v e = absurd cc
 
 module _ (this : Standing) where
   open this use {depends, through, no_cycle, rest, h, types, es, stands, fits, inside}
   open view this use {os, p, place}
 
   pub step-pop : (y : Turn) (es' : List Edge) → gives h (pop h h.state.top.stack) ≡ Ok y → edges_after p Pop es ≡ Some es' → Kept this Pop es' (Ok y)
-  unfolding pop edges_after
+  unfolding edges_after
   step-pop y es' e g =
       on_result (pop h h.state.top.stack) _ y e (λ s s_is e0.
-      on_pop s s_is (λ top top_is same.
+      let x = pop-is h h.state.top.stack s s_is in
       ends this Pop (with_top h.state (record (h.state.top) { stack = s; at = h.state.top.at + 1 })) y
-      (without (Temp (length types - 1)) es) es' e0 (same_Some (without (Temp (length types - 1)) es) es' g) (
-        subst (λ u. StandTop this (record (h.state.top) { stack = u; at = h.state.top.at + 1 }) (without (Temp (length types - 1)) es)) same
-            (dropped-calm this top.0 top.1 top.1 (h.state.top.at + 1) (operand-is h.state.top.stack top top_is) (falls-same (map reference_of top.1))),
-        (refl, refl, refl, same-all h.state.below, refl, inl refl),
-      )))
-    where
-      on_pop : {P : Type 1} (s : List Value) → pop h h.state.top.stack ≡ Ok s → ((top : Value × List Value) → operand h.state.top.stack ≡ Ok top → top.1 ≡ s → P) → P
-      on_pop s q go =
-          on_result (operand h.state.top.stack) _ s q (λ top top_is q1.
-          on_passed (can_drop h top.0) (Faults LostFault) _ s q1 (λ ok q2. go top top_is (ok-is top.1 s q2)))
+      (without (Temp (length types - 1)) es) es' e0 (same_Some (without (Temp (length types - 1)) es) es' g)
+      (dropped-calm this x.top s s (h.state.top.at + 1) x.taken (falls-same (map reference_of s)), (refl, refl, refl, same-all h.state.below, refl, inl refl)))
 
   pub step-pack : (i : ℕ) (y : Turn) (es' : List Edge) → pack h i ≡ Ok y → edges_after p (Pack i) es ≡ Some es' → Kept this (Pack i) es' (Ok y)
-  unfolding pack edges_after
+  unfolding edges_after
   step-pack i y es' e g =
-      on_result (own_struct h i) _ y e (λ struct struct_is e1.
-      on_result (operands (length struct.fields) h.state.top.stack) _ y e1 (λ taken taken_is e2.
-      on_result (for_each (λ f. tag_named h.modules h.home f.token) struct.fields) _ y e2 (λ tags tags_is e3.
-      on_passed (have_tags h.state taken.0 tags) (Faults TypeFault) _ y e3 (λ fit e4.
-      ends this (Pack i) (tallied true struct (with_top h.state (record (h.state.top) { stack = Struct struct.name (fields_of taken.0) ∷ taken.1; at = h.state.top.at + 1 }))) y es es' e4 (same_Some es es' g) (
-        calm this (Struct struct.name (fields_of taken.0) ∷ taken.1) (h.state.top.at + 1)
-            (falls-pushed os (map reference_of taken.1) None refl
-            (subst (λ (x : List Value × List Value). Falls os (map reference_of x.1))
-            (sym (operands-is (length struct.fields) h.state.top.stack taken taken_is).1) (drop-falls (length struct.fields) h.state.top.stack))),
+      let x = pack-is h i y e in
+      let made : Value = Struct x.struct.name (fields_of x.taken) in
+      ends this (Pack i) (noted true x.struct (with_top h.state (record (h.state.top) { stack = made ∷ x.rest; at = h.state.top.at + 1 }))) y es es' x.left (same_Some es es' g) (
+        calm this (made ∷ x.rest) (h.state.top.at + 1)
+            (falls-pushed os (map reference_of x.rest) None refl
+            (subst (λ (s : List Value). Falls (map reference_of s) (map reference_of x.rest)) (sym x.before) (taken-falls (reverse x.taken) x.rest))),
         (refl, refl, refl, same-all h.state.below, refl, inl refl),
-      )))))
+      )
 
   pub step-unpack : (i : ℕ) (y : Turn) (es' : List Edge) → unpack h i ≡ Ok y → edges_after p (Unpack i) es ≡ Some es' → Kept this (Unpack i) es' (Ok y)
-  unfolding unpack edges_after
+  unfolding edges_after
   step-unpack i y es' e g =
-      on_result (own_struct h i) _ y e (λ struct struct_is e1.
-      on_result (operand h.state.top.stack) _ y e1 (λ top top_is e2.
-      on_result (as_fields struct.name top.0) _ y e2 (λ fields fields_is e3.
-      ends this (Unpack i) (tallied false struct (with_top h.state (record (h.state.top) { stack = reverse fields ++ top.1; at = h.state.top.at + 1 }))) y es es' e3 (same_Some es es' g) (
-        calm this (reverse fields ++ top.1) (h.state.top.at + 1)
-            (none-more (reverse fields) h.state.top.stack top.1
-            (none-reverse fields (fields-are struct.name top.0 fields fields_is (inside.fields top.0 top.1 (operand-is h.state.top.stack top top_is))))
-            (one-off h.state.top.stack top top_is)),
+      let x = unpack-is h i y e in
+      let parts : List Value = reverse (list_of x.fields) in
+      ends this (Unpack i) (noted false x.struct (with_top h.state (record (h.state.top) { stack = parts ++ x.below; at = h.state.top.at + 1 }))) y es es' x.left (same_Some es es' g) (
+        calm this (parts ++ x.below) (h.state.top.at + 1)
+            (none-more parts h.state.top.stack x.below (none-reverse (list_of x.fields) (inside.fields (Struct x.name x.fields) x.below x.taken))
+            (falls-popped os (map reference_of x.below) None (ap (map reference_of) x.taken))),
         (refl, refl, refl, same-all h.state.below, refl, inl refl),
-      ))))
+      )
 
   pub step-constant : (i : ℕ) (y : Turn) (es' : List Edge) → constant h i ≡ Ok y → edges_after p (LdConst i) es ≡ Some es' → Kept this (LdConst i) es' (Ok y)
-  unfolding constant edges_after
-  step-constant i y es' e g =
-      on_result (entry h.home.constants i) _ y e (λ c c_is e1.
-      on_result (constant_value c.token c.bytes) _ y e1 (λ v v_is e2.
-      calm-pushes this (LdConst i) v y es' (inl refl) e2 g (constant-none c.token c.bytes v v_is)))
+  unfolding edges_after
+  step-constant i y es' e g = let x = constant-is h i y e in calm-pushes this (LdConst i) (Leaf x.kind x.number) y es' (inl refl) x.left g refl
 
   branch-by : (i : Instruction) (b : Bool) (target : ℕ) (s : List Value) (y : Turn) (es' : List Edge) → Among target (successors h.state.top.at i)
       → Among (h.state.top.at + 1) (successors h.state.top.at i) → goes_to (cond b target (h.state.top.at + 1)) (with_stack h.state s) ≡ Ok y
@@ -106,26 +79,14 @@ module _ (this : Standing) where
 
   branch-kept : (wanted : Bool) (i : Instruction) (target : ℕ) (y : Turn) (es' : List Edge) → Among target (successors h.state.top.at i) → Among (h.state.top.at + 1) (successors h.state.top.at i)
       → branch_if wanted h target ≡ Ok y → Some es ≡ Some es' → Kept this i es' (Ok y)
-  unfolding branch_if
   branch-kept wanted i target y es' there next e g =
-      on_result (operand h.state.top.stack) _ y e (λ top top_is e1.
-      on_result (as_boolean top.0) _ y e1 (λ x x_is e2.
-      branch-by i (beq x wanted) target top.1 y es' there next e2 g (one-off h.state.top.stack top top_is)))
+      let x = branch-is wanted h target y e in
+      branch-by i (beq (not (x.number == 0)) wanted) target x.below y es' there next x.left g (falls-popped os (map reference_of x.below) None (ap (map reference_of) x.taken))
 
   stays-here : (i : Instruction) (target : ℕ) (y : Turn) (es' : List Edge) → Among target (successors h.state.top.at i) → goes_to target h.state ≡ Ok y → Some es ≡ Some es' → Kept this i es' (Ok y)
   stays-here i target y es' there e g =
       ends this i (with_top h.state (record (h.state.top) { at = target })) y es es' e (same_Some es es' g)
       (calm this h.state.top.stack target (falls-same os), (refl, refl, refl, same-all h.state.below, refl, there))
-
-  no-abort : (y : Turn) → abort h ≡ Ok y → ⊥
-  unfolding abort
-  no-abort y e =
-      on_bind (operand h.state.top.stack) _ y e (λ top top_is e1.
-      on_bind (as_number top.0) _ y e1 (λ x x_is e2.
-      on_need (same_width x.0 U64) (Faults TypeFault) _ y e2 (λ ok e3. never x.1 e3)))
-    where
-      never : (k : ℕ) → (let r : Result Turn Failure = Err (Aborts Code k) in r) ≡ Ok y → ⊥
-      never k z = cc
 
   -- every instruction but Call and Ret
   pub step-kept : (i : Instruction) (y : Turn) (es' : List Edge) → (IsTransfer i → ⊥) → Reaches h.function.acquires i
@@ -169,7 +130,7 @@ module _ (this : Standing) where
   step-kept Gt y es' n q o e g = calm-leaf this Gt _ y es' (comparison-gives h (λ x y. nat_lt y x) h.state.top.stack) (inl refl) e g
   step-kept Le y es' n q o e g = calm-leaf this Le _ y es' (comparison-gives h nat_le h.state.top.stack) (inl refl) e g
   step-kept Ge y es' n q o e g = calm-leaf this Ge _ y es' (comparison-gives h (λ x y. nat_le y x) h.state.top.stack) (inl refl) e g
-  step-kept Abort y es' n q o e g = absurd (no-abort y e)
+  step-kept Abort y es' n q o e g = absurd (no-abort h y e)
   step-kept Nop y es' n q o e g = stays-here Nop (h.state.top.at + 1) y es' (inl refl) e g
   step-kept (Exists i) y es' n q o e g = step-exists this i y es' e g
   step-kept (MutBorrowGlobal i) y es' n q o e g = step-global-mutable this i y es' e q g

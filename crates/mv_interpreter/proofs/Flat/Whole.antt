@@ -79,7 +79,7 @@ first_represented modules storage call c store sized stored =
         );
         storage = refl;
         steps = refl;
-        tally = refl;
+        events = refl;
       },
     )
   where

@@ -1,15 +1,11 @@
 -- The first state of a run is typed, and so the whole run meets no fault of types, links or dangling references.
-use Rattle.mv_interpreter.proofs.Typing.Common.{◌≡◌, ℕ, List, [], ◌++◌, length, refl, Ok, arith, Module, Storage, State, root_value, references, FunctionCall, Roots, StateTyped, StorageTyped}
-use Rattle.mv_machine.specs.Step.{entered_frame}
+use Rattle.mv_interpreter.proofs.Typing.Common.{◌≡◌, List, [], ◌++◌, length, refl, Ok, arith, Module, Storage, root_value, references, FunctionCall, Roots, StateTyped, StorageTyped}
 use Rattle.mv_machine.specs.Run.{first_state}
 pub use Rattle.mv_interpreter.specs.Typing.CallTyped.{Nowhere, CallTyped}
+pub use Rattle.mv_machine.proofs.Runs.{begun}
 use Rattle.mv_interpreter.proofs.Typing.Keep.{Kept, Nothing, avoid_nothing, keep_stack}
 use Rattle.mv_interpreter.proofs.Typing.Calls.{entered_locals}
 use Rattle.std.proofs.lemmas.Option.{none-some}
-
--- the state that a call begins with
-abbrev pub begun : Storage → FunctionCall → ℕ → State
-begun storage call others = record { top = entered_frame 0 call.function call.arguments others; below = []; storage = storage; steps = 0; tally = []; entered = 1 }
 
 from_nowhere : (modules : List Module) (look : Roots) → Kept modules Nowhere look Nothing
 from_nowhere modules look root t far r = absurd (none-some r.value r.is_there)

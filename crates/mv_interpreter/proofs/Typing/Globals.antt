@@ -115,7 +115,7 @@ module _ (h : Here) (i : Instruction) (types after : Types) (row : Row h i types
       → HaveTokens h.modules (root_value (with_storage h.state storage)) h.home stack after
       → Part (TurnTyped h.modules) (goes_on (with_stack (with_storage h.state storage) stack))
   restored gone storage stack kept free stored typed =
-      moved h i types after row (h.state.top.at + 1) h.state.top.locals stack h.state.below storage h.state.tally next row.stands.numbered.1
+      moved h i types after row (h.state.top.at + 1) h.state.top.locals stack h.state.below storage h.state.events next row.stands.numbered.1
       (keep_locals h.modules (root_value h.state) (root_value (with_storage h.state storage)) gone kept h.home h.state.top.locals row.stands.tokens free.0.0 row.stands.locals)
       typed
       (keep_below h.modules (root_value h.state) (root_value (with_storage h.state storage)) gone kept h.state.top.entered_with row.stands.results h.state.below free.1 row.stands.below)

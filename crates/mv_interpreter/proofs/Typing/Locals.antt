@@ -105,7 +105,7 @@ module _ (h : Here) (i : Instruction) (types after : Types) (row : Row h i types
       LocalHasToken h.modules (root_value (with_own_local h.state l new)) h.home new t → HaveTokens h.modules (root_value (with_own_local h.state l new)) h.home stack after →
       Part (TurnTyped h.modules) (goes_on (with_stack (with_own_local h.state l new) stack))
   changed l t new stack b d typed stacked =
-      moved h i types after row (h.state.top.at + 1) (with_own_local h.state l new).top.locals stack h.state.below h.state.storage h.state.tally next row.stands.numbered.1
+      moved h i types after row (h.state.top.at + 1) (with_own_local h.state l new).top.locals stack h.state.below h.state.storage h.state.events next row.stands.numbered.1
       (local_set h.modules (root_value (with_own_local h.state l new)) h.home h.state.top.locals row.stands.tokens l t new
       (keep_locals h.modules (root_value h.state) (root_value (with_own_local h.state l new)) b.gone b.kept h.home h.state.top.locals row.stands.tokens b.avoids.0.0 row.stands.locals) d.is_type typed)
       stacked

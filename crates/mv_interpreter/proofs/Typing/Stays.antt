@@ -5,19 +5,19 @@ use Rattle.mv_machine.specs.StepParts.{with_top}
 use Rattle.mv_interpreter.proofs.Typing.Parts.{Part}
 use Rattle.mv_interpreter.proofs.Typing.Operands.{one_operand}
 
--- the state with these locals, operands and frames below, this storage and this tally, at this instruction of the frame at work
+-- the state with these locals, operands and frames below, this storage and these events, at this instruction of the frame at work
 abbrev pub moved_to : State → ℕ → List (Option Value) → List Value → List Frame → Storage → List Event → State
-moved_to s target locals stack below storage tally =
-    record s { top = record (s.top) { at = target; locals = locals; stack = stack }; below = below; storage = storage; tally = tally }
+moved_to s target locals stack below storage events =
+    record s { top = record (s.top) { at = target; locals = locals; stack = stack }; below = below; storage = storage; events = events }
 
 -- it is typed where its parts are
-pub moved : (h : Here) (i : Instruction) (types after : Types) (row : Row h i types after) (target : ℕ) (locals : List (Option Value)) (stack : List Value) (below : List Frame) (storage : Storage) (tally : List Event)
+pub moved : (h : Here) (i : Instruction) (types after : Types) (row : Row h i types after) (target : ℕ) (locals : List (Option Value)) (stack : List Value) (below : List Frame) (storage : Storage) (events : List Event)
     → TypesAt h.home h.function target after → Numbered h.state.top.number below
-    → LocalsHaveTokens h.modules (root_value (moved_to h.state target locals stack below storage tally)) h.home locals row.stands.tokens
-    → HaveTokens h.modules (root_value (moved_to h.state target locals stack below storage tally)) h.home stack after
-    → AreWaiting h.modules (root_value (moved_to h.state target locals stack below storage tally)) h.state.top.entered_with row.stands.results below
-    → StorageTyped h.modules storage → StateTyped h.modules (moved_to h.state target locals stack below storage tally)
-moved h i types after row target locals stack below storage tally next numbered held typed waiting stored = record {
+    → LocalsHaveTokens h.modules (root_value (moved_to h.state target locals stack below storage events)) h.home locals row.stands.tokens
+    → HaveTokens h.modules (root_value (moved_to h.state target locals stack below storage events)) h.home stack after
+    → AreWaiting h.modules (root_value (moved_to h.state target locals stack below storage events)) h.state.top.entered_with row.stands.results below
+    → StorageTyped h.modules storage → StateTyped h.modules (moved_to h.state target locals stack below storage events)
+moved h i types after row target locals stack below storage events next numbered held typed waiting stored = record {
   home = h.home;
   function = h.function;
   types = after;
@@ -49,7 +49,7 @@ pub stays_at : (h : Here) (i : Instruction) (types after : Types) (stack : List 
     → HaveTokens h.modules (root_value h.state) h.home stack after → TypesAt h.home h.function target after
     → StateTyped h.modules (with_top h.state (record (h.state.top) { stack = stack; at = target }))
 stays_at h i types after stack target row typed next =
-    moved h i types after row target h.state.top.locals stack h.state.below h.state.storage h.state.tally next row.stands.numbered.1 row.stands.locals typed row.stands.below row.stands.storage
+    moved h i types after row target h.state.top.locals stack h.state.below h.state.storage h.state.events next row.stands.numbered.1 row.stands.locals typed row.stands.below row.stands.storage
 
 -- a rule that gives the operands
 pub gives_typed : (h : Here) (i : Instruction) (types after : Types) (part : Result (List Value) Failure) → Row h i types after → TypesAt h.home h.function (h.state.top.at + 1) after →

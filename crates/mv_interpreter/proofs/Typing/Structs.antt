@@ -4,7 +4,7 @@ use Rattle.std.proofs.lemmas.List.{length-map}
 use Rattle.mv_machine.specs.Value.{list_of, fields_of}
 use Rattle.mv_type_states.specs.TypeRules.{of_pack, of_unpack}
 use Rattle.mv_machine.specs.Step.{own_struct, pack}
-use Rattle.mv_machine.specs.StepStructs.{unpack, tallied}
+use Rattle.mv_machine.specs.StepStructs.{unpack, noted}
 use Rattle.mv_machine.specs.StepParts.{as_fields}
 use Rattle.mv_interpreter.specs.Typing.HasType.{fields_by_name}
 use Rattle.mv_interpreter.specs.Typing.Facts.{are_plain}
@@ -78,12 +78,12 @@ module _ (modules : List Module) (look : Roots) where
   typed_fields (More v vs) (t ∷ ts) h = (is_plain (fields_by_name modules) look v t h.0, typed_fields vs ts h.1)
 
 module _ (h : Here) (i : Instruction) (types after : Types) (row : Row h i types after) (next : TypesAt h.home h.function (h.state.top.at + 1) after) where
-  -- one more in the tally, and these operands
+  -- one more in the events, and these operands
   tallies : (is_pack : Bool) (struct : OwnStruct) (stack : List Value) → HaveTokens h.modules (root_value h.state) h.home stack after
-      → Part (TurnTyped h.modules) (goes_on (tallied is_pack struct (with_stack h.state stack)))
+      → Part (TurnTyped h.modules) (goes_on (noted is_pack struct (with_stack h.state stack)))
   tallies is_pack struct stack typed =
       moved h i types after row (h.state.top.at + 1) h.state.top.locals stack h.state.below h.state.storage
-      (tallied is_pack struct h.state).tally next row.stands.numbered.1 row.stands.locals typed row.stands.below row.stands.storage
+      (noted is_pack struct h.state).events next row.stands.numbered.1 row.stands.locals typed row.stands.below row.stands.storage
 
   pub packs : (k : ℕ) → of_pack h.home k types ≡ Some after → Part (TurnTyped h.modules) (pack h k)
   unfolding pack

@@ -80,7 +80,7 @@ module _ (h : Here) (i : Instruction) (types after : Types) (row : Row h i types
           → AreWaiting h.modules (root_value (over n l (record lower_top { locals = locals }))) h.state.top.entered_with row.stands.results (map (with_local n l new) h.state.below)
           → Part (TurnTyped h.modules) (goes_on (over n l (record lower_top { locals = locals })))
       built locals a b c =
-          moved h i types after row (h.state.top.at + 1) locals rest (map (with_local n l new) h.state.below) h.state.storage h.state.tally next
+          moved h i types after row (h.state.top.at + 1) locals rest (map (with_local n l new) h.state.below) h.state.storage h.state.events next
           (numbers_stay n l new h.state.top.number h.state.below row.stands.numbered.1) a b c row.stands.storage
 
   write_stored : (key : Key) → stored_at h.state.storage key ≡ Some old → Part (TurnTyped h.modules) (goes_on (with_root (with_stack h.state rest) (Stored key) new))
@@ -90,7 +90,7 @@ module _ (h : Here) (i : Instruction) (types after : Types) (row : Row h i types
       let same : base ≡ StructTag entry.name = one_type (fields_by_name h.modules) old base (StructTag entry.name) old_typed entry.typed in
       let new_entry : EntryTyped h.modules (entry_of key new) =
       record { name = entry.name; fits = entry.fits; is_named = entry.is_named; has_key = entry.has_key; typed = subst (λ (t : Tag). IsOf (fields_by_name h.modules) new t) same new_typed } in
-      moved h i types after row (h.state.top.at + 1) h.state.top.locals rest h.state.below s'.storage h.state.tally next row.stands.numbered.1
+      moved h i types after row (h.state.top.at + 1) h.state.top.locals rest h.state.below s'.storage h.state.events next row.stands.numbered.1
       (keep_locals h.modules (root_value h.state) (root_value s') Nothing kept h.home h.state.top.locals row.stands.tokens (avoid_nothing (local_references h.state.top.locals)) row.stands.locals)
       (keep_stack h.modules (root_value h.state) (root_value s') Nothing kept h.home rest after (avoid_nothing (references rest)) rest_typed)
       (keep_below h.modules (root_value h.state) (root_value s') Nothing kept h.state.top.entered_with row.stands.results h.state.below

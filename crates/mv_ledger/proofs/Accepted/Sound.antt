@@ -17,7 +17,7 @@ use Rattle.mv_interpreter.proofs.Typing.Fine.{fine_storage, typed_is_fine}
 use Rattle.mv_interpreter.proofs.Typing.Admitted.{Ranged, admitted_typed}
 use Rattle.mv_interpreter.proofs.Guided.Published.{runs_faultless}
 use Rattle.mv_ledger.specs.Publishing.{Spells, IsPublished}
-use Rattle.mv_ledger.specs.Counting.Returns.{AtReturn}
+use Rattle.mv_machine.specs.Returns.{AtReturn}
 use Rattle.mv_ledger.specs.Counting.Conservation.{IsFineStorage, Conserves}
 use Rattle.mv_ledger.specs.Accepted.SoundLedger.{IsSoundLedger}
 use Rattle.mv_ledger.specs.Accepted.Records.{IsVetted}

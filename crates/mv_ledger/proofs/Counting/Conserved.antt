@@ -24,16 +24,16 @@ use Rattle.mv_machine.specs.Run.{FunctionCall, run, packs, unpacks}
 use Rattle.mv_linker.proofs.Found.{each}
 use Rattle.mv_ledger.specs.Counting.Held.{held_in_stack, held_in_locals, held_in_frames, held, made, unmade}
 use Rattle.mv_ledger.specs.Counting.Kept.{IsScarce, StackIsKept}
-use Rattle.mv_ledger.specs.Counting.Effects.{Effect, Restacked, MovedLocal, StoredLocal, Packed, Unpacked, Written, MovedFrom, MovedTo, Called, Resumed, Ends, Went, Left, arrived}
+use Rattle.mv_machine.proofs.Effects.{Effect, Restacked, MovedLocal, StoredLocal, Packed, Unpacked, Written, MovedFrom, MovedTo, Called, Resumed, Ends, Went, Left, arrived}
 use Rattle.mv_ledger.specs.Counting.Fine.{IsAbleStore, IsFine, Balances}
-use Rattle.mv_ledger.specs.Counting.Returns.{AtReturn}
+use Rattle.mv_machine.specs.Returns.{AtReturn}
 use Rattle.mv_ledger.specs.Counting.Conservation.{IsLeaf, IsEntryCall, IsFineStorage, Conserves}
 use Rattle.mv_machine.proofs.Binds.{on_some, place-written, entry-is, WhereOk}
 use Rattle.mv_ledger.proofs.Counting.Counts.{held-entered, held-reverse, kept-entered}
 use Rattle.mv_ledger.proofs.Counting.Keeps.{effect-fine, effect-balances, left-none}
 use Rattle.mv_ledger.proofs.Counting.Packs.{each-get}
 use Rattle.mv_ledger.proofs.Bundles.Heirs.{tested}
-use Rattle.mv_ledger.proofs.Counting.Runs.{step-stepped, begun, run-keeps}
+use Rattle.mv_machine.proofs.Runs.{step-stepped, begun, run-keeps}
 
 -- ---- the function of the first frame
 
@@ -65,7 +65,7 @@ effect-first h _ (Restacked taken given rest s d a) = first-same _ _ h.state.bel
 effect-first h _ (MovedLocal l v e) = first-same _ _ h.state.below refl
 effect-first h _ (StoredLocal l old v below s e d) = first-same _ _ h.state.below refl
 effect-first h _ (Packed i struct taken rest tags struct_is s tags_are typed) = first-same _ _ h.state.below refl
-effect-first h _ (Unpacked i struct fields below struct_is s) = first-same _ _ h.state.below refl
+effect-first h _ (Unpacked i struct name fields below struct_is s same) = first-same _ _ h.state.below refl
 effect-first h _ (Written r new old below tag next s old_is tag_is typed d next_is) =
     let w = place-written (with_stack h.state below) r.place new next next_is in
     subst (λ (t : State). first_function t.top t.below ≡ first_function h.state.top h.state.below) w.next_is
@@ -79,7 +79,7 @@ effect-first h _ (Resumed results f fs s d e) = first-same _ _ fs refl ∙ sym (
 
 record Along (modules : List Module) (storage : Storage) (function : Definition) (s : State) : Type 0 where
   fine : IsFine modules s
-  balanced : (name : StructName) → IsScarce modules name → held name s + unmade name s.tally ≡ count storage name + made name s.tally
+  balanced : (name : StructName) → IsScarce modules name → held name s + unmade name s.events ≡ count storage name + made name s.events
   first : first_function s.top s.below ≡ function
 
 fine-arrived : (modules : List Module) (at : ℕ) (s : State) → IsFine modules s → IsFine modules (arrived at s)
@@ -97,7 +97,7 @@ went-along h place at n next storage function store home_is effect along =
     record {
       fine = record { framed = fine.framed; stored = fine.stored; ascending = fine.ascending; numbered = fine.numbered };
       balanced = λ name scarce.
-          let before : held name h.state + unmade name h.state.tally ≡ count storage name + made name h.state.tally = along.balanced name scarce in
+          let before : held name h.state + unmade name h.state.events ≡ count storage name + made name h.state.events = along.balanced name scarce in
           let moved : Balances name h.state next = effect-balances h name next scarce along.fine effect in
           omega (arith, before, moved);
       first = first-same _ _ next.below refl ∙ (effect-first h next effect ∙ along.first);
@@ -202,25 +202,25 @@ entry-results h call store entered same home_is function_is =
 left-conserves : (h : Here) (call : FunctionCall) (storage : Storage) (handle : FunctionHandle) (tags : List Tag) (results : List Value) → IsAbleStore h.modules → IsEntryCall h.modules call →
     slice_get h.modules h.state.top.function.place ≡ Some h.home → slice_get h.home.functions h.state.top.function.index ≡ Some h.function → Along h.modules storage call.function h.state →
     entry h.home.function_handles h.function.handle ≡ Ok handle → signature_tags h.modules h.home handle.results ≡ Ok tags → length results ≡ length tags → h.state.top.stack ≡ reverse results →
-    list_all (may_drop h) h.state.top.locals ≡ true → h.state.below ≡ [] → Conserves h.modules storage h.state.storage h.state.tally
+    list_all (may_drop h) h.state.top.locals ≡ true → h.state.below ≡ [] → Conserves h.modules storage h.state.storage h.state.events
 left-conserves h call storage handle tags results store entered home_is function_is along handle_is tags_are n stack d below =
     let same : h.state.top.function ≡ call.function = ap (first_function h.state.top) (sym below) ∙ along.first in
     let none : length tags ≡ 0 = no_results-tags h.modules h.home h.function handle tags (entry-results h call store entered same home_is function_is) handle_is tags_are in
     record {
       fine = record { kept = along.fine.stored; ascending = along.fine.ascending };
       balanced = λ name scarce.
-          let before : held name h.state + unmade name h.state.tally ≡ count storage name + made name h.state.tally = along.balanced name scarce in
+          let before : held name h.state + unmade name h.state.events ≡ count storage name + made name h.state.events = along.balanced name scarce in
           let under : held_in_frames name h.state.below ≡ 0 = ap (held_in_frames name) below in
           let gone : held_in_locals name h.state.top.locals ≡ 0 = left-none h name h.state.top.locals scarce along.fine.framed.0.locals d in
           let empty : held_in_stack name h.state.top.stack ≡ 0 = ap (held_in_stack name) stack ∙ (held-reverse name results ∙ held-empty name results (n ∙ none)) in
-          let up : packs name h.state.tally ≡ made name h.state.tally = packs-made name h.state.tally in
-          let down : unpacks name h.state.tally ≡ unmade name h.state.tally = unpacks-unmade name h.state.tally in
+          let up : packs name h.state.events ≡ made name h.state.events = packs-made name h.state.events in
+          let down : unpacks name h.state.events ≡ unmade name h.state.events = unpacks-unmade name h.state.events in
           rw (up, down) (omega (arith, before, under, gone, empty));
     }
 
 returns-conserves : (h : Here) (call : FunctionCall) (storage : Storage) (t : Turn) → IsAbleStore h.modules → IsEntryCall h.modules call →
     slice_get h.modules h.state.top.function.place ≡ Some h.home → slice_get h.home.functions h.state.top.function.index ≡ Some h.function → Along h.modules storage call.function h.state →
-    Ends h t → WhereReturns (λ s. Conserves h.modules storage s.storage s.tally) t
+    Ends h t → WhereReturns (λ s. Conserves h.modules storage s.storage s.events) t
 returns-conserves h call storage _ store entered home_is function_is along (Went at next effect) = tt
 returns-conserves h call storage _ store entered home_is function_is along (Left handle tags results handle_is tags_are n stack d below) =
     left-conserves h call storage handle tags results store entered home_is function_is along handle_is tags_are n stack d below

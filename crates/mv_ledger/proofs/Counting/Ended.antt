@@ -11,7 +11,7 @@ use Rattle.mv_machine.specs.Lines.{Reply, Tallied}
 use Rattle.mv_machine.specs.Ledger.{LedgerState, Request, Publish, Run, Show, Audit, BadRun, Bad, modules_of, admitted, attempted, settled, Answers}
 use Rattle.mv_machine.proofs.Laws.{steps_taken, turns-bound}
 use Rattle.mv_ledger.specs.Counting.Headline.{IsOwnWork, EndsWell, CallEndsWell, RunsWell, EveryCountIsTallied}
-use Rattle.mv_ledger.specs.Counting.Returns.{AtReturn}
+use Rattle.mv_machine.specs.Returns.{AtReturn}
 use Rattle.mv_machine.proofs.Binds.{on_some, WhereOk}
 use Rattle.mv_ledger.proofs.Counting.Own.{run-own}
 

@@ -17,14 +17,15 @@ use Rattle.mv_machine.specs.StepParts.{can_drop}
 use Rattle.mv_interpreter.specs.Typing.StateTyped.{Numbered}
 use Rattle.mv_ledger.specs.Counting.Held.{held_in_stack, held_in_local, held_in_locals, held_in_frame, held_in_frames, held, made, unmade}
 use Rattle.mv_ledger.specs.Counting.Kept.{IsKept, IsScarce, StackIsKept, LocalIsKept, LocalsAreKept, FramesAreKept}
-use Rattle.mv_ledger.specs.Counting.Effects.{Stands, in_local, at_place, Appears, a_leaf, a_reference, a_copy, Effect, Restacked, MovedLocal, StoredLocal, Packed, Unpacked, Written, MovedFrom, MovedTo, Called, Resumed}
+use Rattle.mv_machine.proofs.Effects.{Stands, in_local, at_place, Appears, a_leaf, a_reference, a_copy, Effect, Restacked, MovedLocal, StoredLocal, Packed, Unpacked, Written, MovedFrom, MovedTo, Called, Resumed}
 use Rattle.mv_ledger.specs.Counting.Fine.{IsAbleStore, IsFine, Balances}
 use Rattle.mv_machine.proofs.Binds.{then-is, place-written}
+use Rattle.mv_linker.proofs.NameLemmas.{same_struct-is}
 use Rattle.mv_ledger.proofs.Counting.Counts.{none_in, lacks_copy, lacks_drop, held-append, held-reverse, held-list_of, held-fields_of, held-set, held-entered, kept-append, kept-first, kept-rest, kept-reverse, kept-list_of, kept-set, kept-get, kept-entered, kept-value_at, Replaces, replaces-at}
 use Rattle.mv_ledger.proofs.Counting.Stored.{count-without, count-new, kept-stored_at, kept-without, kept-with, ascending-without, ascending-with}
 use Rattle.mv_ledger.proofs.Counting.Frames.{fine-stack, kept-root, fine-root, held-root}
 use Rattle.mv_ledger.proofs.Counting.Tags.{tag_of-abilities, has_tag-abilities}
-use Rattle.mv_ledger.proofs.Counting.Own.{with_root-tally}
+use Rattle.mv_ledger.proofs.Counting.Own.{with_root-events}
 use Rattle.mv_ledger.proofs.Counting.Packs.{packed-kept}
 
 -- ---- what is dropped or copied holds none
@@ -147,8 +148,8 @@ effect-fine h place _ store home_is fine (Packed i struct taken rest tags struct
       ascending = fine.ascending;
       numbered = fine.numbered;
     }
-effect-fine h place _ store home_is fine (Unpacked i struct fields below struct_is s) =
-    let kept : StackIsKept h.modules (Struct struct.name fields ∷ below) = subst (StackIsKept h.modules) s fine.framed.0.stack in
+effect-fine h place _ store home_is fine (Unpacked i struct own fields below struct_is s same) =
+    let kept : StackIsKept h.modules (Struct own fields ∷ below) = subst (StackIsKept h.modules) s fine.framed.0.stack in
     let inner : StackIsKept h.modules (list_of fields) = kept-list_of h.modules (kept.0).0 fields (kept.0).2 in
     record {
       framed = (record { locals = fine.framed.0.locals; stack = kept-append h.modules (reverse (list_of fields)) below (kept-reverse h.modules (list_of fields) inner) kept.1 }, fine.framed.1);
@@ -211,8 +212,8 @@ written-balances : (modules : List Module) (name : StructName) (s : State) (belo
 written-balances modules name s below root old_root new_root old new fine kept old_is counts before out =
     let moved : held name (with_root (with_stack s below) root new_root) + count_in name old_root ≡ held name (with_stack s below) + count_in name new_root =
     held-root modules name (with_stack s below) root old_root new_root (fine-stack modules s below fine kept) old_is in
-    let ups : made name (with_root (with_stack s below) root new_root).tally ≡ made name s.tally = ap (made name) (with_root-tally (with_stack s below) root new_root) in
-    let downs : unmade name (with_root (with_stack s below) root new_root).tally ≡ unmade name s.tally = ap (unmade name) (with_root-tally (with_stack s below) root new_root) in
+    let ups : made name (with_root (with_stack s below) root new_root).events ≡ made name s.events = ap (made name) (with_root-events (with_stack s below) root new_root) in
+    let downs : unmade name (with_root (with_stack s below) root new_root).events ≡ unmade name s.events = ap (unmade name) (with_root-events (with_stack s below) root new_root) in
     omega (arith, counts, before, out, moved, ups, downs)
 
 pub effect-balances : (h : Here) (name : StructName) (next : State) → IsScarce h.modules name → IsFine h.modules h.state → Effect h next → Balances name h.state next
@@ -237,8 +238,9 @@ effect-balances h name _ scarce fine (Packed i struct taken rest tags struct_is 
     ap (held_in_stack name) s ∙ (held-append name (reverse taken) rest ∙ ap (λ n. n + held_in_stack name rest) (held-reverse name taken)) in
     let inner : count_in_fields name (fields_of taken) ≡ held_in_stack name taken = held-fields_of name taken in
     omega (arith, before, inner)
-effect-balances h name _ scarce fine (Unpacked i struct fields below struct_is s) =
-    let before : held_in_stack name h.state.top.stack ≡ (cond (same_struct struct.name name) 1 0 + count_in_fields name fields) + held_in_stack name below = ap (held_in_stack name) s in
+effect-balances h name _ scarce fine (Unpacked i struct own fields below struct_is s same) =
+    let own_stack : h.state.top.stack ≡ Struct struct.name fields ∷ below = s ∙ ap (λ (n : StructName). Struct n fields ∷ below) (same_struct-is own struct.name same) in
+    let before : held_in_stack name h.state.top.stack ≡ (cond (same_struct struct.name name) 1 0 + count_in_fields name fields) + held_in_stack name below = ap (held_in_stack name) own_stack in
     let after : held_in_stack name (reverse (list_of fields) ++ below) ≡ count_in_fields name fields + held_in_stack name below =
     held-append name (reverse (list_of fields)) below ∙ ap (λ n. n + held_in_stack name below) (held-reverse name (list_of fields) ∙ held-list_of name fields) in
     omega (arith, before, after)

@@ -10,7 +10,7 @@ use Rattle.mv_machine.specs.Run.{FunctionCall, packs, unpacks, run}
 use Rattle.mv_ledger.specs.Counting.Headline.{IsOwnWork}
 use Rattle.mv_ledger.specs.Counting.Kept.{IsScarce, StorageIsKept, IsAscending}
 use Rattle.mv_ledger.specs.Counting.Fine.{IsAbleStore}
-use Rattle.mv_ledger.specs.Counting.Returns.{AtReturn}
+use Rattle.mv_machine.specs.Returns.{AtReturn}
 
 -- a value is a leaf
 abbrev pub IsLeaf : Value → Type 0

@@ -26,4 +26,4 @@ pub record IsFine (modules : List Module) (s : State) : Type 0 where
 
 -- from one state to another as many values are made as unmade or there in addition
 abbrev pub Balances : StructName → State → State → Type 0
-Balances name s t = (held name t + unmade name t.tally) + made name s.tally ≡ (held name s + unmade name s.tally) + made name t.tally
+Balances name s t = (held name t + unmade name t.events) + made name s.events ≡ (held name s + unmade name s.events) + made name t.events

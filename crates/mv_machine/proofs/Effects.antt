@@ -12,11 +12,12 @@ use Rattle.mv_machine.specs.State.{Frame, State, place_value, with_place, stored
 use Rattle.mv_move_types.specs.Tags.{Tag}
 use Rattle.mv_machine.specs.Typing.{entry, has_tag, have_tags, tag_of, tag_named}
 use Rattle.mv_machine.specs.Step.{Here, Turn, Goes, Returns, OwnStruct, with_stack, with_storage, may_drop, entered_frame}
+use Rattle.mv_move_types.specs.Names.{StructName, same_struct}
 use Rattle.mv_machine.specs.StepStructs.{own_struct}
 use Rattle.mv_machine.specs.StepControl.{signature_tags}
 use Rattle.mv_machine.specs.StepParts.{with_top, can_copy, can_drop}
 use Rattle.mv_machine.specs.StepLocals.{with_own_local}
-use Rattle.mv_machine.specs.StepStructs.{tallied}
+use Rattle.mv_machine.specs.StepStructs.{noted}
 
 -- a state at another instruction
 abbrev pub arrived : ℕ → State → State
@@ -46,10 +47,10 @@ pub data Effect (h : Here) : State → Type 0 where
   Packed : (i : ℕ) (struct : OwnStruct) (taken rest : List Value) (tags : List Tag) → own_struct h i ≡ Ok struct →
       h.state.top.stack ≡ reverse taken ++ rest →
       for_each (λ f. tag_named h.modules h.home f.token) struct.fields ≡ Ok tags → have_tags h.state taken tags ≡ true →
-      Effect h (tallied true struct (with_stack h.state (Struct struct.name (fields_of taken) ∷ rest)))
-  Unpacked : (i : ℕ) (struct : OwnStruct) (fields : Values) (below : List Value) → own_struct h i ≡ Ok struct →
-      h.state.top.stack ≡ Struct struct.name fields ∷ below →
-      Effect h (tallied false struct (with_stack h.state (reverse (list_of fields) ++ below)))
+      Effect h (noted true struct (with_stack h.state (Struct struct.name (fields_of taken) ∷ rest)))
+  Unpacked : (i : ℕ) (struct : OwnStruct) (name : StructName) (fields : Values) (below : List Value) → own_struct h i ≡ Ok struct →
+      h.state.top.stack ≡ Struct name fields ∷ below → same_struct name struct.name ≡ true →
+      Effect h (noted false struct (with_stack h.state (reverse (list_of fields) ++ below)))
   Written : (r : Reference) (new old : Value) (below : List Value) (tag : Tag) (next : State) →
       h.state.top.stack ≡ Ref r ∷ new ∷ below → place_value h.state r.place ≡ Some old →
       tag_of h.state old ≡ Some tag → has_tag h.state new tag ≡ true → can_drop h old ≡ true →

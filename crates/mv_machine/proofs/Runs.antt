@@ -9,10 +9,10 @@ use Rattle.mv_move_types.specs.Flow.{successors}
 use Rattle.mv_machine.specs.Step.{Turn, Goes, Returns, step, entered_frame}
 use Rattle.mv_machine.specs.Run.{RunOutcome, FunctionCall, goes_with, follows, turns, first_state, outcome_from, run}
 use Rattle.mv_machine.proofs.Laws.{on_need}
-use Rattle.mv_ledger.specs.Counting.Effects.{Ends}
-use Rattle.mv_ledger.specs.Counting.Returns.{AtReturn}
+use Rattle.mv_machine.proofs.Effects.{Ends}
+use Rattle.mv_machine.specs.Returns.{AtReturn}
 use Rattle.mv_machine.proofs.Binds.{on_some, WhereOk}
-use Rattle.mv_ledger.proofs.Counting.Effects.{rule-ends}
+use Rattle.mv_machine.proofs.RuleEffects.{rule-ends}
 
 -- where a step stands, and what it does
 pub record Stepped (modules : List Module) (s : State) (t : Turn) : Type 0 where
@@ -44,7 +44,7 @@ goes_with-keeps P I false go s steps kept i = kept (record s { steps = steps }) 
 
 follows-keeps : (P : Storage → List Event → Type 0) (I : State → Type 0) (go : State → RunOutcome) (steps : ℕ) (r : Result Turn Failure) →
     ((t : State) → I t → AtReturn P (go t)) → ((t : State) → r ≡ Ok (Goes t) → I (record t { steps = steps })) →
-    ((t : State) → r ≡ Ok (Returns t) → P t.storage t.tally) → AtReturn P (follows go steps r)
+    ((t : State) → r ≡ Ok (Returns t) → P t.storage t.events) → AtReturn P (follows go steps r)
 follows-keeps P I go steps (Ok (Goes t)) kept goes gone = goes_with-keeps P I (nat_lt 256 (length (frames t))) go t steps kept (goes t refl)
 follows-keeps P I go steps (Ok (Returns t)) kept goes gone = gone t refl
 follows-keeps P I go steps (Err (Aborts kind number)) kept goes gone = tt
@@ -53,7 +53,7 @@ follows-keeps P I go steps (Err (Faults fault)) kept goes gone = tt
 -- what every step keeps, whatever the count of steps, is there at the return
 pub turns-keeps : (P : Storage → List Event → Type 0) (I : State → Type 0) (modules : List Module) →
     ((s t : State) (n : ℕ) → I s → step modules s ≡ Ok (Goes t) → I (record t { steps = n })) →
-    ((s t : State) → I s → step modules s ≡ Ok (Returns t) → P t.storage t.tally) →
+    ((s t : State) → I s → step modules s ≡ Ok (Returns t) → P t.storage t.events) →
     (n : ℕ) (s : State) → I s → AtReturn P (turns modules n s)
 unfolding turns
 turns-keeps P I modules goes gone zero s i = tt
@@ -68,7 +68,7 @@ begun storage call others = record {
   below = [];
   storage = storage;
   steps = 0;
-  tally = [];
+  events = [];
   entered = 1;
 }
 
@@ -82,7 +82,7 @@ outcome-keeps P modules budget (Err (Faults fault)) kept = tt
 pub run-keeps : (P : Storage → List Event → Type 0) (I : State → Type 0) (modules : List Module) (storage : Storage) (call : FunctionCall) →
     ((others : ℕ) → I (begun storage call others)) →
     ((s t : State) (n : ℕ) → I s → step modules s ≡ Ok (Goes t) → I (record t { steps = n })) →
-    ((s t : State) → I s → step modules s ≡ Ok (Returns t) → P t.storage t.tally) →
+    ((s t : State) → I s → step modules s ≡ Ok (Returns t) → P t.storage t.events) →
     (budget : ℕ) → AtReturn P (run modules storage call budget)
 unfolding run
 run-keeps P I modules storage call begins goes gone budget =
