@@ -17,8 +17,9 @@ PARTS = "src", "specs", "proofs"
 JOBS_A_PROCESSOR = 2
 # How many jobs a crate gets that most waits for, and one beside it.
 MOST_JOBS, JOBS_BESIDE = 4, 2
-# A crate gives way (see nice(1)) where less than this share waits for it of what waits for that one.
-URGENT, GIVES_WAY = 0.95, 10
+# A crate gives way (see nice(1)), and waits for a free processor, where the first crate that uses it is so many bytes of the longest
+# chain away: those that will be built before it is wanted.
+FAR, GIVES_WAY = 100_000, 10
 # The free memory, in kB, below which no other crate is begun beside one.
 ROOM = 5_000_000
 
@@ -33,10 +34,11 @@ def toolchain():
 
 
 class Crate:
-    """A library of the repository: those that it uses, its sources' bytes, and with these the bytes of the longest chain that waits for it."""
+    """A library of the repository: those that it uses, its sources' bytes, and the bytes of the longest chain that waits for it, with it
+    and without it."""
 
     def __init__(self, name, used):
-        self.name, self.used, self.behind = name, used, 0
+        self.name, self.used, self.behind, self.waiting = name, used, 0, 0
         folders = [f"crates/{name}/{it}" for it in PARTS]
         self.size = sum(os.path.getsize(f"{at}/{it}") for top in folders for at, _, names in os.walk(top) for it in names)
 
@@ -45,9 +47,9 @@ def libraries(uses, program):
     """The libraries that the program stands on, each by its name, after those that it uses, with what waits for it reckoned."""
     crates = {name: Crate(name, used) for name, used in uses.items() if name != program}
     for crate in reversed(crates.values()):
-        crate.behind += crate.size
+        crate.behind = crate.waiting + crate.size
         for it in crate.used:
-            crates[it].behind = max(crates[it].behind, crate.behind)
+            crates[it].waiting = max(crates[it].waiting, crate.behind)
     return crates
 
 
@@ -60,9 +62,9 @@ def has_room():
 class Lane:
     """A build of one crate."""
 
-    def __init__(self, crate, most, log):
-        self.crate, self.jobs = crate, MOST_JOBS if crate.behind == most else JOBS_BESIDE
-        level = 0 if crate.behind >= URGENT * most else GIVES_WAY
+    def __init__(self, crate, first, log):
+        self.crate, self.jobs = crate, MOST_JOBS if crate is first else JOBS_BESIDE
+        level = GIVES_WAY if is_early(crate, first) else 0
         words = ["nice", "-n", str(level), sys.executable, os.path.realpath(__file__)]
         self.run = subprocess.Popen([*words, crate.name, str(self.jobs)], stdin=subprocess.DEVNULL, stdout=log, stderr=log)
 
@@ -70,6 +72,11 @@ class Lane:
         """Gives the build up; its compiler ends with it."""
         self.run.terminate()
         self.run.wait()
+
+
+def is_early(crate, first):
+    """Whether a crate isn't wanted soon, where of those that aren't begun the longest chain waits for this one."""
+    return first.waiting - crate.waiting > FAR
 
 
 def are_new(uses, program):
@@ -87,11 +94,10 @@ def build(uses, program, processors, log, tell):
     try:
         while running or (left and well):
             for crate in [it for it in left if well and all(used in built for used in it.used)]:
-                idle = JOBS_A_PROCESSOR * processors - sum(it.jobs for it in running)
-                if idle > 0 and (not running or has_room()):
-                    most = max(it.behind for it in crates.values() if it.name not in built)
+                is_idle = sum(it.jobs for it in running) < JOBS_A_PROCESSOR * processors
+                if (is_idle or not is_early(crate, left[0])) and (not running or has_room()):
+                    running.append(Lane(crate, left[0], log))
                     left.remove(crate)
-                    running.append(Lane(crate, most, log))
             time.sleep(0.2)
             tell(built)
             for lane in [it for it in running if it.run.poll() is not None]:
