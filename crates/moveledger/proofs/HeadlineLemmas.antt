@@ -6,9 +6,9 @@ use Rattle.mv_machine.specs.Lines.{Reply}
 use Rattle.mv_ledger.specs.Answering.{IsReplied}
 use Rattle.mv_ledger.specs.Counting.Headline.{EndsWell, CallEndsWell, RunsWell}
 use Rattle.mv_ledger.specs.View.{LedgerView, state_of}
-use Rattle.moveledger.specs.Headline.{MeetsNoFault, IsOfOwnModules, ItsRun, AnswersWhole}
+use Rattle.moveledger.specs.Headline.{EndsWithinBudget, IsOfOwnModules, HoldsOfRun, AnswersWhole}
 
-ends_without_fault : (budget : ℕ) (o : RunOutcome) → EndsWell budget o → MeetsNoFault budget o
+ends_without_fault : (budget : ℕ) (o : RunOutcome) → EndsWell budget o → EndsWithinBudget budget o
 ends_without_fault budget (Returned steps storage events) h = h.0
 ends_without_fault budget (Aborted kind number steps) h = h
 ends_without_fault budget (Exhausted stop steps) h = h
@@ -28,7 +28,7 @@ call_keeps Keeps from s budget (Ok call) h = from budget (run (modules_of s) s.s
 call_keeps Keeps from s budget (Err reason) h = tt
 
 run_keeps : (Keeps : ℕ → RunOutcome → Type 0) → ((budget : ℕ) (o : RunOutcome) → EndsWell budget o → Keeps budget o)
-    → (s : LedgerState) (request : Request) → RunsWell s request → ItsRun Keeps s request
+    → (s : LedgerState) (request : Request) → RunsWell s request → HoldsOfRun Keeps s request
 run_keeps Keeps from s (Publish sender offers) h = tt
 run_keeps Keeps from s (Run r) h = call_keeps Keeps from s r.budget (admitted s r) h
 run_keeps Keeps from s (Show format) h = tt
@@ -42,7 +42,7 @@ answers_whole kind payload reply old new h = record {
   asked = h.answers.1;
   faithful = h.answers.2;
   exact = h.rightly;
-  no_fault = run_keeps MeetsNoFault ends_without_fault (state_of old) h.answers.0 h.answers.3;
+  no_fault = run_keeps EndsWithinBudget ends_without_fault (state_of old) h.answers.0 h.answers.3;
   own_modules = run_keeps IsOfOwnModules ends_by_own_modules (state_of old) h.answers.0 h.answers.3;
   conserved = h.answers.4;
   leaves = h.leaves;

@@ -18,7 +18,7 @@ use Rattle.mv_certificate.specs.Certificate.{Certificate, all_locals_hold, all_e
 use Rattle.mv_certificate.specs.CertificateText.{IsCertificateText}
 use Rattle.mv_certificate.proofs.OneCertificate.{one-certificate}
 use Rattle.mv_machine.specs.Ledger.{Offer, LedgerState}
-use Rattle.mv_ledger.specs.Publishing.{Spells, Passes, FailsAt, no_text, no_bounds, not_defined, not_signed, not_able, no_flow, not_typed, no_certificate, no_locals, no_edges, no_acquires, AllPass, IsLinked, HasRoom, IsPublished, IsRefusedAt, in_offer, in_linking, in_room}
+use Rattle.mv_ledger.specs.Publishing.{Spells, Passes, FailsAt, no_text, no_bounds, not_defined, not_signed, not_able, no_flow, not_typed, no_certificate, no_locals, no_edges, no_acquires, AllPass, FailsAmong, IsLinked, HasRoom, IsPublished, IsRefusedAt, in_offer, in_linking, in_room}
 use Rattle.mv_ledger.proofs.Spelling.{OffersAreBytes, module-one}
 use Rattle.mv_ledger.proofs.SavedFails.{never-fails, passed-one}
 
@@ -200,26 +200,25 @@ module _ (reads : IsReadByText) where
 
   module _ (s : LedgerState) (sender : ℕ) (offers : List Offer) (has : OffersAreBytes offers) where
     -- a bundle whose offers pass fails in none of them
-    all_or_one : (before : List Offer) (o : Offer) (after : List Offer) (ps : List PublishedModule) (phase : ℕ)
-        → offers ≡ before ++ o ∷ after → AllPass offers ps → FailsAt o phase → ⊥
-    all_or_one before o after ps phase e all fails =
-        passed_or_fails before o after ps phase (subst OffersAreBytes e has) (subst (λ (os : List Offer). AllPass os ps) e all) fails
+    all_or_one : (ps : List PublishedModule) (phase : ℕ) → AllPass offers ps → FailsAmong offers phase → ⊥
+    all_or_one ps phase all x =
+        passed_or_fails x.before x.offer x.after ps phase (subst OffersAreBytes x.are has) (subst (λ (os : List Offer). AllPass os ps) x.are all) x.fails
 
     -- what is published isn't refused
     pub published_or_refused : (ps : List PublishedModule) {phase : ℕ} → IsPublished s sender offers ps → IsRefusedAt s sender offers phase → ⊥
-    published_or_refused ps a (in_offer before o after qs phase e passed fails) = all_or_one before o after ps phase e a.0 fails
+    published_or_refused ps a (in_offer phase x) = all_or_one ps phase a.0 x
     published_or_refused ps a (in_linking qs all out) = out (subst (IsLinked sender s) (passed-one reads offers ps qs has a.0 all) a.1)
     published_or_refused ps a (in_room qs all linked out) = out (subst (HasRoom s) (passed-one reads offers ps qs has a.0 all) a.2)
 
     -- what is refused is refused in one phase
     pub refused-one : {m n : ℕ} → IsRefusedAt s sender offers m → IsRefusedAt s sender offers n → m ≡ n
-    refused-one (in_offer before o after ps m e a f) (in_offer others other more qs n g b h) =
-        first-one before o after ps m others other more qs n (subst OffersAreBytes e has) (sym e ∙ g) a b f h
-    refused-one (in_offer before o after ps m e a f) (in_linking qs all out) = absurd (all_or_one before o after qs m e all f)
-    refused-one (in_offer before o after ps m e a f) (in_room qs all linked out) = absurd (all_or_one before o after qs m e all f)
-    refused-one (in_linking ps all out) (in_offer others other more qs n g b h) = absurd (all_or_one others other more ps n g all h)
+    refused-one (in_offer m x) (in_offer n y) =
+        first-one x.before x.offer x.after x.bundle m y.before y.offer y.after y.bundle n (subst OffersAreBytes x.are has) (sym x.are ∙ y.are) x.passed y.passed x.fails y.fails
+    refused-one (in_offer m x) (in_linking qs all out) = absurd (all_or_one qs m all x)
+    refused-one (in_offer m x) (in_room qs all linked out) = absurd (all_or_one qs m all x)
+    refused-one (in_linking ps all out) (in_offer n y) = absurd (all_or_one ps n all y)
     refused-one (in_linking ps all out) (in_linking qs also none) = refl
     refused-one (in_linking ps all out) (in_room qs also linked none) = absurd (out (subst (IsLinked sender s) (passed-one reads offers qs ps has also all) linked))
-    refused-one (in_room ps all linked out) (in_offer others other more qs n g b h) = absurd (all_or_one others other more ps n g all h)
+    refused-one (in_room ps all linked out) (in_offer n y) = absurd (all_or_one ps n all y)
     refused-one (in_room ps all linked out) (in_linking qs also none) = absurd (none (subst (IsLinked sender s) (passed-one reads offers ps qs has all also) linked))
     refused-one (in_room ps all linked out) (in_room qs also there none) = refl

@@ -11,7 +11,6 @@ use Rattle.mv_acquires.specs.Acquires.{AcquiresHold}
 use Rattle.mv_certificate.specs.Answers.{bad_locals, bad_borrows, bad_acquires}
 use Rattle.mv_certificate.specs.Certificate.{Certificate, all_locals_hold, all_edges_hold, certificate_holds}
 use Rattle.mv_certificate.specs.CertificateText.{certificate_text}
-use Rattle.mv_certificate.specs.Laws.{IsOfOneCertificate}
 use Rattle.mv_certificate.specs.Shape.{AllStatedFit}
 use Rattle.mv_analyser.specs.Principal.{IsOfLimits, IsProvable, IsUnproved, PassesCheck}
 use Rattle.mv_analyser.specs.declared.ProveError.{ProveError}
@@ -22,7 +21,7 @@ use Rattle.mv_ledger.proofs.Spelling.{module-one}
 use Rattle.moveledger.specs.Checking.{AreShort, IsAccepted, IsRefusedAlone, PassesWith, before_line_end, offer_of}
 use Rattle.moveledger.specs.Proving.{HasNoProof, IsAcceptedBack, IsProvableText, IsProvedBy, IsShort, error_of, in_each, in_module}
 use Rattle.moveledger.proofs.Texts.{before_line_end-hexadecimal, before_line_end-line}
-use Rattle.moveledger.proofs.Verdicts.{never-fails}
+use Rattle.mv_ledger.proofs.SavedFails.{never-fails}
 
 -- what isn't refused holds
 decided : (b : Bool) → ((IsTrue b → ⊥) → ⊥) → IsTrue b
@@ -83,7 +82,7 @@ provable-spelled reads bytes are m spells provable =
     ((provable.stated, (provable.passes.certificate.1, provable.passes.holds)), provable.passes.acquires)
 
 -- where some certificate passes, the module is not refused alone
-pub provable-refused : (bytes : List ℕ) → IsReadByText → IsOfOneCertificate → AreBytes bytes → IsProvableText bytes → (e : Refusal) → IsRefusedAlone bytes e → IsOfLimits (error_of e)
-provable-refused bytes reads one are provable (Phase p) h =
-    absurd (never-fails (offer_of bytes provable.certificate) provable.tables provable.stated reads one are provable.passes (h provable.certificate))
-provable-refused bytes reads one are provable OutOfMemory h = tt
+pub provable-refused : (bytes : List ℕ) → IsReadByText → AreBytes bytes → IsProvableText bytes → (e : Refusal) → IsRefusedAlone bytes e → IsOfLimits (error_of e)
+provable-refused bytes reads are provable (Phase p) h =
+    absurd (never-fails reads (offer_of bytes provable.certificate) provable.tables provable.stated are provable.passes (h provable.certificate))
+provable-refused bytes reads are provable OutOfMemory h = tt

@@ -23,22 +23,22 @@ use Rattle.mv_ledger.specs.Changes.{Leaves}
 use Rattle.mv_ledger.specs.View.{LedgerView, state_of}
 use Rattle.moveledger.specs.Records.{Record, Whole, Cut, AreRecords}
 
--- a run meets no fault: it returns, aborts or exhausts its steps or frames, after at most as many steps as its budget
-abbrev pub MeetsNoFault : ℕ → RunOutcome → Type 0
-MeetsNoFault budget (Returned steps storage events) = steps ≤ budget
-MeetsNoFault budget (Aborted kind number steps) = steps ≤ budget
-MeetsNoFault budget (Exhausted stop steps) = steps ≤ budget
-MeetsNoFault budget (Faulted fault steps) = ⊥
+-- a run ends without a fault: it returns, aborts or exhausts its steps or frames, after at most as many steps as its budget
+abbrev pub EndsWithinBudget : ℕ → RunOutcome → Type 0
+EndsWithinBudget budget (Returned steps storage events) = steps ≤ budget
+EndsWithinBudget budget (Aborted kind number steps) = steps ≤ budget
+EndsWithinBudget budget (Exhausted stop steps) = steps ≤ budget
+EndsWithinBudget budget (Faulted fault steps) = ⊥
 
 -- each Pack and Unpack of a run that returned was executed by code of the struct's own module
 abbrev pub IsOfOwnModules : ℕ → RunOutcome → Type 0
 IsOfOwnModules budget (Returned steps storage events) = AllByRecursion (λ event. event.by ≡ event.struct.home) events
 IsOfOwnModules budget _ = ⊤
 
--- the machine's run that a record asks for keeps this, within its budget; there is none where it asks for none or is rejected
-abbrev pub ItsRun : (ℕ → RunOutcome → Type 0) → LedgerState → Request → Type 0
-ItsRun Keeps s (Run r) = IfOk (admitted s r) (λ call. Keeps r.budget (run (modules_of s) s.storage call r.budget))
-ItsRun Keeps s _ = ⊤
+-- this holds of the machine's run that a record asks for, within its budget; there is none where it asks for none or is rejected
+abbrev pub HoldsOfRun : (ℕ → RunOutcome → Type 0) → LedgerState → Request → Type 0
+HoldsOfRun Holds s (Run r) = IfOk (admitted s r) (λ call. Holds r.budget (run (modules_of s) s.storage call r.budget))
+HoldsOfRun Holds s _ = ⊤
 
 -- of each struct lacking copy and drop, the stored values, at any depth, number its Packs less its Unpacks in returned runs
 abbrev pub StoredArePacksLessUnpacks : LedgerState → Type 0
@@ -53,8 +53,8 @@ pub record AnswersWhole (kind : ℕ) (payload : List ℕ) (reply : Reply) (old n
   pub faithful : Answers Spells (state_of old) request reply (state_of new)
   -- and a bundle is called published where it passes every phase, else refused in the first that it fails
   pub exact : kind ≡ 1 → IsRightly (state_of old) payload reply (state_of new)
-  pub no_fault : ItsRun MeetsNoFault (state_of old) request
-  pub own_modules : ItsRun IsOfOwnModules (state_of old) request
+  pub no_fault : HoldsOfRun EndsWithinBudget (state_of old) request
+  pub own_modules : HoldsOfRun IsOfOwnModules (state_of old) request
   pub conserved : StoredArePacksLessUnpacks (state_of new)
   -- a refusal and a rejection leave everything as it was, and a run that didn't return all but the number of runs
   pub leaves : Leaves reply old new

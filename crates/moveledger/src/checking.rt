@@ -80,8 +80,7 @@ pub fn check_text(alloc: Global, module: &[u8], certificate: &[u8]) -> Result<()
     // Nothing but a failed allocation keeps it from what is to be accepted.
     ensures accepts { IsAccepted «module».now certificate.now → IfErr result (λ e. e ≡ Refusal.Memory) }
 {
-    // For the prover: bytes spell one module alone, and are the text of one certificate alone.
+    // For the prover: bytes spell one module alone.
     mv_binary_format::modules_are_read_by_text();
-    mv_certificate::texts_are_of_one_certificate();
     check_phases(alloc, module, certificate)
 }

@@ -42,9 +42,8 @@ pub fn prove_text(alloc: Global, module: &[u8]) -> Result<String, ProveError>
     ensures refused { IfErr result (HasNoProof «module».now) }
     ensures principal { IsProvableText «module».now → IfErr result IsOfLimits }
 {
-    // For the prover: bytes spell one module alone, and are the text of one certificate alone.
+    // For the prover: bytes spell one module alone.
     mv_binary_format::modules_are_read_by_text();
-    mv_certificate::texts_are_of_one_certificate();
     if module.len() > MOST_BYTES {
         return Err(ProveError::Refused(1));
     }

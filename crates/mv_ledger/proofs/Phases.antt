@@ -67,7 +67,7 @@ module _ (old : List PublishedModule) (payload : List ℕ) (sender : ℕ) (offer
   -- one of the offers fails
   pub refused_among : (e : Refusal) → IsRefusedAmong offers e → IsRefusedBy old payload e
   refused_among Memory h s is = tt
-  refused_among (Phase p) h s is = failing sender offers p asked (in_offer h.before h.offer h.after h.bundle p h.are h.passed h.fails)
+  refused_among (Phase p) h s is = failing sender offers p asked (in_offer p h)
 
   module _ (bundle : List PublishedModule) (all : AllPass offers bundle) where
     -- the bundle may be linked to these modules

@@ -94,7 +94,6 @@ IsPublished s sender offers bundle = AllPass offers bundle × IsLinked sender s 
 
 -- the first phase that a bundle fails: that of its first offer that fails, and else that of linking or of room
 pub data IsRefusedAt (s : LedgerState) (sender : ℕ) (offers : List Offer) : ℕ → Type 0 where
-  in_offer : (before : List Offer) (o : Offer) (after : List Offer) (bundle : List PublishedModule) (phase : ℕ) → offers ≡ before ++ o ∷ after → AllPass before bundle → FailsAt o phase
-      → IsRefusedAt s sender offers phase
+  in_offer : (phase : ℕ) → FailsAmong offers phase → IsRefusedAt s sender offers phase
   in_linking : (bundle : List PublishedModule) → AllPass offers bundle → ¬ IsLinked sender s bundle → IsRefusedAt s sender offers 13
   in_room : (bundle : List PublishedModule) → AllPass offers bundle → IsLinked sender s bundle → ¬ HasRoom s bundle → IsRefusedAt s sender offers 14

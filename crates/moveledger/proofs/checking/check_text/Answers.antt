@@ -9,5 +9,5 @@ returns-clause-accepts c = λ accepted.
     let bytes = c.args.module.now in
     let are = all-are_bytes bytes (λ i. omega (arith, c.type_inv.module i)) in
     IfErr-weaker c.check_phases.result _ _
-    (accepted-refused bytes c.args.certificate.now c.modules_are_read_by_text.ensures c.texts_are_of_one_certificate.ensures are accepted)
+    (accepted-refused bytes c.args.certificate.now c.modules_are_read_by_text.ensures are accepted)
     c.check_phases.ensures.refused

@@ -21,7 +21,7 @@ returns-in-Err-clause-principal c = λ provable.
     let bytes = c.args.module.now in
     let are = all-are_bytes bytes (λ i. omega (arith, c.type_inv.module i)) in
     subst IsOfLimits (sym c.unproved.ensures)
-    (provable-refused bytes c.modules_are_read_by_text.ensures c.texts_are_of_one_certificate.ensures are provable c.in-Err.e c.in-Err.ensures.refused)
+    (provable-refused bytes c.modules_are_read_by_text.ensures are provable c.in-Err.e c.in-Err.ensures.refused)
 
 pub returns-in_err-certificate-clause-refused : goal.returns-in_err-certificate-clause-refused
 returns-in_err-certificate-clause-refused c =
