@@ -30,6 +30,17 @@ tally-other e t other = ap₂ (with_counts t) (one e.packs t.packs) (one e.unpac
     one : (n old : ℕ) → old + sum_by (λ (u : StructTally). cond (is_tally_at t.place t.index u) n 0) (e ∷ []) ≡ old
     one n old = sum old _ _ (sum_by-cons (λ (u : StructTally). cond (is_tally_at t.place t.index u) n 0) e []) (ap (λ (b : Bool). cond b n 0) other)
 
+-- and adds what it counts to its own
+pub tally-own : (e : StructTally) (t : Tally) (packs unpacks : ℕ) → is_tally_at t.place t.index e ≡ true → packs ≡ e.packs → unpacks ≡ e.unpacks
+    → with_counts t (t.packs + packs) (t.unpacks + unpacks) ≡ tally_after (e ∷ []) t
+tally-own e t packs unpacks own packs_is unpacks_is = ap₂ (with_counts t) (one packs e.packs t.packs packs_is) (one unpacks e.unpacks t.unpacks unpacks_is)
+  where
+    sum : (a b c n alone : ℕ) → alone ≡ c + 0 → c ≡ n → b ≡ n → a + b ≡ a + alone
+    sum a b c n alone p q same = omega arith
+
+    one : (m n old : ℕ) → m ≡ n → old + m ≡ old + sum_by (λ (u : StructTally). cond (is_tally_at t.place t.index u) n 0) (e ∷ [])
+    one m n old same = sum old m _ n _ (sum_by-cons (λ (u : StructTally). cond (is_tally_at t.place t.index u) n 0) e []) (ap (λ (b : Bool). cond b n 0) own) same
+
 -- a number that differs
 apart : (a b : ℕ) → (a ≡ b → ⊥) → (a == b) ≡ false
 apart a b other = by_case (a == b) refl

@@ -1,0 +1,8 @@
+use Rattle.std.proofs.Common.{ℕ, ◌+◌, nat_lt, ap, arith}
+use Rattle.mv_ledger.proofs.publishing.is_too_much.Goals as goal
+
+pub overflow_add-result : goal.overflow_add-result
+overflow_add-result c = omega (arith, c.count_behind.ensures.few, c.requires)
+
+pub returns : goal.returns
+returns c = ap (λ n. nat_lt 4096 (c.args.count + n)) c.count_behind.ensures.count
