@@ -1,4 +1,4 @@
-use Rattle.std.proofs.Common.{◌≡◌, ℕ, ◌<◌, ◌^◌, nat_lt, List, Option, None, Some, Result, Ok, Err, sym, ap, ◌∙◌, subst, arith}
+use Rattle.std.proofs.Common.{◌≡◌, ℕ, ◌<◌, ◌^◌, nat_lt, List, None, Some, Result, Ok, Err, sym, ap, ◌∙◌, subst}
 use Rattle.std.specs.Prelude.{IsTrue, IfOk, IfErr}
 use Rattle.std.specs.Bool.{then_some}
 use Rattle.std.proofs.lemmas.Bool.{lt-ltb}
@@ -8,7 +8,8 @@ use Rattle.mv_move_types.specs.Tokens.{width_bits}
 use Rattle.mv_move_types.specs.declared.refusal.Refusal.{Refusal}
 use Rattle.mv_move_types.specs.declared.refusal.Refusal.TheVariants.{Phase}
 use Rattle.mv_move_types.specs.declared.token.LeafKind.{LeafKind}
-use Rattle.mv_module_text.specs.Parsing.{Read}
+use Rattle.mv_move_types.specs.declared.token.LeafKind.TheVariants.{Boolean}
+use Rattle.mv_module_text.specs.Parsing.{Read, byte_from}
 use Rattle.mv_module_text.specs.Reads.{Reads}
 use Rattle.mv_interpreter.specs.Runs.{number_fits}
 use Rattle.mv_ledger.specs.Payloads.{leaf_from}
@@ -31,6 +32,14 @@ module _ (from : List ℕ → Read ℕ) (old new : List ℕ) where
 -- a read of the same kind
 at-kind : (kind of : LeafKind) (old new : List ℕ) (r : Result ℕ Refusal) → kind ≡ of → Reads (leaf_from of) old r new → Reads (leaf_from kind) old r new
 at-kind kind of old new r is reads = subst (λ (k : LeafKind). Reads (leaf_from k) old r new) (sym is) reads
+
+-- a byte below 2 is a boolean
+module _ (kind : LeafKind) (b n : ℕ) (is : kind ≡ Boolean) (below : b < 2) (same : n ≡ b) where
+  boolean : (old new : List ℕ) → byte_from old ≡ Some (b, new) → leaf_from kind old ≡ Some (n, new)
+  boolean old new read = rw (is, same) (ap (λ o. o >>= λ x. then_some (nat_lt x.0 2) x) read ∙ ap (λ t. then_some t (b, new)) (lt-ltb b 2 below))
+
+  fits : IsTrue (number_fits kind n)
+  fits = rw (is, same) (lt-ltb b 2 below)
 
 pub returns-in-Number-clause-ok : goal.returns-in-Number-clause-ok
 returns-in-Number-clause-ok c =
@@ -63,3 +72,10 @@ returns-in-Address-clause-errors c =
 
 pub returns-in_err-byte-in-Boolean-clause-refused : goal.returns-in_err-byte-in-Boolean-clause-refused
 returns-in_err-byte-in-Boolean-clause-refused c _ = rw c.in-Boolean.is (ap (λ o. o >>= λ b. then_some (nat_lt b.0 2) b) c.in_err-byte-in-Boolean.ensures.1)
+
+pub returns-then-byte-lt2-clause-ok : goal.returns-then-byte-lt2-clause-ok
+returns-then-byte-lt2-clause-ok c =
+    boolean c.args.kind c.in_ok-byte-in-Boolean.byte c.from.result c.in-Boolean.is c.if-byte-lt2.true c.from.ensures c.args.reader.now c.byte.new.self c.in_ok-byte-in-Boolean.ensures
+
+pub returns-then-byte-lt2-clause-range : goal.returns-then-byte-lt2-clause-range
+returns-then-byte-lt2-clause-range c = fits c.args.kind c.in_ok-byte-in-Boolean.byte c.from.result c.in-Boolean.is c.if-byte-lt2.true c.from.ensures

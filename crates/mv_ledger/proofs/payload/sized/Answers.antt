@@ -1,10 +1,9 @@
-use Rattle.std.proofs.Common.{◌≡◌, ℕ, List, Option, Some, None, Result, Ok, Err, ap, ◌∙◌, Bor}
+use Rattle.std.proofs.Common.{◌≡◌, ℕ, List, Some, None, Result, Ok, Err, ap, ◌∙◌, Bor}
 use Rattle.std.specs.Prelude.{IfOk, IfErr}
-use Rattle.std.proofs.lemmas.Result.{err_from_is_err_and}
 use Rattle.mv_move_types.specs.declared.refusal.Refusal.{Refusal}
 use Rattle.mv_move_types.specs.declared.refusal.Refusal.TheVariants.{Phase}
 use Rattle.mv_move_types.specs.Options.{◌>>=◌}
-use Rattle.mv_module_text.specs.Parsing.{Read, bytes_from}
+use Rattle.mv_module_text.specs.Parsing.{bytes_from}
 use Rattle.mv_module_text.specs.Reads.{ReadsAs}
 use Rattle.mv_ledger.specs.Payloads.{sized_from}
 use Rattle.mv_ledger.proofs.payload.sized.Goals as goal

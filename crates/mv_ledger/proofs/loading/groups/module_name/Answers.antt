@@ -1,4 +1,4 @@
-use Rattle.std.proofs.Common.{◌≡◌, ℕ, List, Option, None, Some, Bor, slice_get, refl, sym, ap, ◌∙◌}
+use Rattle.std.proofs.Common.{◌≡◌, ℕ, List, Option, None, Some, slice_get, refl, sym, ap, ◌∙◌}
 use Rattle.std.specs.Slice.{IsItemAt}
 use Rattle.mv_move_types.specs.Names.{ModuleName}
 use Rattle.mv_move_types.specs.declared.tables.ModuleHandle.{ModuleHandle}

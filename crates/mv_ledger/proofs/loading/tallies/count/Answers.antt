@@ -1,4 +1,4 @@
-use Rattle.std.proofs.Common.{List, ℕ, sym, subst}
+use Rattle.std.proofs.Common.{sym, subst}
 use Rattle.std.proofs.lemmas.Result.{err_from_is_err_and}
 use Rattle.mv_module_text.specs.Reads.{Reads}
 use Rattle.mv_ledger.specs.declared.loading.head.SavedForm.{SavedForm}
