@@ -1,14 +1,40 @@
-use Rattle.std.proofs.Common.{◌≡◌, ℕ, ◌⊎◌, inl, inr, ◌++◌, refl, ap}
+use Rattle.std.proofs.Common.{◌≡◌, ◌≢◌, ℕ, Bool, true, false, cond, ◌⊎◌, inl, inr, List, Bor, ◌++◌, ◌==◌, refl, sym, ap, ◌∙◌, codes}
+use Rattle.std.proofs.lemmas.Bool.{eqb-true}
 use Rattle.std.proofs.lemmas.Result.{IfOk-equal}
 use Rattle.mv_move_types.specs.declared.token.LeafKind.{LeafKind}
-use Rattle.mv_move_types.specs.declared.token.LeafKind.TheVariants.{Address, Signer}
+use Rattle.mv_move_types.specs.declared.token.LeafKind.TheVariants.{Boolean, Address, Signer}
 use Rattle.mv_machine.specs.Lines.{address_text, leaf_text}
+use Rattle.mv_ledger.proofs.Shows.Digits.{put_after}
 use Rattle.mv_ledger.proofs.texts.put_leaf.Goals as goal
+use Rattle.mv_ledger.proofs.texts.put_leaf.Goals.{then-n-eq0, else-n-eq0}
+
+-- a number that isn't zero
+apart : (n : ℕ) → n ≢ 0 → (n == 0) ≡ false
+apart n some = by_case (n == 0) refl
+  where
+    by_case : (b : Bool) → (n == 0) ≡ b → (n == 0) ≡ false
+    by_case true e = absurd (some (eqb-true n 0 e))
+    by_case false e = e
+
+-- a boolean, by its number
+untrue : (kind : LeafKind) (n : ℕ) → kind ≡ Boolean → n ≡ 0 → codes "false" ≡ leaf_text kind n
+untrue kind n is none = rw (is, none) refl
+
+so : (kind : LeafKind) (n : ℕ) → kind ≡ Boolean → n ≢ 0 → codes "true" ≡ leaf_text kind n
+so kind n is some = rw is (ap (λ (b : Bool). cond b (codes "false") (codes "true")) (sym (apart n some)))
 
 -- an address, be it a signer's
 addressed : (kind : LeafKind) (n : ℕ) → (kind ≡ Address) ⊎ (kind ≡ Signer) → address_text n ≡ leaf_text kind n
 addressed kind n (inl e) = rw e refl
 addressed kind n (inr e) = rw e refl
+
+pub returns-after-n-eq0 : goal.returns-after-n-eq0
+returns-after-n-eq0 c =
+    let text : c.if-n-eq0.extend_from_slice.now ≡ leaf_text c.args.kind c.args.n = elim c.if-n-eq0.branch [
+      | then-n-eq0 w ↦ ap (λ (b : Bor (List ℕ)). b.now) w.extend_from_slice-is ∙ untrue c.args.kind c.args.n c.in-Boolean.is w.if-n-eq0.true
+      | else-n-eq0 w ↦ ap (λ (b : Bor (List ℕ)). b.now) w.extend_from_slice-is ∙ so c.args.kind c.args.n c.in-Boolean.is w.if-n-eq0.false
+    ] in
+    put_after c.extend_from_slice.result c.args.text.now.items c.extend_from_slice.new.self.items _ (leaf_text c.args.kind c.args.n) c.extend_from_slice.ensures.items text
 
 pub returns-in-Number : goal.returns-in-Number
 returns-in-Number c = rw c.in-Number.is c.put_number.ensures
