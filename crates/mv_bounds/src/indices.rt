@@ -5,7 +5,10 @@ ghost use Rattle.mv_move_types.specs.Module.{Constant as ConstantEntry};
 ghost use Rattle.mv_bounds.specs.Bounds.{InBounds, below, value_type_in, token_in, module_handle_in, struct_handle_in, function_handle_in, field_in, struct_in, field_handle_in, immediate_in, instruction_in, local_count, function_in};
 
 use mv_binary_format::{FunctionDefinition, Module, StructDefinition};
-use mv_move_types::{Field, FieldHandle, Immediate, Instruction, Token, ValueType};
+use mv_move_types::{
+    Field, FieldHandle, FunctionHandle, Immediate, Instruction, ModuleHandle, StructHandle, Token,
+    ValueType,
+};
 
 /// Whether every index of a module is below the length of its table.
 pub fn in_bounds(m: &Module) -> bool
@@ -22,39 +25,65 @@ pub fn in_bounds(m: &Module) -> bool
         && usize::from(m.own()) < m.module_handles().len()
 }
 
+/// Whether a module handle's address and name are there.
+fn module_handle_in(m: &Module, h: ModuleHandle) -> bool
+    ensures { result ≡ module_handle_in m.now h }
+{
+    usize::from(h.address) < m.addresses().len() && usize::from(h.name) < m.identifier_count()
+}
+
 /// Whether the module handles' addresses and names are there.
 fn module_handles_in(m: &Module) -> bool
     ensures { result ≡ list_all (module_handle_in m.now) m.now.module_handles }
 {
-    let addresses = m.addresses().len();
-    let identifiers = m.identifier_count();
-    m.module_handles().iter().all(|h| usize::from(h.address) < addresses
-        && usize::from(h.name) < identifiers)
+    for h in m.module_handles() {
+        if !module_handle_in(m, *h) {
+            return false;
+        }
+    }
+    true
+}
+
+/// Whether a struct handle's module and name are there.
+fn struct_handle_in(m: &Module, h: StructHandle) -> bool
+    ensures { result ≡ struct_handle_in m.now h }
+{
+    usize::from(h.module) < m.module_handles().len() && usize::from(h.name) < m.identifier_count()
 }
 
 /// Whether the struct handles' modules and names are there.
 fn struct_handles_in(m: &Module) -> bool
     ensures { result ≡ list_all (struct_handle_in m.now) m.now.struct_handles }
 {
-    let modules = m.module_handles().len();
-    let identifiers = m.identifier_count();
-    m.struct_handles().iter().all(|h| usize::from(h.module) < modules
-        && usize::from(h.name) < identifiers)
+    for h in m.struct_handles() {
+        if !struct_handle_in(m, *h) {
+            return false;
+        }
+    }
+    true
+}
+
+/// Whether a function handle's module, name and signatures are there.
+fn function_handle_in(m: &Module, h: FunctionHandle) -> bool
+    ensures { result ≡ function_handle_in m.now h }
+{
+    let signatures = m.signature_count();
+    usize::from(h.module) < m.module_handles().len()
+        && usize::from(h.name) < m.identifier_count()
+        && usize::from(h.parameters) < signatures
+        && usize::from(h.results) < signatures
 }
 
 /// Whether the function handles' modules, names and signatures are there.
 fn function_handles_in(m: &Module) -> bool
     ensures { result ≡ list_all (function_handle_in m.now) m.now.function_handles }
 {
-    let modules = m.module_handles().len();
-    let identifiers = m.identifier_count();
-    let signatures = m.signature_count();
-    m.function_handles().iter().all(|h| {
-        usize::from(h.module) < modules
-            && usize::from(h.name) < identifiers
-            && usize::from(h.parameters) < signatures
-            && usize::from(h.results) < signatures
-    })
+    for h in m.function_handles() {
+        if !function_handle_in(m, *h) {
+            return false;
+        }
+    }
+    true
 }
 
 /// Whether a type's struct handle is there.
@@ -80,7 +109,12 @@ fn token_in(m: &Module, t: Token) -> bool
 fn tokens_in(m: &Module, tokens: &[Token]) -> bool
     ensures { result ≡ list_all (token_in m.now) tokens.now }
 {
-    tokens.iter().all(|t| token_in(m, *t))
+    for t in tokens {
+        if !token_in(m, *t) {
+            return false;
+        }
+    }
+    true
 }
 
 /// Whether the struct handles of the types in signatures are there.
@@ -102,7 +136,12 @@ fn signatures_in(m: &Module) -> bool
 fn constants_in(m: &Module) -> bool
     ensures { result ≡ list_all (λ (c : ConstantEntry). token_in m.now c.token) m.now.constants }
 {
-    m.constants().iter().all(|c| token_in(m, c.token()))
+    for c in m.constants() {
+        if !token_in(m, c.token()) {
+            return false;
+        }
+    }
+    true
 }
 
 /// Whether a field's name and type are there.
@@ -116,7 +155,12 @@ fn field_in(m: &Module, f: Field) -> bool
 fn fields_in(m: &Module, fields: &[Field]) -> bool
     ensures { result ≡ list_all (field_in m.now) fields.now }
 {
-    fields.iter().all(|f| field_in(m, *f))
+    for f in fields {
+        if !field_in(m, *f) {
+            return false;
+        }
+    }
+    true
 }
 
 /// Whether a struct's handle is there, and what its fields name.
@@ -130,7 +174,12 @@ fn struct_in(m: &Module, d: &StructDefinition) -> bool
 fn structs_in(m: &Module) -> bool
     ensures { result ≡ list_all (struct_in m.now) m.now.structs }
 {
-    m.structs().iter().all(|d| struct_in(m, d))
+    for d in m.structs() {
+        if !struct_in(m, d) {
+            return false;
+        }
+    }
+    true
 }
 
 /// Whether a field handle's struct definition is there and has the position.
@@ -147,7 +196,12 @@ fn field_handle_in(m: &Module, h: FieldHandle) -> bool
 fn field_handles_in(m: &Module) -> bool
     ensures { result ≡ list_all (field_handle_in m.now) m.now.field_handles }
 {
-    m.field_handles().iter().all(|h| field_handle_in(m, *h))
+    for h in m.field_handles() {
+        if !field_handle_in(m, *h) {
+            return false;
+        }
+    }
+    true
 }
 
 /// How many locals a function has, parameters included; 0 where a signature is missing.
@@ -186,8 +240,12 @@ fn code_in(m: &Module, locals: usize, code: &[Instruction]) -> bool
     ensures { result ≡ list_all (instruction_in m.now locals (length code.now)) code.now }
 {
     let size = code.len();
-    code.iter()
-        .all(|i| immediate_in(m, locals, size, i.immediate()))
+    for i in code {
+        if !immediate_in(m, locals, size, i.immediate()) {
+            return false;
+        }
+    }
+    true
 }
 
 /// Whether the struct definitions that a function says it reaches are there.
@@ -195,7 +253,12 @@ fn acquires_in(m: &Module, d: &FunctionDefinition) -> bool
     ensures { result ≡ list_all (λ i. below i m.now.structs) d.now.acquires }
 {
     let structs = m.structs().len();
-    d.acquires().iter().all(|i| usize::from(*i) < structs)
+    for i in d.acquires() {
+        if usize::from(*i) >= structs {
+            return false;
+        }
+    }
+    true
 }
 
 /// Whether a function's handle, locals, acquires list and code name what is there.
@@ -213,5 +276,10 @@ fn function_in(m: &Module, d: &FunctionDefinition) -> bool
 fn functions_in(m: &Module) -> bool
     ensures { result ≡ list_all (function_in m.now) m.now.functions }
 {
-    m.functions().iter().all(|d| function_in(m, d))
+    for d in m.functions() {
+        if !function_in(m, d) {
+            return false;
+        }
+    }
+    true
 }
