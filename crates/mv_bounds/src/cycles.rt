@@ -68,7 +68,12 @@ fn release(
 fn all_marked(marks: &[bool]) -> bool
     ensures { result ≡ list_all (λ r. r) marks.now }
 {
-    marks.iter().all(|r| *r)
+    for mark in marks {
+        if !*mark {
+            return false;
+        }
+    }
+    true
 }
 
 /// Whether no node of a graph, which is given by each node's successors, leads to itself. A successor that is no node
