@@ -1,9 +1,10 @@
 -- Entries of a list, one after another.
-use Rattle.std.proofs.Common.{◌≡◌, ℕ, ◌+◌, ◌<◌, ◌≤◌, Bool, true, false, List, length, get_or, take, Some, None, inl, inr, arith, slice_get, ◌∙◌, ap, sym, ◌&&◌, [], ◌∷◌, ◌++◌, map, ap₂}
+use Rattle.std.proofs.Common.{◌≡◌, ℕ, ◌+◌, ◌<◌, ◌≤◌, Bool, true, false, List, length, get_or, take, Some, None, inl, inr, arith, slice_get, ◌∙◌, ap, sym, ◌&&◌, [], ◌∷◌, ◌++◌, map, ap₂, Bor, refl}
 use Rattle.std.specs.List.{list_all}
+use Rattle.std.specs.Slice.{IsItemAt}
 use Rattle.std.proofs.lemmas.List.{map-append, take_all, take_more}
 use Rattle.std.proofs.lemmas.List.Folds.{list_all_more, list_all_at}
-use Rattle.std.proofs.lemmas.Option.{slice_get_within, slice_get_cases, none-some, get_or_from_slice_get}
+use Rattle.std.proofs.lemmas.Option.{slice_get_within, slice_get_cases, slice_get_past, slice_get_read, none-some, get_or_from_slice_get}
 
 -- one entry more passes
 pub all_pass_more : {A : Type 0} (p : A → Bool) (xs : List A) (i : ℕ) (x : A) → Some x ≡ slice_get xs i → list_all p (take i xs) ≡ true → p x ≡ true → list_all p (take (i + 1) xs) ≡ true
@@ -60,3 +61,12 @@ gather_more f g read xs i a x before low here same =
 pub gather_asked : {A B X : Type 0} (f : A → B) (g : X → B) (read : List A) (xs : List X) (i : ℕ) (a : A) (x : X) → map f read ≡ map g (take i xs) → Some x ≡ slice_get xs i → f a ≡ g x → map f (read ++ a ∷ []) ≡ map g (take (i + 1) xs)
 gather_asked f g read xs i a x before e same =
     gather_more f g read xs i a x before (slice_get_within xs i x (sym e)) (sym (get_or_from_slice_get xs i x x (sym e))) same
+
+-- a table's entry at an index that was asked for
+pub got : {A : Type 0} (xs ys : List A) (i j : ℕ) (x : Bor A) → ys ≡ xs → j ≡ i → IsItemAt ys j (Some x) → slice_get xs i ≡ Some x.now
+got xs ys i j x same at item =
+    sym (ap (λ l. slice_get l i) same) ∙ sym (ap (slice_get ys) at) ∙ slice_get_read ys (length ys) j x.now refl item.3.0 item.1
+
+-- a table has no entry at an index that was asked for
+pub missed : {A : Type 0} (xs ys : List A) (i j : ℕ) → ys ≡ xs → j ≡ i → IsItemAt ys j None → slice_get xs i ≡ None
+missed xs ys i j same at item = sym (ap (λ l. slice_get l i) same) ∙ sym (ap (slice_get ys) at) ∙ slice_get_past ys j item.3

@@ -67,9 +67,11 @@ fn struct_handles_in(m: &Module) -> bool
 fn function_handle_in(m: &Module, h: FunctionHandle) -> bool
     ensures { result ≡ function_handle_in m.now h }
 {
+    let modules = m.module_handles().len();
+    let identifiers = m.identifier_count();
     let signatures = m.signature_count();
-    usize::from(h.module) < m.module_handles().len()
-        && usize::from(h.name) < m.identifier_count()
+    usize::from(h.module) < modules
+        && usize::from(h.name) < identifiers
         && usize::from(h.parameters) < signatures
         && usize::from(h.results) < signatures
 }
