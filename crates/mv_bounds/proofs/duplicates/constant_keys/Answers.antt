@@ -1,4 +1,5 @@
 use Rattle.std.proofs.Common.{◌≡◌, ◌∙◌, ap, ap₂, map, Bor, List, ℕ}
+use Rattle.std.proofs.lemmas.List.{take_all}
 use Rattle.mv_move_types.specs.Module.{Constant}
 use Rattle.mv_bounds.specs.Codes.{token_code}
 use Rattle.mv_bounds.proofs.Entries.{gather_more}
@@ -12,3 +13,8 @@ loop-constant-preserved c =
     ap₂ {C = ℕ × List ℕ} (λ n bytes. (n, bytes)) (c.token_code.ensures ∙ ap token_code c.token.ensures) c.bytes.ensures in
     ap (map now) c.in_ok-push.ensures.items
     ∙ gather_more now key c.loop-constant.keys.items c.args.constants.now c.loop-constant.constant-index (c.token_code.result, c.bytes.result) c.constant-item.result c.loop-constant.invariant c.loop-constant-test.true c.constant-item.is same
+
+pub returns : goal.returns
+returns c =
+    let key : Constant → ℕ × List ℕ = λ k. (token_code k.token, k.bytes) in
+    c.loop-constant.invariant ∙ ap (map key) (take_all c.loop-constant.constant-index c.args.constants.now c.loop-constant-test.false)

@@ -1,4 +1,5 @@
 use Rattle.std.proofs.Common.{◌∙◌, ap, map, Bor, List, ℕ, Vec, Global, arith}
+use Rattle.std.proofs.lemmas.List.{take_all}
 use Rattle.mv_bounds.proofs.Entries.{read_more, missing}
 use Rattle.mv_bounds.proofs.duplicates.identifiers.Goals.{in-Some+in_ok-push, in_default}
 use Rattle.mv_bounds.proofs.duplicates.identifiers.Goals as goal
@@ -12,3 +13,6 @@ loop-i-preserved c =
           ∙ read_more text c.loop-i.names.items c.args.m.now.identifiers c.loop-i.i w.in-Some.name c.loop-i.invariant w.in-Some.ensures
       | in_default w ↦ absurd (missing c.args.m.now.identifiers c.loop-i.i w.in_default.ensures (omega arith))
     ]
+
+pub returns : goal.returns
+returns c = c.loop-i.invariant ∙ take_all c.loop-i.i c.args.m.now.identifiers (omega arith)

@@ -1,4 +1,5 @@
 use Rattle.std.proofs.Common.{◌∙◌, ap, map, Bor, List, ℕ, Vec, Global}
+use Rattle.std.proofs.lemmas.List.{take_all}
 use Rattle.mv_bounds.proofs.Entries.{gather_more}
 use Rattle.mv_bounds.proofs.duplicates.slices_of.Goals as goal
 
@@ -7,3 +8,7 @@ loop-list-preserved c =
     let now = λ (slice : Bor (List ℕ)). slice.now in
     ap (map now) c.in_ok-push.ensures.items
     ∙ gather_more now (λ (list : Vec ℕ Global). list.items) c.loop-list.slices.items c.args.lists.now c.loop-list.list-index c.as_slice.result c.list-item.result c.loop-list.invariant c.loop-list-test.true c.list-item.is c.as_slice.ensures.value
+
+pub returns : goal.returns
+returns c =
+    c.loop-list.invariant ∙ ap (map (λ (list : Vec ℕ Global). list.items)) (take_all c.loop-list.list-index c.args.lists.now c.loop-list-test.false)
