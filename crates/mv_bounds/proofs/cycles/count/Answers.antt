@@ -1,4 +1,6 @@
-use Rattle.std.proofs.Common.{◌≤◌, arith, get_or, take, length, refl, length-take-le}
+use Rattle.std.proofs.Common.{ℕ, List, ◌+◌, ◌≤◌, arith, get_or, take, length, refl, ap, ◌∙◌, length-take-le}
+use Rattle.std.proofs.lemmas.List.{take_all}
+use Rattle.mv_bounds.specs.Removal.{times}
 use Rattle.mv_bounds.proofs.TimesLemmas.{times_length}
 use Rattle.mv_bounds.proofs.CountLemmas.{count_hit, count_miss}
 use Rattle.mv_bounds.proofs.cycles.count.Goals.{then-target-counts, else-target-counts}
@@ -20,3 +22,8 @@ loop-target-preserved c = λ j l.
       | then-target-counts w ↦ count_hit c.args.counts.now c.loop-target.counts c.if-target-counts.counts c.args.targets.now c.loop-target.target-index x c.loop-target.invariant c.loop-target-test.true refl w.if-target-counts.true w.counts-is j (omega arith)
       | else-target-counts w ↦ count_miss c.args.counts.now c.loop-target.counts c.if-target-counts.counts c.args.targets.now c.loop-target.target-index x c.loop-target.invariant c.loop-target-test.true refl (omega arith) w.counts-is j (omega arith)
     ]
+
+pub returns : goal.returns
+returns c = λ j low.
+    c.loop-target.invariant j (omega arith)
+    ∙ ap (λ (ts : List ℕ). get_or c.args.counts.now j 0 + times j ts) (take_all c.loop-target.target-index c.args.targets.now c.loop-target-test.false)
