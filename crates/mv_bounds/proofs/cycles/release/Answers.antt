@@ -1,4 +1,5 @@
 use Rattle.std.proofs.Common.{◌≡◌, ◌<◌, ◌+◌, ◌-◌, ◌∙◌, sym, refl, ap, subst, arith, ℕ, List, Vec, Global, get_or, set, take, length, [], ◌∷◌, ◌++◌, get_or-set_same}
+use Rattle.std.proofs.lemmas.List.{take_all}
 use Rattle.mv_bounds.specs.Removal.{Released}
 use Rattle.mv_bounds.proofs.ReleaseLemmas.{one_left, released_past, released_more, released_last}
 use Rattle.mv_bounds.proofs.cycles.release.Goals.{then-target-waiting+then-waiting-target-eq0+in_ok-push, then-target-waiting+else-waiting-target-eq0, else-target-waiting}
@@ -40,3 +41,8 @@ loop-target-preserved c =
           kept old _ ready w.waiting-is w.ready-is refl
           (released_past n before old ready0 ready targets k x c.loop-target.invariant c.loop-target-test.true refl (omega arith))
     ]
+
+pub returns : goal.returns
+returns c =
+    let released = λ (ts : List ℕ). Released (length c.args.waiting.now) c.args.waiting.now c.loop-target.waiting c.args.ready.now.items c.loop-target.ready.items ts in
+    subst released (take_all c.loop-target.target-index c.args.targets.now c.loop-target-test.false) c.loop-target.invariant

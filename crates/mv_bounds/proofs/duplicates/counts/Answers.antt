@@ -1,4 +1,5 @@
-use Rattle.std.proofs.Common.{arith, ap, Vec, Global, ℕ}
+use Rattle.std.proofs.Common.{arith, ap, Vec, Global, ℕ, count_by, ◌==◌, ◌∙◌}
+use Rattle.std.proofs.lemmas.List.{take_all}
 use Rattle.mv_bounds.proofs.Defined.{counted_low, counted_hit, counted_miss}
 use Rattle.mv_bounds.proofs.duplicates.counts.Goals.{then-at-n, else-at-n}
 use Rattle.mv_bounds.proofs.duplicates.counts.Goals as goal
@@ -16,3 +17,7 @@ loop-x-preserved c =
       | else-at-n w ↦
           counted_miss c.loop-x.counts.items c.args.items.now c.args.n c.loop-x.x-index c.from-at.result c.if-at-n.counts.items c.loop-x.invariant c.loop-x-test.true c.from-at.ensures w.if-at-n.false (ap (λ (v : Vec ℕ Global). v.items) w.counts-is)
     ]
+
+pub returns-clause-counts : goal.returns-clause-counts
+returns-clause-counts c = λ k low.
+    c.loop-x.invariant.each k low ∙ ap (count_by (λ (x : ℕ). x == k)) (take_all c.loop-x.x-index c.args.items.now c.loop-x-test.false)
