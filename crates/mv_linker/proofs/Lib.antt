@@ -1,5 +1,5 @@
 -- The proofs of the store and of phase 13. Of general use are Found (entries of lists by their places), ListTests, Outcomes,
--- NameLemmas and Members (modules by name, and among others), OwnDefinitions, TagTests and TypeTests (types by names).
+-- NameLemmas, HandleNames and Members (modules by name, and among others), OwnDefinitions, TagTests and TypeTests (types by names).
 -- The rooms, each with an index at its head:
 --   Joining      a bundle joins a store
 --   Cycles       rule f, and who depends on whom
@@ -10,6 +10,7 @@ pub mod Found
 pub mod ListTests
 pub mod Outcomes
 pub mod NameLemmas
+pub mod HandleNames
 pub mod OwnDefinitions
 pub mod Members
 pub mod TagTests

@@ -5,6 +5,7 @@
 --   Constants        `few-numbers`: the numbers of a module's constants are few
 --   TopLemmas        `along-tops`: linking reads the two topmost types before an instruction, and none below them
 --   WidthLemmas      `width-by`, `words-by`: the words of a module's types are those that its resolved handles give
+--   TopWidths        `with-top-is`, `with-target-is`: the words of the topmost type, and of what the topmost reference leads to
 --   SlotLemmas       `with-slot`: the slot of a local has its offset and its width
 --   HandleLemmas     `return-is`, `field-is`: returns and references to fields, by the words of types
 --   FunctionLemmas   `at_function`, `slots-are`: what a function's linker is made of, and the limits of its locals and its code
@@ -20,6 +21,7 @@
 pub mod Constants
 pub mod TopLemmas
 pub mod WidthLemmas
+pub mod TopWidths
 pub mod SlotLemmas
 pub mod HandleLemmas
 pub mod FunctionLemmas

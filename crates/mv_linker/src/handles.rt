@@ -45,7 +45,7 @@ fn struct_handle(m: &Module<'_>, h: usize) -> Option<StructHandle>
 }
 
 /// The function handle at an index, if it is there.
-fn function_handle(m: &Module<'_>, h: usize) -> Option<FunctionHandle>
+pub fn function_handle(m: &Module<'_>, h: usize) -> Option<FunctionHandle>
     ensures { result ≡ slice_get m.now.function_handles h }
 {
     m.function_handles().get(h).copied()

@@ -9,7 +9,7 @@ ghost use Rattle.mv_linker.specs.Link.{tables_in, replaced_in, follows, all_foll
 ghost use Rattle.mv_linker.specs.Scope.{offered};
 ghost use Rattle.mv_linker.specs.Upgrades.{same_field as is_one_field, same_fields as are_one, same_struct_definition as is_one_definition, structs_stay as all_stay, function_stays as this_stays, have_one_type, may_replace as may_stand_for};
 
-use crate::handles::is_public;
+use crate::handles::{function_handle, is_public};
 use crate::names::{function_name, function_place, name_of, struct_name};
 use crate::types::{are_same, same_signature, same_token};
 use crate::{New, Store};
@@ -152,11 +152,10 @@ fn have_same_types(
 ) -> bool
     ensures { result ≡ have_one_type m.now d.now n.now e.now }
 {
-    let handles = (
-        m.function_handles().get(d.handle() as usize),
-        n.function_handles().get(e.handle() as usize),
-    );
-    match handles {
+    match (
+        function_handle(m, d.handle() as usize),
+        function_handle(n, e.handle() as usize),
+    ) {
         (Some(a), Some(b)) => {
             same_signature(m, a.parameters as usize, n, b.parameters as usize)
                 && same_signature(m, a.results as usize, n, b.results as usize)
