@@ -1,4 +1,4 @@
--- The proofs of the store and of phase 13. Of general use are Found (entries of lists by their places), ListTests, Outcomes,
+-- The proofs of the store and of phase 13. Of general use are Found (entries of lists by their places), ListTests, Orders, Outcomes,
 -- NameLemmas, HandleNames and Members (modules by name, and among others), OwnDefinitions, TagTests and TypeTests (types by names).
 -- The rooms, each with an index at its head:
 --   Joining      a bundle joins a store
@@ -8,6 +8,7 @@
 --   Kept         what else the store keeps
 pub mod Found
 pub mod ListTests
+pub mod Orders
 pub mod Outcomes
 pub mod NameLemmas
 pub mod HandleNames

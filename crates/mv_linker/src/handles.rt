@@ -1,5 +1,5 @@
 // Rules d and e of linking: the structs and functions that a module's handles name are there as the handles say.
-ghost use Rattle.std.specs.Prelude.{◌≡◌, ◌<◌, ◌≤◌, true, false, length, slice_get, IsTrue, IfOk, IfErr, IfSome, IfNone, OnSome, OnOk};
+ghost use Rattle.std.specs.Prelude.{◌≡◌, ◌<◌, ◌≤◌, [], true, false, length, slice_get, IsTrue, IfOk, IfErr, IfSome, IfNone, OnSome, OnOk};
 ghost use Rattle.std.specs.List.{list_all};
 ghost use Rattle.mv_move_types.specs.Refusals.{IsRefusedIn};
 ghost use Rattle.mv_move_types.specs.Named.{have_one_name as are_of_one_name, is_public as may_be_called};
@@ -194,19 +194,41 @@ impl<'a> Scope<'a> {
         ensures there { OnOk result (IsTrue (structs_are_there (modules_in self.now) m.now 0 m.now.struct_handles)) }
         ensures refused { IfErr result (IsRefusedIn 13 (IsTrue (structs_are_there (modules_in self.now) m.now 0 m.now.struct_handles))) }
     {
-        let mut found = Vec::new(alloc);
         // Lent again, since they have one lifetime there.
         let likely = likely_structs(alloc, &*m, &*targets)?;
+        let mut found = Vec::new(alloc);
+        match self.put_structs(m, targets, &likely, &mut found) {
+            Ok(()) => Ok(found),
+            Err(e) => Err(e),
+        }
+    }
+
+    // Puts where they are into a list that is empty; `likely` has for each handle where its struct is likely to stand.
+    fn put_structs(
+        &self,
+        m: &Module<'_>,
+        targets: &[Target<'_>],
+        likely: &[Option<usize>],
+        found: &mut Vec<Definition>,
+    ) -> Result<(), Refusal>
+        requires named { AreTargets (modules_in self.now) m.now targets.now }
+        requires few { length (modules_in self.now) ≤ 65536 }
+        requires likely { length likely.now ≡ length m.now.struct_handles }
+        requires none { found.old.items ≡ [] }
+        ensures ok { OnOk result (AreStructsAt (modules_in self.now) m.now found.new.items) }
+        ensures there { OnOk result (IsTrue (structs_are_there (modules_in self.now) m.now 0 m.now.struct_handles)) }
+        ensures refused { IfErr result (IsRefusedIn 13 (IsTrue (structs_are_there (modules_in self.now) m.now 0 m.now.struct_handles))) }
+    {
         for h in 0..m.struct_handles().len() {
             let Some(handle) = struct_handle(m, h) else {
                 unreachable!();
             };
             match self.structure(m, targets, h, handle, likely[h]) {
-                Ok(definition) => pushed(&mut found, definition)?,
+                Ok(definition) => pushed(found, definition)?,
                 Err(e) => return Err(e),
             }
         }
-        Ok(found)
+        Ok(())
     }
 
     /// Where the function of a handle is defined; `Phase(13)`, where it is not there as the handle says.
@@ -250,18 +272,40 @@ impl<'a> Scope<'a> {
         ensures there { OnOk result (IsTrue (list_all (function_is_there (modules_in self.now) m.now) m.now.function_handles)) }
         ensures refused { IfErr result (IsRefusedIn 13 (IsTrue (list_all (function_is_there (modules_in self.now) m.now) m.now.function_handles))) }
     {
-        let mut found = Vec::new(alloc);
         // Lent again, since they have one lifetime there.
         let likely = likely_functions(alloc, &*m, &*targets)?;
+        let mut found = Vec::new(alloc);
+        match self.put_functions(m, targets, &likely, &mut found) {
+            Ok(()) => Ok(found),
+            Err(e) => Err(e),
+        }
+    }
+
+    // Puts where they are into a list that is empty; `likely` has for each handle where its function is likely to stand.
+    fn put_functions(
+        &self,
+        m: &Module<'_>,
+        targets: &[Target<'_>],
+        likely: &[Option<usize>],
+        found: &mut Vec<Definition>,
+    ) -> Result<(), Refusal>
+        requires named { AreTargets (modules_in self.now) m.now targets.now }
+        requires few { length (modules_in self.now) ≤ 65536 }
+        requires likely { length likely.now ≡ length m.now.function_handles }
+        requires none { found.old.items ≡ [] }
+        ensures ok { OnOk result (AreFunctionsAt (modules_in self.now) m.now found.new.items) }
+        ensures there { OnOk result (IsTrue (list_all (function_is_there (modules_in self.now) m.now) m.now.function_handles)) }
+        ensures refused { IfErr result (IsRefusedIn 13 (IsTrue (list_all (function_is_there (modules_in self.now) m.now) m.now.function_handles))) }
+    {
         for h in 0..m.function_handles().len() {
             let Some(handle) = function_handle(m, h) else {
                 unreachable!();
             };
             match self.function(m, targets, h, handle, likely[h]) {
-                Ok(definition) => pushed(&mut found, definition)?,
+                Ok(definition) => pushed(found, definition)?,
                 Err(e) => return Err(e),
             }
         }
-        Ok(found)
+        Ok(())
     }
 }

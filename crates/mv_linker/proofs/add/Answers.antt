@@ -1,4 +1,4 @@
-use Rattle.std.proofs.Common.{◌≡◌, ℕ, List, sym, ap, ap₂, ◌∙◌, subst}
+use Rattle.std.proofs.Common.{◌≡◌, ℕ, List, length, sym, ap, ap₂, ◌∙◌, subst, arith}
 use Rattle.mv_move_types.specs.Published.{PublishedModule, with_modules}
 use Rattle.mv_linker.specs.declared.code.Code.{Code}
 use Rattle.mv_linker.specs.declared.dependencies.Dependencies.{Dependencies}
@@ -26,28 +26,31 @@ still entries was_entries codes was_codes kept was_kept pairs was e c k namers w
     (subst (λ l. IsWhole was_entries l kept pairs) (sym c)
     (subst (λ l. IsWhole was_entries was_codes l pairs) (sym k) (whole.0, whole.1, whole.2, whole.3, namers)))
 
-pub invariant_of-s-in_err-reserve-3 : goal.invariant_of-s-in_err-reserve-3
-invariant_of-s-in_err-reserve-3 c = still _ _ _ _ _ _ _ _ c.reserve.ensures.entries c.reserve-2.ensures.items c.reserve-3.ensures.items c.s.invariant.4 c.s.invariant
+pub invariant_of-s : goal.invariant_of-s
+invariant_of-s c =
+    still _ _ _ _ _ _ _ _ c.prepare.ensures.modules c.prepare.ensures.codes c.prepare.ensures.kept
+    (namers-grow c.s.inside.namers c.prepare.new.namers c.s.inside.dependencies.items c.s.invariant.4 c.prepare.ensures.stays) c.s.invariant
 
-pub invariant_of-s-in_err-gone : goal.invariant_of-s-in_err-gone
-invariant_of-s-in_err-gone c = still _ _ _ _ _ _ _ _ c.reserve.ensures.entries c.reserve-2.ensures.items c.reserve-3.ensures.items c.s.invariant.4 c.s.invariant
+pub put_modules-requires-clause-room : goal.put_modules-requires-clause-room
+put_modules-requires-clause-room c = omega (arith, c.in_ok-gone.ensures.room, ap length c.deref.ensures.value)
 
-pub invariant_of-s-in_err-put_all : goal.invariant_of-s-in_err-put_all
-invariant_of-s-in_err-put_all c =
-    still _ _ _ _ _ _ _ _ c.reserve.ensures.entries c.reserve-2.ensures.items c.reserve-3.ensures.items
-    (namers-grow c.s.inside.namers c.put_all.new.self c.s.inside.dependencies.items c.s.invariant.4 c.put_all.ensures.stays) c.s.invariant
+pub put_codes-requires : goal.put_codes-requires
+put_codes-requires c = omega (arith, c.in_ok-gone.ensures.linked, ap length c.deref-2.ensures.value)
+
+pub put_dependencies-requires : goal.put_dependencies-requires
+put_dependencies-requires c = omega (arith, c.in_ok-gone.ensures.more, ap length c.deref-3.ensures.value)
 
 pub forget-requires : goal.forget-requires
 forget-requires c =
     let old = tables_in c.args.s.now in
     let kept = c.s.inside.dependencies.items in
     let more = c.args.l.dependencies in
-    let pairs = c.put_all.new.self in
+    let pairs = c.prepare.new.namers in
     let are : AreDependenciesOf old kept = subst (λ (l : List PublishedModule). AreDependenciesOf (tables_in l) kept) c.s.view_is c.s.invariant.3 in
-    let named : AreNamed pairs more = subst (AreNamed pairs) (c.deref-3.ensures.value ∙ ap (λ l. l.dependencies) c.l.view_is) c.in_ok-put_all.ensures.put in
+    let named : AreNamed pairs more = subst (AreNamed pairs) (c.deref-3.ensures.value ∙ ap (λ l. l.dependencies) c.l.view_is) c.in_ok-gone.ensures.put in
     let is : with_dependencies kept more ≡ c.deref-4.result.now =
-    sym (c.deref-4.ensures.value ∙ c.put_dependencies.ensures ∙ ap₂ with_dependencies c.reserve-3.ensures.items (ap (λ l. l.dependencies) c.l.view_is)) in
-    subst (AreNamers pairs) is (namers-join old (tables_in (with_modules c.args.s.now c.args.l.published)) kept more c.s.inside.namers pairs are c.requires.dependencies c.s.invariant.4 c.put_all.ensures.stays named)
+    sym (c.deref-4.ensures.value ∙ c.put_dependencies.ensures ∙ ap₂ with_dependencies c.prepare.ensures.kept (ap (λ l. l.dependencies) c.l.view_is)) in
+    subst (AreNamers pairs) is (namers-join old (tables_in (with_modules c.args.s.now c.args.l.published)) kept more c.s.inside.namers pairs are c.requires.dependencies c.s.invariant.4 c.prepare.ensures.stays named)
 
 pub invariant_of-s-2 : goal.invariant_of-s-2
 invariant_of-s-2 c =
@@ -55,12 +58,12 @@ invariant_of-s-2 c =
     let codes = c.s.inside.codes.items in
     let kept = c.s.inside.dependencies.items in
     let joined : published_under c.put_modules.new.modules.entries ≡ with_modules old c.args.l.published =
-    c.put_modules.ensures.modules ∙ ap₂ with_modules (ap published_under c.reserve.ensures.entries ∙ c.s.view_is) (ap (λ l. l.published) c.l.view_is) in
+    c.put_modules.ensures.modules ∙ ap₂ with_modules (ap published_under c.prepare.ensures.modules ∙ c.s.view_is) (ap (λ l. l.published) c.l.view_is) in
     let coded : AreCodesOf (tables_in old) codes = subst (λ (l : List PublishedModule). AreCodesOf (tables_in l) codes) c.s.view_is c.s.invariant.2 in
-    let put_codes : c.put_codes.new.codes.items ≡ with_codes codes c.args.l.codes = c.put_codes.ensures ∙ ap₂ with_codes c.reserve-2.ensures.items (ap (λ l. l.codes) c.l.view_is) in
+    let put_codes : c.put_codes.new.codes.items ≡ with_codes codes c.args.l.codes = c.put_codes.ensures ∙ ap₂ with_codes c.prepare.ensures.codes (ap (λ l. l.codes) c.l.view_is) in
     let depend : AreDependenciesOf (tables_in old) kept = subst (λ (l : List PublishedModule). AreDependenciesOf (tables_in l) kept) c.s.view_is c.s.invariant.3 in
     let put_kept : c.put_dependencies.new.kept.items ≡ with_dependencies kept c.args.l.dependencies =
-    c.put_dependencies.ensures ∙ ap₂ with_dependencies c.reserve-3.ensures.items (ap (λ l. l.dependencies) c.l.view_is) in (
+    c.put_dependencies.ensures ∙ ap₂ with_dependencies c.prepare.ensures.kept (ap (λ l. l.dependencies) c.l.view_is) in (
       subst IsStore (sym joined) c.requires.whole,
       c.put_modules.ensures.keyed,
       subst (λ (l : List PublishedModule). AreCodesOf (tables_in l) c.put_codes.new.codes.items) (sym joined)

@@ -1,4 +1,4 @@
-use Rattle.std.proofs.Common.{◌≡◌, ◌+◌, ◌++◌, ◌∷◌, [], take, ap, sym, ◌∙◌, subst, arith}
+use Rattle.std.proofs.Common.{◌≡◌, ◌+◌, ◌++◌, ◌∷◌, [], take, ap, sym, ◌∙◌, subst}
 use Rattle.std.specs.Prelude.{All}
 use Rattle.std.proofs.lemmas.List.{take_more, map-append}
 use Rattle.std.proofs.lemmas.List.Elements.{All-push}
@@ -15,7 +15,7 @@ loop-n-preserved c =
     let pushed : published_in c.push.new.self.items ≡ published_in c.loop-n.entries.items ++ e.published ∷ [] =
     ap published_in c.in_ok-push.ensures.items ∙ map-append (λ (k : Kept). k.published) c.loop-n.entries.items (e ∷ []) in
     let taken : take (c.loop-n.n-index + 1) c.args.new.now ≡ before ++ n ∷ [] =
-    take_more c.args.new.now c.loop-n.n-index n (omega arith) ∙ ap (λ x. before ++ x ∷ []) (sym c.n-item.is) in
+    take_more c.args.new.now c.loop-n.n-index n c.loop-n-test.true ∙ ap (λ x. before ++ x ∷ []) (sym c.n-item.is) in
     let same : published_in c.push.new.self.items ≡ published_of (take (c.loop-n.n-index + 1) c.args.new.now) =
     pushed ∙ ap (λ l. l ++ e.published ∷ []) c.loop-n.invariant.0 ∙ ap (λ p. published_of before ++ p ∷ []) c.in_ok-entry_of.ensures.value
     ∙ sym (map-append published_one before (n ∷ [])) ∙ sym (ap published_of taken) in

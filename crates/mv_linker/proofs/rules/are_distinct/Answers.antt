@@ -1,4 +1,4 @@
-use Rattle.std.proofs.Common.{◌≡◌, ◌+◌, ◌++◌, ◌∷◌, [], ◌&&◌, take, ap, sym, subst, ◌∙◌, arith}
+use Rattle.std.proofs.Common.{◌≡◌, ◌+◌, ◌++◌, ◌∷◌, [], ◌&&◌, take, ap, sym, subst, ◌∙◌}
 use Rattle.std.proofs.lemmas.List.{take_more}
 use Rattle.mv_linker.proofs.Kept.IndexLemmas.{SeenSoFar, seen-more}
 use Rattle.mv_linker.proofs.rules.are_distinct.Goals as goal
@@ -8,7 +8,7 @@ pub loop-i-preserved : goal.loop-i-preserved
 loop-i-preserved c =
     let k = c.index-added-i.result in
     let taken : take (c.loop-i.i + 1) c.args.added.now ≡ take c.loop-i.i c.args.added.now ++ k ∷ [] =
-    take_more c.args.added.now c.loop-i.i k (omega arith) ∙ ap (λ x. take c.loop-i.i c.args.added.now ++ x ∷ []) (sym c.index-added-i.is) in
+    take_more c.args.added.now c.loop-i.i k c.loop-i-test.true ∙ ap (λ x. take c.loop-i.i c.args.added.now ++ x ∷ []) (sym c.index-added-i.is) in
     let next : c.if-differ.differ ≡ (c.loop-i.differ && c.in_ok-is_new.is_new) = elim c.if-differ.branch [
       | then-differ w ↦ w.differ-is ∙ ap (λ b. b && c.in_ok-is_new.is_new) (sym w.if-differ.true)
       | else-differ w ↦ w.differ-is ∙ w.if-differ.false ∙ ap (λ b. b && c.in_ok-is_new.is_new) (sym w.if-differ.false)

@@ -34,7 +34,7 @@ loop-i-preserved c =
     let own = c.in_ok-name.name in
     let stored = module_place old (name_in own) in
     let taken : take (c.loop-i.i + 1) c.args.new.now ≡ take c.loop-i.i c.args.new.now ++ n ∷ [] =
-    take_more c.args.new.now c.loop-i.i n (omega arith) ∙ ap (λ x. take c.loop-i.i c.args.new.now ++ x ∷ []) (sym c.index-new-i.is) in
+    take_more c.args.new.now c.loop-i.i n c.loop-i-test.true ∙ ap (λ x. take c.loop-i.i c.args.new.now ++ x ∷ []) (sym c.index-new-i.is) in
     let found : c.place_of.result ≡ module_place (with_tables old before) (name_in own) =
     c.place_of.ensures ∙ ap (λ (o : Option _). option_or o stored) (c.loop-i.invariant.1 own)
     ∙ sym (found-before (name_in own) before c.loop-i.places.items stored)
@@ -57,12 +57,12 @@ loop-i-preserved c =
 
 pub returns-clause-places : goal.returns-clause-places
 returns-clause-places c =
-    c.loop-i.invariant.0.placed ∙ ap (λ l. places_in (tables_in c.args.store.now) (offered l)) (take_all c.loop-i.i c.args.new.now (omega arith))
+    c.loop-i.invariant.0.placed ∙ ap (λ l. places_in (tables_in c.args.store.now) (offered l)) (take_all c.loop-i.i c.args.new.now c.loop-i-test.false)
 
 pub returns-clause-names : goal.returns-clause-names
 returns-clause-names c =
-    subst (λ l. ArePlacesOf c.loop-i.names.entries (offered l) c.loop-i.places.items) (take_all c.loop-i.i c.args.new.now (omega arith)) c.loop-i.invariant.1
+    subst (λ l. ArePlacesOf c.loop-i.names.entries (offered l) c.loop-i.places.items) (take_all c.loop-i.i c.args.new.now c.loop-i-test.false) c.loop-i.invariant.1
 
 pub returns-clause-named : goal.returns-clause-named
 returns-clause-named c =
-    sym (ap (λ l. all_named (offered l)) (take_all c.loop-i.i c.args.new.now (omega arith))) ∙ c.loop-i.invariant.0.named
+    sym (ap (λ l. all_named (offered l)) (take_all c.loop-i.i c.args.new.now c.loop-i-test.false)) ∙ c.loop-i.invariant.0.named

@@ -1,4 +1,4 @@
-use Rattle.std.proofs.Common.{◌≡◌, ◌+◌, ◌++◌, ◌∷◌, [], take, map, ap, sym, ◌∙◌, arith}
+use Rattle.std.proofs.Common.{◌≡◌, ◌+◌, ◌++◌, ◌∷◌, [], take, map, ap, sym, ◌∙◌}
 use Rattle.std.proofs.lemmas.List.{take_more, map-append}
 use Rattle.mv_linker.specs.declared.targets.Target.{Target}
 use Rattle.mv_linker.proofs.targets.places_of.Goals as goal
@@ -8,6 +8,6 @@ loop-t-preserved c =
     let t = c.t-item.result in
     let before = take c.loop-t.t-index c.args.targets.now in
     let taken : take (c.loop-t.t-index + 1) c.args.targets.now ≡ before ++ t ∷ [] =
-    take_more c.args.targets.now c.loop-t.t-index t (omega arith) ∙ ap (λ x. before ++ x ∷ []) (sym c.t-item.is) in
+    take_more c.args.targets.now c.loop-t.t-index t c.loop-t-test.true ∙ ap (λ x. before ++ x ∷ []) (sym c.t-item.is) in
     c.in_ok-push.ensures.items ∙ ap (λ l. l ++ t.place ∷ []) c.loop-t.invariant
     ∙ sym (map-append (λ (t : Target). t.place) before (t ∷ [])) ∙ sym (ap (map (λ (t : Target). t.place)) taken)

@@ -29,7 +29,7 @@ loop-k-preserved c =
     let low : k < length s.places.items = omega (arith, placed-length s, c.requires.names.len, length-map s.new.now (λ (n : New). n.module)) in
     let placed : slice_get (places_in (tables_in s.store.now) (offered s.new.now)) k ≡ Some own =
     ap (λ l. slice_get l k) (sym s.placed) ∙ slice_get_read s.places.items (length s.places.items) k own refl low c.index.ensures in
-    let named = slice_get_read c.args.names.now (length c.args.names.now) k n refl (omega arith) c.index-names-k.is in
+    let named = slice_get_read c.args.names.now (length c.args.names.now) k n refl c.loop-k-test.true c.index-names-k.is in
     one-more _ _ _ _ _ c.in_ok-dependencies.field-0 c.loop-k.invariant c.in_ok-push.ensures.items
     (λ (m : Module) at. c.in_ok-dependencies.ensures (modules_in s) m (bundle-at (tables_in s.store.now) (offered s.new.now) k own m s.once at placed)
     (differ-result (tables_in s.store.now) (offered s.new.now) c.requires.store.once)

@@ -1,4 +1,4 @@
-use Rattle.std.proofs.Common.{◌≡◌, ◌<◌, true, false, length, refl, sym, ap, subst, ◌∙◌, arith}
+use Rattle.std.proofs.Common.{◌≡◌, ◌<◌, true, false, length, refl, sym, ap, subst, ◌∙◌}
 use Rattle.std.specs.Option.{option_map_or}
 use Rattle.std.specs.Str.{bytes_eq}
 use Rattle.std.proofs.lemmas.Bool.{leb-true}
@@ -6,6 +6,7 @@ use Rattle.mv_move_types.specs.Module.{Module, FunctionDefinition, name_of_funct
 use Rattle.mv_bounds.specs.Definitions.{WellDefined}
 use Rattle.mv_linker.specs.Targets.{modules_in, tables_of, function_matches, IsFunctionIn, IsFunctionAt}
 use Rattle.mv_linker.proofs.Joining.Resolving.{function_nowhere, function_there_is, function_at, target_below}
+use Rattle.mv_linker.proofs.Orders.{below-most, below-few}
 use Rattle.mv_linker.proofs.scope.Scope.function.Goals as goal
 use Rattle.mv_linker.proofs.Found.{place_below}
 
@@ -28,7 +29,7 @@ function_in-requires c = subst WellDefined (sym c.tables-module.ensures) (c.requ
 
 pub definition-requires-clause-place : goal.definition-requires-clause-place
 definition-requires-clause-place c =
-    omega (arith, c.requires.few, target_below (modules_in c.args.self.now) c.args.m.now c.args.targets.now c.requires.named c.args.handle.module c.in-Some.target.now c.in-Some.ensures.there)
+    below-most _ _ _ (target_below (modules_in c.args.self.now) c.args.m.now c.args.targets.now c.requires.named c.args.handle.module c.in-Some.target.now c.in-Some.ensures.there) c.requires.few
 
 pub definition-requires-clause-index : goal.definition-requires-clause-index
 definition-requires-clause-index c =
@@ -36,7 +37,7 @@ definition-requires-clause-index c =
     let below : c.in-Some-function_in.index < length c.tables-module.result.now.functions =
     place_below (λ (d : FunctionDefinition). option_map_or (bytes_eq found.name) (name_of_function c.tables-module.result.now d) false) c.tables-module.result.now.functions c.in-Some-function_in.index found.place in
     let few = leb-true (length c.tables-module.result.now.functions) 256 c.functions-functions.ensures.few in
-    omega (arith, below, few)
+    below-few _ _ below few
 
 pub returns-clause-ok : goal.returns-clause-ok
 returns-clause-ok c =

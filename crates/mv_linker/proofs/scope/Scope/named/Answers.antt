@@ -22,7 +22,7 @@ pub returns-in-Err-clause-refused : goal.returns-in-Err-clause-refused
 returns-in-Err-clause-refused c =
     let s = c.args.self.now in
     let n = c.index-self-i.result in
-    let among = offered-among s.new.now c.loop-i.i n (slice_get_read s.new.now (length s.new.now) c.loop-i.i n refl (omega arith) c.index-self-i.is) in
+    let among = offered-among s.new.now c.loop-i.i n (slice_get_read s.new.now (length s.new.now) c.loop-i.i n refl c.loop-i-test.true c.index-self-i.is) in
     refused_by (IsTrue (names_hold (modules_in s) c.module.result.now)) (Links (modules_in s)) c.in-Err.e
     (λ (links : Links (modules_in s)). ap (names_hold (modules_in s)) c.module.ensures.value ∙ ap (λ (x : New). names_hold (modules_in s) x.module) (sym c.index-self-i.is)
     ∙ all-among (names_hold (modules_in s)) (offered s.new.now) n.module (bundle-links (tables_in s.store.now) (offered s.new.now) c.requires.once links).named among) c.in-Err.ensures.refused
@@ -31,8 +31,8 @@ pub loop-i-preserved : goal.loop-i-preserved
 loop-i-preserved c =
     let n = c.index-self-i.result in
     let new = c.args.self.now.new.now in
-    let taken : take (c.loop-i.i + 1) new ≡ take c.loop-i.i new ++ n ∷ [] = take_more new c.loop-i.i n (omega arith) ∙ ap (λ x. take c.loop-i.i new ++ x ∷ []) (sym c.index-self-i.is) in
-    let here : slice_get new c.loop-i.i ≡ Some n = slice_get_read new (length new) c.loop-i.i n refl (omega arith) c.index-self-i.is in
+    let taken : take (c.loop-i.i + 1) new ≡ take c.loop-i.i new ++ n ∷ [] = take_more new c.loop-i.i n c.loop-i-test.true ∙ ap (λ x. take c.loop-i.i new ++ x ∷ []) (sym c.index-self-i.is) in
+    let here : slice_get new c.loop-i.i ≡ Some n = slice_get_read new (length new) c.loop-i.i n refl c.loop-i-test.true c.index-self-i.is in
     record {
       hold =
           named-more (names_hold (modules_in c.args.self.now)) new c.loop-i.i n c.loop-i.invariant.hold taken
@@ -46,7 +46,7 @@ loop-i-preserved c =
 
 pub returns-clause-ok : goal.returns-clause-ok
 returns-clause-ok c =
-    sym (ap (λ l. list_all (names_hold (modules_in c.args.self.now)) (offered l)) (take_all c.loop-i.i c.args.self.now.new.now (omega arith))) ∙ c.loop-i.invariant.hold
+    sym (ap (λ l. list_all (names_hold (modules_in c.args.self.now)) (offered l)) (take_all c.loop-i.i c.args.self.now.new.now c.loop-i-test.false)) ∙ c.loop-i.invariant.hold
 
 pub returns-clause-names : goal.returns-clause-names
 returns-clause-names c = all-names (modules_in c.args.self.now) c.args.self.now.new.now c.loop-i.all.items c.loop-i.i c.loop-i.invariant.names (omega arith)

@@ -1,9 +1,10 @@
-use Rattle.std.proofs.Common.{◌≡◌, ◌<◌, true, false, length, refl, sym, ap, subst, ◌∙◌, arith}
+use Rattle.std.proofs.Common.{◌≡◌, ◌<◌, true, false, length, refl, sym, ap, subst, ◌∙◌}
 use Rattle.mv_move_types.specs.Module.{Module}
 use Rattle.mv_move_types.specs.Named.{is_struct}
 use Rattle.mv_bounds.specs.Definitions.{WellDefined}
 use Rattle.mv_linker.specs.Targets.{modules_in, tables_of, struct_matches, IsStructIn, IsStructAt}
 use Rattle.mv_linker.proofs.Joining.Resolving.{struct_nowhere, struct_there_is, struct_at, target_below}
+use Rattle.mv_linker.proofs.Orders.{below-most}
 use Rattle.mv_linker.proofs.scope.Scope.structure.Goals as goal
 use Rattle.mv_linker.proofs.Found.{place_below}
 
@@ -26,14 +27,14 @@ struct_in-requires c = subst WellDefined (sym c.tables-module.ensures) (c.requir
 
 pub definition-requires-clause-place : goal.definition-requires-clause-place
 definition-requires-clause-place c =
-    omega (arith, c.requires.few, target_below (modules_in c.args.self.now) c.args.m.now c.args.targets.now c.requires.named c.args.handle.module c.in-Some.target.now c.in-Some.ensures.there)
+    below-most _ _ _ (target_below (modules_in c.args.self.now) c.args.m.now c.args.targets.now c.requires.named c.args.handle.module c.in-Some.target.now c.in-Some.ensures.there) c.requires.few
 
 pub definition-requires-clause-index : goal.definition-requires-clause-index
 definition-requires-clause-index c =
     let found = c.in-Some-struct_in.ensures.found in
     let below : c.in-Some-struct_in.index < length c.tables-module.result.now.structs =
     place_below (is_struct c.tables-module.result.now found.name) c.tables-module.result.now.structs c.in-Some-struct_in.index found.place in
-    omega (arith, below, c.structs-structs.ensures.few)
+    below-most _ _ _ below c.structs-structs.ensures.few
 
 pub returns-clause-ok : goal.returns-clause-ok
 returns-clause-ok c =
