@@ -17,9 +17,9 @@ PARTS = "src", "specs", "proofs"
 JOBS_A_PROCESSOR = 2
 # How many jobs a crate gets that most waits for, and one beside it.
 MOST_JOBS, JOBS_BESIDE = 4, 2
-# A crate gives way (see nice(1)), and waits for a free processor, where the first crate that uses it is so many bytes of the longest
-# chain away: those that will be built before it is wanted.
-FAR, GIVES_WAY = 100_000, 10
+# A crate gives way (see nice(1)), and waits for a free processor, where what will be built before it is wanted is more than this many
+# times its own size. What a check takes before its first proof counts as so many bytes.
+FAR, GIVES_WAY, BEFORE = 2, 10, 50_000
 # The free memory, in kB, below which no other crate is begun beside one.
 ROOM = 5_000_000
 
@@ -40,7 +40,7 @@ class Crate:
     def __init__(self, name, used):
         self.name, self.used, self.behind, self.waiting = name, used, 0, 0
         folders = [f"crates/{name}/{it}" for it in PARTS]
-        self.size = sum(os.path.getsize(f"{at}/{it}") for top in folders for at, _, names in os.walk(top) for it in names)
+        self.size = BEFORE + sum(os.path.getsize(f"{at}/{it}") for top in folders for at, _, names in os.walk(top) for it in names)
 
 
 def libraries(uses, program):
@@ -62,10 +62,9 @@ def has_room():
 class Lane:
     """A build of one crate."""
 
-    def __init__(self, crate, first, log):
-        self.crate, self.jobs = crate, MOST_JOBS if crate is first else JOBS_BESIDE
-        level = GIVES_WAY if is_early(crate, first) else 0
-        words = ["nice", "-n", str(level), sys.executable, os.path.realpath(__file__)]
+    def __init__(self, crate, jobs, gives_way, log):
+        self.crate, self.jobs, self.gives_way = crate, jobs, gives_way
+        words = ["nice", "-n", str(GIVES_WAY * gives_way), sys.executable, os.path.realpath(__file__)]
         self.run = subprocess.Popen([*words, crate.name, str(self.jobs)], stdin=subprocess.DEVNULL, stdout=log, stderr=log)
 
     def end(self):
@@ -74,9 +73,10 @@ class Lane:
         self.run.wait()
 
 
-def is_early(crate, first):
-    """Whether a crate isn't wanted soon, where of those that aren't begun the longest chain waits for this one."""
-    return first.waiting - crate.waiting > FAR
+def is_early(crate, running, left):
+    """Whether a crate isn't wanted soon: long after those that are wanted now, or after the next one of the longest chain."""
+    now = [it.crate.waiting for it in running if not it.gives_way] or [left[0].waiting]
+    return max(now) - crate.waiting > FAR * crate.size
 
 
 def are_new(uses, program):
@@ -94,9 +94,9 @@ def build(uses, program, processors, log, tell):
     try:
         while running or (left and well):
             for crate in [it for it in left if well and all(used in built for used in it.used)]:
-                is_idle = sum(it.jobs for it in running) < JOBS_A_PROCESSOR * processors
-                if (is_idle or not is_early(crate, left[0])) and (not running or has_room()):
-                    running.append(Lane(crate, left[0], log))
+                is_idle, early = sum(it.jobs for it in running) < JOBS_A_PROCESSOR * processors, is_early(crate, running, left)
+                if (is_idle or not early) and (not running or has_room()):
+                    running.append(Lane(crate, MOST_JOBS if crate is left[0] else JOBS_BESIDE, early, log))
                     left.remove(crate)
             time.sleep(0.2)
             tell(built)
