@@ -15,11 +15,15 @@ TOP = os.path.dirname(os.path.dirname(os.path.realpath(__file__)))
 PARTS = "src", "specs", "proofs"
 # A check loads its libraries and ends on one processor, so that there are more jobs than processors.
 JOBS_A_PROCESSOR = 2
-# How many jobs a crate gets that most waits for, and one beside it.
-MOST_JOBS, JOBS_BESIDE = 4, 2
+# How many jobs a crate gets that most waits for, one beside it, and one that gives way. A check with several jobs takes a third more of
+# the processors than one with a single job.
+MOST_JOBS, JOBS_BESIDE, JOBS_OF_ONE_THAT_GIVES_WAY = 4, 2, 1
+# What a check takes before its first proof counts as so many bytes of its crate.
+BEFORE = 50_000
 # A crate gives way (see nice(1)), and waits for a free processor, where what will be built before it is wanted is more than this many
-# times its own size. What a check takes before its first proof counts as so many bytes.
-FAR, GIVES_WAY, BEFORE = 2, 10, 50_000
+# times its own size, and more so where that is more than so many bytes.
+FAR, MUCH = 2, 1_500_000
+GIVES_WAY, GIVES_MUCH_WAY = 5, 15
 # The free memory, in kB, below which no other crate is begun beside one.
 ROOM = 5_000_000
 
@@ -64,7 +68,7 @@ class Lane:
 
     def __init__(self, crate, jobs, gives_way, log):
         self.crate, self.jobs, self.gives_way = crate, jobs, gives_way
-        words = ["nice", "-n", str(GIVES_WAY * gives_way), sys.executable, os.path.realpath(__file__)]
+        words = ["nice", "-n", str(gives_way), sys.executable, os.path.realpath(__file__)]
         self.run = subprocess.Popen([*words, crate.name, str(self.jobs)], stdin=subprocess.DEVNULL, stdout=log, stderr=log)
 
     def end(self):
@@ -73,10 +77,12 @@ class Lane:
         self.run.wait()
 
 
-def is_early(crate, running, left):
-    """Whether a crate isn't wanted soon: long after those that are wanted now, or after the next one of the longest chain."""
+def way_given(crate, running, left):
+    """How much way a crate gives: none where it is wanted soon after those that are wanted now, or after the next one of the longest
+    chain."""
     now = [it.crate.waiting for it in running if not it.gives_way] or [left[0].waiting]
-    return max(now) - crate.waiting > FAR * crate.size
+    before = max(now) - crate.waiting
+    return 0 if before <= FAR * crate.size else GIVES_WAY if before < MUCH else GIVES_MUCH_WAY
 
 
 def are_new(uses, program):
@@ -94,9 +100,10 @@ def build(uses, program, processors, log, tell):
     try:
         while running or (left and well):
             for crate in [it for it in left if well and all(used in built for used in it.used)]:
-                is_idle, early = sum(it.jobs for it in running) < JOBS_A_PROCESSOR * processors, is_early(crate, running, left)
-                if (is_idle or not early) and (not running or has_room()):
-                    running.append(Lane(crate, MOST_JOBS if crate is left[0] else JOBS_BESIDE, early, log))
+                is_idle, way = sum(it.jobs for it in running) < JOBS_A_PROCESSOR * processors, way_given(crate, running, left)
+                if (is_idle or not way) and (not running or has_room()):
+                    at_once = MOST_JOBS if crate is left[0] else JOBS_OF_ONE_THAT_GIVES_WAY if way else JOBS_BESIDE
+                    running.append(Lane(crate, at_once, way, log))
                     left.remove(crate)
             time.sleep(0.2)
             tell(built)
