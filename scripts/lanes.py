@@ -4,6 +4,7 @@ their proofs. That takes a third less of the processors than a build by `rt lib`
 The crates that the longest chain of others waits for have the processors first, the others what these leave.
 usage: scripts/lanes.py NAME JOBS    builds one library, over those below it as they were built"""
 
+import contextlib
 import importlib.util
 import os
 import shutil
@@ -35,6 +36,24 @@ def toolchain():
     made = importlib.util.module_from_spec(spec)
     spec.loader.exec_module(made)
     return made
+
+
+@contextlib.contextmanager
+def stamps_once(rtlib):
+    """For a while, each crate's stamp is reckoned once. It has the stamps of the crates that it uses, and by itself it is reckoned anew on
+    each of the thousands of ways that lead to a crate at the bottom."""
+    reckoned, known = rtlib.Crate.stamp, {}
+
+    def stamp(crate):
+        if crate.folder not in known:
+            known[crate.folder] = reckoned(crate)
+        return known[crate.folder]
+
+    rtlib.Crate.stamp = stamp
+    try:
+        yield
+    finally:
+        rtlib.Crate.stamp = reckoned
 
 
 class Crate:
@@ -95,7 +114,9 @@ def build(uses, program, processors, log, tell):
     rtlib, crates = toolchain(), libraries(uses, program)
     of_rt = {name: rtlib.Crate(f"{TOP}/crates/{name}", TOP, {}) for name in crates}
     with_lock = rtlib.lock(of_rt.values())
-    built, running, well = [name for name, it in of_rt.items() if it.is_built()], [], True
+    with stamps_once(rtlib):
+        built = [name for name, it in of_rt.items() if it.is_built()]
+    running, well = [], True
     left = sorted((it for it in crates.values() if it.name not in built), key=lambda it: -it.behind)
     try:
         while running or (left and well):
@@ -123,12 +144,16 @@ def prove(name, jobs):
     """Proves and builds one library, and marks it as built from its sources, by which `rt` knows it again. Returns the status."""
     rtlib = toolchain()
     crate = rtlib.Crate(f"{TOP}/crates/{name}", TOP, {})
-    stamp, folder = crate.stamp(), os.path.dirname(crate.rlib)
+    folder = os.path.dirname(crate.rlib)
+    with stamps_once(rtlib):
+        stamp = crate.stamp()
     shutil.rmtree(folder, ignore_errors=True)
     os.makedirs(folder)
     words = crate.words(["--jobs", jobs], keeps=False)
     status = crate.call(rtlib.RATTLE, "build", *words, "--statements", "-o", crate.rlib)
-    if not status and stamp == crate.stamp():
+    with stamps_once(rtlib):
+        is_same = stamp == crate.stamp()
+    if not status and is_same:
         with open(f"{folder}/stamp", "w", encoding="utf-8") as mark:
             mark.write(stamp)
     return status
