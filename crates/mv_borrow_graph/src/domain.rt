@@ -11,7 +11,7 @@ ghost use Rattle.mv_borrow_graph.specs.Nodes.{are_few as few};
 use super::site::{Site, leaves_edges};
 use mv_binary_format::FunctionDefinition;
 use mv_bounds::Bounded;
-use mv_edges::{Edge, Edges};
+use mv_edges::{Edge, Edges, MOST_EDGES, MOST_POSITIONS};
 use mv_lattice::{Domain, StepError};
 use mv_move_types::Instruction;
 use mv_type_states::{StackTypes, Typed};
@@ -130,12 +130,6 @@ impl<'t, 'm> BorrowDomain<'t, 'm> {
         Edges::new(alloc)
     }
 }
-
-/// How many edges a search may state at most.
-const MOST_EDGES: usize = 1024;
-
-/// How many positions a label may have that a search states.
-const MOST_POSITIONS: usize = 8;
 
 /// Whether each edge has a label of at most 8 positions.
 fn are_short(edges: &[Edge]) -> bool

@@ -14,7 +14,7 @@ use super::certificate::{Cert, Known, Stated};
 use super::shape;
 use mv_binary_format::{FunctionDefinition, Module};
 use mv_cfg::Block;
-use mv_edges::{Edge, Edges, Label};
+use mv_edges::{Edge, Edges, Label, MOST_EDGES, MOST_POSITIONS};
 use mv_locals_safety::Availabilities;
 use mv_module_text::Reader;
 use mv_move_types::{Availability, Node, Refusal};
@@ -23,12 +23,6 @@ use std::alloc::Global;
 
 // What the reader refuses malformed bytes with. So do the functions here.
 const MALFORMED: Refusal = Refusal::Phase(2);
-
-// How many edges a block's state has at most.
-const MOST_EDGES: u64 = 1024;
-
-// How many positions a label has at most.
-const MOST_POSITIONS: u64 = 8;
 
 // The greatest field position.
 const LAST_POSITION: u64 = 31;
@@ -94,7 +88,7 @@ fn read_label(alloc: Global, reader: &mut Reader<'_>) -> Result<Label, Refusal>
     ensures refused { result ≡ Err (Refusal.Phase 2) → label_from reader.old ≡ None }
     ensures errors { IfErr result (λ e. (e ≡ Refusal.Phase 2) ⊎ (e ≡ Refusal.Memory)) }
 {
-    let count = reader.number(MOST_POSITIONS)?;
+    let count = reader.number(MOST_POSITIONS as u64)?;
     let mut exact = Label::here(alloc);
     'positions: for _ in 0..count {
         let position = reader.number(LAST_POSITION)?;
@@ -155,7 +149,7 @@ fn read_edges(
     ensures refused { result ≡ Err (Refusal.Phase 2) → edges_from m.now d.now reader.old ≡ None }
     ensures errors { IfErr result (λ e. (e ≡ Refusal.Phase 2) ⊎ (e ≡ Refusal.Memory)) }
 {
-    let count = reader.number(MOST_EDGES)?;
+    let count = reader.number(MOST_EDGES as u64)?;
     let mut edges = Edges::new(alloc);
     'edges: for _ in 0..count {
         let edge = read_edge(alloc, reader, m, d)?;

@@ -189,6 +189,7 @@ impl Edge {
     }
 
     /// Which of two edges comes first: by the nodes, then by the labels.
+    #[inline(always)]
     pub(crate) fn order(&self, other: &Edge) -> Ordering
         ensures { result ≡ edge_order self.now other.now }
     {
@@ -260,6 +261,7 @@ impl<'a> EdgeView<'a> {
 
     /// Which of two edges comes first by the higher of the nodes, then by the nodes.
     #[tactic(auto, using(crate::proofs::Comparisons::order_of_same_nodes))]
+    #[inline(always)]
     fn nodes_order(&self, other: &EdgeView<'_>) -> Ordering
         ensures { result ≡ slice_cmp nat_cmp (nodes_code self.now) (nodes_code other.now) }
     {
@@ -270,6 +272,7 @@ impl<'a> EdgeView<'a> {
     }
 
     /// Which of two labels comes first: by the positions, then exact before open.
+    #[inline(always)]
     fn label_order(&self, other: &EdgeView<'_>) -> Ordering
         ensures { result ≡ ordering_then (slice_cmp nat_cmp self.now.label.path other.now.label.path) (bool_cmp self.now.label.is_open other.now.label.is_open) }
     {
@@ -278,6 +281,7 @@ impl<'a> EdgeView<'a> {
     }
 
     /// Which of two edges comes first: by the higher of the nodes, then by the nodes, then by the positions, then exact before open.
+    #[inline(always)]
     pub(crate) fn order(&self, other: &EdgeView<'_>) -> Ordering
         ensures { result ≡ edge_order self.now other.now }
     {

@@ -29,6 +29,12 @@ mod sought;
 mod union;
 mod unordered;
 
+/// How many edges are stated of a block at most: a certificate has no more, and a search states no more.
+pub const MOST_EDGES: usize = 1024;
+
+/// How many positions a label has at most that is stated.
+pub const MOST_POSITIONS: usize = 8;
+
 pub use edge::Edge;
 pub use edges::Edges;
 pub use label::{Change, Label};
