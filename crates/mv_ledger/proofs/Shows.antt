@@ -1,12 +1,11 @@
--- The proofs of shows and audits: names, numbers and values as text, the JSON lines of them, and the lists of both.
+-- The proofs of shows and audits: names, numbers and values as text, the lines of JSON, and the lists of both.
 --   Digits      An address as hexadecimal digits.
 --   Fields      The values of fields, and their text, one after the other.
 --   Structs     The value of a struct, by what its fields are made of.
 --   NamePieces  A struct's name, as it is put after a text, piece by piece.
---   PlainTexts  Plain texts: they are UTF-8, and JSON writes them with no escape. Numbers and addresses have them.
+--   PlainTexts  Numbers and addresses have plain texts, which JSON writes with no escape.
 --   Names       The texts of structs' names and of values are plain: identifiers are letters, digits and `_`.
---   Objects     What a JSON value is written as: an object of plain texts, and a line with a list of objects.
---   Listed      Objects as values, one after the other.
+--   Objects     A line of JSON as it is put together: the pieces of an object, and one object after the other.
 --   Audits      The counts of an audit, module by module.
 --   Reports     What a show and an audit reply.
 pub mod Digits
@@ -16,6 +15,5 @@ pub mod NamePieces
 pub mod PlainTexts
 pub mod Names
 pub mod Objects
-pub mod Listed
 pub mod Audits
 pub mod Reports

@@ -13,7 +13,7 @@ pub mod Judging
 pub mod Counting
 pub mod Accepted
 pub mod Showing
-pub mod JsonValues
+pub mod Plain
 pub mod Auditing
 pub mod Left
 pub mod Formats

@@ -3,6 +3,7 @@
 ghost use Rattle.mv_ledger.specs.Counting.Headline.{EveryCountIsTallied};
 ghost use Rattle.mv_ledger.specs.Counting.Conservation.{EveryRunIsOwnWork, EveryRunConserves};
 ghost use Rattle.mv_ledger.specs.Accepted.Records.{EachRecordIsWell};
+ghost use Rattle.mv_ledger.specs.Plain.{NoTextIsEscaped};
 ghost use Rattle.mv_ledger.specs.SavedLaws.{EachLedgerHasOneText, EachTextHasOneLedger, EachSaveIsLoaded, EachLoadIsSound, EachLoadIsOne, EachLoadIsSaved, EachSecondFormComesBack, NoLoadFails};
 
 /// Whatever a record asks of a sound ledger, its run ends as it should, and the ledger that its answer leaves is balanced and
@@ -27,6 +28,11 @@ pub fn every_run_conserves()
 /// The count that an audit answers is what was packed less what was unpacked.
 pub fn every_count_is_tallied()
     ensures { EveryCountIsTallied }
+{}
+
+/// In the JSON of a show and of an audit no text has a byte that JSON would escape.
+pub fn no_text_is_escaped()
+    ensures { NoTextIsEscaped }
 {}
 
 /// A ledger has one text of each form.

@@ -1,16 +1,14 @@
 -- The texts of structs' names and of values are plain: identifiers are letters, digits and `_`.
-use Rattle.std.proofs.Common.{◌≡◌, Option, Some, None, slice_get, unwrap_or, map, subst, ℕ, Bool, true, ◌++◌, List, [], ◌∷◌, codes, refl, arith, length}
+use Rattle.std.proofs.Common.{◌≡◌, Some, slice_get, subst, ℕ, Bool, true, ◌++◌, List, [], ◌∷◌, codes, refl, arith, length}
 use Rattle.std.specs.Prelude.{◌==◌, ◌&&◌, ◌||◌, nat_le, nat_lt}
-use Rattle.std.specs.List.{list_all, AllByRecursion}
-use Rattle.std.specs.Option.{option_map_or}
+use Rattle.std.specs.List.{list_all}
 use Rattle.std.proofs.lemmas.Option.{same_Some}
 use Rattle.std.specs.Cmp.{first_so, second_so}
 use Rattle.std.proofs.lemmas.Bool.{cond_both, and_from}
 use Rattle.std.proofs.lemmas.Bool.Decides.{nat_tests}
-use Rattle.mv_ledger.specs.JsonValues.{is_plain, IsPlain}
+use Rattle.mv_ledger.specs.Plain.{is_plain, IsPlain}
 use Rattle.mv_move_types.specs.declared.token.LeafKind.{LeafKind}
 use Rattle.mv_move_types.specs.declared.token.LeafKind.TheVariants.{Boolean, Number, Address, Signer}
-use Rattle.mv_move_types.specs.declared.tables.Key.{Key}
 use Rattle.mv_move_types.specs.Names.{ModuleName, StructName}
 use Rattle.mv_move_types.specs.Module.{Module, module_name, struct_name, name_of_struct, name_at}
 use Rattle.mv_move_types.specs.Published.{PublishedModule}
@@ -18,13 +16,10 @@ use Rattle.mv_module_text.specs.Fits.{is_letter, is_name_part, identifier_fits}
 use Rattle.mv_module_text.proofs.Texts.{on_bind}
 use Rattle.mv_binary_format.specs.ModuleText.{HasText}
 use Rattle.mv_machine.specs.Value.{Value, Values, Leaf, Struct, Ref, NoMore, More}
-use Rattle.mv_machine.specs.Lines.{Tallied, address_text, struct_text, key_text, leaf_text, value_text, rest_text}
+use Rattle.mv_machine.specs.Lines.{address_text, struct_text, leaf_text, value_text, rest_text}
 use Rattle.mv_linker.specs.Link.{IsPublishable, IsStore, tables_in}
 use Rattle.mv_linker.proofs.Found.{each}
 use Rattle.mv_linker.proofs.LinkedCode.Linkable.{at-all, mapped-at}
-use Rattle.mv_interpreter.specs.Flat.Agreement.{nameless}
-use Rattle.mv_ledger.specs.declared.tallies.Tally.{Tally}
-use Rattle.mv_ledger.specs.View.{tallied}
 use Rattle.mv_ledger.proofs.Shows.PlainTexts.{plain-append, plain-decimal, plain-address}
 
 -- ---- identifiers
@@ -62,10 +57,6 @@ plain-struct name plain =
     (plain-append (address ++ codes "::" ++ home) (codes "::") (plain-append (address ++ codes "::") home (plain-append address (codes "::") (plain-address name.home.address) refl) plain.home) refl)
     plain.own
 
--- the struct that is counted has a plain text
-abbrev pub IsPlainTallied : Tallied → Type 0
-IsPlainTallied t = IsPlain (struct_text t.struct)
-
 -- ---- of a store
 
 module _ (m : Module) (text : HasText m) where
@@ -99,25 +90,9 @@ module _ (published : List PublishedModule) (store : IsStore published) where
       on_bind (slice_get m.structs index) (name_of_struct m) name n1 (λ d _ n2.
       struct m (text-at place m at) d.handle name n2))
 
-  -- what a key names has a plain text
-  pub plain-key : (key : Key) → IsPlain (key_text (tables_in published) key)
-  plain-key key = by_name (name_at (tables_in published) key.place key.index) (named-at key.place key.index)
-    where
-      by_name : (o : Option StructName) → ((name : StructName) → o ≡ Some name → IsPlainName name) → IsPlain (option_map_or struct_text o [])
-      by_name None plain = refl
-      by_name (Some name) plain = plain-struct name (plain name refl)
-
-  plain-tallied : (t : Tally) → IsPlain (struct_text (tallied (tables_in published) t).struct)
-  plain-tallied t = by_name (name_at (tables_in published) t.place t.index) (named-at t.place t.index)
-    where
-      by_name : (o : Option StructName) → ((name : StructName) → o ≡ Some name → IsPlainName name) → IsPlain (struct_text (unwrap_or o nameless))
-      by_name None plain = plain-struct nameless (record { home = refl; own = refl })
-      by_name (Some name) plain = plain-struct name (plain name refl)
-
-  -- and so have the structs of tallies
-  pub plain-tallies : (ts : List Tally) → AllByRecursion IsPlainTallied (map (tallied (tables_in published)) ts)
-  plain-tallies [] = tt
-  plain-tallies (t ∷ ts) = (plain-tallied t, plain-tallies ts)
+  -- and so plain texts
+  pub plain-named : (place index : ℕ) (name : StructName) → name_at (tables_in published) place index ≡ Some name → IsPlain (struct_text name)
+  plain-named place index name named = plain-struct name (named-at place index name named)
 
 -- ---- values
 

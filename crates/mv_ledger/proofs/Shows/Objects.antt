@@ -1,126 +1,89 @@
--- What a JSON value is written as: an object of plain texts, and a line with a list of objects.
-use Rattle.std.proofs.Common.{◌≡◌, ℕ, true, false, List, [], ◌∷◌, ◌++◌, append_assoc, append-nil, refl, sym, ap, ap₂, ◌∙◌, codes, map}
-use Rattle.std.specs.Prelude.{String}
-use Rattle.std.specs.declared.alloc.Global.{Global}
-use Rattle.std.specs.List.{AllByRecursion}
-use Rattle.std.proofs.lemmas.Bool.{or_from}
-use Rattle.json.specs.Print.{quoted}
-use Rattle.serde_json.specs.Data.{string, object as object_of, Members, member as with_member, no_members}
-use Rattle.serde_json.specs.View.{view, items_view}
-use Rattle.serde_json.specs.Written.{has_float, members_have_float, items_have_float, compact_text, members_text, items_text}
-use Rattle.serde_json.specs.declared.value.Value.{Value}
-use Rattle.mv_ledger.specs.JsonValues.{IsPlain, IsText, IsWrittenAs, AreWrittenAs, list_under, text_under}
-use Rattle.mv_machine.specs.Lines.{with_commas, member, object, json_line}
-use Rattle.mv_ledger.proofs.Shows.PlainTexts.{escape-plain}
+-- A line of JSON as it is put together: the pieces of an object, and one object after the other.
+use Rattle.std.proofs.Common.{◌≡◌, ℕ, List, [], ◌∷◌, ◌++◌, append_assoc, append-nil, refl, sym, ap, ◌∙◌, codes, decimal}
+use Rattle.mv_machine.specs.Lines.{Tallied, struct_text, with_commas, member, object}
+use Rattle.mv_ledger.specs.Auditing.{count_object}
 
--- ---- commas
+-- ---- an object
 
--- texts, each after a comma
-abbrev after_commas : List (List ℕ) → List ℕ
-after_commas [] = []
-after_commas (t ∷ ts) = 44 ∷ (t ++ after_commas ts)
+-- the pieces of a stored value, and of its object
+entry_pieces : (t p address q struct r value e : List ℕ) → ((((((t ++ p) ++ address) ++ q) ++ struct) ++ r) ++ value) ++ e ≡ t ++ (p ++ (address ++ (q ++ (struct ++ (r ++ (value ++ e))))))
+entry_pieces t p address q struct r value e = simp append_assoc
 
-commas-first : (t : List ℕ) (ts : List (List ℕ)) → with_commas (t ∷ ts) ≡ t ++ after_commas ts
-commas-first t [] = sym (append-nil t)
-commas-first t (u ∷ ts) = append_assoc t (codes ",") (with_commas (u ∷ ts)) ∙ ap (λ l. t ++ 44 ∷ l) (commas-first u ts)
+entry_shape : (o k1 k2 k3 q c e address struct value : List ℕ)
+    → (o ++ ((((k1 ++ address) ++ q) ++ c) ++ ((((k2 ++ struct) ++ q) ++ c) ++ ((k3 ++ value) ++ q)))) ++ e
+    ≡ (o ++ k1) ++ (address ++ ((q ++ (c ++ k2)) ++ (struct ++ ((q ++ (c ++ k3)) ++ (value ++ (q ++ e))))))
+entry_shape o k1 k2 k3 q c e address struct value = simp append_assoc
 
--- ---- an object of plain texts
+entry_joined : (t address struct value : List ℕ)
+    → ((((((t ++ codes "{\"address\":\"") ++ address) ++ codes "\",\"struct\":\"") ++ struct) ++ codes "\",\"value\":\"") ++ value) ++ codes "\"}"
+    ≡ t ++ object (member (codes "address") address ∷ member (codes "struct") struct ∷ member (codes "value") value ∷ [])
+entry_joined t address struct value =
+    entry_pieces t (codes "{\"address\":\"") address (codes "\",\"struct\":\"") struct (codes "\",\"value\":\"") value (codes "\"}")
+    ∙ ap (λ l. t ++ l)
+    (sym (entry_shape (codes "{") (codes "\"address\":\"") (codes "\"struct\":\"") (codes "\"value\":\"") (codes "\"") (codes ",") (codes "}") address struct value))
 
--- a key and a text
-pub record Field : Type 0 where
-  pub key : List ℕ
-  pub text : List ℕ
+pub entry_put : (t0 t1 t2 t3 t4 t5 t6 t7 address struct value : List ℕ) → t1 ≡ t0 ++ codes "{\"address\":\"" → t2 ≡ t1 ++ address → t3 ≡ t2 ++ codes "\",\"struct\":\"" → t4 ≡ t3 ++ struct
+    → t5 ≡ t4 ++ codes "\",\"value\":\"" → t6 ≡ t5 ++ value → t7 ≡ t6 ++ codes "\"}"
+    → t7 ≡ t0 ++ object (member (codes "address") address ∷ member (codes "struct") struct ∷ member (codes "value") value ∷ [])
+entry_put t0 t1 t2 t3 t4 t5 t6 t7 address struct value p1 p2 p3 p4 p5 p6 p7 = rw (p7, p6, p5, p4, p3, p2, p1) (entry_joined t0 address struct value)
 
-abbrev pub IsPlainField : Field → Type 0
-IsPlainField f = IsPlain f.key × IsPlain f.text
+-- those of a struct's counts
+counts_pieces : (t p packed q stored r struct u unpacked e : List ℕ) → (((((t ++ (p ++ packed)) ++ (q ++ stored)) ++ r) ++ struct) ++ (u ++ unpacked)) ++ e
+    ≡ t ++ (p ++ (packed ++ (q ++ (stored ++ (r ++ (struct ++ (u ++ (unpacked ++ e))))))))
+counts_pieces t p packed q stored r struct u unpacked e = simp append_assoc
 
--- the members that they are
-abbrev pub members : List Field → Members
-members [] = no_members
-members (f ∷ fs) = with_member f.key (string f.text) (members fs)
+counts_shape : (o k1 k2 k3 k4 q c e packed stored struct unpacked : List ℕ)
+    → (o ++ ((((k1 ++ packed) ++ q) ++ c) ++ ((((k2 ++ stored) ++ q) ++ c) ++ ((((k3 ++ struct) ++ q) ++ c) ++ ((k4 ++ unpacked) ++ q))))) ++ e
+    ≡ (o ++ k1) ++ (packed ++ ((q ++ (c ++ k2)) ++ (stored ++ ((q ++ (c ++ k3)) ++ (struct ++ ((q ++ (c ++ k4)) ++ (unpacked ++ (q ++ e))))))))
+counts_shape o k1 k2 k3 k4 q c e packed stored struct unpacked = simp append_assoc
 
--- their texts
-abbrev pub member_texts : List Field → List (List ℕ)
-member_texts fields = map (λ f. member f.key f.text) fields
+counts_joined : (t packed stored struct unpacked : List ℕ)
+    → (((((t ++ (codes "{\"packed\":\"" ++ packed)) ++ (codes "\",\"stored\":\"" ++ stored)) ++ codes "\",\"struct\":\"") ++ struct) ++ (codes "\",\"unpacked\":\"" ++ unpacked)) ++ codes "\"}"
+    ≡ t ++ object (member (codes "packed") packed ∷ member (codes "stored") stored ∷ member (codes "struct") struct ∷ member (codes "unpacked") unpacked ∷ [])
+counts_joined t packed stored struct unpacked =
+    counts_pieces t (codes "{\"packed\":\"") packed (codes "\",\"stored\":\"") stored (codes "\",\"struct\":\"") struct (codes "\",\"unpacked\":\"") unpacked (codes "\"}")
+    ∙ ap (λ l. t ++ l)
+    (sym (counts_shape (codes "{") (codes "\"packed\":\"") (codes "\"stored\":\"") (codes "\"struct\":\"") (codes "\"unpacked\":\"") (codes "\"") (codes ",") (codes "}") packed stored struct unpacked))
 
-no_float : (fs : List Field) → members_have_float (members fs) ≡ false
-no_float [] = refl
-no_float (f ∷ fs) = no_float fs
+pub counts_put : (t0 t1 t2 t3 t4 t5 t6 : List ℕ) (stored : ℕ) (t : Tallied) → t1 ≡ t0 ++ (codes "{\"packed\":\"" ++ decimal t.packs) → t2 ≡ t1 ++ (codes "\",\"stored\":\"" ++ decimal stored)
+    → t3 ≡ t2 ++ codes "\",\"struct\":\"" → t4 ≡ t3 ++ struct_text t.struct → t5 ≡ t4 ++ (codes "\",\"unpacked\":\"" ++ decimal t.unpacks) → t6 ≡ t5 ++ codes "\"}"
+    → t6 ≡ t0 ++ count_object stored t
+counts_put t0 t1 t2 t3 t4 t5 t6 stored t p1 p2 p3 p4 p5 p6 =
+    rw (p6, p5, p4, p3, p2, p1) (counts_joined t0 (decimal t.packs) (decimal stored) (struct_text t.struct) (decimal t.unpacks))
 
-one_member : (key text rest : List ℕ) → (34 ∷ (key ++ 34 ∷ [])) ++ 58 ∷ ((34 ∷ (text ++ 34 ∷ [])) ++ rest) ≡ member key text ++ rest
-one_member key text rest = simp append_assoc
+-- ---- one object after the other
 
-member_written : (f : Field) (rest : List ℕ) → IsPlainField f → quoted f.key ++ 58 ∷ (quoted f.text ++ rest) ≡ member f.key f.text ++ rest
-member_written f rest plain =
-    ap₂ (λ k t. (34 ∷ (k ++ 34 ∷ [])) ++ 58 ∷ ((34 ∷ (t ++ 34 ∷ [])) ++ rest)) (escape-plain f.key plain.0) (escape-plain f.text plain.1) ∙ one_member f.key f.text rest
+-- texts, the first after a separator and each other after a comma
+abbrev pub separated : List ℕ → List (List ℕ) → List ℕ
+separated separator [] = []
+separated separator (t ∷ ts) = (separator ++ t) ++ separated (codes ",") ts
 
-later_members : (fs : List Field) → AllByRecursion IsPlainField fs → members_text true (members fs) ≡ after_commas (member_texts fs) ++ codes "}"
-later_members [] plain = refl
-later_members (f ∷ fs) plain =
-    ap (λ l. 44 ∷ l)
-    (ap (λ l. quoted f.key ++ 58 ∷ (quoted f.text ++ l)) (later_members fs plain.1) ∙ member_written f _ plain.0
-    ∙ sym (append_assoc (member f.key f.text) (after_commas (member_texts fs)) (codes "}")))
+later : (t : List ℕ) (ts : List (List ℕ)) → with_commas (t ∷ ts) ≡ t ++ separated (codes ",") ts
+later t [] = sym (append-nil t)
+later t (u ∷ ts) = append_assoc t (codes ",") (with_commas (u ∷ ts)) ∙ ap (λ l. t ++ (codes "," ++ l)) (later u ts)
 
-all_members : (fs : List Field) → AllByRecursion IsPlainField fs → members_text false (members fs) ≡ with_commas (member_texts fs) ++ codes "}"
-all_members [] plain = refl
-all_members (f ∷ fs) plain =
-    ap (λ l. quoted f.key ++ 58 ∷ (quoted f.text ++ l)) (later_members fs plain.1) ∙ member_written f _ plain.0
-    ∙ sym (append_assoc (member f.key f.text) (after_commas (member_texts fs)) (codes "}"))
-    ∙ ap (λ l. l ++ codes "}") (sym (commas-first (member f.key f.text) (member_texts fs)))
+-- the first after nothing
+all : (ts : List (List ℕ)) → with_commas ts ≡ separated [] ts
+all [] = refl
+all (t ∷ ts) = later t ts
 
-pub object-written : (v : Value) (fs : List Field) → AllByRecursion IsPlainField fs → view v ≡ object_of (members fs) → IsWrittenAs v (object (member_texts fs))
-object-written v fs plain is = (ap has_float is ∙ no_float fs, ap compact_text is ∙ ap (λ l. 123 ∷ l) (all_members fs plain))
+-- The objects of a list are put after a text: what is there, and what is still to be put, is all of it.
+abbrev pub IsPut : List ℕ → List (List ℕ) → List ℕ → List ℕ → List (List ℕ) → Type 0
+IsPut begin objects text separator left = begin ++ with_commas objects ≡ text ++ separated separator left
 
--- that of a stored value
-pub entry-written : (v : Value) (a s x : String Global) (address struct value : List ℕ) → IsText a address → IsText s struct → IsText x value
-    → view v ≡ object_of (text_under (codes "address") a (text_under (codes "struct") s (text_under (codes "value") x no_members)))
-    → IsWrittenAs v (object (member (codes "address") address ∷ member (codes "struct") struct ∷ member (codes "value") value ∷ []))
-entry-written v a s x address struct value p q r is =
-    object-written v (record { key = codes "address"; text = address } ∷ record { key = codes "struct"; text = struct } ∷ record { key = codes "value"; text = value } ∷ [])
-    ((refl, p.1), ((refl, q.1), ((refl, r.1), tt)))
-    (rw (sym p.0, sym q.0, sym r.0) is)
+module _ (begin : List ℕ) (objects : List (List ℕ)) where
+  -- before the first
+  pub none_put : (none text separator : List ℕ) (left : List (List ℕ)) → none ≡ [] → text ≡ none ++ begin → separator ≡ [] → left ≡ objects → IsPut begin objects text separator left
+  none_put none text separator left empty is at_first whole = rw (whole, at_first, is, empty) (ap (λ l. begin ++ l) (all objects))
 
--- and that of a struct's counts
-pub counts-written : (v : Value) (p s n u : String Global) (packed stored struct unpacked : List ℕ) → IsText p packed → IsText s stored → IsText n struct → IsText u unpacked
-    → view v ≡ object_of (text_under (codes "packed") p (text_under (codes "stored") s (text_under (codes "struct") n (text_under (codes "unpacked") u no_members))))
-    → IsWrittenAs v (object (member (codes "packed") packed ∷ member (codes "stored") stored ∷ member (codes "struct") struct ∷ member (codes "unpacked") unpacked ∷ []))
-counts-written v p s n u packed stored struct unpacked hp hs hn hu is =
-    object-written v
-    (record { key = codes "packed"; text = packed } ∷ record { key = codes "stored"; text = stored } ∷ record { key = codes "struct"; text = struct } ∷ record
-    { key = codes "unpacked"; text = unpacked } ∷ [])
-    ((refl, hp.1), ((refl, hs.1), ((refl, hn.1), ((refl, hu.1), tt))))
-    (rw (sym hp.0, sym hs.0, sym hn.0, sym hu.0) is)
+  module _ (text separator : List ℕ) (left : List (List ℕ)) (put : IsPut begin objects text separator left) where
+    -- the next one
+    pub more_put : (parted more next t : List ℕ) (rest : List (List ℕ)) → left ≡ t ∷ rest → parted ≡ text ++ separator → more ≡ parted ++ t → next ≡ codes ","
+        → IsPut begin objects more next rest
+    more_put parted more next t rest first parts is comma =
+        let joined : text ++ ((separator ++ t) ++ separated (codes ",") rest) ≡ ((text ++ separator) ++ t) ++ separated (codes ",") rest = simp append_assoc in
+        put ∙ ap (λ ts. text ++ separated separator ts) first ∙ rw (comma, is, parts) joined
 
--- ---- a list of objects under a key
-
-items_no_float : (vs : List Value) (ts : List (List ℕ)) → AreWrittenAs vs ts → items_have_float (items_view vs) ≡ false
-items_no_float [] [] h = refl
-items_no_float [] (t ∷ ts) h = refl
-items_no_float (v ∷ vs) [] h = absurd h
-items_no_float (v ∷ vs) (t ∷ ts) h = or_from (has_float (view v)) _ h.0.0 (items_no_float vs ts h.1)
-
-later_items : (vs : List Value) (ts : List (List ℕ)) → AreWrittenAs vs ts → items_text true (items_view vs) ≡ after_commas ts ++ codes "]"
-later_items [] [] h = refl
-later_items [] (t ∷ ts) h = absurd h
-later_items (v ∷ vs) [] h = absurd h
-later_items (v ∷ vs) (t ∷ ts) h =
-    ap (λ l. 44 ∷ l) (ap₂ (λ x y. x ++ y) h.0.1 (later_items vs ts h.1) ∙ sym (append_assoc t (after_commas ts) (codes "]")))
-
-all_items : (vs : List Value) (ts : List (List ℕ)) → AreWrittenAs vs ts → items_text false (items_view vs) ≡ with_commas ts ++ codes "]"
-all_items [] [] h = refl
-all_items [] (t ∷ ts) h = absurd h
-all_items (v ∷ vs) [] h = absurd h
-all_items (v ∷ vs) (t ∷ ts) h =
-    ap₂ (λ x y. x ++ y) h.0.1 (later_items vs ts h.1) ∙ sym (append_assoc t (after_commas ts) (codes "]")) ∙ ap (λ l. l ++ codes "]") (sym (commas-first t ts))
-
-whole : (key list : List ℕ) → codes "json " ++ 123 ∷ ((34 ∷ (key ++ 34 ∷ [])) ++ 58 ∷ (91 ∷ (list ++ codes "]") ++ codes "}")) ≡ codes "json {\"" ++ key ++ codes "\":[" ++ list ++ codes "]}"
-whole key list = simp append_assoc
-
--- its line
-pub line-written : (v : Value) (key text line : List ℕ) (vs : List Value) (ts : List (List ℕ)) → IsPlain key → AreWrittenAs vs ts → view v ≡ list_under key vs
-    → (has_float (view v) ≡ false → text ≡ compact_text (view v)) → line ≡ codes "json " ++ text → line ≡ json_line key ts
-line-written v key text line vs ts plain h is written put =
-    let none : has_float (view v) ≡ false = ap has_float is ∙ or_from (items_have_float (items_view vs)) false (items_no_float vs ts h) refl in
-    put ∙ ap (λ l. codes "json " ++ l) (written none ∙ ap compact_text is)
-    ∙ ap₂ (λ k l. codes "json " ++ 123 ∷ ((34 ∷ (k ++ 34 ∷ [])) ++ 58 ∷ (91 ∷ l ++ codes "}"))) (escape-plain key plain) (all_items vs ts h)
-    ∙ whole key (with_commas ts)
+    -- after the last
+    pub all_put : (done : List ℕ) → left ≡ [] → done ≡ text ++ codes "]}" → done ≡ (begin ++ with_commas objects) ++ codes "]}"
+    all_put done nothing is = is ∙ ap (λ l. l ++ codes "]}") (sym (put ∙ ap (λ ts. text ++ separated separator ts) nothing ∙ append-nil text))

@@ -1,11 +1,21 @@
-use Rattle.std.proofs.Common.{ap, map}
+use Rattle.std.proofs.Common.{List, ℕ, ap, map, codes, refl}
 use Rattle.mv_linker.specs.Link.{tables_in}
-use Rattle.mv_machine.specs.Flat.{storage_of}
+use Rattle.mv_machine.specs.Flat.{FlatEntry, storage_of}
 use Rattle.mv_machine.specs.Lines.{entry_object}
-use Rattle.mv_ledger.proofs.Shows.Listed.{listed-more}
+use Rattle.mv_ledger.proofs.Shows.Objects.{none_put, more_put, all_put}
 use Rattle.mv_ledger.proofs.json_lines.json_of_storage.Goals as goal
+
+pub each-init : goal.each-init
+each-init c =
+    let objects : List FlatEntry → List (List ℕ) = λ es. map (entry_object (tables_in c.args.store.now)) (storage_of (tables_in c.args.store.now) es) in
+    none_put _ _ _ _ _ _ c.new-text.ensures.items c.in_ok-extend_from_slice.ensures.items refl (ap objects c.iter-entries.ensures.value)
 
 pub each-preserved : goal.each-preserved
 each-preserved c =
-    let modules = tables_in c.args.store.now in
-    listed-more _ _ _ c.each.invariant _ _ _ _ (ap (λ es. map (entry_object modules) (storage_of modules es)) c.in-Some.ensures) c.in_ok-entry_value.ensures c.in_ok-push.ensures.items
+    let objects : List FlatEntry → List (List ℕ) = λ es. map (entry_object (tables_in c.args.store.now)) (storage_of (tables_in c.args.store.now) es) in
+    more_put (codes "json {\"show\":[") (objects c.args.storage.now) _ _ _ c.each.invariant _ _ _ _ _ (ap objects c.in-Some.ensures) c.in_ok-extend_from_slice-2.ensures.items c.in_ok-put_entry.ensures refl
+
+pub returns : goal.returns
+returns c =
+    let objects : List FlatEntry → List (List ℕ) = λ es. map (entry_object (tables_in c.args.store.now)) (storage_of (tables_in c.args.store.now) es) in
+    all_put (codes "json {\"show\":[") (objects c.args.storage.now) _ _ _ c.each.invariant _ (ap objects c.in_default.ensures.0) c.in_ok-extend_from_slice-3.ensures.items

@@ -1,14 +1,14 @@
-use Rattle.std.proofs.Common.{length, map}
+use Rattle.std.proofs.Common.{length, map, codes}
 use Rattle.mv_linker.specs.Link.{tables_in}
 use Rattle.mv_machine.specs.Flat.{storage_of}
 use Rattle.mv_machine.specs.Lines.{entry_object}
-use Rattle.mv_ledger.proofs.Shows.Listed.{IsListed}
+use Rattle.mv_ledger.proofs.Shows.Objects.{IsPut}
 use Rattle.mv_ledger.proofs.json_lines.json_of_storage.Given as goal
 
 abbrev pub invariant-each : goal.invariant-each
 invariant-each l =
     let modules = tables_in l.fn.store in
-    IsListed (map (entry_object modules) (storage_of modules l.fn.storage)) (map (entry_object modules) (storage_of modules l.entries)) l.objects.items
+    IsPut (codes "json {\"show\":[") (map (entry_object modules) (storage_of modules l.fn.storage)) l.text.items l.separator (map (entry_object modules) (storage_of modules l.entries))
 
 abbrev pub decreases-each : goal.decreases-each
 decreases-each l = length l.entries

@@ -1,15 +1,23 @@
-use Rattle.std.proofs.Common.{map}
+use Rattle.std.proofs.Common.{List, ℕ, ap, map, codes, refl}
 use Rattle.mv_linker.specs.Link.{tables_in}
+use Rattle.mv_machine.specs.Lines.{Tallied}
+use Rattle.mv_ledger.specs.Auditing.{count_object, stored_of}
 use Rattle.mv_ledger.specs.View.{all_of, tallied}
-use Rattle.mv_ledger.proofs.Shows.Names.{plain-tallies}
-use Rattle.mv_ledger.proofs.Shows.Listed.{counted-none, counted-more}
+use Rattle.mv_ledger.proofs.Shows.Objects.{none_put, more_put, all_put}
 use Rattle.mv_ledger.proofs.json_lines.json_of_tallies.Goals as goal
 
+abbrev objects : List Tallied → List (List ℕ)
+objects ts = map (λ t. count_object (stored_of t) t) ts
+
 pub each-init : goal.each-init
-each-init c =
-    let store = c.args.store.now in
-    counted-none (map (tallied (tables_in store)) (all_of c.args.tallies.now)) c.new-counts.result c.new-objects.result.items c.new-counts.ensures c.new-objects.ensures.items
-    (plain-tallies store c.len-modules.ensures.store (all_of c.args.tallies.now))
+each-init c = none_put _ _ _ _ _ _ c.new-text.ensures.items c.in_ok-extend_from_slice.ensures.items refl (ap objects c.new-counts.ensures)
 
 pub each-preserved : goal.each-preserved
-each-preserved c = counted-more _ _ _ _ c.in-Some.ensures _ _ _ c.each.invariant c.in_ok-counts_value.ensures c.in_ok-push.ensures.items
+each-preserved c =
+    more_put (codes "json {\"audit\":[") (objects (map (tallied (tables_in c.args.store.now)) (all_of c.args.tallies.now))) _ _ _ c.each.invariant _ _ _ _ _
+    (ap objects c.in-Some.ensures) c.in_ok-extend_from_slice-2.ensures.items c.in_ok-put_counts.ensures refl
+
+pub returns : goal.returns
+returns c =
+    all_put (codes "json {\"audit\":[") (objects (map (tallied (tables_in c.args.store.now)) (all_of c.args.tallies.now))) _ _ _ c.each.invariant _
+    (ap objects c.in_default.ensures.0) c.in_ok-extend_from_slice-3.ensures.items

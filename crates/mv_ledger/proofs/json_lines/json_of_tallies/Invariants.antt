@@ -1,12 +1,14 @@
-use Rattle.std.proofs.Common.{length, map}
+use Rattle.std.proofs.Common.{length, map, codes}
 use Rattle.mv_linker.specs.Link.{tables_in}
 use Rattle.mv_ledger.specs.Auditing.{count_object, stored_of}
 use Rattle.mv_ledger.specs.View.{all_of, tallied}
-use Rattle.mv_ledger.proofs.Shows.Listed.{IsCounted}
+use Rattle.mv_ledger.proofs.Shows.Objects.{IsPut}
 use Rattle.mv_ledger.proofs.json_lines.json_of_tallies.Given as goal
 
 abbrev pub invariant-each : goal.invariant-each
-invariant-each l = IsCounted (map (λ t. count_object (stored_of t) t) (map (tallied (tables_in l.fn.store)) (all_of l.fn.tallies))) l.counts l.objects.items
+invariant-each l =
+    IsPut (codes "json {\"audit\":[") (map (λ t. count_object (stored_of t) t) (map (tallied (tables_in l.fn.store)) (all_of l.fn.tallies))) l.text.items l.separator
+    (map (λ t. count_object (stored_of t) t) l.counts)
 
 abbrev pub decreases-each : goal.decreases-each
 decreases-each l = length l.counts

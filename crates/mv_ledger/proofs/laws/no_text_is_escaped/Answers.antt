@@ -1,0 +1,6 @@
+use Rattle.mv_ledger.proofs.Shows.PlainTexts.{plain-address, plain-decimal}
+use Rattle.mv_ledger.proofs.Shows.Names.{plain-value, plain-named}
+use Rattle.mv_ledger.proofs.laws.no_text_is_escaped.Goals as goal
+
+pub returns : goal.returns
+returns c = record { address = plain-address; number = plain-decimal; value = plain-value; name = plain-named }
