@@ -12,7 +12,8 @@ use Rattle.mv_move_types.specs.Published.{PublishedModule}
 use Rattle.mv_bounds.specs.Bounds.{InBounds}
 use Rattle.mv_bounds.specs.Definitions.{WellDefined}
 use Rattle.mv_linker.specs.Link.{IsStore, IsPublishable, tables_in, have_one_name}
-use Rattle.mv_linker.proofs.Found.{on_some, one_place}
+use Rattle.mv_module_text.proofs.Texts.{on_bind}
+use Rattle.mv_linker.proofs.Found.{one_place}
 use Rattle.mv_linker.proofs.NameLemmas.{same_module-same}
 use Rattle.mv_linker.proofs.OwnDefinitions.{own-definition, own_name-some}
 use Rattle.mv_interpreter.specs.Owned.{IsOwn}
@@ -47,10 +48,10 @@ module _ (published : List PublishedModule) (store : IsStore published) where
   -- a struct stands at one place and one index
   pub index_of : (p q i j : ℕ) (name : StructName) → name_at (tables_in published) p i ≡ Some name → name_at (tables_in published) q j ≡ Some name → (p ≡ q) × (i ≡ j)
   index_of p q i j name e g =
-      on_some (slice_get (tables_in published) p) _ name e (λ m m_is e1.
-      on_some (slice_get m.structs i) _ name e1 (λ d d_is e2.
-      on_some (slice_get (tables_in published) q) _ name g (λ n n_is g1.
-      on_some (slice_get n.structs j) _ name g1 (λ f f_is g2.
+      on_bind (slice_get (tables_in published) p) _ name e (λ m m_is e1.
+      on_bind (slice_get m.structs i) _ name e1 (λ d d_is e2.
+      on_bind (slice_get (tables_in published) q) _ name g (λ n n_is g1.
+      on_bind (slice_get n.structs j) _ name g1 (λ f f_is g2.
       one m n d f m_is n_is e2 g2 (own_of_store published p m store m_is i d d_is) (own_of_store published q n store n_is j f f_is)))))
     where
       one : (m n : Module) (d f : StructDefinition) → slice_get (tables_in published) p ≡ Some m → slice_get (tables_in published) q ≡ Some n

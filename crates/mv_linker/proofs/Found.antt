@@ -11,10 +11,6 @@ use Rattle.mv_bounds.specs.Bounds.{below}
 use Rattle.std.specs.Option.{IsSome}
 
 -- a part that was found, and what follows
-pub on_some : {A B P : Type 0} (r : Option A) (f : A → Option B) (y : B) → (r >>= f) ≡ Some y → ((x : A) → r ≡ Some x → f x ≡ Some y → P) → P
-on_some (Some x) f y e go = go x refl e
-on_some None f y e go = absurd (none-some y e)
-
 pub then_found : {A B : Type 0} (r : Option A) (f : A → Option B) (x : A) (o : Option B) → r ≡ Some x → f x ≡ o → (r >>= f) ≡ o
 then_found r f x o e g = ap (λ s. s >>= f) e ∙ g
 

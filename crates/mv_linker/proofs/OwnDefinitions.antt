@@ -25,7 +25,8 @@ use Rattle.mv_move_types.specs.Named.{have_one_name, module_named, is_struct, de
 use Rattle.mv_bounds.specs.Bounds.{InBounds, below, struct_in, field_in, struct_handle_in, module_handle_in}
 use Rattle.mv_bounds.specs.Definitions.{WellDefined, all_differ, defined_once, struct_home, function_home}
 use Rattle.mv_linker.specs.Sizes.{OwnsStructs}
-use Rattle.mv_linker.proofs.Found.{on_some, then_found, each, find_first, one_place, there_below}
+use Rattle.mv_module_text.proofs.Texts.{on_bind}
+use Rattle.mv_linker.proofs.Found.{then_found, each, find_first, one_place, there_below}
 use Rattle.mv_linker.proofs.NameLemmas.{same_struct-same, same_struct-is, module_place-from}
 
 eqb-same : (n : ℕ) → eqb n n ≡ true
@@ -132,12 +133,12 @@ module _ (m : Module) (defined : WellDefined m) where
   -- a module has one handle
   pub one_module_handle : (a b : ℕ) (name : ModuleName) → module_name m a ≡ Some name → module_name m b ≡ Some name → a ≡ b
   one_module_handle a b name e g =
-      on_some (slice_get m.module_handles a) _ name e (λ x x_is e1.
-      on_some (slice_get m.addresses x.address) _ name e1 (λ p p_is e2.
-      on_some (slice_get m.identifiers x.name) _ name e2 (λ n n_is e3.
-      on_some (slice_get m.module_handles b) _ name g (λ y y_is g1.
-      on_some (slice_get m.addresses y.address) _ name g1 (λ q q_is g2.
-      on_some (slice_get m.identifiers y.name) _ name g2 (λ o o_is g3.
+      on_bind (slice_get m.module_handles a) _ name e (λ x x_is e1.
+      on_bind (slice_get m.addresses x.address) _ name e1 (λ p p_is e2.
+      on_bind (slice_get m.identifiers x.name) _ name e2 (λ n n_is e3.
+      on_bind (slice_get m.module_handles b) _ name g (λ y y_is g1.
+      on_bind (slice_get m.addresses y.address) _ name g1 (λ q q_is g2.
+      on_bind (slice_get m.identifiers y.name) _ name g2 (λ o o_is g3.
       let first : ModuleName = record { address = p; name = n } in
       let second : ModuleName = record { address = q; name = o } in
       let same : first ≡ second = same_Some first name e3 ∙ sym (same_Some second name g3) in
@@ -154,12 +155,12 @@ module _ (m : Module) (defined : WellDefined m) where
   -- a struct has one handle
   pub one_struct_handle : (a b : ℕ) (name : StructName) → struct_name m a ≡ Some name → struct_name m b ≡ Some name → a ≡ b
   one_struct_handle a b name e g =
-      on_some (slice_get m.struct_handles a) _ name e (λ x x_is e1.
-      on_some (module_name m x.module) _ name e1 (λ p p_is e2.
-      on_some (slice_get m.identifiers x.name) _ name e2 (λ n n_is e3.
-      on_some (slice_get m.struct_handles b) _ name g (λ y y_is g1.
-      on_some (module_name m y.module) _ name g1 (λ q q_is g2.
-      on_some (slice_get m.identifiers y.name) _ name g2 (λ o o_is g3.
+      on_bind (slice_get m.struct_handles a) _ name e (λ x x_is e1.
+      on_bind (module_name m x.module) _ name e1 (λ p p_is e2.
+      on_bind (slice_get m.identifiers x.name) _ name e2 (λ n n_is e3.
+      on_bind (slice_get m.struct_handles b) _ name g (λ y y_is g1.
+      on_bind (module_name m y.module) _ name g1 (λ q q_is g2.
+      on_bind (slice_get m.identifiers y.name) _ name g2 (λ o o_is g3.
       let same : named_in p n ≡ named_in q o = same_Some (named_in p n) name e3 ∙ sym (same_Some (named_in q o) name g3) in
       let homes : p ≡ q = ap (λ (z : StructName). z.home) same in
       let names : n ≡ o = ap (λ (z : StructName). z.name) same in
@@ -185,9 +186,9 @@ own_handle m defined i d handle at e =
 -- a module owns the structs that it defines
 pub owns-structs : (m : Module) → WellDefined m → OwnsStructs m
 owns-structs m defined i d name at named =
-    on_some (slice_get m.struct_handles d.handle) (λ handle. module_name m handle.module >>= λ home. slice_get m.identifiers handle.name >>= λ id. Some (named_in home id)) name named
-    (λ handle is e1. on_some (module_name m handle.module) (λ home. slice_get m.identifiers handle.name >>= λ id. Some (named_in home id)) name e1
-    (λ home is2 e2. on_some (slice_get m.identifiers handle.name) (λ id. Some (named_in home id)) name e2
+    on_bind (slice_get m.struct_handles d.handle) (λ handle. module_name m handle.module >>= λ home. slice_get m.identifiers handle.name >>= λ id. Some (named_in home id)) name named
+    (λ handle is e1. on_bind (module_name m handle.module) (λ home. slice_get m.identifiers handle.name >>= λ id. Some (named_in home id)) name e1
+    (λ home is2 e2. on_bind (slice_get m.identifiers handle.name) (λ id. Some (named_in home id)) name e2
     (λ id is3 e3.
     ap (module_name m) (sym (own_handle m defined i d handle at is)) ∙ is2 ∙ ap (λ (s : StructName). Some s.home) (same_Some (named_in home id) name e3))))
 
@@ -247,8 +248,8 @@ own_function m defined i d handle at e =
 one_function : (m : Module) → WellDefined m → (i j : ℕ) (d e : FunctionDefinition) (name : List ℕ) → slice_get m.functions i ≡ Some d → slice_get m.functions j ≡ Some e
     → name_of_function m d ≡ Some name → name_of_function m e ≡ Some name → j ≡ i
 one_function m defined i j d e name d_at e_at d_named e_named =
-    on_some (slice_get m.function_handles d.handle) (λ handle. slice_get m.identifiers handle.name) name d_named (λ x x_is x_named.
-    on_some (slice_get m.function_handles e.handle) (λ handle. slice_get m.identifiers handle.name) name e_named (λ y y_is y_named.
+    on_bind (slice_get m.function_handles d.handle) (λ handle. slice_get m.identifiers handle.name) name d_named (λ x x_is x_named.
+    on_bind (slice_get m.function_handles e.handle) (λ handle. slice_get m.identifiers handle.name) name e_named (λ y y_is y_named.
     let names : y.name ≡ x.name = one_place bytes_eq m.identifiers y.name x.name name name defined.identifiers y_named x_named (bytes-same name) (bytes-same name) in
     let homes : y.module ≡ x.module = own_function m defined j e y e_at y_is ∙ sym (own_function m defined i d x d_at x_is) in
     let handles : e.handle ≡ d.handle =
@@ -279,5 +280,5 @@ pub struct-at : (m : Module) → WellDefined m → (name : StructName) (i : ℕ)
     → find_index (is_struct m name) m.structs ≡ Some i
 struct-at m defined name i d d_at passes =
     let named : struct_name m d.handle ≡ Some name = struct_named_so (name_of_struct m d) name passes in
-    on_some (slice_get m.struct_handles d.handle) (λ handle. module_name m handle.module >>= λ home. slice_get m.identifiers handle.name >>= λ id. Some (named_in home id)) name named
+    on_bind (slice_get m.struct_handles d.handle) (λ handle. module_name m handle.module >>= λ home. slice_get m.identifiers handle.name >>= λ id. Some (named_in home id)) name named
     (λ handle is e1. definition_place m defined name i d d_at named (slice_get_within m.struct_handles d.handle handle is))

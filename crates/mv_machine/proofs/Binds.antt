@@ -13,7 +13,7 @@ use Rattle.mv_machine.specs.Typing.{Failure, Faults, TypeFault, entry}
 use Rattle.mv_machine.specs.Step.{Here, operand, operands, as_reference}
 use Rattle.mv_machine.specs.StepParts.{as_number, as_boolean, as_address, as_fields}
 use Rattle.mv_machine.specs.StepLocals.{held}
-use Rattle.mv_machine.proofs.Laws.{on_bind}
+use Rattle.mv_machine.proofs.Laws.{on_ok}
 
 -- a part that gave a value gave this one
 pub ok-is : {A E : Type 0} (x y : A) → (let r : Result A E = Ok x in r) ≡ Ok y → x ≡ y
@@ -41,7 +41,7 @@ operands-is n s x h = by_case (nat_le n (length s)) h
 pub held-is : (h : Here) (l : ℕ) (v : Value) → held h l ≡ Ok v → slice_get h.state.top.locals l ≡ Some (Some v)
 unfolding held
 held-is h l v e =
-    on_bind (entry h.state.top.locals l) _ v e (λ local at e1.
+    on_ok (entry h.state.top.locals l) _ v e (λ local at e1.
     found-is (slice_get h.state.top.locals l) _ local at ∙ ap Some (found-is local _ v e1))
 
 -- an operand that was a reference

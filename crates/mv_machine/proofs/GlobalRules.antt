@@ -9,7 +9,7 @@ use Rattle.mv_machine.specs.Live.{is_frozen_by, live}
 use Rattle.mv_machine.specs.Typing.{has_tag}
 use Rattle.mv_machine.specs.StepParts.{Here, Turn, as_signer, goes_on, gives, truth, with_stack}
 use Rattle.mv_machine.specs.StepGlobals.{keyed_struct, key_at, with_storage, exists, borrow_global, move_from, move_to}
-use Rattle.mv_machine.proofs.Laws.{on_bind, on_need}
+use Rattle.mv_machine.proofs.Laws.{on_ok, on_need}
 use Rattle.mv_machine.proofs.Binds.{none-is, on_some, on_operand, on_address, on_reference}
 
 -- an operand that is an address
@@ -26,7 +26,7 @@ pub record ExistsIs (h : Here) (i : ℕ) (t : Turn) : Type 0 where
 pub exists-is : (h : Here) (i : ℕ) (t : Turn) → exists h i ≡ Ok t → ExistsIs h i t
 unfolding exists
 exists-is h i t e =
-    on_bind (keyed_struct h i) _ t e (λ struct struct_is e1.
+    on_ok (keyed_struct h i) _ t e (λ struct struct_is e1.
     on_operand h.state.top.stack _ t e1 (λ v below s e2.
     on_address v _ t e2 (λ a v_is e3.
     record { address = a; below = below; taken = top-is h.state.top.stack below v a s v_is; left = e3 })))
@@ -43,7 +43,7 @@ pub record BorrowGlobalIs (is_mutable : Bool) (h : Here) (i : ℕ) (t : Turn) : 
 pub borrow_global-is : (is_mutable : Bool) (h : Here) (i : ℕ) (t : Turn) → borrow_global is_mutable h i ≡ Ok t → BorrowGlobalIs is_mutable h i t
 unfolding borrow_global
 borrow_global-is is_mutable h i t e =
-    on_bind (keyed_struct h i) _ t e (λ struct struct_is e1.
+    on_ok (keyed_struct h i) _ t e (λ struct struct_is e1.
     on_operand h.state.top.stack _ t e1 (λ v below s e2.
     on_address v _ t e2 (λ a v_is e3.
     on_some (stored_at h.state.storage (key_at h i a)) _ _ t e3 (λ value stored e4.
@@ -61,7 +61,7 @@ pub record MoveFromIs (h : Here) (i : ℕ) (t : Turn) : Type 0 where
 pub move_from-is : (h : Here) (i : ℕ) (t : Turn) → move_from h i ≡ Ok t → MoveFromIs h i t
 unfolding move_from
 move_from-is h i t e =
-    on_bind (keyed_struct h i) _ t e (λ struct struct_is e1.
+    on_ok (keyed_struct h i) _ t e (λ struct struct_is e1.
     on_operand h.state.top.stack _ t e1 (λ v below s e2.
     on_address v _ t e2 (λ a v_is e3.
     on_need (not (is_frozen_by (live h.state) (record { root = Stored (key_at h i a); path = [] }))) _ _ t e3 (λ unfrozen e4.
@@ -81,14 +81,14 @@ pub record MoveToIs (h : Here) (i : ℕ) (t : Turn) : Type 0 where
 pub move_to-is : (h : Here) (i : ℕ) (t : Turn) → move_to h i ≡ Ok t → MoveToIs h i t
 unfolding move_to
 move_to-is h i t e =
-    on_bind (keyed_struct h i) _ t e (λ struct struct_is e1.
+    on_ok (keyed_struct h i) _ t e (λ struct struct_is e1.
     on_operand h.state.top.stack _ t e1 (λ value rest s e2.
     on_operand rest _ t e2 (λ under below s2 e3.
     on_need (has_tag h.state value (StructTag struct.name)) _ _ t e3 (λ typed e4.
     on_reference under _ t e4 (λ r r_is e5.
     on_need (not r.is_mutable) _ _ t e5 (λ immutable e6.
     on_some (place_value h.state r.place) _ _ t e6 (λ signer signer_is e7.
-    on_bind (as_signer signer) _ t e7 (λ a a_is e8.
+    on_ok (as_signer signer) _ t e7 (λ a a_is e8.
     on_need (not (is_some (stored_at h.state.storage (key_at h i a)))) _ _ t e8 (λ free e9.
     on_need (not (is_frozen_by (live h.state) (record { root = Stored (key_at h i a); path = [] }))) _ _ t e9 (λ unfrozen e10.
     record {

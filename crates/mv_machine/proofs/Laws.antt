@@ -12,9 +12,9 @@ use Rattle.mv_machine.specs.Step.{Here, Turn, Goes, Returns, OwnStruct, own_stru
 use Rattle.mv_machine.specs.Run.{RunOutcome, Returned, Aborted, Exhausted, Faulted, goes_with, follows, turns}
 
 -- a part that did not fail gave its value to the next part
-pub on_bind : {A B E P : Type 0} (r : Result A E) (f : A → Result B E) (y : B) → (r >>= f) ≡ Ok y → ((x : A) → r ≡ Ok x → f x ≡ Ok y → P) → P
-on_bind (Ok x) f y e go = go x refl e
-on_bind (Err d) f y e go = absurd cc
+pub on_ok : {A B E P : Type 0} (r : Result A E) (f : A → Result B E) (y : B) → (r >>= f) ≡ Ok y → ((x : A) → r ≡ Ok x → f x ≡ Ok y → P) → P
+on_ok (Ok x) f y e go = go x refl e
+on_ok (Err d) f y e go = absurd cc
 
 -- a need that did not fail was met
 pub on_need : {B E P : Type 0} (b : Bool) (d : E) (r : Result B E) (y : B) → (need b d >> r) ≡ Ok y → (b ≡ true → r ≡ Ok y → P) → P
@@ -30,10 +30,10 @@ IsOfOwn (Err f) = Unit {0}
 pub own_struct-own : (h : Here) (i : ℕ) (s : OwnStruct) → own_struct h i ≡ Ok s → same_module s.name.home s.own ≡ true
 unfolding own_struct
 own_struct-own h i s e =
-    on_bind (entry h.home.structs i) _ s e (λ d d_is e1.
-    on_bind (entry h.home.struct_handles d.handle) _ s e1 (λ handle handle_is e2.
-    on_bind (linked (struct_name h.home d.handle)) _ s e2 (λ name name_is e3.
-    on_bind (linked (own_name h.home)) _ s e3 (λ own own_is e4.
+    on_ok (entry h.home.structs i) _ s e (λ d d_is e1.
+    on_ok (entry h.home.struct_handles d.handle) _ s e1 (λ handle handle_is e2.
+    on_ok (linked (struct_name h.home d.handle)) _ s e2 (λ name name_is e3.
+    on_ok (linked (own_name h.home)) _ s e3 (λ own own_is e4.
     on_need (same_module name.home own) (Faults LinkageFault) _ s e4 (λ met e5. subst IsOfOwn e5 met)))))
 
 -- how many steps a run took

@@ -7,7 +7,7 @@ use Rattle.mv_machine.specs.Live.{is_frozen_by, live}
 use Rattle.mv_machine.specs.Typing.{has_tag}
 use Rattle.mv_machine.specs.StepParts.{Here, Turn, goes_on, pushes, can_copy, can_drop, may_drop, with_stack, is_reference_tag}
 use Rattle.mv_machine.specs.StepLocals.{pop, held, local_tag, local_place, with_own_local, copy_local, move_local, store_local, borrow_local}
-use Rattle.mv_machine.proofs.Laws.{on_bind, on_need}
+use Rattle.mv_machine.proofs.Laws.{on_ok, on_need}
 use Rattle.mv_machine.proofs.Binds.{ok-is, held-is, on_some, on_operand}
 
 -- a Pop
@@ -33,7 +33,7 @@ pub record CopyIs (h : Here) (l : ℕ) (t : Turn) : Type 0 where
 pub copy-is : (h : Here) (l : ℕ) (t : Turn) → copy_local h l ≡ Ok t → CopyIs h l t
 unfolding copy_local
 copy-is h l t e =
-    on_bind (held h l) _ t e (λ value value_is e1.
+    on_ok (held h l) _ t e (λ value value_is e1.
     on_need (can_copy h value) _ _ t e1 (λ copies e2.
     record { value = value; stands = held-is h l value value_is; copies = copies; left = e2 }))
 
@@ -47,7 +47,7 @@ pub record MoveIs (h : Here) (l : ℕ) (t : Turn) : Type 0 where
 pub move-is : (h : Here) (l : ℕ) (t : Turn) → move_local h l ≡ Ok t → MoveIs h l t
 unfolding move_local
 move-is h l t e =
-    on_bind (held h l) _ t e (λ value value_is e1.
+    on_ok (held h l) _ t e (λ value value_is e1.
     on_need (not (is_frozen_by (live h.state) (local_place h l))) _ _ t e1 (λ unfrozen e2.
     record { value = value; stands = held-is h l value value_is; unfrozen = unfrozen; left = e2 }))
 
@@ -69,7 +69,7 @@ unfolding store_local
 store-is h l t e =
     on_operand h.state.top.stack _ t e (λ value below taken e1.
     on_some (slice_get h.state.top.locals l) _ _ t e1 (λ old stood e2.
-    on_bind (local_tag h l) _ t e2 (λ tag tag_is e3.
+    on_ok (local_tag h l) _ t e2 (λ tag tag_is e3.
     on_need (has_tag h.state value tag) _ _ t e3 (λ typed e4.
     on_need (may_drop h old) _ _ t e4 (λ drops e5.
     on_need (not (is_frozen_by (live (with_stack h.state below)) (local_place h l))) _ _ t e5 (λ unfrozen e6.
@@ -84,7 +84,7 @@ pub record BorrowIs (is_mutable : Bool) (h : Here) (l : ℕ) (t : Turn) : Type 0
 pub borrow-is : (is_mutable : Bool) (h : Here) (l : ℕ) (t : Turn) → borrow_local is_mutable h l ≡ Ok t → BorrowIs is_mutable h l t
 unfolding borrow_local
 borrow-is is_mutable h l t e =
-    on_bind (held h l) _ t e (λ value value_is e1.
-    on_bind (local_tag h l) _ t e1 (λ tag tag_is e2.
+    on_ok (held h l) _ t e (λ value value_is e1.
+    on_ok (local_tag h l) _ t e1 (λ tag tag_is e2.
     on_need (not (is_reference_tag tag)) _ _ t e2 (λ plain e3.
     record { value = value; stands = held-is h l value value_is; left = e3 })))

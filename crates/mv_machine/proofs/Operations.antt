@@ -17,7 +17,7 @@ use Rattle.mv_machine.specs.Typing.{tag_of, has_tag}
 use Rattle.mv_machine.specs.Numbers.{Operator, fitting}
 use Rattle.mv_machine.specs.StepParts.{Here, Turn, can_drop, is_reference_tag, pushes}
 use Rattle.mv_machine.specs.StepNumbers.{binary, comparison, shift, cast, logic, negation, equality, constant_value, constant}
-use Rattle.mv_machine.proofs.Laws.{on_bind, on_need}
+use Rattle.mv_machine.proofs.Laws.{on_ok, on_need}
 use Rattle.mv_machine.proofs.Binds.{ok-is, on_some, on_operand, on_number, on_boolean, WhereOk}
 
 -- an operator gave a leaf for operands that may be dropped
@@ -64,7 +64,7 @@ binary-gives h op stack after e =
     on_number v _ after e2 (λ wy y v_is e3.
     on_number w _ after e3 (λ wx x w_is e4.
     on_need (same_width wx wy) _ _ after e4 (λ met e5.
-    on_bind (op wx x y) _ after e5 (λ n n_is e6.
+    on_ok (op wx x y) _ after e5 (λ n n_is e6.
     subst (WhereOk (GivesLeaf h stack)) e6 (two h stack below rest v w (Number wx) n s s2 (drops_leaf h v _ y v_is) (drops_leaf h w _ x w_is))))))))
 
 pub comparison-gives : (h : Here) (test : ℕ → ℕ → Bool) (stack after : List Value) → comparison test stack ≡ Ok after → GivesLeaf h stack after
@@ -85,7 +85,7 @@ shift-gives h op stack after e =
     on_number v _ after e2 (λ wy y v_is e3.
     on_number w _ after e3 (λ wx x w_is e4.
     on_need (same_width wy U8) _ _ after e4 (λ met e5.
-    on_bind (op wx x y) _ after e5 (λ n n_is e6.
+    on_ok (op wx x y) _ after e5 (λ n n_is e6.
     subst (WhereOk (GivesLeaf h stack)) e6 (two h stack below rest v w _ n s s2 (drops_leaf h v _ y v_is) (drops_leaf h w _ x w_is))))))))
 
 pub cast-gives : (h : Here) (to : Width) (stack after : List Value) → cast to stack ≡ Ok after → GivesLeaf h stack after
@@ -93,7 +93,7 @@ unfolding cast
 cast-gives h to stack after e =
     on_operand stack _ after e (λ v rest s e1.
     on_number v _ after e1 (λ w x v_is e2.
-    on_bind (fitting to x) _ after e2 (λ n n_is e3.
+    on_ok (fitting to x) _ after e2 (λ n n_is e3.
     subst (WhereOk (GivesLeaf h stack)) e3 (one h stack rest v _ n s (drops_leaf h v _ x v_is)))))
 
 pub logic-gives : (h : Here) (op : Bool → Bool → Bool) (stack after : List Value) → logic op stack ≡ Ok after → GivesLeaf h stack after
@@ -139,6 +139,6 @@ pub constant-is : (h : Here) (i : ℕ) (t : Turn) → constant h i ≡ Ok t → 
 unfolding constant
 constant-is h i t e =
     on_some (slice_get h.home.constants i) _ _ t e (λ c c_is e1.
-    on_bind (constant_value c.token c.bytes) _ t e1 (λ v v_is e2.
+    on_ok (constant_value c.token c.bytes) _ t e1 (λ v v_is e2.
     let l = constant_value-leaf c.token c.bytes v v_is in
     record { kind = l.0; number = l.1; left = subst (λ x. pushes h x ≡ Ok t) l.2 e2 }))

@@ -9,7 +9,7 @@ use Rattle.mv_machine.specs.Typing.{tag_of, has_tag}
 use Rattle.mv_machine.specs.StepParts.{Here, Turn, goes_on, gives, can_copy, can_drop, with_stack}
 use Rattle.mv_machine.specs.StepStructs.{OwnStruct}
 use Rattle.mv_machine.specs.StepReferences.{own_field, lends, extended, borrow_field, read_reference, write_reference, freeze}
-use Rattle.mv_machine.proofs.Laws.{on_bind, on_need}
+use Rattle.mv_machine.proofs.Laws.{on_ok, on_need}
 use Rattle.mv_machine.proofs.Binds.{ok-is, on_some, on_operand, on_reference, on_fields}
 
 -- an operand that is a reference
@@ -29,7 +29,7 @@ pub record BorrowFieldIs (is_mutable : Bool) (h : Here) (i : ℕ) (t : Turn) : T
 pub borrow_field-is : (is_mutable : Bool) (h : Here) (i : ℕ) (t : Turn) → borrow_field is_mutable h i ≡ Ok t → BorrowFieldIs is_mutable h i t
 unfolding borrow_field
 borrow_field-is is_mutable h i t e =
-    on_bind (own_field h i) _ t e (λ field field_is e1.
+    on_ok (own_field h i) _ t e (λ field field_is e1.
     on_operand h.state.top.stack _ t e1 (λ v below s e2.
     on_reference v _ t e2 (λ r v_is e3.
     on_need (lends is_mutable r) _ _ t e3 (λ lent e4.

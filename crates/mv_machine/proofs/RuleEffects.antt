@@ -19,7 +19,7 @@ use Rattle.mv_machine.specs.StepStructs.{pack, unpack}
 use Rattle.mv_machine.specs.StepReferences.{borrow_field, read_reference, write_reference, freeze}
 use Rattle.mv_machine.specs.StepGlobals.{key_at, exists, borrow_global, move_from, move_to}
 use Rattle.mv_machine.specs.StepControl.{call, branch_if, return_results}
-use Rattle.mv_machine.proofs.Laws.{on_bind}
+use Rattle.mv_machine.proofs.Laws.{on_ok}
 use Rattle.mv_machine.proofs.Binds.{WhereOk}
 use Rattle.mv_machine.proofs.Effects.{Appears, a_leaf, a_reference, a_copy, in_local, at_place, Effect, Restacked, MovedLocal, StoredLocal, Packed, Unpacked, Written, MovedFrom, MovedTo, Called, Resumed, Ends, Went, Left}
 use Rattle.mv_machine.proofs.Operations.{GivesLeaf, binary-gives, comparison-gives, shift-gives, cast-gives, logic-gives, negation-gives, equality-gives, constant-is}
@@ -76,7 +76,7 @@ trade-ends h at after t trade e =
     subst (WhereOk (Ends h)) e (Went at (with_stack h.state after) effect)
 
 gives-ends : (h : Here) (r : Result (List Value) Failure) (t : Turn) → ((after : List Value) → r ≡ Ok after → Trades h h.state.top.stack after) → gives h r ≡ Ok t → Ends h t
-gives-ends h r t trades e = on_bind r _ t e (λ after is e1. trade-ends h (h.state.top.at + 1) after t (trades after is) e1)
+gives-ends h r t trades e = on_ok r _ t e (λ after is e1. trade-ends h (h.state.top.at + 1) after t (trades after is) e1)
 
 -- an operator
 leaf-ends : (h : Here) (r : Result (List Value) Failure) (t : Turn) → ((after : List Value) → r ≡ Ok after → GivesLeaf h h.state.top.stack after) → gives h r ≡ Ok t → Ends h t

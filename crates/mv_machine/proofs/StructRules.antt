@@ -8,7 +8,7 @@ use Rattle.mv_machine.specs.Value.{Value, Struct, Values, list_of, fields_of}
 use Rattle.mv_machine.specs.Typing.{have_tags, tag_named}
 use Rattle.mv_machine.specs.StepParts.{Here, Turn, goes_on, with_stack}
 use Rattle.mv_machine.specs.StepStructs.{OwnStruct, own_struct, noted, pack, unpack}
-use Rattle.mv_machine.proofs.Laws.{on_bind, on_need}
+use Rattle.mv_machine.proofs.Laws.{on_ok, on_need}
 use Rattle.mv_machine.proofs.Binds.{on_operand, on_operands, on_fields}
 
 -- a Pack
@@ -26,9 +26,9 @@ pub record PackIs (h : Here) (i : ℕ) (t : Turn) : Type 0 where
 pub pack-is : (h : Here) (i : ℕ) (t : Turn) → pack h i ≡ Ok t → PackIs h i t
 unfolding pack
 pack-is h i t e =
-    on_bind (own_struct h i) _ t e (λ struct struct_is e1.
+    on_ok (own_struct h i) _ t e (λ struct struct_is e1.
     on_operands (length struct.fields) h.state.top.stack _ t e1 (λ taken rest before n e2.
-    on_bind (for_each (λ f. tag_named h.modules h.home f.token) struct.fields) _ t e2 (λ tags tags_are e3.
+    on_ok (for_each (λ f. tag_named h.modules h.home f.token) struct.fields) _ t e2 (λ tags tags_are e3.
     on_need (have_tags h.state taken tags) _ _ t e3 (λ typed e4.
     record { struct = struct; taken = taken; rest = rest; tags = tags; struct_is = struct_is; before = before; tags_are = tags_are; typed = typed; left = e4 }))))
 
@@ -46,7 +46,7 @@ pub record UnpackIs (h : Here) (i : ℕ) (t : Turn) : Type 0 where
 pub unpack-is : (h : Here) (i : ℕ) (t : Turn) → unpack h i ≡ Ok t → UnpackIs h i t
 unfolding unpack
 unpack-is h i t e =
-    on_bind (own_struct h i) _ t e (λ struct struct_is e1.
+    on_ok (own_struct h i) _ t e (λ struct struct_is e1.
     on_operand h.state.top.stack _ t e1 (λ v below s e2.
     on_fields struct.name v _ t e2 (λ name fields v_is same e3.
     record {

@@ -4,7 +4,7 @@ ghost use Rattle.mv_type_states.specs.TypeRules.{types_after};
 ghost use Rattle.mv_type_states.specs.Answers.{Follows};
 ghost use Rattle.mv_type_states.specs.Scopes.{IsScope, IsScopeOf};
 
-use crate::rules::{control, globals, numbers, references, structs};
+use crate::rules::{control, globals, locals, numbers, references, structs};
 use crate::stack::{BOOLEAN, exchange, exchange_two, number, pop, push};
 use mv_binary_format::FunctionDefinition;
 use mv_bounds::Bounded;
@@ -72,7 +72,7 @@ impl<'s, 'a> Scope<'s, 'a> {
             Instruction::LdU32(_) => push(stack, number(Width::U32)),
             Instruction::CastU16 => numbers::cast(Width::U16, stack),
             Instruction::CastU32 => numbers::cast(Width::U32, stack),
-            Instruction::Pop => control::pop_any(m, stack),
+            Instruction::Pop => locals::pop_any(m, stack),
             Instruction::Ret => self.ret(stack),
             Instruction::BrTrue(_) | Instruction::BrFalse(_) => pop(stack, BOOLEAN),
             Instruction::Branch(_) | Instruction::Nop => Ok(()),

@@ -8,7 +8,7 @@ use Rattle.mv_interpreter.specs.Borrows.Locals.{DropFits, AsKnown}
 use Rattle.mv_interpreter.specs.Borrows.Covers.{IsAs}
 use Rattle.mv_machine.specs.StepParts.{may_drop}
 use Rattle.mv_machine.specs.StepLocals.{held}
-use Rattle.mv_linker.proofs.Found.{on_some}
+use Rattle.mv_module_text.proofs.Texts.{on_bind}
 use Rattle.mv_interpreter.proofs.Borrows.Edges.{then-some}
 
 -- the clause on locals of what covers a frame
@@ -35,7 +35,7 @@ available-holds (b ∷ as') (y ∷ xs) (suc l) a k h g = available-holds as' xs 
 
 pub needed-holds : (l : ℕ) (as' bs : List Availability) (xs : List (Option Value)) → AsKnown as' xs → needs_available l as' ≡ Some bs → (bs ≡ as') × ((v : Value) × (slice_get xs l ≡ Some (Some v)))
 needed-holds l as' bs xs k h =
-    on_some (slice_get as' l) _ bs h (λ a a_is h1.
+    on_bind (slice_get as' l) _ bs h (λ a a_is h1.
     let t = then-some (is_available a) as' bs h1 in
     (t.1, available-holds as' xs l a k a_is t.0))
 

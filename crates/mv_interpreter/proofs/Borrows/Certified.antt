@@ -14,7 +14,7 @@ use Rattle.mv_certificate.specs.Known.{known_after}
 use Rattle.mv_machine.proofs.Laws.{begins-more}
 use Rattle.mv_interpreter.proofs.Borrows.Edges.{same_node-is}
 use Rattle.mv_borrow_graph.specs.Abstract.Places.{LabelBelow, Begins}
-use Rattle.mv_linker.proofs.Found.{on_some}
+use Rattle.mv_module_text.proofs.Texts.{on_bind}
 use Rattle.mv_interpreter.specs.Borrows.View.{label_of}
 use Rattle.mv_interpreter.proofs.Borrows.Kept.{label-self}
 use Rattle.mv_interpreter.proofs.Typing.Tests.{beq-is}
@@ -77,8 +77,8 @@ module _ {S : Type 0} (rule : Rule S) (m : Module) (d : FunctionDefinition) wher
 
   pub inside : (before : List Instruction) (i : Instruction) (rest : List Instruction) (at end : S × Types) → through rule m d (before ++ i ∷ rest) at ≡ Some end → Inside before i rest at end
   inside [] i rest at end e =
-      on_some (rule (record { home = m; function = d; types = at.1 }) i at.0) _ end e (λ known known_is e1.
-      on_some (types_after m d i at.1) _ end e1 (λ types types_are e2.
+      on_bind (rule (record { home = m; function = d; types = at.1 }) i at.0) _ end e (λ known known_is e1.
+      on_bind (types_after m d i at.1) _ end e1 (λ types types_are e2.
       record {
         known = at.0;
         types = at.1;
@@ -91,8 +91,8 @@ module _ {S : Type 0} (rule : Rule S) (m : Module) (d : FunctionDefinition) wher
         onward = e2;
       }))
   inside (b ∷ before) i rest at end e =
-      on_some (rule (record { home = m; function = d; types = at.1 }) b at.0) _ end e (λ known known_is e1.
-      on_some (types_after m d b at.1) _ end e1 (λ types types_are e2.
+      on_bind (rule (record { home = m; function = d; types = at.1 }) b at.0) _ end e (λ known known_is e1.
+      on_bind (types_after m d b at.1) _ end e1 (λ types types_are e2.
       let x = inside before i rest (known, types) end e2 in
       record {
         known = x.known;
@@ -135,9 +135,9 @@ pub both-through : (m : Module) (d : FunctionDefinition) (is : List Instruction)
 both-through m d [] k types ls es ts us a b =
     ap₂ (λ (x : List Availability × Types) (y : List Edge × Types). Some (record { locals = x.0; edges = y.0 }, x.1)) (same_Some (k.locals, types) (ls, ts) a) (same_Some (k.edges, types) (es, us) b)
 both-through m d (i ∷ is) k types ls es ts us a b =
-    on_some (locals_after (record { home = m; function = d; types = types }) i k.locals) _ (ls, ts) a (λ l l_is a1.
-    on_some (types_after m d i types) _ (ls, ts) a1 (λ t t_is a2.
-    on_some (edges_after (record { home = m; function = d; types = types }) i k.edges) _ (es, us) b (λ e e_is b1.
-    on_some (types_after m d i types) _ (es, us) b1 (λ u u_is b2.
+    on_bind (locals_after (record { home = m; function = d; types = types }) i k.locals) _ (ls, ts) a (λ l l_is a1.
+    on_bind (types_after m d i types) _ (ls, ts) a1 (λ t t_is a2.
+    on_bind (edges_after (record { home = m; function = d; types = types }) i k.edges) _ (es, us) b (λ e e_is b1.
+    on_bind (types_after m d i types) _ (es, us) b1 (λ u u_is b2.
     rw (l_is, e_is, t_is) (both-through m d is (record { locals = l; edges = e }) t ls es ts us a2
     (subst (λ (z : Types). through edges_after m d is (e, z) ≡ Some (es, us)) (same_Some u t (sym u_is ∙ t_is)) b2))))))

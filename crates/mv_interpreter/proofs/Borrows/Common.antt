@@ -23,7 +23,7 @@ pub use Rattle.mv_move_types.specs.declared.tables.Key.{Key}
 pub use Rattle.mv_move_types.specs.declared.token.Token.{Token}
 pub use Rattle.mv_move_types.specs.declared.token.Token.TheVariants.{Plain, Reference as ReferenceTo, MutableReference as MutableReferenceTo}
 pub use Rattle.mv_machine.proofs.Binds.{ok-is, operand-is, found-is}
-pub use Rattle.mv_machine.proofs.Laws.{on_bind}
+pub use Rattle.mv_machine.proofs.Laws.{on_ok}
 pub use Rattle.mv_machine.specs.Live.{reference_of, live, is_frozen_by}
 pub use Rattle.mv_machine.specs.State.{Frame, State, place_value}
 pub use Rattle.mv_machine.specs.StepParts.{Here, can_drop, operand, as_fields, Turn, gives, with_top, as_reference, with_stack}

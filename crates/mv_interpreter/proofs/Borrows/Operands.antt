@@ -1,5 +1,5 @@
 -- The machine's rules taken apart: what they take off the stack and put on it.
-use Rattle.mv_interpreter.proofs.Borrows.Common.{◌≡◌, List, [], ◌∷◌, ◌++◌, map, reverse, Bool, true, false, refl, sym, ◌∙◌, ap, subst, Option, Some, None, Result, Ok, Err, ap₂, option_and_then, ⊤, reverse_onto, Module, Token, Plain, ReferenceTo, MutableReferenceTo, beq, option_map_or, and_parts, State, place_value, tag_named, Faults, entry, has_tag, Tag, token_kind, operand_kind, ◌>>>◌, Value, Leaf, Struct, Ref, reference_of, Here, on_bind, ok-is}
+use Rattle.mv_interpreter.proofs.Borrows.Common.{◌≡◌, List, [], ◌∷◌, ◌++◌, map, reverse, Bool, true, false, refl, sym, ◌∙◌, ap, subst, Option, Some, None, Result, Ok, Err, ap₂, option_and_then, ⊤, reverse_onto, Module, Token, Plain, ReferenceTo, MutableReferenceTo, beq, option_map_or, and_parts, State, place_value, tag_named, Faults, entry, has_tag, Tag, token_kind, operand_kind, ◌>>>◌, Value, Leaf, Struct, Ref, reference_of, Here, on_ok, ok-is}
 use Rattle.std.specs.Prelude.{option_map}
 use Rattle.mv_move_types.specs.Names.{StructName}
 use Rattle.mv_move_types.specs.Module.{struct_name}
@@ -76,14 +76,14 @@ IsPlainTag (ReferenceTag b to) = ⊥
 plain-tag : (modules : List Module) (m : Module) (t : ValueType) (tag : Tag) → value_type_tag modules m t ≡ Ok tag → IsPlainTag tag
 plain-tag modules m (OfLeaf kind) tag h = subst IsPlainTag (ok-is (LeafTag kind) tag h) tt
 plain-tag modules m (OfStruct i) tag h =
-    on_bind (entry m.struct_handles i) _ tag h (λ handle handle_is e1.
-    on_bind (linked (struct_name m i)) _ tag e1 (λ name name_is e2.
-    on_bind (linked (declared modules name)) _ tag e2 (λ abilities abilities_is e3.
+    on_ok (entry m.struct_handles i) _ tag h (λ handle handle_is e1.
+    on_ok (linked (struct_name m i)) _ tag e1 (λ name name_is e2.
+    on_ok (linked (declared modules name)) _ tag e2 (λ abilities abilities_is e3.
     on_need (same_abilities abilities handle.abilities) (Faults LinkageFault) _ tag e3 (λ ok e4. subst IsPlainTag (ok-is (StructTag name) tag e4) tt))))
 
 reference-tag : (modules : List Module) (m : Module) (b : Bool) (t : ValueType) (tag : Tag)
     → (value_type_tag modules m t >>= λ to. Ok (ReferenceTag b to)) ≡ Ok tag → (to : Tag) × (tag ≡ ReferenceTag b to)
-reference-tag modules m b t tag h = on_bind (value_type_tag modules m t) _ tag h (λ to to_is e. (to, sym (ok-is (ReferenceTag b to) tag e)))
+reference-tag modules m b t tag h = on_ok (value_type_tag modules m t) _ tag h (λ to to_is e. (to, sym (ok-is (ReferenceTag b to) tag e)))
 
 pub not-plain : (b : Bool) (x tag : Tag) → IsPlainTag tag → same_tag (ReferenceTag b x) tag ≡ true → ⊥
 not-plain b x (LeafTag k) p h = cc
@@ -128,8 +128,8 @@ tags-kinds modules m s (v ∷ vs) [] tags h k = absurd (none tags (ok-is [] tags
     none [] h k = cc
     none (t ∷ tags) h k = cc
 tags-kinds modules m s vs (t ∷ ts) tags h k =
-    on_bind (tag_named modules m t) _ tags h (λ tag tag_is e1.
-    on_bind (for_each (tag_named modules m) ts) _ tags e1 (λ more more_is e2.
+    on_ok (tag_named modules m t) _ tags h (λ tag tag_is e1.
+    on_ok (for_each (tag_named modules m) ts) _ tags e1 (λ more more_is e2.
     one vs tag more tag_is (λ us g. tags-kinds modules m s us ts more more_is g) (subst (λ (x : List Tag). have_tags s vs x ≡ true) (sym (ok-is (tag ∷ more) tags e2)) k)))
   where
     one : (vs : List Value) (tag : Tag) (more : List Tag) → tag_named modules m t ≡ Ok tag

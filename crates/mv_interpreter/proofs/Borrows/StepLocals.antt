@@ -1,5 +1,5 @@
 -- A step on a local keeps the chain of frames: copies, moves, stores and borrows.
-use Rattle.mv_interpreter.proofs.Borrows.Common.{◌≡◌, ℕ, zero, suc, ◌+◌, List, [], ◌∷◌, ◌++◌, map, length, Bool, true, false, inl, refl, sym, ◌∙◌, ap, subst, Option, Some, None, Ok, slice_get, slice_set, same_Some, Slot, Own, Temp, Token, Plain, ReferenceTo, MutableReferenceTo, Instruction, need, ◌>>>◌, Reference, Value, Ref, Frame, reference_of, successors, entry, tag_named, Tag, Edge, here, without, inherited, renamed, an_edge, no_edge_out, no_mutable_from, edges_of, kind_at, Turn, with_top, TheLabel, TheNode, AtOwn, Bars, token_kind, operand_kind, on_bind, found-is}
+use Rattle.mv_interpreter.proofs.Borrows.Common.{◌≡◌, ℕ, zero, suc, ◌+◌, List, [], ◌∷◌, ◌++◌, map, length, Bool, true, false, inl, refl, sym, ◌∙◌, ap, subst, Option, Some, None, Ok, slice_get, slice_set, same_Some, Slot, Own, Temp, Token, Plain, ReferenceTo, MutableReferenceTo, Instruction, need, ◌>>>◌, Reference, Value, Ref, Frame, reference_of, successors, entry, tag_named, Tag, Edge, here, without, inherited, renamed, an_edge, no_edge_out, no_mutable_from, edges_of, kind_at, Turn, with_top, TheLabel, TheNode, AtOwn, Bars, token_kind, operand_kind, on_ok, found-is}
 use Rattle.mv_move_types.specs.declared.instruction.Instruction.TheVariants.{CopyLoc, MoveLoc, StLoc, MutBorrowLoc, ImmBorrowLoc}
 use Rattle.mv_move_types.specs.Module.{local_tokens, local_type}
 use Rattle.mv_machine.specs.Typing.{linked}
@@ -114,8 +114,8 @@ module _ (this : Standing) where
 
   local-tag-is : (l : ℕ) (tag : Tag) → local_tag h l ≡ Ok tag → (t : Token) × (local_type h.home h.function l ≡ Some t) × (tag_named h.modules h.home t ≡ Ok tag)
   local-tag-is l tag e =
-      on_bind (linked (local_tokens h.home h.function)) _ tag e (λ tokens tokens_is e1.
-      on_bind (entry tokens l) _ tag e1 (λ t t_is e2.
+      on_ok (linked (local_tokens h.home h.function)) _ tag e (λ tokens tokens_is e1.
+      on_ok (entry tokens l) _ tag e1 (λ t t_is e2.
       (t, ap (λ o. o >>> λ tokens. slice_get tokens l) (found-is (local_tokens h.home h.function) _ tokens tokens_is) ∙ found-is (slice_get tokens l) _ t t_is, e2)))
 
   pub step-store : (l : ℕ) (y : Turn) (es' : List Edge) → store_local h l ≡ Ok y → edges_after p (StLoc l) es ≡ Some es' → Kept this (StLoc l) es' (Ok y)

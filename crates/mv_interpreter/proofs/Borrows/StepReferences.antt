@@ -1,5 +1,5 @@
 -- A step on references keeps the chain of frames: fields, FreezeRef, reads and writes.
-use Rattle.mv_interpreter.proofs.Borrows.Common.{◌≡◌, ℕ, ◌+◌, ◌-◌, List, [], ◌∷◌, ◌++◌, map, length, Bool, true, false, not, inl, refl, sym, ◌∙◌, ap, subst, Some, None, Ok, slice_get, ◌&&◌, ◌||◌, ◌==◌, filter, list_any, not-true, and_from, eq-eqb, same_Some, Temp, Instruction, need, ◌>>>◌, Reference, Value, Ref, Frame, reference_of, successors, entry, Edge, Label, same_node, without, inherited, extended, is_mutable, no_edge_out, no_mutable_from, edges_of, kind_at, label_from, Member, Turn, gives, with_top, with_stack, TheLabel, TheNode, AtTemp, Chain, home_of, Descending, begins, on_bind, ok-is, found-is}
+use Rattle.mv_interpreter.proofs.Borrows.Common.{◌≡◌, ℕ, ◌+◌, ◌-◌, List, [], ◌∷◌, ◌++◌, map, length, Bool, true, false, not, inl, refl, sym, ◌∙◌, ap, subst, Some, None, Ok, slice_get, ◌&&◌, ◌||◌, ◌==◌, filter, list_any, not-true, and_from, eq-eqb, same_Some, Temp, Instruction, need, ◌>>>◌, Reference, Value, Ref, Frame, reference_of, successors, entry, Edge, Label, same_node, without, inherited, extended, is_mutable, no_edge_out, no_mutable_from, edges_of, kind_at, label_from, Member, Turn, gives, with_top, with_stack, TheLabel, TheNode, AtTemp, Chain, home_of, Descending, begins, on_ok, ok-is, found-is}
 use Rattle.mv_move_types.specs.declared.instruction.Instruction.TheVariants.{MutBorrowField, ImmBorrowField, ReadRef, WriteRef, FreezeRef}
 use Rattle.mv_edges.specs.Edges.{out_of, agrees}
 use Rattle.mv_borrow_graph.specs.BorrowRules.{edges_after, position_of, field_edges, top_temp}
@@ -40,9 +40,9 @@ module _ (this : Standing) where
   own-field-is : (i : ℕ) (x : OwnStruct × ℕ) → own_field h i ≡ Ok x → position_of p i ≡ Some x.1
   unfolding own_field
   own-field-is i x e =
-      on_bind (entry h.home.field_handles i) _ x e (λ handle handle_is e1.
-      on_bind (own_struct h handle.definition) _ x e1 (λ struct struct_is e2.
-      on_bind (entry struct.fields handle.position) _ x e2 (λ field field_is e3.
+      on_ok (entry h.home.field_handles i) _ x e (λ handle handle_is e1.
+      on_ok (own_struct h handle.definition) _ x e1 (λ struct struct_is e2.
+      on_ok (entry struct.fields handle.position) _ x e2 (λ field field_is e3.
       ap (λ o. o >>> λ hd. Some hd.position) (found-is (slice_get h.home.field_handles i) _ handle handle_is) ∙ ap (λ (z : OwnStruct × ℕ). Some z.1) (ok-is (struct, handle.position) x e3))))
 
   out-edge : (n : ℕ) (x : TheLabel) (c : TheNode) (w : edges_of place es (AtTemp n) x c) → Member w.0 (out_of (Temp n) es)

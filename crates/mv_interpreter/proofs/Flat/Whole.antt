@@ -1,5 +1,5 @@
 -- The whole: a run of linked code over an accepted store agrees with the machine's run.
-use Rattle.mv_interpreter.proofs.Flat.Common.{◌≡◌, ℕ, ◌≤◌, List, [], ◌∷◌, ◌++◌, map, length, refl, sym, ◌∙◌, subst, Option, Some, None, Result, Ok, flat_map, replicate, option_map_or, same_Some, Token, Module, Value, Leaf, Struct, Ref, State, Storage, flat, Failure, Tag, LeafTag, StructTag, ReferenceTag, token_named, tokens_named, FunctionCall, Roots, HasType, HaveTypes, HaveTokens, StorageTyped, SoundStore, Guides, StoreAccepted, Program, width_of_tags, width_of_tokens, IsLinked, on_some, History, ValueWords, LocalsWords, Represented, flat_entry, SameOutcome}
+use Rattle.mv_interpreter.proofs.Flat.Common.{◌≡◌, ℕ, ◌≤◌, List, [], ◌∷◌, ◌++◌, map, length, refl, sym, ◌∙◌, subst, Option, Some, None, Result, Ok, flat_map, replicate, option_map_or, same_Some, Token, Module, Value, Leaf, Struct, Ref, State, Storage, flat, Failure, Tag, LeafTag, StructTag, ReferenceTag, token_named, tokens_named, FunctionCall, Roots, HasType, HaveTypes, HaveTokens, StorageTyped, SoundStore, Guides, StoreAccepted, Program, width_of_tags, width_of_tokens, IsLinked, on_bind, History, ValueWords, LocalsWords, Represented, flat_entry, SameOutcome}
 use Rattle.mv_machine.specs.Run.{outcome_from, run}
 use Rattle.mv_interpreter.specs.Typing.HasType.{fields_by_name}
 use Rattle.mv_interpreter.proofs.Typing.Structs.{names_length}
@@ -22,8 +22,8 @@ types_named modules look home [] [] tags h e = subst (λ (x : List Tag). HaveTyp
 types_named modules look home [] (t ∷ ts) tags h e = absurd h
 types_named modules look home (v ∷ vs) [] tags h e = absurd h
 types_named modules look home (v ∷ vs) (t ∷ ts) tags h e =
-    on_some (token_named home t) _ tags e (λ tag tag_is e1.
-    on_some (tokens_named home ts) (λ rest. Some (tag ∷ rest)) tags e1 (λ rest rest_is e2.
+    on_bind (token_named home t) _ tags e (λ tag tag_is e1.
+    on_bind (tokens_named home ts) (λ rest. Some (tag ∷ rest)) tags e1 (λ rest rest_is e2.
     let same : h.0.tag ≡ tag = same_Some h.0.tag tag (sym h.0.names ∙ tag_is) in
     subst (λ (x : List Tag). HaveTypes (fields_by_name modules) look (v ∷ vs) x) (same_Some (tag ∷ rest) tags e2)
     (subst (λ (x : Tag). HasType (fields_by_name modules) look v x) same h.0.typed, types_named modules look home vs ts rest h.1 rest_is)))
@@ -86,8 +86,8 @@ first_represented modules storage call c store sized stored =
     named_first : (m : Module) (ts us : List Token) (all : List Tag) → tokens_named m (ts ++ us) ≡ Some all → (a : List Tag) × (tokens_named m ts ≡ Some a)
     named_first m [] us all e = ([], refl)
     named_first m (t ∷ ts) us all e =
-        on_some (token_named m t) _ all e (λ tag tag_is e1.
-        on_some (tokens_named m (ts ++ us)) (λ rest. Some (tag ∷ rest)) all e1 (λ rest rest_is e2.
+        on_bind (token_named m t) _ all e (λ tag tag_is e1.
+        on_bind (tokens_named m (ts ++ us)) (λ rest. Some (tag ∷ rest)) all e1 (λ rest rest_is e2.
         let inner = named_first m ts us rest rest_is in
         (tag ∷ inner.0, rw (tag_is, inner.1) refl)))
 

@@ -1,5 +1,5 @@
 -- A certificate that holds of a module holds of each of its functions; and what is known where a callee begins.
-use Rattle.mv_interpreter.proofs.Guided.Common.{◌≡◌, ℕ, zero, suc, ◌+◌, ◌-◌, List, [], ◌∷◌, ◌++◌, map, length, true, false, refl, sym, ◌∙◌, ap, subst, arith, Bool, Option, Some, None, option_map, Ok, slice_get, option_map_or, and_parts, same_Some, FunctionHandle, Token, Available, Unavailable, Module, FunctionDefinition, local_tokens, Value, Tag, same_tag, same_tags, Known, Certificate, Stated, locals_leq, edges_leq, Here, Callee, on_some, callee-is, AsKnown, StoreFacts}
+use Rattle.mv_interpreter.proofs.Guided.Common.{◌≡◌, ℕ, zero, suc, ◌+◌, ◌-◌, List, [], ◌∷◌, ◌++◌, map, length, true, false, refl, sym, ◌∙◌, ap, subst, arith, Bool, Option, Some, None, option_map, Ok, slice_get, option_map_or, and_parts, same_Some, FunctionHandle, Token, Available, Unavailable, Module, FunctionDefinition, local_tokens, Value, Tag, same_tag, same_tags, Known, Certificate, Stated, locals_leq, edges_leq, Here, Callee, on_bind, callee-is, AsKnown, StoreFacts}
 use Rattle.std.proofs.Common.{replicate}
 use Rattle.std.proofs.lemmas.List.{length-append}
 use Rattle.mv_move_types.specs.Module.{parameter_tokens}
@@ -84,8 +84,8 @@ pub entered-known : (m : Module) (d : FunctionDefinition) (start : Known) (handl
     → slice_get m.signatures d.locals ≡ Some others → length args ≡ length parameters → known_at_start m d ≡ Some start
     → AsKnown start.locals (map Some args ++ replicate (length others) None)
 entered-known m d start handle parameters others args handle_is parameters_are others_are long e =
-    on_some (parameter_tokens m d) _ start e (λ ps ps_are e1.
-    on_some (local_tokens m d) _ start e1 (λ ts ts_are e2.
+    on_bind (parameter_tokens m d) _ start e (λ ps ps_are e1.
+    on_bind (local_tokens m d) _ start e1 (λ ts ts_are e2.
     let p : ps ≡ parameters = same_Some ps parameters (sym ps_are ∙ found_parameters) in
     let t : ts ≡ parameters ++ others = same_Some ts (parameters ++ others) (sym ts_are ∙ found_locals) in
     let n : length ps ≡ length args = ap length p ∙ sym long in

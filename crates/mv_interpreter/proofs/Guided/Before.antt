@@ -1,5 +1,5 @@
 -- What an accepted certificate says before an instruction, and that it goes on to what it says before each that may come next.
-use Rattle.mv_interpreter.proofs.Guided.Common.{◌≡◌, ℕ, ◌+◌, ◌-◌, ◌<◌, ◌≤◌, Bool, true, false, List, [], ◌∷◌, ◌++◌, map, length, refl, sym, ap, ◌∙◌, subst, Option, Some, None, option_map, arith, inl, inr, slice_get, nat_le, zip, list_all, option_map_or, and_parts, and_from, same_Some, Unavailable, Available, Instruction, Module, FunctionDefinition, Block, starts_from, Edge, edges_leq, Known, Stated, locals_leq, known_before, Point, Types, on_some}
+use Rattle.mv_interpreter.proofs.Guided.Common.{◌≡◌, ℕ, ◌+◌, ◌-◌, ◌<◌, ◌≤◌, Bool, true, false, List, [], ◌∷◌, ◌++◌, map, length, refl, sym, ap, ◌∙◌, subst, Option, Some, None, option_map, arith, inl, inr, slice_get, nat_le, zip, list_all, option_map_or, and_parts, and_from, same_Some, Unavailable, Available, Instruction, Module, FunctionDefinition, Block, starts_from, Edge, edges_leq, Known, Stated, locals_leq, known_before, Point, Types, on_bind}
 use Rattle.std.proofs.Common.{take, drop}
 use Rattle.std.specs.Prelude.{slice_range}
 use Rattle.std.proofs.lemmas.Bool.{leb-true, false_from_ne_true}
@@ -42,8 +42,8 @@ all-among p (y ∷ ys) x h (inr a) = all-among p ys x (and_parts (p y) (list_all
 -- what is known and the types, alike or apart
 pub known-parts : (p : Point) (i : Instruction) (k next : Known) → known_after p i k ≡ Some next → (locals_after p i k.locals ≡ Some next.locals) × (edges_after p i k.edges ≡ Some next.edges)
 known-parts p i k next e =
-    on_some (locals_after p i k.locals) _ next e (λ l l_is e1.
-    on_some (edges_after p i k.edges) _ next e1 (λ es es_are e2.
+    on_bind (locals_after p i k.locals) _ next e (λ l l_is e1.
+    on_bind (edges_after p i k.edges) _ next e1 (λ es es_are e2.
     let same = same_Some (record { locals = l; edges = es }) next e2 in
     (l_is ∙ ap (λ (x : Known). Some x.locals) same, es_are ∙ ap (λ (x : Known). Some x.edges) same)))
 
@@ -73,8 +73,8 @@ module _ (m : Module) (d : FunctionDefinition) (stated : Stated) where
 
   pub known-here : (at : ℕ) (k : Known) (ts : Types) → known_before m d stated at ≡ Some (k, ts) → Before at k ts
   known-here at k ts e =
-      on_some (block_of at with_blocks) _ (k, ts) e (λ b b_is e1.
-      on_some b.1 _ (k, ts) e1 (λ known known_is e2.
+      on_bind (block_of at with_blocks) _ (k, ts) e (λ b b_is e1.
+      on_bind b.1 _ (k, ts) e1 (λ known known_is e2.
       let t = find-has (holds_place at) with_blocks b b_is in
       let bounds = and_parts (nat_le b.0.first at) (nat_le at b.0.last) t.2 in
       record {

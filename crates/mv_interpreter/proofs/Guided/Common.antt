@@ -33,7 +33,7 @@ pub use Rattle.mv_certificate.specs.Certificate.{Known, Certificate, Stated}
 pub use Rattle.mv_certificate.specs.Known.{known_before}
 pub use Rattle.mv_cfg.specs.Blocks.{BasicBlock as Block, starts_from}
 pub use Rattle.mv_edges.specs.Edges.{edges_leq, Edge}
-pub use Rattle.mv_linker.proofs.Found.{on_some}
+pub use Rattle.mv_module_text.proofs.Texts.{on_bind}
 pub use Rattle.mv_locals_safety.specs.LocalsRules.{locals_leq}
 pub use Rattle.mv_type_states.specs.TypeRules.{Types}
 pub use Rattle.mv_type_states.specs.TypesHold.{Point}

@@ -1,5 +1,5 @@
 -- The invariant gives what the rules of types need of borrows at each step.
-use Rattle.mv_interpreter.proofs.Guided.Common.{◌≡◌, ℕ, List, sym, ◌∙◌, ap, subst, Option, Some, None, slice_get, option_and_then, same_Some, Glob, Token, Instruction, Ret, StLoc, MoveFrom, Module, FunctionDefinition, local_type, Value, State, reference_of, Point, no_edge_out, Certificate, on_some, token_kind, operand_kind, Stood, Reaches, Guided, StoreFacts, TypeFacts}
+use Rattle.mv_interpreter.proofs.Guided.Common.{◌≡◌, ℕ, List, sym, ◌∙◌, ap, subst, Option, Some, None, slice_get, option_and_then, same_Some, Glob, Token, Instruction, Ret, StLoc, MoveFrom, Module, FunctionDefinition, local_type, Value, State, reference_of, Point, no_edge_out, Certificate, on_bind, token_kind, operand_kind, Stood, Reaches, Guided, StoreFacts, TypeFacts}
 use Rattle.mv_move_types.specs.declared.instruction.Instruction.TheVariants.{MoveLoc}
 use Rattle.mv_borrow_graph.specs.BorrowRules.{edges_after}
 use Rattle.mv_interpreter.proofs.Borrows.Edges.{then-some}
@@ -27,11 +27,11 @@ module _ (depends : ℕ → ℕ → Type 0) (modules : List Module) (certificate
   guarded : (i : Instruction) → Reaches w.function.acquires i → Onward w.home w.function w.stated s.top.at i w.known w.types → Guarded i s
   unfolding edges_after
   guarded (MoveLoc l) q o = λ v at none.
-      on_some (local_type w.home w.function l) _ o.next.edges o.edges (λ t t_is g.
+      on_bind (local_type w.home w.function l) _ o.next.edges o.edges (λ t t_is g.
       local-unreached depends store.through store.no_cycle s x w.waiting w.sound.stood w.sound.chain l
       (moved-free p l t w.known.edges o.next.edges g (plain-at l t v t_is at none)))
   guarded (StLoc l) q o = λ v at none.
-      on_some (local_type w.home w.function l) _ o.next.edges o.edges (λ t t_is g.
+      on_bind (local_type w.home w.function l) _ o.next.edges o.edges (λ t t_is g.
       local-unreached depends store.through store.no_cycle s x w.waiting w.sound.stood w.sound.chain l
       (stored-free p l t w.known.edges o.next.edges g (plain-at l t v t_is at none)))
   guarded (MoveFrom k) q o = λ a rest e.

@@ -4,7 +4,7 @@ use Rattle.std.specs.Bool.{beq}
 use Rattle.mv_machine.specs.Typing.{value_type_tag}
 use Rattle.mv_move_types.specs.Tags.{LeafTag, ReferenceTag}
 use Rattle.mv_machine.specs.StepControl.{callee, signature_tags, return_results}
-use Rattle.mv_machine.proofs.Laws.{on_bind, on_need}
+use Rattle.mv_machine.proofs.Laws.{on_ok, on_need}
 use Rattle.mv_borrow_graph.specs.Abstract.Lists.{Value as TheValue, Plain as NoRef, Reference as Held}
 use Rattle.mv_interpreter.proofs.Borrows.Same.{SameSeen, SameFrames}
 use Rattle.mv_interpreter.proofs.Borrows.Operands.{tags-kinds}
@@ -24,21 +24,21 @@ tag_kind (ReferenceTag m to) = Some m
 plain-kind : (modules : List Module) (m : Module) (t : ValueType) (tag : Tag) → value_type_tag modules m t ≡ Ok tag → tag_kind tag ≡ None
 plain-kind modules m (OfLeaf kind) tag e = ap tag_kind (sym (ok-is (LeafTag kind) tag e))
 plain-kind modules m (OfStruct i) tag e =
-    on_bind (entry m.struct_handles i) _ tag e (λ handle handle_is e1.
-    on_bind (linked (struct_name m i)) _ tag e1 (λ name name_is e2.
-    on_bind (linked (declared modules name)) _ tag e2 (λ abilities abilities_is e3.
+    on_ok (entry m.struct_handles i) _ tag e (λ handle handle_is e1.
+    on_ok (linked (struct_name m i)) _ tag e1 (λ name name_is e2.
+    on_ok (linked (declared modules name)) _ tag e2 (λ abilities abilities_is e3.
     on_need (same_abilities abilities handle.abilities) (Faults LinkageFault) _ tag e3 (λ met e4. ap tag_kind (sym (ok-is (StructTag name) tag e4))))))
 
 named-kind : (modules : List Module) (m : Module) (t : Token) (tag : Tag) → tag_named modules m t ≡ Ok tag → token_kind t ≡ tag_kind tag
 named-kind modules m (Plain t) tag e = sym (plain-kind modules m t tag e)
-named-kind modules m (ReferenceTo t) tag e = on_bind (value_type_tag modules m t) _ tag e (λ to to_is e1. ap tag_kind (ok-is (ReferenceTag false to) tag e1))
-named-kind modules m (MutableReferenceTo t) tag e = on_bind (value_type_tag modules m t) _ tag e (λ to to_is e1. ap tag_kind (ok-is (ReferenceTag true to) tag e1))
+named-kind modules m (ReferenceTo t) tag e = on_ok (value_type_tag modules m t) _ tag e (λ to to_is e1. ap tag_kind (ok-is (ReferenceTag false to) tag e1))
+named-kind modules m (MutableReferenceTo t) tag e = on_ok (value_type_tag modules m t) _ tag e (λ to to_is e1. ap tag_kind (ok-is (ReferenceTag true to) tag e1))
 
 named-kinds : (modules : List Module) (m : Module) (ts : List Token) (tags : List Tag) → for_each (tag_named modules m) ts ≡ Ok tags → map token_kind ts ≡ map tag_kind tags
 named-kinds modules m [] tags e = ap (map tag_kind) (ok-is [] tags e)
 named-kinds modules m (t ∷ ts) tags e =
-    on_bind (tag_named modules m t) _ tags e (λ tag tag_is e1.
-    on_bind (for_each (tag_named modules m) ts) _ tags e1 (λ more more_is e2.
+    on_ok (tag_named modules m t) _ tags e (λ tag tag_is e1.
+    on_ok (for_each (tag_named modules m) ts) _ tags e1 (λ more more_is e2.
     ap₂ (λ (x : Option Bool) (xs : List (Option Bool)). x ∷ xs) (named-kind modules m t tag tag_is) (named-kinds modules m ts more more_is) ∙ ap (map tag_kind) (ok-is (tag ∷ more) tags e2)))
 
 same-kind-tags : (a b : Tag) → same_tag a b ≡ true → tag_kind a ≡ tag_kind b

@@ -1,5 +1,5 @@
 -- Every rule but those of Call and Ret leaves the locals as they are known then, and none meets what is lost or frozen.
-use Rattle.mv_interpreter.proofs.Guided.Common.{◌≡◌, ℕ, suc, ◌-◌, List, [], ◌∷◌, ◌++◌, map, length, Bool, true, false, refl, sym, ◌∙◌, ap, subst, arith, Option, Some, None, Result, Ok, slice_get, ok_or, ◌&&◌, ◌||◌, ◌==◌, nat_le, flat_map, ⊤, list_any, list_all, same_Some, Unavailable, Available, Glob, Instruction, Ret, StLoc, Call, MoveFrom, for_each, Module, FunctionDefinition, local_tokens, local_type, Stored, Reference, Value, Ref, Frame, State, reference_of, references, frame_references, Failure, Faults, Aborts, TypeFault, LostFault, FrozenFault, DanglingFault, entry, tag_named, StructTag, Edge, Known, Point, no_edge_out, Types, Here, Goes, operand, operands, as_reference, as_boolean, as_number, on_some, alone, Stood, Sound, Fits, InRefs, found-is, Reaches, AsKnown, Rooted}
+use Rattle.mv_interpreter.proofs.Guided.Common.{◌≡◌, ℕ, suc, ◌-◌, List, [], ◌∷◌, ◌++◌, map, length, Bool, true, false, refl, sym, ◌∙◌, ap, subst, arith, Option, Some, None, Result, Ok, slice_get, ok_or, ◌&&◌, ◌||◌, ◌==◌, nat_le, flat_map, ⊤, list_any, list_all, same_Some, Unavailable, Available, Glob, Instruction, Ret, StLoc, Call, MoveFrom, for_each, Module, FunctionDefinition, local_tokens, local_type, Stored, Reference, Value, Ref, Frame, State, reference_of, references, frame_references, Failure, Faults, Aborts, TypeFault, LostFault, FrozenFault, DanglingFault, entry, tag_named, StructTag, Edge, Known, Point, no_edge_out, Types, Here, Goes, operand, operands, as_reference, as_boolean, as_number, on_bind, alone, Stood, Sound, Fits, InRefs, found-is, Reaches, AsKnown, Rooted}
 use Rattle.std.proofs.Common.{not}
 use Rattle.std.specs.Prelude.{slice_set, bit_or, bit_and, bit_xor, nat_lt, is_some}
 use Rattle.mv_move_types.specs.declared.borrow.Availability.{Availability}
@@ -232,8 +232,8 @@ module _ (depends : ℕ → ℕ → Type 0) (through : (a b c : ℕ) → depends
         → edges_after p (MoveLoc l) known.edges ≡ Some es → Ends (LocalsKnown ls) (move_local h l)
     unfolding move_local locals_after edges_after
     move-ends l ls es e g =
-        on_some (needs_available l known.locals) _ ls e (λ before before_is e1.
-        on_some (local_type home function l) _ es g (λ t t_is g1.
+        on_bind (needs_available l known.locals) _ ls e (λ before before_is e1.
+        on_bind (local_type home function l) _ es g (λ t t_is g1.
         let v = held-found h l known.locals before as_known before_is in
         let same = (needed-holds l known.locals before s.top.locals as_known before_is).0 in
         given _ (held h l) _ v.0 v.1
@@ -246,9 +246,9 @@ module _ (depends : ℕ → ℕ → Type 0) (through : (a b c : ℕ) → depends
         → edges_after p (StLoc l) known.edges ≡ Some es → Ends (LocalsKnown ls) (store_local h l)
     unfolding store_local locals_after edges_after
     store-ends l ls es able e g =
-        on_some (local_type home function l) _ ls e (λ t t_is e1.
-        on_some (slice_get known.locals l) _ ls e1 (λ a a_is e2.
-        on_some (local_type home function l) _ es g (λ u u_is g1.
+        on_bind (local_type home function l) _ ls e (λ t t_is e1.
+        on_bind (slice_get known.locals l) _ ls e1 (λ a a_is e2.
+        on_bind (local_type home function l) _ es g (λ u u_is g1.
         let drops = then-some (may_overwrite p t a) (slice_set known.locals l Available) ls e2 in
         after _ (operand s.top.stack) _ (operand-well s.top.stack) (λ top top_is.
         after _ (entry s.top.locals l) _ (found-well _ _ tt) (λ old old_is.
@@ -266,7 +266,7 @@ module _ (depends : ℕ → ℕ → Type 0) (through : (a b c : ℕ) → depends
     return-ends : (ls : List Availability) (es : List Edge) → Able h types Ret → locals_after p Ret known.locals ≡ Some ls → edges_after p Ret known.edges ≡ Some es → Goes_well (return_results h)
     unfolding return_results locals_after edges_after
     return-ends ls es able e g =
-        on_some (local_tokens home function) _ ls e (λ ts ts_are e1.
+        on_bind (local_tokens home function) _ ls e (λ ts ts_are e1.
         let leave = (then-some (may_leave p ts known.locals) known.locals ls e1).0 in
         let stays = (then-some _ known.edges es g).1 in
         after _ (entry home.function_handles function.handle) _ (found-well _ _ tt) (λ handle handle_is.

@@ -1,5 +1,5 @@
 -- A run that the ledger admits is a typed call.
-use Rattle.mv_interpreter.proofs.Typing.Common.{◌≡◌, ℕ, ◌^◌, true, List, [], ◌∷◌, ◌++◌, length, refl, subst, Option, Some, None, Result, Ok, slice_get, IsTrue, ◌&&◌, nat_le, nat_lt, ok_or, list_all, first_so, second_so, LeafKind, Boolean, Number, Address, Signer, OfLeaf, OfStruct, Token, Plain, ReferenceTo, MutableReferenceTo, Module, FunctionDefinition, Value, Leaf, Struct, Ref, same_kind, module_place, FunctionCall, address_fits, function_definition_fits, instruction_fits, below, function_in, instruction_in, local_count, token_in, function_is_typed, ends_well, on_some, each, there_below, then_found, in_range, HasToken, HaveTokens, ModuleAccepted, StoreAccepted}
+use Rattle.mv_interpreter.proofs.Typing.Common.{◌≡◌, ℕ, ◌^◌, true, List, [], ◌∷◌, ◌++◌, length, refl, subst, Option, Some, None, Result, Ok, slice_get, IsTrue, ◌&&◌, nat_le, nat_lt, ok_or, list_all, first_so, second_so, LeafKind, Boolean, Number, Address, Signer, OfLeaf, OfStruct, Token, Plain, ReferenceTo, MutableReferenceTo, Module, FunctionDefinition, Value, Leaf, Struct, Ref, same_kind, module_place, FunctionCall, address_fits, function_definition_fits, instruction_fits, below, function_in, instruction_in, local_count, token_in, function_is_typed, ends_well, on_bind, each, there_below, then_found, in_range, HasToken, HaveTokens, ModuleAccepted, StoreAccepted}
 use Rattle.mv_move_types.specs.Results.{◌>>=◌}
 use Rattle.mv_move_types.specs.Module.{parameter_tokens}
 use Rattle.mv_move_types.specs.Named.{function_place}
@@ -54,7 +54,7 @@ pub call_typed : (modules : List Module) → StoreAccepted modules
     → slice_get home.functions index ≡ Some d → parameter_tokens home d ≡ Some tokens → HaveTokens modules Nowhere home arguments tokens
     → CallTyped modules (record { function = record { place = place; index = index }; arguments = arguments })
 call_typed modules store place index home d tokens arguments home_at d_at tokens_are typed =
-    on_some (slice_get home.function_handles d.handle) _ tokens tokens_are (λ handle handle_is e1.
+    on_bind (slice_get home.function_handles d.handle) _ tokens tokens_are (λ handle handle_is e1.
     let a : ModuleAccepted home = store.each place home home_at in
     let inside = each (function_in home) home.functions index d a.bounds.functions d_at in
     let inside3 = first_so (below d.handle home.function_handles && below d.locals home.signatures && list_all (λ i. below i home.structs) d.acquires)

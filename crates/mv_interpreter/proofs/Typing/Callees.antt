@@ -1,5 +1,5 @@
 -- What the store says of the functions that a module's handles name.
-use Rattle.mv_interpreter.proofs.Typing.Common.{◌≡◌, ℕ, Bool, true, false, List, [], ◌∷◌, ◌++◌, length, refl, sym, ap, ap₂, subst, ◌∙◌, Option, Some, None, Ok, slice_get, ok_or, ◌&&◌, ◌||◌, ◌==◌, option_and_then, list_all, option_map_or, first_so, second_so, same_Some, and_from, eq-eqb, Token, ◌>>=◌, ◌>>◌, need, for_each, Module, FunctionDefinition, Faults, LinkageFault, entry, tag_named, Tag, module_place, below, function_in, instruction_in, local_count, function_is_typed, ends_well, function_definition_fits, instruction_fits, token_named, tokens_named, structs_are_there, Here, on_some, each, there_below, then_found, ModuleAccepted, StoreAccepted}
+use Rattle.mv_interpreter.proofs.Typing.Common.{◌≡◌, ℕ, Bool, true, false, List, [], ◌∷◌, ◌++◌, length, refl, sym, ap, ap₂, subst, ◌∙◌, Option, Some, None, Ok, slice_get, ok_or, ◌&&◌, ◌||◌, ◌==◌, option_and_then, list_all, option_map_or, first_so, second_so, same_Some, and_from, eq-eqb, Token, ◌>>=◌, ◌>>◌, need, for_each, Module, FunctionDefinition, Faults, LinkageFault, entry, tag_named, Tag, module_place, below, function_in, instruction_in, local_count, function_is_typed, ends_well, function_definition_fits, instruction_fits, token_named, tokens_named, structs_are_there, Here, on_bind, each, there_below, then_found, ModuleAccepted, StoreAccepted}
 use Rattle.mv_move_types.specs.declared.tables.FunctionHandle.{FunctionHandle}
 use Rattle.mv_move_types.specs.Names.{ModuleName, same_module}
 use Rattle.mv_move_types.specs.Module.{module_name, own_name}
@@ -37,8 +37,8 @@ tags_of_module : (modules : List Module) (m : Module) → structs_are_there modu
     → tokens_named m ts ≡ Some tags → for_each (tag_named modules m) ts ≡ Ok tags
 tags_of_module modules m links [] tags e = ap Ok (same_Some [] tags e)
 tags_of_module modules m links (t ∷ ts) tags e =
-    on_some (token_named m t) _ tags e (λ tag tag_is e1.
-    on_some (tokens_named m ts) (λ rest. Some (tag ∷ rest)) tags e1 (λ rest rest_is e2.
+    on_bind (token_named m t) _ tags e (λ tag tag_is e1.
+    on_bind (tokens_named m ts) (λ rest. Some (tag ∷ rest)) tags e1 (λ rest rest_is e2.
     let first : tag_named modules m t ≡ Ok tag = tag_is_found modules m links t tag tag_is in
     let others : for_each (tag_named modules m) ts ≡ Ok rest = tags_of_module modules m links ts rest rest_is in
     rw (first, others) (ap Ok (same_Some (tag ∷ rest) tags e2))))
@@ -47,7 +47,7 @@ signature_found : (modules : List Module) (m : Module) → structs_are_there mod
     → signature_named m i ≡ Some tags → signature_tags modules m i ≡ Ok tags
 unfolding signature_tags
 signature_found modules m links i tags e =
-    on_some (slice_get m.signatures i) (tokens_named m) tags e (λ ts ts_is e1.
+    on_bind (slice_get m.signatures i) (tokens_named m) tags e (λ ts ts_is e1.
     then_ok (entry m.signatures i) _ ts tags (ap (λ (x : Option (List Token)). ok_or x (Faults LinkageFault)) ts_is) (tags_of_module modules m links ts tags e1))
 
 -- two signatures that list the same types
@@ -69,16 +69,16 @@ call_facts h store home_at i handle parameters results handle_at parameters_at r
     let own_links = each (λ m. structs_are_there h.modules m 0 m.struct_handles) h.modules h.state.top.function.place m store.links.structs home_at in
     on_found (λ n. option_map_or (λ name. option_map_or (function_fits m handle n) (function_named n name) false) (slice_get m.identifiers handle.name) false)
     (module_name m handle.module >>= module_named h.modules) fine (λ n n_is f1.
-    on_some (module_name m handle.module) (module_named h.modules) n n_is (λ home_name home_name_is n_named.
+    on_bind (module_name m handle.module) (module_named h.modules) n n_is (λ home_name home_name_is n_named.
     on_and_then (slice_get h.modules) (module_place h.modules home_name) n n_named (λ place place_is n_at.
     on_found (λ name. option_map_or (function_fits m handle n) (function_named n name) false) (slice_get m.identifiers handle.name) f1 (λ name name_is f2.
     on_found (function_fits m handle n) (function_named n name) f2 (λ d d_is f3.
-    on_some (function_place n name) (slice_get n.functions) d d_is (λ index index_is d_at.
+    on_bind (function_place n name) (slice_get n.functions) d d_is (λ index index_is d_at.
     on_found (λ (own : FunctionHandle). same_signature m handle.parameters n own.parameters && same_signature m handle.results n own.results)
     (slice_get n.function_handles d.handle) (second_so (is_public d || have_one_name m n) _ f3) (λ own own_is f4.
     same_named m handle.parameters n own.parameters (first_so (same_signature m handle.parameters n own.parameters) (same_signature m handle.results n own.results) f4) (λ ptags p_is q_is.
     same_named m handle.results n own.results (second_so (same_signature m handle.parameters n own.parameters) (same_signature m handle.results n own.results) f4) (λ rtags r_is s_is.
-    on_some (slice_get n.signatures own.parameters) (tokens_named n) ptags q_is (λ own_parameters own_parameters_at own_parameters_named.
+    on_bind (slice_get n.signatures own.parameters) (tokens_named n) ptags q_is (λ own_parameters own_parameters_at own_parameters_named.
     let a : ModuleAccepted n = store.each place n n_at in
     let links = each (λ m. structs_are_there h.modules m 0 m.struct_handles) h.modules place n store.links.structs n_at in
     let inside = each (function_in n) n.functions index d a.bounds.functions d_at in

@@ -1,5 +1,5 @@
 -- The rows of Call and Ret.
-use Rattle.mv_interpreter.proofs.Typing.Common.{◌≡◌, ℕ, ◌+◌, ◌<◌, ◌≤◌, Bool, true, false, cond, List, [], ◌∷◌, ◌++◌, map, length, reverse, refl, sym, ap, subst, ◌∙◌, Option, Some, None, Result, Ok, Err, eqb, arith, slice_get, not, ok_or, list_all, eqb-true, ne_eqb, same_Some, Token, Ret, ◌>>=ᵣ◌, need, for_each, Module, Root, Local, Stored, Value, Leaf, Struct, Ref, Frame, State, frames, root_value, local_in, local_value, references, local_references, Faults, LinkageFault, LostFault, FrozenFault, tag_named, have_tags, entry, Tag, LeafTag, StructTag, ReferenceTag, Types, tokens_named, Here, operands, Roots, Rooted, HaveTypes, TypesAt, on_some, HaveTokens, LocalsHaveTokens, Numbered, AreWaiting, StateTyped, TurnTyped, Row, Avoid}
+use Rattle.mv_interpreter.proofs.Typing.Common.{◌≡◌, ℕ, ◌+◌, ◌<◌, ◌≤◌, Bool, true, false, cond, List, [], ◌∷◌, ◌++◌, map, length, reverse, refl, sym, ap, subst, ◌∙◌, Option, Some, None, Result, Ok, Err, eqb, arith, slice_get, not, ok_or, list_all, eqb-true, ne_eqb, same_Some, Token, Ret, ◌>>=ᵣ◌, need, for_each, Module, Root, Local, Stored, Value, Leaf, Struct, Ref, Frame, State, frames, root_value, local_in, local_value, references, local_references, Faults, LinkageFault, LostFault, FrozenFault, tag_named, have_tags, entry, Tag, LeafTag, StructTag, ReferenceTag, Types, tokens_named, Here, operands, Roots, Rooted, HaveTypes, TypesAt, on_bind, HaveTokens, LocalsHaveTokens, Numbered, AreWaiting, StateTyped, TurnTyped, Row, Avoid}
 use Rattle.std.proofs.Common.{replicate}
 use Rattle.std.specs.Prelude.{flat_map}
 use Rattle.std.specs.List.{list_any}
@@ -154,9 +154,9 @@ module _ (h : Here) (k : ℕ) (types after : Types) (row : Row h (Call k) types 
   pub calls : of_call h.home k types ≡ Some after → Part (TurnTyped h.modules) (call h k)
   unfolding call
   calls e =
-      on_some (slice_get h.home.function_handles k) _ after e (λ handle handle_is e1.
-      on_some (slice_get h.home.signatures handle.parameters) _ after e1 (λ parameters parameters_are e2.
-      on_some (slice_get h.home.signatures handle.results) _ after e2 (λ results results_are e3.
+      on_bind (slice_get h.home.function_handles k) _ after e (λ handle handle_is e1.
+      on_bind (slice_get h.home.signatures handle.parameters) _ after e1 (λ parameters parameters_are e2.
+      on_bind (slice_get h.home.signatures handle.results) _ after e2 (λ results results_are e3.
       let f = row.facts.call k handle parameters results handle_is parameters_are results_are in
       let parts = takes_gives-is parameters results types after e3 in
       let look : Roots = root_value h.state in
@@ -244,8 +244,8 @@ module _ (h : Here) (types after : Types) (row : Row h Ret types after) where
   pub returns : of_return h.home h.function types ≡ Some after → Leaving h.state → Part (TurnTyped h.modules) (return_results h)
   unfolding return_results signature_tags
   returns e free =
-      on_some (slice_get h.home.function_handles h.function.handle) _ after e (λ handle handle_is e1.
-      on_some (slice_get h.home.signatures handle.results) _ after e1 (λ results results_are e2.
+      on_bind (slice_get h.home.function_handles h.function.handle) _ after e (λ handle handle_is e1.
+      on_bind (slice_get h.home.signatures handle.results) _ after e1 (λ results results_are e2.
       on_test (same_tokens types (reverse results)) [] after e2 (λ same given.
       let types_are : types ≡ reverse results ++ [] = lists_equal types (reverse results) same ∙ sym (append-nil (reverse results)) in
       let look : Roots = root_value h.state in
@@ -271,9 +271,9 @@ module _ (h : Here) (types after : Types) (row : Row h Ret types after) where
       names : (handle : FunctionHandle) (results : List Token) → slice_get h.home.function_handles h.function.handle ≡ Some handle
           → slice_get h.home.signatures handle.results ≡ Some results → tokens_named h.home results ≡ Some row.stands.results
       names handle results e g =
-          on_some (slice_get h.home.function_handles h.function.handle) _ row.stands.results row.stands.are_results (λ other other_is e1.
+          on_bind (slice_get h.home.function_handles h.function.handle) _ row.stands.results row.stands.are_results (λ other other_is e1.
           let one : other ≡ handle = same_Some other handle (sym other_is ∙ e) in
-          on_some (slice_get h.home.signatures other.results) (tokens_named h.home) row.stands.results e1 (λ ts ts_are e2.
+          on_bind (slice_get h.home.signatures other.results) (tokens_named h.home) row.stands.results e1 (λ ts ts_are e2.
           let two : ts ≡ results = same_Some ts results (sym ts_are ∙ ap (λ (x : FunctionHandle). slice_get h.home.signatures x.results) one ∙ g) in
           subst (λ (x : List Token). tokens_named h.home x ≡ Some row.stands.results) two e2))
 

@@ -34,7 +34,8 @@ pub use Rattle.mv_machine.specs.Typing.{Faults, LinkageFault, entry, tag_named, 
 pub use Rattle.mv_machine.specs.Value.{Value, Leaf, Struct, Ref, Root, Local, Stored, Values, NoMore, More, Reference}
 pub use Rattle.mv_bounds.specs.Bounds.{below, function_in, instruction_in, local_count, token_in}
 pub use Rattle.mv_cfg.specs.Blocks.{ends_well}
-pub use Rattle.mv_linker.proofs.Found.{each, on_some, there_below, then_found}
+pub use Rattle.mv_module_text.proofs.Texts.{on_bind}
+pub use Rattle.mv_linker.proofs.Found.{each, there_below, then_found}
 pub use Rattle.mv_linker.specs.Links.{structs_are_there}
 pub use Rattle.mv_linker.specs.TypesByName.{token_named, tokens_named, value_type_named}
 pub use Rattle.mv_module_text.specs.Fits.{address_fits, function_definition_fits, instruction_fits}

@@ -1,5 +1,5 @@
 -- Rows of operands alone: numbers, bools, constants.
-use Rattle.mv_interpreter.proofs.Typing.Common.{◌≡◌, ℕ, ◌+◌, ◌-◌, ◌*◌, ◌^◌, ◌<◌, ◌≤◌, Bool, true, false, List, [], ◌∷◌, refl, sym, ap, ◌∙◌, subst, Some, Ok, eqb, arith, IsTrue, nat_lt, nat_le, not, lt-ltb, ltb-true, same_Some, Boolean, Number, Address, Signer, OfLeaf, OfStruct, Token, Plain, ReferenceTo, MutableReferenceTo, Module, Value, Leaf, Types, boolean, takes_gives, taken, top_type, truth, on_some, Roots, HasToken, HaveTokens}
+use Rattle.mv_interpreter.proofs.Typing.Common.{◌≡◌, ℕ, ◌+◌, ◌-◌, ◌*◌, ◌^◌, ◌<◌, ◌≤◌, Bool, true, false, List, [], ◌∷◌, refl, sym, ap, ◌∙◌, subst, Some, Ok, eqb, arith, IsTrue, nat_lt, nat_le, not, lt-ltb, ltb-true, same_Some, Boolean, Number, Address, Signer, OfLeaf, OfStruct, Token, Plain, ReferenceTo, MutableReferenceTo, Module, Value, Leaf, Types, boolean, takes_gives, taken, top_type, truth, on_bind, Roots, HasToken, HaveTokens}
 use Rattle.std.proofs.Common.{◌/◌, ◌%◌}
 use Rattle.std.specs.Prelude.{bit_and, bit_or, bit_xor}
 use Rattle.std.proofs.Math.Nat.{div-le_self}
@@ -155,7 +155,7 @@ module _ (modules : List Module) (look : Roots) (home : Module) where
   pub of_two_numbers-is : (given : Width → Token) (types after : Types) → of_two_numbers given types ≡ Some after
       → (w : Width) × (below : Types) × (types ≡ number w ∷ number w ∷ below) × (after ≡ given w ∷ below)
   of_two_numbers-is given types after e =
-      on_some (top_width types) (λ w. takes_gives (number w ∷ number w ∷ []) (given w ∷ []) types) after e (λ w w_is e1.
+      on_bind (top_width types) (λ w. takes_gives (number w ∷ number w ∷ []) (given w ∷ []) types) after e (λ w w_is e1.
       let parts = takes_gives-is (number w ∷ number w ∷ []) (given w ∷ []) types after e1 in
       (w, parts.0, parts.1, parts.2))
 
@@ -194,8 +194,8 @@ module _ (modules : List Module) (look : Roots) (home : Module) where
       Part (λ (s : List Value). HaveTokens modules look home s after) (shift operator stack)
   unfolding shift
   shift_typed operator keeps stack types after h e =
-      on_some (taken (number U8 ∷ []) types) _ after e (λ below below_is e1.
-      on_some (top_width below) _ after e1 (λ w w_is e2.
+      on_bind (taken (number U8 ∷ []) types) _ after e (λ below below_is e1.
+      on_bind (top_width below) _ after e1 (λ w w_is e2.
       let wide = top_width-is below w w_is in
       let all : types ≡ number U8 ∷ number w ∷ wide.0 = taken-is (number U8 ∷ []) types below below_is ∙ ap (λ (ts : Types). number U8 ∷ ts) wide.1 in
       let same : after ≡ number w ∷ wide.0 = sym (same_Some below after e2) ∙ wide.1 in
@@ -216,8 +216,8 @@ module _ (modules : List Module) (look : Roots) (home : Module) where
       Part (λ (s : List Value). HaveTokens modules look home s after) (cast w stack)
   unfolding cast
   cast_typed w stack types after h e =
-      on_some (top_type types) _ after e (λ top top_is e1.
-      on_some (width_of top.0) _ after e1 (λ v v_is e2.
+      on_bind (top_type types) _ after e (λ top top_is e1.
+      on_bind (width_of top.0) _ after e1 (λ v v_is e2.
       let all : types ≡ number v ∷ top.1 = top_type-is types top top_is ∙ ap (λ (t : Token). t ∷ top.1) (width_of-is top.0 v v_is) in
       at v top.1 (sym (same_Some (number w ∷ top.1) after e2)) stack (subst (λ (ts : Types). HaveTokens modules look home stack ts) all h)))
     where

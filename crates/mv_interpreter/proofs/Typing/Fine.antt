@@ -1,5 +1,5 @@
 -- A storage that the ledger calls fine is typed, and a typed one is fine.
-use Rattle.mv_interpreter.proofs.Typing.Common.{◌≡◌, ℕ, true, false, List, [], ◌∷◌, map, refl, sym, ap, subst, ◌∙◌, Option, Some, slice_get, IsTrue, ◌&&◌, list_all, option_map_or, first_so, second_so, same_Some, and_from, LeafKind, Boolean, Number, Address, Signer, OfLeaf, OfStruct, Token, Plain, ReferenceTo, MutableReferenceTo, Abilities, StructName, Module, struct_name, Field, Value, Leaf, Struct, Ref, Values, NoMore, More, same_kind, Storage, Tag, LeafTag, StructTag, module_place, address_fits, below, token_named, tokens_named, on_some, each, then_found, in_range, IsOf, AreOf, EntryTyped, StorageTyped, ModuleAccepted, StoreAccepted}
+use Rattle.mv_interpreter.proofs.Typing.Common.{◌≡◌, ℕ, true, false, List, [], ◌∷◌, map, refl, sym, ap, subst, ◌∙◌, Option, Some, slice_get, IsTrue, ◌&&◌, list_all, option_map_or, first_so, second_so, same_Some, and_from, LeafKind, Boolean, Number, Address, Signer, OfLeaf, OfStruct, Token, Plain, ReferenceTo, MutableReferenceTo, Abilities, StructName, Module, struct_name, Field, Value, Leaf, Struct, Ref, Values, NoMore, More, same_kind, Storage, Tag, LeafTag, StructTag, module_place, address_fits, below, token_named, tokens_named, on_bind, each, then_found, in_range, IsOf, AreOf, EntryTyped, StorageTyped, ModuleAccepted, StoreAccepted}
 use Rattle.mv_move_types.specs.Options.{find_index}
 use Rattle.mv_move_types.specs.Names.{same_struct}
 use Rattle.mv_move_types.specs.Module.{StructDefinition, name_at}
@@ -25,10 +25,10 @@ pub record Defined (modules : List Module) (m : Module) (fields : List Field) : 
 
 pub definition_defined : (modules : List Module) → StoreAccepted modules → (name : StructName) (d : Module × List Field) → definition_of modules name ≡ Some d → Defined modules d.0 d.1
 definition_defined modules store name d e =
-    on_some (module_named modules name.home) _ d e (λ m m_is e1.
+    on_bind (module_named modules name.home) _ d e (λ m m_is e1.
     on_and_then (slice_get modules) (module_place modules name.home) m m_is (λ place place_is m_at.
-    on_some (find_index (is_struct m name) m.structs) _ d e1 (λ i i_is e2.
-    on_some (slice_get m.structs i) _ d e2 (λ s s_at e3.
+    on_bind (find_index (is_struct m name) m.structs) _ d e1 (λ i i_is e2.
+    on_bind (slice_get m.structs i) _ d e2 (λ s s_at e3.
     let a : ModuleAccepted m = store.each place m m_at in
     let fine = each (struct_in m) m.structs i s a.bounds.structs s_at in
     let tags = tokens_there m a.bounds (map (λ (f : Field). f.token) s.fields) (field_tokens m s.fields (second_so (below s.handle m.struct_handles) (list_all (field_in m) s.fields) fine)) in
@@ -73,7 +73,7 @@ module _ (modules : List Module) (store : StoreAccepted modules) where
         let parts = found_definition name fields typed in
         let all : AreOf (fields_by_name modules) fields parts.1.tags = of_types parts.0.0 parts.0.1 fields parts.1.tags parts.3 parts.1.are_tags in
         on_found (λ own. same_struct own name) (struct_name m i) same (λ own own_is is_name.
-        on_some (struct_name m i) (λ n. Some (StructTag n)) tag e (λ n n_is e1.
+        on_bind (struct_name m i) (λ n. Some (StructTag n)) tag e (λ n n_is e1.
         let tag_is : StructTag name ≡ tag = ap StructTag (sym (same_struct-is own name is_name) ∙ same_Some own n (sym own_is ∙ n_is)) ∙ same_Some (StructTag n) tag e1 in
         subst (λ (x : Tag). IsOf (fields_by_name modules) (Struct name fields) x) tag_is (refl, parts.1.tags, by_name name parts.0 parts.2 parts.1.tags parts.1.are_tags, all)))
     of_type m (Plain (OfLeaf k)) (Struct name fields) tag h e = absurd cc
@@ -93,8 +93,8 @@ module _ (modules : List Module) (store : StoreAccepted modules) where
     of_types m [] (More v vs) tags h e = absurd cc
     of_types m (f ∷ fs) NoMore tags h e = absurd cc
     of_types m (f ∷ fs) (More v vs) tags h e =
-        on_some (token_named m f.token) _ tags e (λ tag tag_is e1.
-        on_some (tokens_named m (map (λ (f : Field). f.token) fs)) (λ rest. Some (tag ∷ rest)) tags e1 (λ rest rest_is e2.
+        on_bind (token_named m f.token) _ tags e (λ tag tag_is e1.
+        on_bind (tokens_named m (map (λ (f : Field). f.token) fs)) (λ rest. Some (tag ∷ rest)) tags e1 (λ rest rest_is e2.
         subst (AreOf (fields_by_name modules) (More v vs)) (same_Some (tag ∷ rest) tags e2)
         (of_type m f.token v tag (first_so (is_of_type modules m f.token v) (are_of_types modules m fs vs) h) tag_is, of_types m fs vs rest (second_so (is_of_type modules m f.token v) (are_of_types modules m fs vs) h) rest_is)))
 
@@ -134,7 +134,7 @@ module _ (modules : List Module) (store : StoreAccepted modules) where
   defined_by_name : (name : StructName) (tags : List Tag) → fields_by_name modules name ≡ Some tags
       → (d : Module × List Field) × (definition_of modules name ≡ Some d) × (tokens_named d.0 (map (λ (f : Field). f.token) d.1) ≡ Some tags)
   unfolding fields_by_name
-  defined_by_name name tags e = on_some (definition_of modules name) _ tags e (λ d d_is e1. (d, d_is, e1))
+  defined_by_name name tags e = on_bind (definition_of modules name) _ tags e (λ d d_is e1. (d, d_is, e1))
 
   leaf_fits_back : (k : LeafKind) (n : ℕ) → may_be_field (Plain (OfLeaf k)) ≡ true → IsTrue (in_range k n) → leaf_fits k n ≡ true
   leaf_fits_back Boolean n m h = h
@@ -154,7 +154,7 @@ module _ (modules : List Module) (store : StoreAccepted modules) where
         and_from (same_kind j k) (leaf_fits k n) (subst (λ (x : LeafKind). same_kind x k ≡ true) (sym is.0) (same_kind-same k))
         (leaf_fits_back k n b (subst (λ (x : LeafKind). IsTrue (in_range x n)) is.0 is.1))
     to_type m (Plain (OfStruct i)) (Struct name fields) tag b e h =
-        on_some (struct_name m i) (λ n. Some (StructTag n)) tag e (λ own own_is e1.
+        on_bind (struct_name m i) (λ n. Some (StructTag n)) tag e (λ own own_is e1.
         let is : IsOf (fields_by_name modules) (Struct name fields) (StructTag own) =
         subst (λ (x : Tag). IsOf (fields_by_name modules) (Struct name fields) x) (sym (same_Some (StructTag own) tag e1)) h in
         let d = defined_by_name name is.1 is.2 in
@@ -165,7 +165,7 @@ module _ (modules : List Module) (store : StoreAccepted modules) where
     to_type m (Plain (OfLeaf k)) (Struct name fields) tag b e h = absurd (subst (λ (x : Tag). IsOf (fields_by_name modules) (Struct name fields) x) (sym (same_Some (LeafTag k) tag e)) h)
     to_type m (Plain t) (Ref r) tag b e h = absurd h
     to_type m (Plain (OfStruct i)) (Leaf j n) tag b e h =
-        on_some (struct_name m i) (λ n. Some (StructTag n)) tag e (λ own own_is e1.
+        on_bind (struct_name m i) (λ n. Some (StructTag n)) tag e (λ own own_is e1.
         absurd (subst (λ (x : Tag). IsOf (fields_by_name modules) (Leaf j n) x) (sym (same_Some (StructTag own) tag e1)) h))
     to_type m (ReferenceTo t) v tag b e h = absurd cc
     to_type m (MutableReferenceTo t) v tag b e h = absurd cc
@@ -175,12 +175,12 @@ module _ (modules : List Module) (store : StoreAccepted modules) where
     to_types m [] NoMore tags b e h = refl
     to_types m [] (More v vs) tags b e h = absurd (subst (AreOf (fields_by_name modules) (More v vs)) (sym (same_Some [] tags e)) h)
     to_types m (f ∷ fs) NoMore tags b e h =
-        on_some (token_named m f.token) _ tags e (λ tag tag_is e1.
-        on_some (tokens_named m (map (λ (f : Field). f.token) fs)) (λ rest. Some (tag ∷ rest)) tags e1 (λ rest rest_is e2.
+        on_bind (token_named m f.token) _ tags e (λ tag tag_is e1.
+        on_bind (tokens_named m (map (λ (f : Field). f.token) fs)) (λ rest. Some (tag ∷ rest)) tags e1 (λ rest rest_is e2.
         absurd (subst (AreOf (fields_by_name modules) NoMore) (sym (same_Some (tag ∷ rest) tags e2)) h)))
     to_types m (f ∷ fs) (More v vs) tags b e h =
-        on_some (token_named m f.token) _ tags e (λ tag tag_is e1.
-        on_some (tokens_named m (map (λ (f : Field). f.token) fs)) (λ rest. Some (tag ∷ rest)) tags e1 (λ rest rest_is e2.
+        on_bind (token_named m f.token) _ tags e (λ tag tag_is e1.
+        on_bind (tokens_named m (map (λ (f : Field). f.token) fs)) (λ rest. Some (tag ∷ rest)) tags e1 (λ rest rest_is e2.
         let here : AreOf (fields_by_name modules) (More v vs) (tag ∷ rest) = subst (AreOf (fields_by_name modules) (More v vs)) (sym (same_Some (tag ∷ rest) tags e2)) h in
         and_from (is_of_type modules m f.token v) (are_of_types modules m fs vs)
         (to_type m f.token v tag (first_so (may_be_field f.token) (list_all (λ (f : Field). may_be_field f.token) fs) b) tag_is here.0)

@@ -1,5 +1,5 @@
 -- Blocks: where they begin and end, and how types are carried through them.
-use Rattle.mv_interpreter.proofs.Typing.Common.{◌≡◌, ℕ, zero, suc, ◌+◌, ◌-◌, ◌<◌, ◌≤◌, Bool, true, false, cond, List, [], ◌∷◌, ◌++◌, length, take, drop, refl, sym, ap, subst, Some, None, eqb, arith, ◌⊎◌, inl, inr, slice_get, nat_le, ◌||◌, eqb-true, eqb-false, same_Some, Instruction, Module, FunctionDefinition, Types, on_some}
+use Rattle.mv_interpreter.proofs.Typing.Common.{◌≡◌, ℕ, zero, suc, ◌+◌, ◌-◌, ◌<◌, ◌≤◌, Bool, true, false, cond, List, [], ◌∷◌, ◌++◌, length, take, drop, refl, sym, ap, subst, Some, None, eqb, arith, ◌⊎◌, inl, inr, slice_get, nat_le, ◌||◌, eqb-true, eqb-false, same_Some, Instruction, Module, FunctionDefinition, Types, on_bind}
 use Rattle.std.specs.Prelude.{slice_range}
 use Rattle.mv_cfg.specs.Blocks.{BasicBlock, blocks_at, block_between, starts_from, is_target}
 use Rattle.mv_move_types.specs.Flow.{ends_block}
@@ -39,7 +39,7 @@ range_split xs a at b c low high e =
 pub through_step : (m : Module) (d : FunctionDefinition) (i : Instruction) (is' : List Instruction) (ts r : Types) → types_through m d (i ∷ is') ts ≡ Some r →
     (after : Types) × (types_after m d i ts ≡ Some after) × (nat_le (length after) 128 ≡ true) × (types_through m d is' after ≡ Some r)
 through_step m d i is' ts r e =
-    on_some (types_after m d i ts) (λ after. cond (nat_le (length after) 128) (types_through m d is' after) None) r e (λ after after_is e1.
+    on_bind (types_after m d i ts) (λ after. cond (nat_le (length after) 128) (types_through m d is' after) None) r e (λ after after_is e1.
     by_case after after_is (nat_le (length after) 128) refl e1)
   where
     by_case : (after : Types) → types_after m d i ts ≡ Some after → (b : Bool) → nat_le (length after) 128 ≡ b → cond b (types_through m d is' after) None ≡ Some r →

@@ -1,5 +1,5 @@
 -- Rows of the storage.
-use Rattle.mv_interpreter.proofs.Typing.Common.{◌≡◌, ℕ, ◌+◌, Bool, true, false, List, [], ◌∷◌, refl, sym, ap, subst, ◌∙◌, Option, Some, None, Ok, slice_get, ok_or, not, IsTrue, option_map_or, same_Some, Key, Address, Signer, ValueType, OfLeaf, OfStruct, Token, Plain, ReferenceTo, Instruction, Abilities, StructName, Root, Local, Stored, Reference, Value, Leaf, Struct, Ref, Storage, root_value, stored_at, with_stored, same_key, references, Faults, DanglingFault, has_tag, Tag, LeafTag, StructTag, ReferenceTag, Types, boolean, takes_gives, address_fits, value_type_named, token_named, Here, OwnStruct, operand, as_reference, follow, with_stack, goes_on, untouched, truth, gives, in_range, Table, Roots, IsOf, Rooted, AtOnce, HasType, TypesAt, on_some, then_found, same_key-to, HasToken, HaveTokens, TurnTyped, StorageTyped, Row, Facts, Avoid, Unreached}
+use Rattle.mv_interpreter.proofs.Typing.Common.{◌≡◌, ℕ, ◌+◌, Bool, true, false, List, [], ◌∷◌, refl, sym, ap, subst, ◌∙◌, Option, Some, None, Ok, slice_get, ok_or, not, IsTrue, option_map_or, same_Some, Key, Address, Signer, ValueType, OfLeaf, OfStruct, Token, Plain, ReferenceTo, Instruction, Abilities, StructName, Root, Local, Stored, Reference, Value, Leaf, Struct, Ref, Storage, root_value, stored_at, with_stored, same_key, references, Faults, DanglingFault, has_tag, Tag, LeafTag, StructTag, ReferenceTag, Types, boolean, takes_gives, address_fits, value_type_named, token_named, Here, OwnStruct, operand, as_reference, follow, with_stack, goes_on, untouched, truth, gives, in_range, Table, Roots, IsOf, Rooted, AtOnce, HasType, TypesAt, on_bind, then_found, same_key-to, HasToken, HaveTokens, TurnTyped, StorageTyped, Row, Facts, Avoid, Unreached}
 use Rattle.std.specs.Prelude.{is_some}
 use Rattle.mv_move_types.specs.Results.{◌>>=◌}
 use Rattle.mv_move_types.specs.Module.{struct_abilities, name_at}
@@ -33,8 +33,8 @@ pub record KeyedFacts (h : Here) (k : ℕ) (u : ValueType) : Type 0 where
 pub keyed_facts : (h : Here) → Facts h → slice_get h.modules h.state.top.function.place ≡ Some h.home → (k : ℕ) (u : ValueType) → keyed_type h.home k ≡ Some u → KeyedFacts h k u
 unfolding keyed_struct
 keyed_facts h facts home_at k u e =
-    on_some (slice_get h.home.structs k) _ u e (λ d d_is e1.
-    on_some (struct_abilities h.home d) _ u e1 (λ a a_is e2.
+    on_bind (slice_get h.home.structs k) _ u e (λ d d_is e1.
+    on_bind (struct_abilities h.home d) _ u e1 (λ a a_is e2.
     on_test a.key (OfStruct d.handle) u e2 (λ able same.
     let own = facts.own k d d_is in
     let abilities : a ≡ own.struct.abilities = same_Some a own.struct.abilities (sym a_is ∙ own.abilities) in
@@ -65,7 +65,7 @@ module _ (h : Here) (i : Instruction) (types after : Types) (row : Row h i types
   pub tells : (k : ℕ) → of_global (λ t. boolean) h.home k types ≡ Some after → Part (TurnTyped h.modules) (exists h k)
   unfolding exists
   tells k e =
-      on_some (keyed_type h.home k) _ after e (λ u u_is e1.
+      on_bind (keyed_type h.home k) _ after e (λ u u_is e1.
       let f = keyed_facts h row.facts row.is_home k u u_is in
       let x = at_address k boolean e1 in
       known (TurnTyped h.modules) (keyed_struct h k) _ f.struct f.is_found
@@ -84,7 +84,7 @@ module _ (h : Here) (i : Instruction) (types after : Types) (row : Row h i types
       (k : ℕ) → of_global given h.home k types ≡ Some after → Part (TurnTyped h.modules) (borrow_global m h k)
   unfolding borrow_global
   borrows_global m given names k e =
-      on_some (keyed_type h.home k) _ after e (λ u u_is e1.
+      on_bind (keyed_type h.home k) _ after e (λ u u_is e1.
       let f = keyed_facts h row.facts row.is_home k u u_is in
       let x = at_address k (given u) e1 in
       known (TurnTyped h.modules) (keyed_struct h k) _ f.struct f.is_found
@@ -132,7 +132,7 @@ module _ (h : Here) (i : Instruction) (types after : Types) (row : Row h i types
   pub takes_out : (k : ℕ) → of_global Plain h.home k types ≡ Some after → Unlent h.state k → Part (TurnTyped h.modules) (move_from h k)
   unfolding move_from
   takes_out k e free =
-      on_some (keyed_type h.home k) _ after e (λ u u_is e1.
+      on_bind (keyed_type h.home k) _ after e (λ u u_is e1.
       let f = keyed_facts h row.facts row.is_home k u u_is in
       let x = at_address k (Plain u) e1 in
       known (TurnTyped h.modules) (keyed_struct h k) _ f.struct f.is_found
@@ -173,7 +173,7 @@ module _ (h : Here) (i : Instruction) (types after : Types) (row : Row h i types
   pub puts_in : (k : ℕ) → of_move_to h.home k types ≡ Some after → Part (TurnTyped h.modules) (move_to h k)
   unfolding move_to
   puts_in k e =
-      on_some (keyed_type h.home k) _ after e (λ u u_is e1.
+      on_bind (keyed_type h.home k) _ after e (λ u u_is e1.
       let f = keyed_facts h row.facts row.is_home k u u_is in
       let table = fields_by_name h.modules in
       let look : Roots = root_value h.state in

@@ -1,5 +1,5 @@
 -- Rows of locals.
-use Rattle.mv_interpreter.proofs.Typing.Common.{◌≡◌, ℕ, ◌+◌, Bool, true, false, List, [], ◌∷◌, refl, sym, ap, subst, ◌∙◌, Option, Some, None, Ok, eqb, ◌⊎◌, inl, inr, slice_get, not, ok_or, eqb-true, eqb-false, same_Some, ValueType, Token, Plain, ReferenceTo, MutableReferenceTo, Instruction, ◌>>=◌, ◌>>=ᵣ◌, need, Module, Root, Local, Stored, Value, Leaf, Struct, Ref, State, root_value, references, Faults, LinkageFault, LostFault, entry, Tag, ReferenceTag, Types, plain_of, taken, token_named, value_type_named, Here, goes_on, with_stack, operand, untouched, Roots, IsOf, Rooted, AtOnce, HasType, TypesAt, on_some, HasToken, HaveTokens, LocalHasToken, TurnTyped, Row, Avoid, Unreached}
+use Rattle.mv_interpreter.proofs.Typing.Common.{◌≡◌, ℕ, ◌+◌, Bool, true, false, List, [], ◌∷◌, refl, sym, ap, subst, ◌∙◌, Option, Some, None, Ok, eqb, ◌⊎◌, inl, inr, slice_get, not, ok_or, eqb-true, eqb-false, same_Some, ValueType, Token, Plain, ReferenceTo, MutableReferenceTo, Instruction, ◌>>=◌, ◌>>=ᵣ◌, need, Module, Root, Local, Stored, Value, Leaf, Struct, Ref, State, root_value, references, Faults, LinkageFault, LostFault, entry, Tag, ReferenceTag, Types, plain_of, taken, token_named, value_type_named, Here, goes_on, with_stack, operand, untouched, Roots, IsOf, Rooted, AtOnce, HasType, TypesAt, on_bind, HasToken, HaveTokens, LocalHasToken, TurnTyped, Row, Avoid, Unreached}
 use Rattle.mv_move_types.specs.Module.{local_tokens}
 use Rattle.mv_type_states.specs.TypeRules.{of_copy, of_borrow_local}
 use Rattle.mv_move_types.specs.Module.{local_type}
@@ -71,7 +71,7 @@ module _ (h : Here) (i : Instruction) (types after : Types) (row : Row h i types
 
   pub declared : (l : ℕ) (t : Token) → local_type h.home h.function l ≡ Some t → Declared l t
   declared l t e =
-      on_some (local_tokens h.home h.function) (λ tokens. slice_get tokens l) t e (λ tokens tokens_are e1.
+      on_bind (local_tokens h.home h.function) (λ tokens. slice_get tokens l) t e (λ tokens tokens_are e1.
       let same : tokens ≡ row.stands.tokens = same_Some tokens row.stands.tokens (sym tokens_are ∙ row.stands.are_tokens) in
       let at : slice_get row.stands.tokens l ≡ Some t = subst (λ (x : List Token). slice_get x l ≡ Some t) same e1 in
       let found = local_at h.modules (root_value h.state) h.home h.state.top.locals row.stands.tokens l t row.stands.locals at in
@@ -92,8 +92,8 @@ module _ (h : Here) (i : Instruction) (types after : Types) (row : Row h i types
   pub copies : (l : ℕ) → of_copy h.home h.function l types ≡ Some after → Part (TurnTyped h.modules) (copy_local h l)
   unfolding copy_local
   copies l e =
-      on_some (local_type h.home h.function l) _ after e (λ t t_is e1.
-      on_some (token_abilities h.home t) _ after e1 (λ a a_is e2.
+      on_bind (local_type h.home h.function l) _ after e (λ t t_is e1.
+      on_bind (token_abilities h.home t) _ after e1 (λ a a_is e2.
       on_test a.copy (t ∷ types) after e2 (λ able same.
       some (TurnTyped h.modules) _ (held h l) _ (held_typed l t (declared l t t_is)) (λ v typed.
       tried (TurnTyped h.modules) (can_copy h v) _ _ tt (λ copied.
@@ -124,7 +124,7 @@ module _ (h : Here) (i : Instruction) (types after : Types) (row : Row h i types
   pub moves : (l : ℕ) → (local_type h.home h.function l >>= λ t. Some (t ∷ types)) ≡ Some after → Unborrowed h.state l → Part (TurnTyped h.modules) (move_local h l)
   unfolding move_local
   moves l e free =
-      on_some (local_type h.home h.function l) (λ t. Some (t ∷ types)) after e (λ t t_is e1.
+      on_bind (local_type h.home h.function l) (λ t. Some (t ∷ types)) after e (λ t t_is e1.
       let d = declared l t t_is in
       some (TurnTyped h.modules) _ (held h l) _ (held_typed l t d) (λ v typed.
       tested (TurnTyped h.modules) (untouched h.state (local_place h l)) _ (frozen h.state (local_place h l)) (
@@ -140,7 +140,7 @@ module _ (h : Here) (i : Instruction) (types after : Types) (row : Row h i types
   pub stores : (l : ℕ) → (local_type h.home h.function l >>= λ t. taken (t ∷ []) types) ≡ Some after → Unborrowed h.state l → Part (TurnTyped h.modules) (store_local h l)
   unfolding store_local
   stores l e free =
-      on_some (local_type h.home h.function l) (λ t. taken (t ∷ []) types) after e (λ t t_is e1.
+      on_bind (local_type h.home h.function l) (λ t. taken (t ∷ []) types) after e (λ t t_is e1.
       let d = declared l t t_is in
       let all : types ≡ t ∷ after = taken-is (t ∷ []) types after e1 in
       let top = top_typed h i types after row t after all in
@@ -178,8 +178,8 @@ module _ (h : Here) (i : Instruction) (types after : Types) (row : Row h i types
       → (l : ℕ) → of_borrow_local given h.home h.function l types ≡ Some after → Part (TurnTyped h.modules) (borrow_local is_mutable h l)
   unfolding borrow_local
   borrows is_mutable given names l e =
-      on_some (local_type h.home h.function l) _ after e (λ t t_is e1.
-      on_some (plain_of t) _ after e1 (λ u u_is e2.
+      on_bind (local_type h.home h.function l) _ after e (λ t t_is e1.
+      on_bind (plain_of t) _ after e1 (λ u u_is e2.
       let plain : t ≡ Plain u = plain_of-is t u u_is in
       let d : Declared l (Plain u) = declared l (Plain u) (subst (λ (x : Token). local_type h.home h.function l ≡ Some x) plain t_is) in
       some (TurnTyped h.modules) _ (held h l) _ (held_typed l (Plain u) d) (λ v typed.

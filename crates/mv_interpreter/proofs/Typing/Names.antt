@@ -1,5 +1,5 @@
 -- Types that an accepted module names are there in the store.
-use Rattle.mv_interpreter.proofs.Typing.Common.{◌≡◌, ℕ, zero, suc, ◌+◌, Bool, true, false, List, [], ◌∷◌, refl, sym, ap, subst, ◌∙◌, Option, Some, None, Result, Ok, arith, slice_get, ok_or, ◌&&◌, beq, list_all, option_map_or, first_so, second_so, and_from, same_Some, ValueType, OfLeaf, OfStruct, Token, Plain, ReferenceTo, MutableReferenceTo, Abilities, ◌>>=◌, ◌>>=ᵣ◌, ◌>>◌, need, StructName, Module, struct_name, Failure, Faults, LinkageFault, tag_named, Tag, LeafTag, StructTag, ReferenceTag, below, token_in, structs_are_there, value_type_named, token_named, tokens_named, on_some, each, there_below}
+use Rattle.mv_interpreter.proofs.Typing.Common.{◌≡◌, ℕ, zero, suc, ◌+◌, Bool, true, false, List, [], ◌∷◌, refl, sym, ap, subst, ◌∙◌, Option, Some, None, Result, Ok, arith, slice_get, ok_or, ◌&&◌, beq, list_all, option_map_or, first_so, second_so, and_from, same_Some, ValueType, OfLeaf, OfStruct, Token, Plain, ReferenceTo, MutableReferenceTo, Abilities, ◌>>=◌, ◌>>=ᵣ◌, ◌>>◌, need, StructName, Module, struct_name, Failure, Faults, LinkageFault, tag_named, Tag, LeafTag, StructTag, ReferenceTag, below, token_in, structs_are_there, value_type_named, token_named, tokens_named, on_bind, each, there_below}
 use Rattle.std.specs.Cmp.{booleans_Decides}
 use Rattle.mv_move_types.specs.declared.tables.StructHandle.{StructHandle}
 use Rattle.mv_machine.specs.Typing.{struct_tag, value_type_tag}
@@ -63,7 +63,7 @@ module _ (modules : List Module) (m : Module) (links : structs_are_there modules
 
   struct_tag_is : (h : ℕ) (name : StructName) → struct_name m h ≡ Some name → struct_tag modules m h ≡ Ok (StructTag name)
   struct_tag_is h name e =
-      on_some (slice_get m.struct_handles h) _ name e (λ handle handle_is e1.
+      on_bind (slice_get m.struct_handles h) _ name e (λ handle handle_is e1.
       let fine = handle_there 0 h m.struct_handles handle h links handle_is (omega arith) in
       let known : option_map_or (same_abilities handle.abilities) (declared modules name) false ≡ true =
       subst (λ (x : Option StructName). option_map_or (λ name. option_map_or (same_abilities handle.abilities) (declared modules name) false) x false ≡ true) e fine in
@@ -86,14 +86,14 @@ module _ (modules : List Module) (m : Module) (links : structs_are_there modules
   value_tag_is : (t : ValueType) (tag : Tag) → value_type_named m t ≡ Some tag → value_type_tag modules m t ≡ Ok tag
   value_tag_is (OfLeaf k) tag e = ap Ok (same_Some (LeafTag k) tag e)
   value_tag_is (OfStruct h) tag e =
-      on_some (struct_name m h) (λ name. Some (StructTag name)) tag e (λ name name_is e1.
+      on_bind (struct_name m h) (λ name. Some (StructTag name)) tag e (λ name name_is e1.
       struct_tag_is h name name_is ∙ ap Ok (same_Some (StructTag name) tag e1))
 
   pub tag_is_found : (t : Token) (tag : Tag) → token_named m t ≡ Some tag → tag_named modules m t ≡ Ok tag
   tag_is_found (Plain t) tag e = value_tag_is t tag e
   tag_is_found (ReferenceTo t) tag e =
-      on_some (value_type_named m t) (λ to. Some (ReferenceTag false to)) tag e (λ to to_is e1.
+      on_bind (value_type_named m t) (λ to. Some (ReferenceTag false to)) tag e (λ to to_is e1.
       ap (λ (r : Result Tag Failure). r >>=ᵣ λ to. Ok (ReferenceTag false to)) (value_tag_is t to to_is) ∙ ap Ok (same_Some (ReferenceTag false to) tag e1))
   tag_is_found (MutableReferenceTo t) tag e =
-      on_some (value_type_named m t) (λ to. Some (ReferenceTag true to)) tag e (λ to to_is e1.
+      on_bind (value_type_named m t) (λ to. Some (ReferenceTag true to)) tag e (λ to to_is e1.
       ap (λ (r : Result Tag Failure). r >>=ᵣ λ to. Ok (ReferenceTag true to)) (value_tag_is t to to_is) ∙ ap Ok (same_Some (ReferenceTag true to) tag e1))

@@ -1,5 +1,5 @@
 -- Operands by their types: what the rules of types say of the stack, and what the stack then is.
-use Rattle.mv_interpreter.proofs.Typing.Common.{◌≡◌, ℕ, suc, Bool, true, false, List, [], ◌∷◌, ◌++◌, length, take, drop, reverse, refl, sym, ap, ap₂, ◌∙◌, subst, Some, Ok, arith, IsTrue, same_Some, LeafKind, ValueType, OfLeaf, Token, Plain, Module, Value, Leaf, Struct, Ref, LeafTag, taken, takes_gives, top_type, operands, Roots, in_range, HasType, HasToken, HaveTokens, on_some}
+use Rattle.mv_interpreter.proofs.Typing.Common.{◌≡◌, ℕ, suc, Bool, true, false, List, [], ◌∷◌, ◌++◌, length, take, drop, reverse, refl, sym, ap, ap₂, ◌∙◌, subst, Some, Ok, arith, IsTrue, same_Some, LeafKind, ValueType, OfLeaf, Token, Plain, Module, Value, Leaf, Struct, Ref, LeafTag, taken, takes_gives, top_type, operands, Roots, in_range, HasType, HasToken, HaveTokens, on_bind}
 use Rattle.std.proofs.Common.{leb, length-append}
 use Rattle.std.proofs.lemmas.List.{length-reverse, reverse-append, reverse-reverse, take-append-drop}
 use Rattle.std.proofs.Math.Seq.{take-append_seam, drop-append_seam}
@@ -32,7 +32,7 @@ taken-is wanted stack below e =
 -- the same, with what is given
 pub takes_gives-is : (wanted given stack after : List Token) → takes_gives wanted given stack ≡ Some after → (below : List Token) × (stack ≡ reverse wanted ++ below) × (after ≡ reverse given ++ below)
 takes_gives-is wanted given stack after e =
-    on_some (taken wanted stack) (λ below. Some (reverse given ++ below)) after e (λ below below_is e1.
+    on_bind (taken wanted stack) (λ below. Some (reverse given ++ below)) after e (λ below below_is e1.
     (below, taken-is wanted stack below below_is, sym (same_Some (reverse given ++ below) after e1)))
 
 -- a type that was on top

@@ -1,5 +1,5 @@
 -- What the store says of the own module's structs.
-use Rattle.mv_interpreter.proofs.Typing.Common.{◌≡◌, ℕ, Bool, true, List, [], ◌∷◌, map, refl, ap, subst, ◌∙◌, Option, Some, Result, Ok, slice_get, ok_or, not, list_all, first_so, second_so, and_from, same_Some, Token, Plain, ReferenceTo, MutableReferenceTo, ◌>>=ᵣ◌, ◌>>◌, need, StructName, Module, struct_name, Field, Faults, LinkageFault, entry, Tag, below, token_in, tokens_named, token_named, Here, OwnStruct, is_reference_tag, on_some, each, there_below, then_found, ModuleAccepted, StoreAccepted}
+use Rattle.mv_interpreter.proofs.Typing.Common.{◌≡◌, ℕ, Bool, true, List, [], ◌∷◌, map, refl, ap, subst, ◌∙◌, Option, Some, Result, Ok, slice_get, ok_or, not, list_all, first_so, second_so, and_from, same_Some, Token, Plain, ReferenceTo, MutableReferenceTo, ◌>>=ᵣ◌, ◌>>◌, need, StructName, Module, struct_name, Field, Faults, LinkageFault, entry, Tag, below, token_in, tokens_named, token_named, Here, OwnStruct, is_reference_tag, on_bind, each, there_below, then_found, ModuleAccepted, StoreAccepted}
 use Rattle.mv_move_types.specs.declared.tables.StructHandle.{StructHandle}
 use Rattle.mv_move_types.specs.Names.{ModuleName}
 use Rattle.mv_move_types.specs.Module.{StructDefinition, own_name}
@@ -30,8 +30,8 @@ fields_plain : (m : Module) (fs : List Field) (tags : List Tag) → list_all (λ
     → tokens_named m (map (λ (f : Field). f.token) fs) ≡ Some tags → are_plain tags ≡ true
 fields_plain m [] tags h e = subst (λ (x : List Tag). are_plain x ≡ true) (same_Some [] tags e) refl
 fields_plain m (f ∷ fs) tags h e =
-    on_some (token_named m f.token) _ tags e (λ tag tag_is e1.
-    on_some (tokens_named m (map (λ (f : Field). f.token) fs)) (λ rest. Some (tag ∷ rest)) tags e1 (λ rest rest_is e2.
+    on_bind (token_named m f.token) _ tags e (λ tag tag_is e1.
+    on_bind (tokens_named m (map (λ (f : Field). f.token) fs)) (λ rest. Some (tag ∷ rest)) tags e1 (λ rest rest_is e2.
     let here : not (is_reference_tag tag) ≡ true = plain f.token tag (first_so (may_be_field f.token) (list_all (λ (f : Field). may_be_field f.token) fs) h) tag_is in
     let others = fields_plain m fs rest (second_so (may_be_field f.token) (list_all (λ (f : Field). may_be_field f.token) fs) h) rest_is in
     subst (λ (x : List Tag). are_plain x ≡ true) (same_Some (tag ∷ rest) tags e2) (and_from _ _ here others)))

@@ -1,5 +1,5 @@
 -- Rows of references that change nothing: fields, reads, freezing.
-use Rattle.mv_interpreter.proofs.Typing.Common.{◌≡◌, ℕ, zero, suc, ◌+◌, Bool, true, false, List, [], ◌∷◌, map, refl, sym, ap, subst, ◌∙◌, Option, Some, Ok, slice_get, ok_or, option_map, same_Some, ValueType, OfStruct, Token, Plain, ReferenceTo, MutableReferenceTo, Instruction, ◌>>=◌, StructName, need, Module, Field, Reference, Value, Leaf, Struct, Ref, Values, root_value, Faults, LostFault, DanglingFault, Tag, StructTag, ReferenceTag, Types, top_type, plain_of, token_named, tokens_named, value_type_named, Here, OwnStruct, follow, as_reference, operand, Table, Roots, IsOf, AreOf, PointsTo, HasType, TypesAt, on_some, HasToken, HaveTokens, TurnTyped, Row, Facts}
+use Rattle.mv_interpreter.proofs.Typing.Common.{◌≡◌, ℕ, zero, suc, ◌+◌, Bool, true, false, List, [], ◌∷◌, map, refl, sym, ap, subst, ◌∙◌, Option, Some, Ok, slice_get, ok_or, option_map, same_Some, ValueType, OfStruct, Token, Plain, ReferenceTo, MutableReferenceTo, Instruction, ◌>>=◌, StructName, need, Module, Field, Reference, Value, Leaf, Struct, Ref, Values, root_value, Faults, LostFault, DanglingFault, Tag, StructTag, ReferenceTag, Types, top_type, plain_of, token_named, tokens_named, value_type_named, Here, OwnStruct, follow, as_reference, operand, Table, Roots, IsOf, AreOf, PointsTo, HasType, TypesAt, on_bind, HasToken, HaveTokens, TurnTyped, Row, Facts}
 use Rattle.std.proofs.lemmas.Option.{slice_get-map}
 use Rattle.mv_machine.specs.Value.{list_of}
 use Rattle.mv_type_states.specs.TypeRules.{target_of, mutable_target_of, field_types, of_mutable_field, of_immutable_field, of_read, of_freeze}
@@ -34,7 +34,7 @@ module _ (modules : List Module) (look : Roots) (home : Module) where
   named_reference : (v : Value) (m : Bool) (u : ValueType) (whole : Tag) → (value_type_named home u >>= λ tag. Some (ReferenceTag m tag)) ≡ Some whole
       → HasType (fields_by_name modules) look v whole → IsReference modules look home v m u
   named_reference v m u whole e h =
-      on_some (value_type_named home u) (λ tag. Some (ReferenceTag m tag)) whole e (λ tag tag_is e1.
+      on_bind (value_type_named home u) (λ tag. Some (ReferenceTag m tag)) whole e (λ tag tag_is e1.
       by_tag v m u tag tag_is (subst (λ (x : Tag). HasType (fields_by_name modules) look v x) (sym (same_Some (ReferenceTag m tag) whole e1)) h))
 
   pub immutable : (v : Value) (u : ValueType) → HasToken modules look home v (ReferenceTo u) → IsReference modules look home v false u
@@ -86,12 +86,12 @@ pub tokens_at : (m : Module) (ts : List Token) (tags : List Tag) (k : ℕ) (t : 
     → (tag : Tag) × (token_named m t ≡ Some tag) × (slice_get tags k ≡ Some tag)
 tokens_at m [] tags k t e g = absurd cc
 tokens_at m (u ∷ ts) tags zero t e g =
-    on_some (token_named m u) _ tags e (λ tag tag_is e1.
-    on_some (tokens_named m ts) (λ rest. Some (tag ∷ rest)) tags e1 (λ rest rest_is e2.
+    on_bind (token_named m u) _ tags e (λ tag tag_is e1.
+    on_bind (tokens_named m ts) (λ rest. Some (tag ∷ rest)) tags e1 (λ rest rest_is e2.
     (tag, subst (λ (x : Token). token_named m x ≡ Some tag) (same_Some u t g) tag_is, subst (λ (x : List Tag). slice_get x 0 ≡ Some tag) (same_Some (tag ∷ rest) tags e2) refl)))
 tokens_at m (u ∷ ts) tags (suc k) t e g =
-    on_some (token_named m u) _ tags e (λ tag tag_is e1.
-    on_some (tokens_named m ts) (λ rest. Some (tag ∷ rest)) tags e1 (λ rest rest_is e2.
+    on_bind (token_named m u) _ tags e (λ tag tag_is e1.
+    on_bind (tokens_named m ts) (λ rest. Some (tag ∷ rest)) tags e1 (λ rest rest_is e2.
     let found = tokens_at m ts rest k t rest_is g in
     (found.0, found.1, subst (λ (x : List Tag). slice_get x (suc k) ≡ Some found.0) (same_Some (tag ∷ rest) tags e2) found.2)))
 
@@ -110,10 +110,10 @@ pub record FieldFacts (h : Here) (i : ℕ) (struct plain : ValueType) : Type 0 w
 pub field_facts : (h : Here) → Facts h → (i : ℕ) (x : ValueType × ValueType) → field_types h.home i ≡ Some x → FieldFacts h i x.0 x.1
 unfolding own_field
 field_facts h facts i x e =
-    on_some (slice_get h.home.field_handles i) _ x e (λ handle handle_is e1.
-    on_some (slice_get h.home.structs handle.definition) _ x e1 (λ d d_is e2.
-    on_some (slice_get d.fields handle.position) _ x e2 (λ field field_is e3.
-    on_some (plain_of field.token) _ x e3 (λ plain plain_is e4.
+    on_bind (slice_get h.home.field_handles i) _ x e (λ handle handle_is e1.
+    on_bind (slice_get h.home.structs handle.definition) _ x e1 (λ d d_is e2.
+    on_bind (slice_get d.fields handle.position) _ x e2 (λ field field_is e3.
+    on_bind (plain_of field.token) _ x e3 (λ plain plain_is e4.
     let own = facts.own handle.definition d d_is in
     let whole : (OfStruct d.handle, plain) ≡ x = same_Some (OfStruct d.handle, plain) x e4 in
     let fields_at : slice_get own.struct.fields handle.position ≡ Some field = subst (λ (fs : List Field). slice_get fs handle.position ≡ Some field) (sym own.fields) field_is in
@@ -163,7 +163,7 @@ module _ (h : Here) (i : Instruction) (types after : Types) (row : Row h i types
 
   pub mutable_field : (k : ℕ) → of_mutable_field h.home k types ≡ Some after → Part (TurnTyped h.modules) (borrow_field true h k)
   mutable_field k e =
-      on_some (field_types h.home k) _ after e (λ x x_is e1.
+      on_bind (field_types h.home k) _ after e (λ x x_is e1.
       let f = field_facts h row.facts k x x_is in
       let parts = takes_gives-is (MutableReferenceTo x.0 ∷ []) (MutableReferenceTo x.1 ∷ []) types after e1 in
       let top = top_typed h i types after row (MutableReferenceTo x.0) parts.0 parts.1 in
@@ -172,9 +172,9 @@ module _ (h : Here) (i : Instruction) (types after : Types) (row : Row h i types
 
   pub immutable_field : (k : ℕ) → of_immutable_field h.home k types ≡ Some after → Part (TurnTyped h.modules) (borrow_field false h k)
   immutable_field k e =
-      on_some (field_types h.home k) _ after e (λ x x_is e1.
-      on_some (top_type types) _ after e1 (λ t t_is e2.
-      on_some (target_of t.0) _ after e2 (λ u u_is e3.
+      on_bind (field_types h.home k) _ after e (λ x x_is e1.
+      on_bind (top_type types) _ after e1 (λ t t_is e2.
+      on_bind (target_of t.0) _ after e2 (λ u u_is e3.
       on_test (same_value_type u x.0) (ReferenceTo x.1 ∷ t.1) after e3 (λ same given.
       let f = field_facts h row.facts k x x_is in
       let top = top_typed h i types after row t.0 t.1 (top_type-is types t t_is) in
@@ -185,9 +185,9 @@ module _ (h : Here) (i : Instruction) (types after : Types) (row : Row h i types
   pub reads : of_read h.home types ≡ Some after → Part (λ (stack : List Value). HaveTokens h.modules (root_value h.state) h.home stack after) (read_reference h h.state.top.stack)
   unfolding read_reference
   reads e =
-      on_some (top_type types) _ after e (λ t t_is e1.
-      on_some (target_of t.0) _ after e1 (λ u u_is e2.
-      on_some (value_type_abilities h.home u) _ after e2 (λ a a_is e3.
+      on_bind (top_type types) _ after e (λ t t_is e1.
+      on_bind (target_of t.0) _ after e1 (λ u u_is e2.
+      on_bind (value_type_abilities h.home u) _ after e2 (λ a a_is e3.
       on_test a.copy (Plain u ∷ t.1) after e3 (λ able given.
       let P : List Value → Type 0 = λ stack. HaveTokens h.modules (root_value h.state) h.home stack after in
       let top = top_typed h i types after row t.0 t.1 (top_type-is types t t_is) in
@@ -204,8 +204,8 @@ module _ (h : Here) (i : Instruction) (types after : Types) (row : Row h i types
   pub freezes : of_freeze types ≡ Some after → Part (λ (stack : List Value). HaveTokens h.modules (root_value h.state) h.home stack after) (freeze h h.state.top.stack)
   unfolding freeze
   freezes e =
-      on_some (top_type types) _ after e (λ t t_is e1.
-      on_some (mutable_target_of t.0) _ after e1 (λ u u_is e2.
+      on_bind (top_type types) _ after e (λ t t_is e1.
+      on_bind (mutable_target_of t.0) _ after e1 (λ u u_is e2.
       let P : List Value → Type 0 = λ stack. HaveTokens h.modules (root_value h.state) h.home stack after in
       let top = top_typed h i types after row t.0 t.1 (top_type-is types t t_is) in
       let ref = mutable_one h.modules (root_value h.state) h.home top.0 u

@@ -1,5 +1,5 @@
 -- What stands at the roots after a local is changed, and what a typed value's tag is.
-use Rattle.mv_interpreter.proofs.Typing.Common.{◌≡◌, ℕ, zero, suc, Bool, true, false, List, [], ◌∷◌, refl, sym, ap, subst, ◌∙◌, Option, Some, eqb, slice_get, option_map, option_and_then, option_map_or, eqb-true, eqb-false, ne_eqb, and_from, eq-eqb, same_Some, ValueType, OfLeaf, OfStruct, Token, Module, struct_name, Root, Local, Stored, Reference, Value, Leaf, Struct, Ref, State, root_value, Tag, LeafTag, StructTag, ReferenceTag, tag_of, has_tag, have_tags, value_type_named, token_named, tokens_named, is_reference_tag, on_some, Table, Roots, IsOf, PointsTo, HasType, HaveTypes, HaveTokens, LocalHasToken, LocalsHaveTokens}
+use Rattle.mv_interpreter.proofs.Typing.Common.{◌≡◌, ℕ, zero, suc, Bool, true, false, List, [], ◌∷◌, refl, sym, ap, subst, ◌∙◌, Option, Some, eqb, slice_get, option_map, option_and_then, option_map_or, eqb-true, eqb-false, ne_eqb, and_from, eq-eqb, same_Some, ValueType, OfLeaf, OfStruct, Token, Module, struct_name, Root, Local, Stored, Reference, Value, Leaf, Struct, Ref, State, root_value, Tag, LeafTag, StructTag, ReferenceTag, tag_of, has_tag, have_tags, value_type_named, token_named, tokens_named, is_reference_tag, on_bind, Table, Roots, IsOf, PointsTo, HasType, HaveTypes, HaveTokens, LocalHasToken, LocalsHaveTokens}
 use Rattle.std.specs.Prelude.{slice_set}
 use Rattle.mv_machine.specs.Value.{value_at}
 use Rattle.mv_machine.specs.State.{place_value}
@@ -54,7 +54,7 @@ module _ (table : Table) where
 pub named_plain : (m : Module) (t : ValueType) (tag : Tag) → value_type_named m t ≡ Some tag → is_reference_tag tag ≡ false
 named_plain m (OfLeaf k) tag e = subst (λ (x : Tag). is_reference_tag x ≡ false) (same_Some (LeafTag k) tag e) refl
 named_plain m (OfStruct h) tag e =
-    on_some (struct_name m h) (λ name. Some (StructTag name)) tag e (λ name name_is e1.
+    on_bind (struct_name m h) (λ name. Some (StructTag name)) tag e (λ name name_is e1.
     subst (λ (x : Tag). is_reference_tag x ≡ false) (same_Some (StructTag name) tag e1) refl)
 
 -- values of types have their types' tags
@@ -64,8 +64,8 @@ tokens_have_tags modules s home [] [] tags h e = subst (λ (x : List Tag). HaveT
 tokens_have_tags modules s home [] (t ∷ ts) tags h e = absurd h
 tokens_have_tags modules s home (v ∷ vs) [] tags h e = absurd h
 tokens_have_tags modules s home (v ∷ vs) (t ∷ ts) tags h e =
-    on_some (token_named home t) _ tags e (λ tag tag_is e1.
-    on_some (tokens_named home ts) (λ rest. Some (tag ∷ rest)) tags e1 (λ rest rest_is e2.
+    on_bind (token_named home t) _ tags e (λ tag tag_is e1.
+    on_bind (tokens_named home ts) (λ rest. Some (tag ∷ rest)) tags e1 (λ rest rest_is e2.
     let same : h.0.tag ≡ tag = same_Some h.0.tag tag (sym h.0.names ∙ tag_is) in
     subst (λ (x : List Tag). HaveTypes (fields_by_name modules) (root_value s) (v ∷ vs) x) (same_Some (tag ∷ rest) tags e2)
     (subst (λ (x : Tag). HasType (fields_by_name modules) (root_value s) v x) same h.0.typed, tokens_have_tags modules s home vs ts rest h.1 rest_is)))

@@ -1,5 +1,5 @@
 -- The small rows: loads, constants, Pop, Eq, branches, Abort, Nop.
-use Rattle.mv_interpreter.proofs.Typing.Common.{◌≡◌, ℕ, ◌+◌, Bool, true, false, cond, List, [], ◌∷◌, refl, sym, ap, subst, ◌∙◌, Option, Some, Ok, eqb, slice_get, not, ok_or, IsTrue, ◌&&◌, beq, same_Some, LeafKind, Boolean, Number, OfLeaf, Token, Plain, Instruction, need, Value, Leaf, root_value, Faults, TypeFault, LinkageFault, LostFault, tag_of, has_tag, entry, Tag, Types, boolean, top_type, plain_of, taken, token_named, Here, operand, is_reference_tag, truth, HasType, in_range, TypesAt, on_some, HasToken, HaveTokens, TurnTyped, Row}
+use Rattle.mv_interpreter.proofs.Typing.Common.{◌≡◌, ℕ, ◌+◌, Bool, true, false, cond, List, [], ◌∷◌, refl, sym, ap, subst, ◌∙◌, Option, Some, Ok, eqb, slice_get, not, ok_or, IsTrue, ◌&&◌, beq, same_Some, LeafKind, Boolean, Number, OfLeaf, Token, Plain, Instruction, need, Value, Leaf, root_value, Faults, TypeFault, LinkageFault, LostFault, tag_of, has_tag, entry, Tag, Types, boolean, top_type, plain_of, taken, token_named, Here, operand, is_reference_tag, truth, HasType, in_range, TypesAt, on_bind, HasToken, HaveTokens, TurnTyped, Row}
 use Rattle.mv_move_types.specs.declared.token.Width.TheVariants.{U64}
 use Rattle.mv_move_types.specs.Module.{Constant}
 use Rattle.mv_machine.specs.Value.{same_value}
@@ -37,7 +37,7 @@ module _ (h : Here) (i : Instruction) (types after : Types) (row : Row h i types
   pub constants : (c : ℕ) → TypesAt h.home h.function (h.state.top.at + 1) after → of_constant h.home c types ≡ Some after → Part (TurnTyped h.modules) (constant h c)
   unfolding constant
   constants c next e =
-      on_some (slice_get h.home.constants c) _ after e (λ x x_is e1.
+      on_bind (slice_get h.home.constants c) _ after e (λ x x_is e1.
       let f : ConstantFacts x = row.facts.constant c x x_is in
       let value : constant_value x.token x.bytes ≡ Ok (Leaf f.kind f.number) = constant_is x.token f.kind x.bytes f.number f.is_leaf f.is_number in
       known (TurnTyped h.modules) (entry h.home.constants c) _ x (ap (λ (y : Option Constant). ok_or y (Faults LinkageFault)) x_is)
@@ -47,8 +47,8 @@ module _ (h : Here) (i : Instruction) (types after : Types) (row : Row h i types
   pub pops : of_pop h.home types ≡ Some after → Part (λ (stack : List Value). HaveTokens h.modules (root_value h.state) h.home stack after) (pop h h.state.top.stack)
   unfolding pop
   pops e =
-      on_some (top_type types) _ after e (λ t t_is e1.
-      on_some (token_abilities h.home t.0) _ after e1 (λ a a_is e2.
+      on_bind (top_type types) _ after e (λ t t_is e1.
+      on_bind (token_abilities h.home t.0) _ after e1 (λ a a_is e2.
       on_test a.drop t.1 after e2 (λ able given.
       let P : List Value → Type 0 = λ stack. HaveTokens h.modules (root_value h.state) h.home stack after in
       let top = top_typed h i types after row t.0 t.1 (top_type-is types t t_is) in
@@ -60,10 +60,10 @@ module _ (h : Here) (i : Instruction) (types after : Types) (row : Row h i types
       → Part (λ (stack : List Value). HaveTokens h.modules (root_value h.state) h.home stack after) (equality h answer h.state.top.stack)
   unfolding equality
   equalities answer e =
-      on_some (top_type types) _ after e (λ t t_is e1.
-      on_some (plain_of t.0) _ after e1 (λ u u_is e2.
-      on_some (token_abilities h.home t.0) _ after e2 (λ a a_is e3.
-      on_some (taken (t.0 ∷ []) t.1) _ after e3 (λ below below_is e4.
+      on_bind (top_type types) _ after e (λ t t_is e1.
+      on_bind (plain_of t.0) _ after e1 (λ u u_is e2.
+      on_bind (token_abilities h.home t.0) _ after e2 (λ a a_is e3.
+      on_bind (taken (t.0 ∷ []) t.1) _ after e3 (λ below below_is e4.
       on_test a.drop (boolean ∷ below) after e4 (λ able given.
       let P : List Value → Type 0 = λ stack. HaveTokens h.modules (root_value h.state) h.home stack after in
       let table = fields_by_name h.modules in

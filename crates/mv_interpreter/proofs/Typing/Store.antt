@@ -1,5 +1,5 @@
 -- An accepted store gives what the rows rest on.
-use Rattle.mv_interpreter.proofs.Typing.Common.{◌≡◌, ℕ, suc, ◌+◌, ◌*◌, ◌^◌, ◌<◌, Bool, true, List, [], ◌∷◌, ◌++◌, length, refl, ap, subst, ◌∙◌, Option, Some, None, arith, slice_get, IsTrue, ◌&&◌, ◌==◌, nat_lt, list_all, first_so, second_so, ltb-true, lt-ltb, eqb-true, and_from, same_Some, LeafKind, Boolean, Number, Address, Signer, OfLeaf, OfStruct, Token, Plain, ReferenceTo, MutableReferenceTo, Module, FunctionDefinition, token_in, function_in, below, instruction_in, local_count, function_is_typed, ends_well, function_definition_fits, instruction_fits, structs_are_there, Here, on_some, each, in_range, SoundStore, ModuleAccepted, StoreAccepted}
+use Rattle.mv_interpreter.proofs.Typing.Common.{◌≡◌, ℕ, suc, ◌+◌, ◌*◌, ◌^◌, ◌<◌, Bool, true, List, [], ◌∷◌, ◌++◌, length, refl, ap, subst, ◌∙◌, Option, Some, None, arith, slice_get, IsTrue, ◌&&◌, ◌==◌, nat_lt, list_all, first_so, second_so, ltb-true, lt-ltb, eqb-true, and_from, same_Some, LeafKind, Boolean, Number, Address, Signer, OfLeaf, OfStruct, Token, Plain, ReferenceTo, MutableReferenceTo, Module, FunctionDefinition, token_in, function_in, below, instruction_in, local_count, function_is_typed, ends_well, function_definition_fits, instruction_fits, structs_are_there, Here, on_bind, each, in_range, SoundStore, ModuleAccepted, StoreAccepted}
 use Rattle.std.specs.Prelude.{is_some, slice_index}
 use Rattle.std.proofs.lemmas.Nat.{pow-add}
 use Rattle.mv_move_types.specs.Module.{Constant, local_tokens}
@@ -21,9 +21,9 @@ all_append p (x ∷ xs) ys h k = and_from _ _ (first_so (p x) (list_all p xs) h)
 -- a local's type has a tag
 local_named : (m : Module) (d : FunctionDefinition) → ModuleAccepted m → (tokens : List Token) (l : ℕ) (t : Token) → local_tokens m d ≡ Some tokens → slice_get tokens l ≡ Some t → Named m t
 local_named m d a tokens l t e g =
-    on_some (slice_get m.function_handles d.handle) _ tokens e (λ handle handle_is e1.
-    on_some (slice_get m.signatures handle.parameters) _ tokens e1 (λ ps ps_is e2.
-    on_some (slice_get m.signatures d.locals) _ tokens e2 (λ os os_is e3.
+    on_bind (slice_get m.function_handles d.handle) _ tokens e (λ handle handle_is e1.
+    on_bind (slice_get m.signatures handle.parameters) _ tokens e1 (λ ps ps_is e2.
+    on_bind (slice_get m.signatures d.locals) _ tokens e2 (λ os os_is e3.
     let first = each (list_all (token_in m)) m.signatures handle.parameters ps a.bounds.signatures ps_is in
     let second = each (list_all (token_in m)) m.signatures d.locals os a.bounds.signatures os_is in
     let all : list_all (token_in m) tokens ≡ true = subst (λ (ts : List Token). list_all (token_in m) ts ≡ true) (same_Some (ps ++ os) tokens e3) (all_append (token_in m) ps os first second) in

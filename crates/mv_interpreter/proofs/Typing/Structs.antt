@@ -1,5 +1,5 @@
 -- Rows of struct values, and lists of values by their tags.
-use Rattle.mv_interpreter.proofs.Typing.Common.{◌≡◌, ℕ, suc, ◌+◌, Bool, true, false, List, [], ◌∷◌, ◌++◌, map, length, reverse, refl, sym, ap, subst, ◌∙◌, Some, Ok, slice_get, not, first_so, second_so, same_Some, OfStruct, Token, Plain, Instruction, for_each, Module, Field, Value, Struct, Values, NoMore, More, root_value, Tag, StructTag, tag_named, have_tags, Types, token_named, tokens_named, value_type_named, Here, OwnStruct, operand, operands, with_stack, goes_on, is_reference_tag, Roots, IsOf, AreOf, HasType, HaveTypes, TypesAt, on_some, HasToken, HaveTokens, TurnTyped, Row, Facts}
+use Rattle.mv_interpreter.proofs.Typing.Common.{◌≡◌, ℕ, suc, ◌+◌, Bool, true, false, List, [], ◌∷◌, ◌++◌, map, length, reverse, refl, sym, ap, subst, ◌∙◌, Some, Ok, slice_get, not, first_so, second_so, same_Some, OfStruct, Token, Plain, Instruction, for_each, Module, Field, Value, Struct, Values, NoMore, More, root_value, Tag, StructTag, tag_named, have_tags, Types, token_named, tokens_named, value_type_named, Here, OwnStruct, operand, operands, with_stack, goes_on, is_reference_tag, Roots, IsOf, AreOf, HasType, HaveTypes, TypesAt, on_bind, HasToken, HaveTokens, TurnTyped, Row, Facts}
 use Rattle.std.proofs.lemmas.List.{length-map}
 use Rattle.mv_machine.specs.Value.{list_of, fields_of}
 use Rattle.mv_type_states.specs.TypeRules.{of_pack, of_unpack}
@@ -19,8 +19,8 @@ use Rattle.std.proofs.lemmas.Bool.{not-true}
 pub tags_found : (h : Here) → Facts h → (ts : List Token) (tags : List Tag) → tokens_named h.home ts ≡ Some tags → for_each (tag_named h.modules h.home) ts ≡ Ok tags
 tags_found h facts [] tags e = ap Ok (same_Some [] tags e)
 tags_found h facts (t ∷ ts) tags e =
-    on_some (token_named h.home t) _ tags e (λ tag tag_is e1.
-    on_some (tokens_named h.home ts) (λ rest. Some (tag ∷ rest)) tags e1 (λ rest rest_is e2.
+    on_bind (token_named h.home t) _ tags e (λ tag tag_is e1.
+    on_bind (tokens_named h.home ts) (λ rest. Some (tag ∷ rest)) tags e1 (λ rest rest_is e2.
     let first : tag_named h.modules h.home t ≡ Ok tag = facts.tag t tag tag_is in
     let others : for_each (tag_named h.modules h.home) ts ≡ Ok rest = tags_found h facts ts rest rest_is in
     rw (first, others) (ap Ok (same_Some (tag ∷ rest) tags e2))))
@@ -30,8 +30,8 @@ pub field_tags_found : (h : Here) → Facts h → (fs : List Field) (tags : List
     → for_each (λ (f : Field). tag_named h.modules h.home f.token) fs ≡ Ok tags
 field_tags_found h facts [] tags e = ap Ok (same_Some [] tags e)
 field_tags_found h facts (f ∷ fs) tags e =
-    on_some (token_named h.home f.token) _ tags e (λ tag tag_is e1.
-    on_some (tokens_named h.home (map (λ (f : Field). f.token) fs)) (λ rest. Some (tag ∷ rest)) tags e1 (λ rest rest_is e2.
+    on_bind (token_named h.home f.token) _ tags e (λ tag tag_is e1.
+    on_bind (tokens_named h.home (map (λ (f : Field). f.token) fs)) (λ rest. Some (tag ∷ rest)) tags e1 (λ rest rest_is e2.
     let first : tag_named h.modules h.home f.token ≡ Ok tag = facts.tag f.token tag tag_is in
     let others : for_each (λ (f : Field). tag_named h.modules h.home f.token) fs ≡ Ok rest = field_tags_found h facts fs rest rest_is in
     rw (first, others) (ap Ok (same_Some (tag ∷ rest) tags e2))))
@@ -39,8 +39,8 @@ field_tags_found h facts (f ∷ fs) tags e =
 pub names_length : (m : Module) (ts : List Token) (tags : List Tag) → tokens_named m ts ≡ Some tags → length tags ≡ length ts
 names_length m [] tags e = ap length (sym (same_Some [] tags e))
 names_length m (t ∷ ts) tags e =
-    on_some (token_named m t) _ tags e (λ tag tag_is e1.
-    on_some (tokens_named m ts) (λ rest. Some (tag ∷ rest)) tags e1 (λ rest rest_is e2.
+    on_bind (token_named m t) _ tags e (λ tag tag_is e1.
+    on_bind (tokens_named m ts) (λ rest. Some (tag ∷ rest)) tags e1 (λ rest rest_is e2.
     ap length (sym (same_Some (tag ∷ rest) tags e2)) ∙ ap suc (names_length m ts rest rest_is)))
 
 module _ (modules : List Module) (look : Roots) where
@@ -53,12 +53,12 @@ module _ (modules : List Module) (look : Roots) where
       nothing [] h = tt
       nothing (v ∷ vs) h = absurd h
   have_tokens home [] (t ∷ ts) tags h e =
-      on_some (token_named home t) _ tags e (λ tag tag_is e1.
-      on_some (tokens_named home ts) (λ rest. Some (tag ∷ rest)) tags e1 (λ rest rest_is e2.
+      on_bind (token_named home t) _ tags e (λ tag tag_is e1.
+      on_bind (tokens_named home ts) (λ rest. Some (tag ∷ rest)) tags e1 (λ rest rest_is e2.
       subst (λ (x : List Tag). HaveTypes (fields_by_name modules) look [] x) (sym (same_Some (tag ∷ rest) tags e2)) h))
   have_tokens home (v ∷ vs) (t ∷ ts) tags h e =
-      on_some (token_named home t) _ tags e (λ tag tag_is e1.
-      on_some (tokens_named home ts) (λ rest. Some (tag ∷ rest)) tags e1 (λ rest rest_is e2.
+      on_bind (token_named home t) _ tags e (λ tag tag_is e1.
+      on_bind (tokens_named home ts) (λ rest. Some (tag ∷ rest)) tags e1 (λ rest rest_is e2.
       let both : HaveTypes (fields_by_name modules) look (v ∷ vs) (tag ∷ rest) =
       subst (λ (x : List Tag). HaveTypes (fields_by_name modules) look (v ∷ vs) x) (sym (same_Some (tag ∷ rest) tags e2)) h in
       (record { tag = tag; names = tag_is; typed = both.0 }, have_tokens home vs ts rest both.1 rest_is)))
@@ -88,7 +88,7 @@ module _ (h : Here) (i : Instruction) (types after : Types) (row : Row h i types
   pub packs : (k : ℕ) → of_pack h.home k types ≡ Some after → Part (TurnTyped h.modules) (pack h k)
   unfolding pack
   packs k e =
-      on_some (slice_get h.home.structs k) _ after e (λ d d_is e1.
+      on_bind (slice_get h.home.structs k) _ after e (λ d d_is e1.
       let own = row.facts.own k d d_is in
       let wanted : List Token = map (λ (f : Field). f.token) d.fields in
       let parts = takes_gives-is wanted (Plain (OfStruct d.handle) ∷ []) types after e1 in
@@ -113,7 +113,7 @@ module _ (h : Here) (i : Instruction) (types after : Types) (row : Row h i types
   pub unpacks : (k : ℕ) → of_unpack h.home k types ≡ Some after → Part (TurnTyped h.modules) (unpack h k)
   unfolding unpack
   unpacks k e =
-      on_some (slice_get h.home.structs k) _ after e (λ d d_is e1.
+      on_bind (slice_get h.home.structs k) _ after e (λ d d_is e1.
       let own = row.facts.own k d d_is in
       let wanted : List Token = map (λ (f : Field). f.token) d.fields in
       let parts = takes_gives-is (Plain (OfStruct d.handle) ∷ []) wanted types after e1 in

@@ -1,5 +1,5 @@
 -- The row of a write through a reference.
-use Rattle.mv_interpreter.proofs.Typing.Common.{◌≡◌, ℕ, ◌+◌, Bool, true, false, cond, List, [], ◌∷◌, map, refl, sym, ap, subst, ◌∙◌, Option, Some, eqb, arith, ok_or, option_map, option_and_then, eqb-true, same_Some, Key, Token, Plain, MutableReferenceTo, Instruction, need, Root, Local, Stored, Reference, Value, Frame, State, frames, root_value, local_in, local_value, stored_at, with_stored, same_key, Faults, TypeFault, LostFault, DanglingFault, has_tag, tag_of, Tag, StructTag, Types, top_type, taken, Here, operand, as_reference, follow, with_stack, goes_on, untouched, Roots, IsOf, Rooted, HasType, TypesAt, HaveTokens, LocalsHaveTokens, TurnTyped, Numbered, AreWaiting, EntryTyped, Row, references, local_references, on_some, same_key-to}
+use Rattle.mv_interpreter.proofs.Typing.Common.{◌≡◌, ℕ, ◌+◌, Bool, true, false, cond, List, [], ◌∷◌, map, refl, sym, ap, subst, ◌∙◌, Option, Some, eqb, arith, ok_or, option_map, option_and_then, eqb-true, same_Some, Key, Token, Plain, MutableReferenceTo, Instruction, need, Root, Local, Stored, Reference, Value, Frame, State, frames, root_value, local_in, local_value, stored_at, with_stored, same_key, Faults, TypeFault, LostFault, DanglingFault, has_tag, tag_of, Tag, StructTag, Types, top_type, taken, Here, operand, as_reference, follow, with_stack, goes_on, untouched, Roots, IsOf, Rooted, HasType, TypesAt, HaveTokens, LocalsHaveTokens, TurnTyped, Numbered, AreWaiting, EntryTyped, Row, references, local_references, on_bind, same_key-to}
 use Rattle.mv_machine.specs.Value.{Place, with_value_at}
 use Rattle.mv_machine.specs.State.{with_local, with_root, with_place}
 use Rattle.mv_type_states.specs.TypeRules.{mutable_target_of, of_write}
@@ -118,10 +118,10 @@ module _ (h : Here) (i : Instruction) (types after : Types) (row : Row h i types
   pub writes : of_write h.home types ≡ Some after → Part (TurnTyped h.modules) (write_reference h)
   unfolding write_reference
   writes e =
-      on_some (top_type types) _ after e (λ t t_is e1.
-      on_some (mutable_target_of t.0) _ after e1 (λ u u_is e2.
-      on_some (value_type_abilities h.home u) _ after e2 (λ a a_is e3.
-      on_some (taken (Plain u ∷ []) t.1) _ after e3 (λ below below_is e4.
+      on_bind (top_type types) _ after e (λ t t_is e1.
+      on_bind (mutable_target_of t.0) _ after e1 (λ u u_is e2.
+      on_bind (value_type_abilities h.home u) _ after e2 (λ a a_is e3.
+      on_bind (taken (Plain u ∷ []) t.1) _ after e3 (λ below below_is e4.
       on_test a.drop below after e4 (λ able given.
       let table = fields_by_name h.modules in
       let look : Roots = root_value h.state in

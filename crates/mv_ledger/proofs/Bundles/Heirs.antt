@@ -20,7 +20,8 @@ use Rattle.mv_linker.specs.Link.{IsStore, tables_in, are_compatible}
 use Rattle.mv_linker.specs.Scarce.{is_scarce_struct}
 use Rattle.mv_linker.proofs.Joining.Upgraded.{same_abilities-is}
 use Rattle.mv_linker.proofs.NameLemmas.{same_module-same, is_module-is}
-use Rattle.mv_linker.proofs.Found.{each, on_some, then_found}
+use Rattle.mv_module_text.proofs.Texts.{on_bind}
+use Rattle.mv_linker.proofs.Found.{each, then_found}
 use Rattle.mv_interpreter.specs.Owned.{IsOwn}
 use Rattle.mv_interpreter.proofs.Lists.{mapped_at}
 use Rattle.mv_interpreter.proofs.Homes.{own_of_store}
@@ -170,9 +171,9 @@ on_and_then f (Some x) y e go = go x refl e
 home-of : (modules : List Module) (name : StructName) (m : Module) (fields : List Field) → definition_of modules name ≡ Some (m, fields) → own_name m ≡ Some name.home
 home-of modules name m fields e =
     let whole : Module × List Field = (m, fields) in
-    on_some (module_named modules name.home) _ whole e (λ x x_is e1.
-    on_some (find_index (is_struct x name) x.structs) _ whole e1 (λ i i_is e2.
-    on_some (slice_get x.structs i) _ whole e2 (λ d d_is e3.
+    on_bind (module_named modules name.home) _ whole e (λ x x_is e1.
+    on_bind (find_index (is_struct x name) x.structs) _ whole e1 (λ i i_is e2.
+    on_bind (slice_get x.structs i) _ whole e2 (λ d d_is e3.
     let made : Module × List Field = (x, d.fields) in
     let same : x ≡ m = ap (λ (p : Module × List Field). p.0) (same_Some made whole e3) in
     on_and_then (slice_get modules) (module_place modules name.home) x x_is (λ place place_is at.
@@ -214,8 +215,8 @@ module _ (old new : List PublishedModule) (old_store : IsStore old) (new_store :
   -- a struct's name stays at its place and index
   pub name-stays : (place index : ℕ) (name : StructName) → name_at (tables_in old) place index ≡ Some name → name_at (tables_in new) place index ≡ Some name
   name-stays place index name e =
-      on_some (slice_get (tables_in old) place) _ name e (λ m m_at e1.
-      on_some (slice_get m.structs index) _ name e1 (λ d d_at named.
+      on_bind (slice_get (tables_in old) place) _ name e (λ m m_at e1.
+      on_bind (slice_get m.structs index) _ name e1 (λ d d_at named.
       let n = inherits place m m_at in
       let s = stayed place index m n.0 d name m_at n.1 n.2 d_at named in
       then_found (slice_get (tables_in new) place) _ n.0 (Some name) n.1 (then_found (slice_get (n.0).structs index) _ s.definition (Some name) s.is_there s.is_named)))

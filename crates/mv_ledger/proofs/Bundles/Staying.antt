@@ -34,7 +34,8 @@ use Rattle.mv_linker.specs.Upgrades.{same_field, same_fields}
 use Rattle.mv_linker.specs.Links.{struct_is_there, structs_are_there}
 use Rattle.mv_linker.specs.Link.{IsStore, tables_in}
 use Rattle.mv_linker.proofs.NameLemmas.{same_struct-is}
-use Rattle.mv_linker.proofs.Found.{each, on_some, then_found}
+use Rattle.mv_module_text.proofs.Texts.{on_bind}
+use Rattle.mv_linker.proofs.Found.{each, then_found}
 use Rattle.mv_linker.proofs.TagTests.{same_tag-is}
 use Rattle.mv_interpreter.specs.Owned.{IsOwn}
 use Rattle.mv_interpreter.specs.Runs.{IsFineWords}
@@ -166,7 +167,7 @@ named-there modules m (Plain (OfStruct h)) name all e = by_name (struct_name m h
     by_name None is e = absurd cc
     by_name (Some own) is e =
         let same : own ≡ name = cc in
-        on_some (slice_get m.struct_handles h) _ own is (λ handle handle_is e1.
+        on_bind (slice_get m.struct_handles h) _ own is (λ handle handle_is e1.
         let at : 0 + h ≡ h = omega arith in
         let here : struct_is_there modules m h handle ≡ true = subst (λ (n : ℕ). struct_is_there modules m n handle ≡ true) at (there-get modules m 0 h m.struct_handles handle all handle_is) in
         let n = tested (λ n. option_map_or (same_abilities handle.abilities) (declared modules n) false) (struct_name m h) here in
@@ -200,9 +201,9 @@ module _ (old new : List PublishedModule) (old_store : IsStore old) (new_store :
 
   becomes : (name : StructName) (d : Module × List Field) → definition_of (tables_in old) name ≡ Some d → BecomesIn name d
   becomes name d e =
-      on_some (module_named (tables_in old) name.home) _ d e (λ m m_is e1.
-      on_some (find_index (is_struct m name) m.structs) _ d e1 (λ i i_is e2.
-      on_some (slice_get m.structs i) _ d e2 (λ x x_is e3.
+      on_bind (module_named (tables_in old) name.home) _ d e (λ m m_is e1.
+      on_bind (find_index (is_struct m name) m.structs) _ d e1 (λ i i_is e2.
+      on_bind (slice_get m.structs i) _ d e2 (λ x x_is e3.
       on_and_then (slice_get (tables_in old)) (module_place (tables_in old) name.home) m m_is (λ place place_is at.
       let made : Module × List Field = (m, x.fields) in
       let same : made ≡ d = same_Some made d e3 in
@@ -342,8 +343,8 @@ module _ (old new : List PublishedModule) (old_store : IsStore old) (new_store :
 
   abilities-stay : (place index : ℕ) (name : StructName) → name_at (tables_in old) place index ≡ Some name → abilities_at (tables_in old) place index ≡ abilities_at (tables_in new) place index
   abilities-stay place index name e =
-      on_some (slice_get (tables_in old) place) _ name e (λ m m_at e1.
-      on_some (slice_get m.structs index) _ name e1 (λ d d_at named.
+      on_bind (slice_get (tables_in old) place) _ name e (λ m m_at e1.
+      on_bind (slice_get m.structs index) _ name e1 (λ d d_at named.
       let n = inherits place m m_at in
       let s : Stayed m d name n.0 index = stayed old new old_store new_store inherits place index m n.0 d name m_at n.1 n.2 d_at named in
       let was : abilities_at (tables_in old) place index ≡ struct_abilities m d = rw (m_at, d_at) refl in

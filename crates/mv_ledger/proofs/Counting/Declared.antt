@@ -13,7 +13,8 @@ use Rattle.mv_machine.specs.State.{Storage}
 use Rattle.mv_machine.specs.Count.{count, count_in, count_in_fields}
 use Rattle.mv_linker.specs.Link.{IsStore, tables_in}
 use Rattle.mv_linker.proofs.NameLemmas.{same_struct-is}
-use Rattle.mv_linker.proofs.Found.{on_some, then_found}
+use Rattle.mv_module_text.proofs.Texts.{on_bind}
+use Rattle.mv_linker.proofs.Found.{then_found}
 use Rattle.mv_ledger.specs.Counting.Kept.{IsKept, AreKept, StorageIsKept}
 use Rattle.mv_ledger.proofs.Bundles.Heirs.{Inherits, Stayed, tested, found-passes, on_and_then, stayed}
 use Rattle.mv_machine.proofs.Binds.{map-is}
@@ -55,7 +56,7 @@ pub definition-declared : (modules : List Module) (m : Module) (d : StructDefini
     → struct_abilities m d ≡ Some a →
     declared modules name ≡ Some a
 definition-declared modules m d name a declares name_is a_is =
-    on_some (slice_get m.struct_handles d.handle) _ a a_is (λ handle handle_is e. declares d.handle handle name handle_is name_is ∙ e)
+    on_bind (slice_get m.struct_handles d.handle) _ a a_is (λ handle handle_is e. declares d.handle handle name handle_is name_is ∙ e)
 
 -- what was declared is declared so
 abbrev pub Remembers : List Module → List Module → Type 0

@@ -23,7 +23,7 @@ use Rattle.mv_abilities.specs.Abilities.{AbilitiesHold, implies, field_is_able, 
 use Rattle.mv_linker.specs.Links.{struct_is_there, structs_are_there}
 use Rattle.mv_machine.specs.Step.{Here, OwnStruct}
 use Rattle.mv_machine.specs.StepStructs.{own_struct}
-use Rattle.mv_machine.proofs.Laws.{on_bind, on_need}
+use Rattle.mv_machine.proofs.Laws.{on_ok, on_need}
 use Rattle.mv_linker.proofs.Joining.Upgraded.{same_abilities-is}
 use Rattle.mv_linker.proofs.Found.{each}
 use Rattle.mv_ledger.specs.Counting.Kept.{Allows, IsKept, AreKept, StackIsKept}
@@ -127,8 +127,8 @@ fields-kept modules m s outer [] tags (v ∷ vs) able named typed kept =
     absurd cc
 fields-kept modules m s outer (f ∷ fs) tags [] able named typed kept = tt
 fields-kept modules m s outer (f ∷ fs) tags (v ∷ vs) able named typed kept =
-    on_bind (tag_named modules m f.token) _ tags named (λ tag tag_is e1.
-    on_bind (for_each (λ f. tag_named modules m f.token) fs) _ tags e1 (λ rest rest_are e2.
+    on_ok (tag_named modules m f.token) _ tags named (λ tag tag_is e1.
+    on_ok (for_each (λ f. tag_named modules m f.token) fs) _ tags e1 (λ rest rest_are e2.
     let both : (has_tag s v tag && have_tags s vs rest) ≡ true = subst (WhereOk (λ ts. have_tags s (v ∷ vs) ts ≡ true)) (sym e2) typed in (
       field-allows modules m s outer f tag v (first_so (field_is_able m outer f) (list_all (field_is_able m outer) fs) able) tag_is (first_so (has_tag s v tag) (have_tags s vs rest) both),
       kept.0,

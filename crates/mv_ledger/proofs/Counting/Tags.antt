@@ -17,7 +17,7 @@ use Rattle.mv_move_types.specs.Tags.{Tag, LeafTag, StructTag, ReferenceTag, same
 use Rattle.mv_move_types.specs.Named.{declared}
 use Rattle.mv_move_types.specs.AbilitySets.{same_abilities, leaf_abilities, reference_abilities, no_abilities}
 use Rattle.mv_machine.specs.Typing.{abilities_of, plain_tag, tag_of, has_tag, value_type_tag, tag_named}
-use Rattle.mv_machine.proofs.Laws.{on_bind, on_need}
+use Rattle.mv_machine.proofs.Laws.{on_ok, on_need}
 use Rattle.mv_abilities.specs.Abilities.{value_type_abilities, token_abilities}
 use Rattle.mv_linker.proofs.Joining.Upgraded.{same_abilities-is}
 use Rattle.mv_linker.proofs.TagTests.{same_tag-is}
@@ -62,6 +62,6 @@ pub tag_named-abilities : (modules : List Module) (m : Module) (t : Token) (tag 
     a ≡ tag_abilities modules tag
 tag_named-abilities modules m (Plain t) tag a e g = value_type_tag-abilities modules m t tag a e g
 tag_named-abilities modules m (ReferenceTo t) tag a e g =
-    on_bind (value_type_tag modules m t) _ tag e (λ to to_is e1. sym (same_Some reference_abilities a g) ∙ subst (WhereOk (λ x. reference_abilities ≡ tag_abilities modules x)) e1 refl)
+    on_ok (value_type_tag modules m t) _ tag e (λ to to_is e1. sym (same_Some reference_abilities a g) ∙ subst (WhereOk (λ x. reference_abilities ≡ tag_abilities modules x)) e1 refl)
 tag_named-abilities modules m (MutableReferenceTo t) tag a e g =
-    on_bind (value_type_tag modules m t) _ tag e (λ to to_is e1. sym (same_Some reference_abilities a g) ∙ subst (WhereOk (λ x. reference_abilities ≡ tag_abilities modules x)) e1 refl)
+    on_ok (value_type_tag modules m t) _ tag e (λ to to_is e1. sym (same_Some reference_abilities a g) ∙ subst (WhereOk (λ x. reference_abilities ≡ tag_abilities modules x)) e1 refl)

@@ -23,7 +23,8 @@ use Rattle.mv_machine.specs.Typed.{leaf_fits, is_of_type, are_of_types, is_of_st
 use Rattle.mv_machine.specs.Typing.{abilities_of}
 use Rattle.mv_abilities.specs.Abilities.{AbilitiesHold, token_abilities, implies, field_is_able, struct_is_able}
 use Rattle.mv_linker.proofs.NameLemmas.{same_struct-is}
-use Rattle.mv_linker.proofs.Found.{each, on_some}
+use Rattle.mv_module_text.proofs.Texts.{on_bind}
+use Rattle.mv_linker.proofs.Found.{each}
 use Rattle.mv_interpreter.proofs.Typing.Tests.{same_kind-is}
 use Rattle.mv_ledger.specs.Counting.Kept.{Allows, IsKept, AreKept, StorageIsKept}
 use Rattle.mv_ledger.specs.Counting.Fine.{IsAbleStore}
@@ -42,9 +43,9 @@ record Defines (modules : List Module) (name : StructName) (m : Module) (fields 
 module _ (modules : List Module) (store : IsAbleStore modules) where
   definition-defines : (name : StructName) (found : Module × List Field) → definition_of modules name ≡ Some found → Defines modules name found.0 found.1
   definition-defines name found e =
-      on_some (module_named modules name.home) _ found e (λ m m_is e1.
-      on_some (find_index (is_struct m name) m.structs) _ found e1 (λ i i_is e2.
-      on_some (slice_get m.structs i) _ found e2 (λ d d_is e3.
+      on_bind (module_named modules name.home) _ found e (λ m m_is e1.
+      on_bind (find_index (is_struct m name) m.structs) _ found e1 (λ i i_is e2.
+      on_bind (slice_get m.structs i) _ found e2 (λ d d_is e3.
       on_and_then (slice_get modules) (module_place modules name.home) m m_is (λ place place_is at.
       let named = tested (λ own. same_struct own name) (name_of_struct m d) (found-passes (is_struct m name) m.structs i d i_is d_is) in
       let name_is : name_of_struct m d ≡ Some name = named.1 ∙ ap (λ (n : StructName). Some n) (same_struct-is named.0 name named.2) in
@@ -72,7 +73,7 @@ module _ (modules : List Module) (store : IsAbleStore modules) where
   typed-abilities m (Plain (OfStruct i)) (Ref r) a declares h e = absurd cc
   typed-abilities m (Plain (OfStruct i)) (Struct name fields) a declares h e =
       let named = tested (λ own. same_struct own name) (struct_name m i) (first_so (option_map_or (λ own. same_struct own name) (struct_name m i) false) (fields_fit name fields) h) in
-      on_some (slice_get m.struct_handles i) _ a e (λ handle handle_is e1.
+      on_bind (slice_get m.struct_handles i) _ a e (λ handle handle_is e1.
       let here : declared modules name ≡ Some a = ap (declared modules) (sym (same_struct-is named.0 name named.2)) ∙ declares i handle named.0 handle_is named.1 ∙ e1 in
       sym (declared-abilities modules name fields a here))
   typed-abilities m (ReferenceTo t) (Leaf j n) a declares h e = absurd cc

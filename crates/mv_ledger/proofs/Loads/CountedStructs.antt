@@ -12,7 +12,7 @@ use Rattle.mv_binary_format.proofs.Back.{filter-shorter}
 use Rattle.mv_machine.specs.Count.{count}
 use Rattle.mv_machine.specs.Flat.{FlatEntry, storage_of}
 use Rattle.mv_linker.specs.Link.{IsStore, tables_in}
-use Rattle.mv_linker.proofs.Found.{on_some}
+use Rattle.mv_module_text.proofs.Texts.{on_bind}
 use Rattle.mv_interpreter.specs.Runs.{IsFineWords}
 use Rattle.mv_interpreter.proofs.Flat.FineWords.{fine_words-typed}
 use Rattle.mv_interpreter.proofs.Typing.Fine.{typed_is_fine}
@@ -40,8 +40,8 @@ module _ (ms : List Module) where
 
   stands : (d : Definition) (name : StructName) → name_at ms d.place d.index ≡ Some name → Stands d
   stands d name named =
-      on_some (slice_get ms d.place) _ name named (λ m m_is e1.
-      on_some (slice_get m.structs d.index) (name_of_struct m) name e1 (λ x x_is e2.
+      on_bind (slice_get ms d.place) _ name named (λ m m_is e1.
+      on_bind (slice_get m.structs d.index) (name_of_struct m) name e1 (λ x x_is e2.
       let low : d.index < length m.structs = slice_get_within m.structs d.index x x_is in
       let same : structs_at ms d.place ≡ length m.structs = ap (λ o. option_map_or (λ m. length m.structs) o 0) m_is in
       record { place = slice_get_within ms d.place m m_is; index = omega (arith, low, same) }))

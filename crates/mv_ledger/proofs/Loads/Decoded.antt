@@ -17,7 +17,7 @@ use Rattle.mv_move_types.specs.Named.{definition_of}
 use Rattle.mv_machine.specs.Value.{Value, Leaf, Struct, Values, NoMore, More}
 use Rattle.mv_machine.specs.Flat.{flat, flat_fields, value_from, fields_from, struct_from}
 use Rattle.mv_machine.specs.Typed.{leaf_fits, is_of_type, are_of_types, is_of_struct}
-use Rattle.mv_linker.proofs.Found.{on_some}
+use Rattle.mv_module_text.proofs.Texts.{on_bind}
 use Rattle.mv_linker.proofs.NameLemmas.{same_struct-same}
 use Rattle.mv_interpreter.proofs.Typing.Tests.{same_kind-same}
 use Rattle.mv_ledger.specs.Layouts.{kinds_of_token, kinds_of_fields, kinds_within, AreLeaves}
@@ -78,7 +78,7 @@ module _ (modules : List Module) where
   token-decoded depth deeper m (MutableReferenceTo t) ks words e h = absurd (none-some ks e)
   token-decoded depth deeper m (Plain (OfLeaf k)) ks words e h = leaf-decoded depth m k words (subst (λ (l : List LeafKind). AreLeaves l words) (sym (same_Some (k ∷ []) ks e)) h)
   token-decoded depth deeper m (Plain (OfStruct i)) ks words e h =
-      on_some (struct_name m i) (kinds_within depth modules) ks e (λ name name_is e1.
+      on_bind (struct_name m i) (kinds_within depth modules) ks e (λ name name_is e1.
       let d = deeper name ks words e1 h in
       let own : option_map_or (λ own. same_struct own name) (struct_name m i) false ≡ true = ap (λ o. option_map_or (λ own. same_struct own name) o false) name_is ∙ same_struct-same name in
       let typed : is_of_struct modules name (Struct name d.fields) ≡ true = subst (λ (v : Value). is_of_struct modules name v ≡ true) d.value_is d.typed in
@@ -98,8 +98,8 @@ module _ (modules : List Module) where
   fields-decoded depth deeper m [] ks [] e h = record { values = NoMore; reads = λ more. refl; flat_is = refl; typed = refl }
   fields-decoded depth deeper m [] ks (n ∷ words) e h = absurd (subst (λ (l : List LeafKind). AreLeaves l (n ∷ words)) (sym (same_Some [] ks e)) h)
   fields-decoded depth deeper m (f ∷ fs) ks words e h =
-      on_some (kinds_of_token (kinds_within depth modules) m f.token) _ ks e (λ first first_is e1.
-      on_some (kinds_of_fields (kinds_of_token (kinds_within depth modules) m) fs) (λ rest. Some (first ++ rest)) ks e1 (λ rest rest_is e2.
+      on_bind (kinds_of_token (kinds_within depth modules) m f.token) _ ks e (λ first first_is e1.
+      on_bind (kinds_of_fields (kinds_of_token (kinds_within depth modules) m) fs) (λ rest. Some (first ++ rest)) ks e1 (λ rest rest_is e2.
       let s = leaves-split first rest words (subst (λ (l : List LeafKind). AreLeaves l words) (sym (same_Some (first ++ rest) ks e2)) h) in
       let a = token-decoded depth deeper m f.token first s.front first_is s.first in
       let b = fields-decoded depth deeper m fs rest s.back rest_is s.last in
@@ -120,7 +120,7 @@ module _ (modules : List Module) where
   pub struct-decoded : (depth : ℕ) → EachDecodes depth
   struct-decoded zero name ks words e h = absurd (none-some ks e)
   struct-decoded (suc depth) name ks words e h =
-      on_some (definition_of modules name) (λ d. kinds_of_fields (kinds_of_token (kinds_within depth modules) d.0) d.1) ks e (λ d d_is e1.
+      on_bind (definition_of modules name) (λ d. kinds_of_fields (kinds_of_token (kinds_within depth modules) d.0) d.1) ks e (λ d d_is e1.
       let fields = fields-decoded depth (struct-decoded depth) d.0 d.1 ks words e1 h in
       record {
         value = Struct name fields.values;

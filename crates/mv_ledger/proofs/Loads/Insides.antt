@@ -16,7 +16,7 @@ use Rattle.mv_move_types.specs.Leaves.{sum_of_fields, leaves_of, leaves_within}
 use Rattle.mv_machine.specs.Value.{Value, Leaf, Struct, Ref, Values, NoMore, More}
 use Rattle.mv_machine.specs.Typed.{is_of_type, are_of_types, is_of_struct}
 use Rattle.mv_machine.specs.Count.{count_in, count_in_fields}
-use Rattle.mv_linker.proofs.Found.{on_some}
+use Rattle.mv_module_text.proofs.Texts.{on_bind}
 use Rattle.mv_linker.proofs.NameLemmas.{same_struct-is}
 use Rattle.mv_interpreter.proofs.Typing.Callees.{on_found}
 use Rattle.mv_ledger.specs.Inside.{structs_in_token, structs_in_fields, structs_within}
@@ -36,7 +36,7 @@ module _ (modules : List Module) (s : StructName) where
     field-count depth m (Plain (OfLeaf k)) (Leaf j i) n e h = refl
     field-count depth m (Plain (OfLeaf k)) (Struct name fields) n e h = absurd cc
     field-count depth m (Plain (OfStruct i)) (Leaf j k) n e h = absurd cc
-    field-count zero m (Plain (OfStruct i)) (Struct name fields) n e h = on_some (struct_name m i) (leaves_within zero modules) n e (λ own own_is e1. absurd (none-some n e1))
+    field-count zero m (Plain (OfStruct i)) (Struct name fields) n e h = on_bind (struct_name m i) (leaves_within zero modules) n e (λ own own_is e1. absurd (none-some n e1))
     field-count (suc depth) m (Plain (OfStruct i)) (Struct name fields) n e h =
         let same : option_map_or (λ own. same_struct own name) (struct_name m i) false ≡ true =
         first_so (option_map_or (λ own. same_struct own name) (struct_name m i) false)
@@ -47,7 +47,7 @@ module _ (modules : List Module) (s : StructName) where
         on_found (λ own. same_struct own name) (struct_name m i) same (λ own own_is is_name.
         let leaves : leaves_within (suc depth) modules own ≡ Some n = subst (λ (x : Option StructName). (x >>= leaves_within (suc depth) modules) ≡ Some n) own_is e in
         let one : own ≡ name = same_struct-is own name is_name in
-        on_some (definition_of modules own) (λ d. sum_of_fields (leaves_of (leaves_within depth modules) d.0) d.1) n leaves (λ d d_is e1.
+        on_bind (definition_of modules own) (λ d. sum_of_fields (leaves_of (leaves_within depth modules) d.0) d.1) n leaves (λ d d_is e1.
         let found : definition_of modules name ≡ Some d = subst (λ (x : StructName). definition_of modules x ≡ Some d) one d_is in
         of-fields depth own name fields d d_is one
         (fields-count depth d.0 d.1 fields n e1 (subst (λ (x : Option (Module × List Field)). option_map_or (λ (d : Module × List Field). are_of_types modules d.0 d.1 fields) x false ≡ true) found
@@ -67,8 +67,8 @@ module _ (modules : List Module) (s : StructName) where
     fields-count depth m [] (More v vs) n e h = absurd cc
     fields-count depth m (f ∷ fs) NoMore n e h = absurd cc
     fields-count depth m (f ∷ fs) (More v vs) n e h =
-        on_some (leaves_of (leaves_within depth modules) m f.token) _ n e (λ i i_is e1.
-        on_some (sum_of_fields (leaves_of (leaves_within depth modules) m) fs) (λ rest. Some (i + rest)) n e1 (λ j j_is e2.
+        on_bind (leaves_of (leaves_within depth modules) m f.token) _ n e (λ i i_is e1.
+        on_bind (sum_of_fields (leaves_of (leaves_within depth modules) m) fs) (λ rest. Some (i + rest)) n e1 (λ j j_is e2.
         ap₂ (λ (x y : ℕ). x + y) (field-count depth m f.token v i i_is (first_so (is_of_type modules m f.token v) (are_of_types modules m fs vs) h))
         (fields-count depth m fs vs j j_is (second_so (is_of_type modules m f.token v) (are_of_types modules m fs vs) h))))
 
@@ -82,7 +82,7 @@ module _ (modules : List Module) (s : StructName) where
       let same : same_struct name own ≡ true = first_so (same_struct name own) (option_map_or (λ (d : Module × List Field). are_of_types modules d.0 d.1 fields) (definition_of modules own) false) h in
       let typed = second_so (same_struct name own) (option_map_or (λ (d : Module × List Field). are_of_types modules d.0 d.1 fields) (definition_of modules own) false) h in
       let one : name ≡ own = same_struct-is name own same in
-      on_some (definition_of modules name) (λ d. sum_of_fields (leaves_of (leaves_within depth modules) d.0) d.1) n e (λ d d_is e1.
+      on_bind (definition_of modules name) (λ d. sum_of_fields (leaves_of (leaves_within depth modules) d.0) d.1) n e (λ d d_is e1.
       let found : definition_of modules own ≡ Some d = subst (λ (x : StructName). definition_of modules x ≡ Some d) one d_is in
       of-fields depth name own fields d d_is one
       (fields-count depth d.0 d.1 fields n e1 (subst (λ (x : Option (Module × List Field)). option_map_or (λ (d : Module × List Field). are_of_types modules d.0 d.1 fields) x false ≡ true) found

@@ -18,7 +18,7 @@ use Rattle.mv_move_types.specs.Leaves.{sum_of_fields, leaves_of, leaves_within}
 use Rattle.mv_machine.specs.Value.{Value, Leaf, Struct, Ref, Values, NoMore, More}
 use Rattle.mv_machine.specs.Flat.{flat, flat_fields}
 use Rattle.mv_machine.specs.Typed.{leaf_fits, is_of_type, are_of_types, is_of_struct}
-use Rattle.mv_linker.proofs.Found.{on_some}
+use Rattle.mv_module_text.proofs.Texts.{on_bind}
 use Rattle.mv_linker.proofs.NameLemmas.{same_struct-is}
 use Rattle.mv_interpreter.proofs.Typing.Callees.{on_found}
 use Rattle.mv_interpreter.proofs.Typing.Tests.{same_kind-is}
@@ -98,7 +98,7 @@ module _ (modules : List Module) where
         let same : j ≡ k = same_kind-is j k (first_so (same_kind j k) (leaf_fits k n) h) in
         subst (λ (l : List LeafKind). HasLeaves l (n ∷ []) (leaf_bytes j n)) (same_Some (k ∷ []) ks e)
         (record { are = (second_so (same_kind j k) (leaf_fits k n) h, tt); text = ap (λ (x : LeafKind). leaf_bytes x n) same ∙ sym (append-nil (leaf_bytes k n)) })
-    field-leaves zero m (Plain (OfStruct i)) (Struct name fields) ks e h = on_some (struct_name m i) (kinds_within zero modules) ks e (λ own own_is e1. absurd (none-some ks e1))
+    field-leaves zero m (Plain (OfStruct i)) (Struct name fields) ks e h = on_bind (struct_name m i) (kinds_within zero modules) ks e (λ own own_is e1. absurd (none-some ks e1))
     field-leaves (suc depth) m (Plain (OfStruct i)) (Struct name fields) ks e h =
         let same : option_map_or (λ own. same_struct own name) (struct_name m i) false ≡ true =
         first_so (option_map_or (λ own. same_struct own name) (struct_name m i) false)
@@ -108,7 +108,7 @@ module _ (modules : List Module) where
         (option_map_or (λ (d : Module × List Field). are_of_types modules d.0 d.1 fields) (definition_of modules name) false) h in
         on_found (λ own. same_struct own name) (struct_name m i) same (λ own own_is is_name.
         let kinds : kinds_within (suc depth) modules own ≡ Some ks = subst (λ (x : Option StructName). (x >>= kinds_within (suc depth) modules) ≡ Some ks) own_is e in
-        on_some (definition_of modules own) (λ d. kinds_of_fields (kinds_of_token (kinds_within depth modules) d.0) d.1) ks kinds (λ d d_is e1.
+        on_bind (definition_of modules own) (λ d. kinds_of_fields (kinds_of_token (kinds_within depth modules) d.0) d.1) ks kinds (λ d d_is e1.
         let found : definition_of modules name ≡ Some d = subst (λ (x : StructName). definition_of modules x ≡ Some d) (same_struct-is own name is_name) d_is in
         fields-leaves depth d.0 d.1 fields ks e1 (subst (λ (x : Option (Module × List Field)). option_map_or (λ (d : Module × List Field). are_of_types modules d.0 d.1 fields) x false ≡ true) found
         typed)))
@@ -130,8 +130,8 @@ module _ (modules : List Module) where
     fields-leaves depth m [] (More v vs) ks e h = absurd cc
     fields-leaves depth m (f ∷ fs) NoMore ks e h = absurd cc
     fields-leaves depth m (f ∷ fs) (More v vs) ks e h =
-        on_some (kinds_of_token (kinds_within depth modules) m f.token) _ ks e (λ first first_is e1.
-        on_some (kinds_of_fields (kinds_of_token (kinds_within depth modules) m) fs) (λ rest. Some (first ++ rest)) ks e1 (λ rest rest_is e2.
+        on_bind (kinds_of_token (kinds_within depth modules) m f.token) _ ks e (λ first first_is e1.
+        on_bind (kinds_of_fields (kinds_of_token (kinds_within depth modules) m) fs) (λ rest. Some (first ++ rest)) ks e1 (λ rest rest_is e2.
         subst (λ (l : List LeafKind). HasLeaves l (flat v ++ flat_fields vs) (leaves_text v ++ leaves_of_fields vs)) (same_Some (first ++ rest) ks e2)
         (both first rest (flat v) (flat_fields vs) (leaves_text v) (leaves_of_fields vs)
         (field-leaves depth m f.token v first first_is (first_so (is_of_type modules m f.token v) (are_of_types modules m fs vs) h))
@@ -146,7 +146,7 @@ module _ (modules : List Module) where
   struct-leaves (suc depth) name (Struct own fields) ks e h =
       let same : same_struct name own ≡ true = first_so (same_struct name own) (option_map_or (λ (d : Module × List Field). are_of_types modules d.0 d.1 fields) (definition_of modules own) false) h in
       let typed = second_so (same_struct name own) (option_map_or (λ (d : Module × List Field). are_of_types modules d.0 d.1 fields) (definition_of modules own) false) h in
-      on_some (definition_of modules name) (λ d. kinds_of_fields (kinds_of_token (kinds_within depth modules) d.0) d.1) ks e (λ d d_is e1.
+      on_bind (definition_of modules name) (λ d. kinds_of_fields (kinds_of_token (kinds_within depth modules) d.0) d.1) ks e (λ d d_is e1.
       let found : definition_of modules own ≡ Some d = subst (λ (x : StructName). definition_of modules x ≡ Some d) (same_struct-is name own same) d_is in
       fields-leaves depth d.0 d.1 fields ks e1 (subst (λ (x : Option (Module × List Field)). option_map_or (λ (d : Module × List Field). are_of_types modules d.0 d.1 fields) x false ≡ true) found
       typed))

@@ -21,7 +21,8 @@ use Rattle.mv_machine.specs.State.{Entry}
 use Rattle.mv_machine.specs.Flat.{FlatEntry, flat, storage_of, value_under}
 use Rattle.mv_machine.specs.Typed.{abilities_at, is_fine_entry, is_of_struct}
 use Rattle.mv_linker.specs.Link.{IsStore, tables_in}
-use Rattle.mv_linker.proofs.Found.{on_some, some-of, then_found}
+use Rattle.mv_module_text.proofs.Texts.{on_bind}
+use Rattle.mv_linker.proofs.Found.{some-of, then_found}
 use Rattle.mv_interpreter.specs.Runs.{IsFineWords}
 use Rattle.mv_interpreter.proofs.Flat.FineWords.{fine_words-typed}
 use Rattle.mv_interpreter.proofs.Typing.Callees.{on_found}
@@ -79,8 +80,8 @@ readable modules of e = subst (λ (ms : List Module). IsFineWords ms e → IsRea
 pub keyed-defined : (modules : List Module) (d : Definition) → is_keyed modules d ≡ true → IsSome (definition_at modules d)
 keyed-defined modules d keyed =
     on_found (λ (a : Abilities). a.key) (abilities_at modules d.place d.index) keyed (λ a a_is has.
-    on_some (slice_get modules d.place) _ a a_is (λ m m_is e1.
-    on_some (slice_get m.structs d.index) _ a e1 (λ x x_is e2.
+    on_bind (slice_get modules d.place) _ a a_is (λ m m_is e1.
+    on_bind (slice_get m.structs d.index) _ a e1 (λ x x_is e2.
     subst IsSome (sym (then_found (slice_get modules d.place) (λ m. slice_get m.structs d.index) m (Some x) m_is x_is)) refl)))
 
 -- ---- one value more

@@ -28,7 +28,8 @@ use Rattle.mv_linker.specs.Links.{struct_is_small}
 use Rattle.mv_linker.specs.Shapes.{AreFieldsAt, AreParts, IsMadeOf, IsPart, has_key, is_of_value}
 use Rattle.mv_linker.specs.Shapes.{is_keyed as keyed_in}
 use Rattle.mv_linker.proofs.Joining.Assembling.{passed-among}
-use Rattle.mv_linker.proofs.Found.{on_some, then_found, each}
+use Rattle.mv_module_text.proofs.Texts.{on_bind}
+use Rattle.mv_linker.proofs.Found.{then_found, each}
 use Rattle.mv_linker.proofs.Kept.HandleDefinitions.{name-found}
 use Rattle.mv_linker.proofs.Members.{among-at}
 use Rattle.mv_linker.proofs.OwnDefinitions.{own-definition}
@@ -190,8 +191,8 @@ module _ (published : List PublishedModule) (is : IsStore published) where
   pub keyed-kinds : (d : Definition) → is_keyed modules d ≡ true → (ks : List LeafKind) × ((name_at modules d.place d.index >>= leaf_kinds modules) ≡ Some ks)
   keyed-kinds d keyed =
       on_found (λ (a : Abilities). a.key) (abilities_at modules d.place d.index) keyed (λ a a_is has.
-      on_some (slice_get modules d.place) _ a a_is (λ m m_is e1.
-      on_some (slice_get m.structs d.index) _ a e1 (λ x x_is e2.
+      on_bind (slice_get modules d.place) _ a a_is (λ m m_is e1.
+      on_bind (slice_get m.structs d.index) _ a e1 (λ x x_is e2.
       let own = defined d m x m_is x_is in
       let small = each (struct_is_small modules m) m.structs d.index x (each (λ m. list_all (struct_is_small modules m) m.structs) modules d.place m is.links.small m_is) x_is in
       on_found (λ n. nat_le n 256) (name_of_struct m x >>= leaves_within 8 modules) small (λ n n_is le.

@@ -13,7 +13,8 @@ use Rattle.mv_move_types.specs.declared.token.LeafKind.{LeafKind}
 use Rattle.mv_move_types.specs.Options.{◌>>=◌}
 use Rattle.mv_move_types.specs.Module.{Module}
 use Rattle.mv_module_text.specs.Entries.{address_text}
-use Rattle.mv_linker.proofs.Found.{on_some, some-of, then_found, there_at}
+use Rattle.mv_module_text.proofs.Texts.{on_bind}
+use Rattle.mv_linker.proofs.Found.{some-of, then_found, there_at}
 use Rattle.mv_ledger.specs.declared.saving.Section.{Section}
 use Rattle.mv_ledger.specs.Layouts.{coded, kinds_under, structs_at}
 use Rattle.mv_ledger.specs.Parts.Saving.{definition_at, same_definition, section_at, sections_of, struct_of, AddsValue, AreSections, HasOneMore, IsAdded, IsEmpty}
@@ -51,14 +52,14 @@ module _ (modules : List Module) where
   empty-all n rows le h = record {
     there = λ d is.
         let found = some-of (definition_at modules d) is in
-        on_some (slice_get modules d.place) _ found.0 found.1 (λ m m_is e1.
+        on_bind (slice_get modules d.place) _ found.0 found.1 (λ m m_is e1.
         let low : d.place < length rows = omega (arith, slice_get_within modules d.place m m_is, h.len, le) in
         let row = there_at rows d.place low in
         let long : length row.0 ≡ length m.structs = (h.each d.place row.0 row.1).0 ∙ ap (λ o. option_map_or (λ m. length m.structs) o 0) m_is in
         let s = there_at row.0 d.index (omega (arith, slice_get_within m.structs d.index found.0 e1, long)) in
         subst IsSome (sym (then_found (slice_get rows d.place) _ row.0 (Some s.0) row.1 s.1)) refl);
     each = λ d s e.
-        on_some (slice_get rows d.place) _ s e (λ row row_is e1.
+        on_bind (slice_get rows d.place) _ s e (λ row row_is e1.
         let empty : IsEmpty s = subst IsEmpty (get_or_from_slice_get row d.index s s e1) ((h.each d.place row row_is).1 d.index s (slice_get_within row d.index s e1)) in
         record { count = empty.count; text = empty.text; known = λ lt. absurd (omega (arith, empty.count, lt)) });
   }
@@ -134,7 +135,7 @@ module _ (rows : List (Vec Section Global)) (d : Definition) (there : IsSome (se
   pub row-in : d.place < length rows
   row-in =
       let s = some-of (section_at (sections_of rows) d) there in
-      on_some (slice_get (sections_of rows) d.place) (λ row. slice_get row d.index) s.0 s.1 (λ row row_is e.
+      on_bind (slice_get (sections_of rows) d.place) (λ row. slice_get row d.index) s.0 s.1 (λ row row_is e.
       omega (arith, slice_get_within (sections_of rows) d.place row row_is, length-map rows (λ (r : Vec Section Global). r.items)))
 
   module _ (row : Vec Section Global) (row_is : row ≡ get_or rows d.place row) where

@@ -30,7 +30,8 @@ use Rattle.mv_linker.specs.Targets.{modules_in}
 use Rattle.mv_linker.proofs.Joining.Bundled.{place-at}
 use Rattle.mv_linker.proofs.Cycles.DependenciesStay.{dependencies-stay}
 use Rattle.mv_linker.proofs.Cycles.DependencyLemmas.{all-there}
-use Rattle.mv_linker.proofs.Found.{on_some, then_found, some-of, Contains-at, at-Contains, there_at}
+use Rattle.mv_module_text.proofs.Texts.{on_bind}
+use Rattle.mv_linker.proofs.Found.{then_found, some-of, Contains-at, at-Contains, there_at}
 use Rattle.mv_linker.proofs.LinkedCode.JoinedCodes.{NamesNone}
 use Rattle.mv_linker.proofs.Cycles.JoinedOrder.{names-stay}
 use Rattle.mv_linker.proofs.Joining.Joins.{one-name, bundled-at, kept-at, placed-at, position-there}
@@ -42,15 +43,15 @@ use Rattle.mv_linker.proofs.Joining.Scopes.{within_tables}
 -- a handle that names a module is there
 pub handle-below : (m : Module) (h : ℕ) (name : ModuleName) → module_name m h ≡ Some name → h < length m.module_handles
 handle-below m h name e =
-    on_some (slice_get m.module_handles h) (λ (handle : ModuleHandle). slice_get m.addresses handle.address >>= λ address. slice_get m.identifiers handle.name >>= λ name. Some (record { address = address; name = name })) name e
+    on_bind (slice_get m.module_handles h) (λ (handle : ModuleHandle). slice_get m.addresses handle.address >>= λ address. slice_get m.identifiers handle.name >>= λ name. Some (record { address = address; name = name })) name e
     (λ handle at rest. slice_get_within m.module_handles h handle at)
 
 -- which module of the bundle a handle names, by parts
 pub target-parts : {P : Type 0} (s : Scope) (m : Module) (h k : ℕ) → bundled_target s m h ≡ Some k
     → ((name : ModuleName) (p : ℕ) → module_name m h ≡ Some name → module_place (modules_in s) name ≡ Some p → slice_get s.places.items k ≡ Some p → P) → P
 target-parts s m h k e go =
-    on_some (module_name m h) (λ name. module_place (modules_in s) name >>= λ place. position (λ p. p == place) s.places.items) k e
-    (λ name named e1. on_some (module_place (modules_in s) name) (λ place. position (λ p. p == place) s.places.items) k e1
+    on_bind (module_name m h) (λ name. module_place (modules_in s) name >>= λ place. position (λ p. p == place) s.places.items) k e
+    (λ name named e1. on_bind (module_place (modules_in s) name) (λ place. position (λ p. p == place) s.places.items) k e1
     (λ p found e2. go name p named found (place-at p k s.places.items e2)))
 
 -- the modules don't become fewer

@@ -12,7 +12,8 @@ use Rattle.mv_bounds.specs.Cycles.{LeadsTo, IsAcyclic}
 use Rattle.mv_bounds.specs.Cycles as C
 use Rattle.mv_linker.specs.Links.{depends_on, Reaches, directly, further}
 use Rattle.mv_linker.specs.Order.{IsOrdered, AreHandlePlaces, AreDependencies, IsDependencyGraph, others, shifted}
-use Rattle.mv_linker.proofs.Found.{on_some, then_found, Contains-at, at-Contains, there_at, slice_get-take, kept_at, kept_from, made_at, made_from}
+use Rattle.mv_module_text.proofs.Texts.{on_bind}
+use Rattle.mv_linker.proofs.Found.{then_found, Contains-at, at-Contains, there_at, slice_get-take, kept_at, kept_from, made_at, made_from}
 use Rattle.mv_linker.proofs.NameLemmas.{have_one_name-from, have_one_name-is, name_at_one, module_place-is, module_place-from, depends_on-is, depends_on-from}
 
 -- the handles' places without a module's own are those of the modules that it depends on
@@ -32,7 +33,7 @@ module _ (modules : List Module) (m : Module) (own : ℕ) (places : List ℕ) (h
       let at = Contains-at (others own places) j has in
       let k = kept_from (λ q. not (eqb q own)) places at.0 j at.1 in
       let named = p.each k.place j k.at in
-      on_some (module_name m k.place) (module_place modules) j named
+      on_bind (module_name m k.place) (module_place modules) j named
       (λ name e g. record {
         apart = eqb-false j own (not-true (eqb j own) k.passes);
         handle = k.place;

@@ -14,7 +14,8 @@ use Rattle.mv_linker.specs.Upgrades.{may_replace}
 use Rattle.mv_linker.proofs.Joining.Scopes.{within_tables}
 use Rattle.mv_linker.proofs.Members.{Among, all-among, among-all, so-named, named-so}
 use Rattle.mv_linker.proofs.NameLemmas.{have_one_name-is, have_one_name-from}
-use Rattle.mv_linker.proofs.Found.{on_some, found_at}
+use Rattle.mv_module_text.proofs.Texts.{on_bind}
+use Rattle.mv_linker.proofs.Found.{found_at}
 
 -- what replaces only what it may is compatible
 pub follow-compatible : (old ns : List Module) → all_differ have_one_name old ≡ true → all_follow old ns ≡ true → are_compatible old ns ≡ true
@@ -50,7 +51,7 @@ compatible-follow old ns fits = among-all (follows old) ns (λ n b. go n b (own_
 -- ---- what a module replaces, by its place
 
 pub replaced-below : (ps : List PublishedModule) (n : Module) (k : ℕ) → replaced_in (tables_in ps) n ≡ Some k → k < length ps
-replaced-below ps n k e = on_some (own_name n) (module_place (tables_in ps)) k e (λ name name_is at.
+replaced-below ps n k e = on_bind (own_name n) (module_place (tables_in ps)) k e (λ name name_is at.
     let f = found_at (is_module name) (tables_in ps) k at in within_tables ps k f.entry f.at)
 
 pub follows-none : (old : List Module) (n : Module) → replaced_in old n ≡ None → follows old n ≡ true
@@ -63,7 +64,7 @@ follows-none old n e = go (own_name n) refl e
         ∙ ap (λ o. option_map_or (λ m. may_replace m n) (option_and_then (slice_get old) o) true) q
 
 pub follows-at : (old : List Module) (n : Module) (k : ℕ) (m : Module) → replaced_in old n ≡ Some k → slice_get old k ≡ Some m → follows old n ≡ may_replace m n
-follows-at old n k m e at = on_some (own_name n) (module_place old) k e (λ name name_is place.
+follows-at old n k m e at = on_bind (own_name n) (module_place old) k e (λ name name_is place.
     ap (λ o. option_map_or (λ m. may_replace m n) (o >>= module_named old) true) name_is
     ∙ ap (λ o. option_map_or (λ m. may_replace m n) (option_and_then (slice_get old) o) true) place
     ∙ ap (λ o. option_map_or (λ m. may_replace m n) o true) at)

@@ -15,7 +15,8 @@ use Rattle.mv_linker.specs.Order.{AreHandlePlaces, AreDependencies, IsDependency
 use Rattle.mv_linker.specs.Sizes.{IsSized}
 use Rattle.mv_linker.specs.declared.sizes.Size.{Size}
 use Rattle.mv_linker.specs.declared.targets.Target.{Target}
-use Rattle.mv_linker.proofs.Found.{on_some, then_found}
+use Rattle.mv_module_text.proofs.Texts.{on_bind}
+use Rattle.mv_linker.proofs.Found.{then_found}
 use Rattle.mv_linker.proofs.Cycles.Graphs.{appended-graph}
 use Rattle.mv_linker.proofs.Cycles.JoinedOrder.{with_tables-appended}
 use Rattle.mv_linker.proofs.StructSizes.JoinedSizes.{keeps-joined}
@@ -59,8 +60,8 @@ module _ (old ns : List Module) (j : Joining old ns) where
   -- the size of an old struct stays
   pub kept-size : Links old → (p k : ℕ) (name : StructName) (size : Size) → name_at old p k ≡ Some name → IsSized old name size → IsSized result name size
   kept-size links p k name size e sized =
-      on_some (slice_get old p) (λ m. slice_get m.structs k >>= λ d. name_of_struct m d) name e
-      (λ m at e1. on_some (slice_get m.structs k) (λ d. name_of_struct m d) name e1
+      on_bind (slice_get old p) (λ m. slice_get m.structs k >>= λ d. name_of_struct m d) name e
+      (λ m at e1. on_bind (slice_get m.structs k) (λ d. name_of_struct m d) name e1
       (λ d d_at named.
       let a = among-at old p m at in
       let o = own-definition old p m j.once at (j.bounds m a) (j.defined m a) k d d_at in

@@ -22,7 +22,8 @@ use Rattle.mv_linker.specs.Links.{module_is_there, modules_are_there, struct_is_
 use Rattle.mv_linker.specs.Targets.{tables_of, IsTarget, AreTargets, struct_matches, function_matches, IsStructIn, IsFunctionIn, IsStructAt, IsFunctionAt, EachAt}
 use Rattle.mv_linker.specs.declared.targets.Target.{Target}
 use Rattle.mv_linker.proofs.Members.{among-any, among-at, at-among, among-all, all-among}
-use Rattle.mv_linker.proofs.Found.{on_some, found_at, there_at, place_below}
+use Rattle.mv_module_text.proofs.Texts.{on_bind}
+use Rattle.mv_linker.proofs.Found.{found_at, there_at, place_below}
 
 -- the module of the name that a target has
 target_named : (modules : List Module) (m : Module) (h : ℕ) (t : Target) (is : IsTarget modules m h t) → module_named modules is.name ≡ Some (tables_of t.module)
@@ -96,9 +97,9 @@ module _ (modules : List Module) (m : Module) (targets : List Target) (named : A
     where
       homes : (is : IsTarget modules m handle.module t) → s.name.home ≡ is.name
       homes is =
-          on_some (slice_get m.struct_handles h) _ s.name s.named (λ x x_is e1.
-          on_some (module_name m x.module) _ s.name e1 (λ home home_is e2.
-          on_some (slice_get m.identifiers x.name) _ s.name e2 (λ n n_is e3.
+          on_bind (slice_get m.struct_handles h) _ s.name s.named (λ x x_is e1.
+          on_bind (module_name m x.module) _ s.name e1 (λ home home_is e2.
+          on_bind (slice_get m.identifiers x.name) _ s.name e2 (λ n n_is e3.
           let full : StructName = record { home = home; name = n } in
           let same : full ≡ s.name = same_Some full s.name e3 in
           let handles : x ≡ handle = same_Some x handle (sym x_is ∙ p) in
@@ -127,7 +128,7 @@ module _ (modules : List Module) (m : Module) (targets : List Target) (named : A
           ∙ ap (λ o. o >>= λ home. slice_get m.identifiers handle.name >>= λ n. Some (record { home = home; name = n })) r in
           let bad : false ≡ true = sym (ap (λ o. option_map_or (λ name. option_map_or (same_abilities handle.abilities) (declared modules name) false) o false) nameless) ∙ e in
           cc
-      none (Some name) r = on_some (slice_get m.module_handles handle.module) _ name r (λ x x_is rest.
+      none (Some name) r = on_bind (slice_get m.module_handles handle.module) _ name r (λ x x_is rest.
           let there = there_at targets handle.module (subst (λ n. handle.module < n) (sym named.len) (slice_get_within m.module_handles handle.module x x_is)) in
           let clash : Some there.0 ≡ None = sym there.1 ∙ q in
           cc)
@@ -140,7 +141,7 @@ module _ (modules : List Module) (m : Module) (targets : List Target) (named : A
           let bad : false ≡ true =
           sym (ap (λ o. option_map_or (λ n. option_map_or (λ name. option_map_or (function_fits m handle n) (function_named n name) false) (slice_get m.identifiers handle.name) false) (o >>= module_named modules) false) r) ∙ e in
           cc
-      none (Some name) r = on_some (slice_get m.module_handles handle.module) _ name r (λ x x_is rest.
+      none (Some name) r = on_bind (slice_get m.module_handles handle.module) _ name r (λ x x_is rest.
           let there = there_at targets handle.module (subst (λ n. handle.module < n) (sym named.len) (slice_get_within m.module_handles handle.module x x_is)) in
           let clash : Some there.0 ≡ None = sym there.1 ∙ q in
           cc)

@@ -28,7 +28,8 @@ use Rattle.mv_linker.proofs.Joining.Upgraded.{Replaces, both-there, declared-sta
 use Rattle.mv_linker.proofs.TagTests.{same_tags-is, same_tags-same}
 use Rattle.std.proofs.lemmas.Option.{same_Some}
 use Rattle.mv_linker.proofs.NameLemmas.{is_module-is, is_module-from, have_one_name-from, have_one_name-is}
-use Rattle.mv_linker.proofs.Found.{on_some, found_at}
+use Rattle.mv_module_text.proofs.Texts.{on_bind}
+use Rattle.mv_linker.proofs.Found.{found_at}
 
 -- a bundle that may join old modules
 pub record Joining (old ns : List Module) : Type 0 where
@@ -133,7 +134,7 @@ module _ (old ns : List Module) (j : Joining old ns) where
           subst (λ z. name_of_function x z ≡ Some name) same (named f.entry (name_of_function x f.entry) refl f.passes)
 
   function-among : (x : Module) (name : List ℕ) (d : FunctionDefinition) → function_named x name ≡ Some d → Among x.functions d
-  function-among x name d e = on_some (function_place x name) (slice_get x.functions) d e (λ k k_is at. among-at x.functions k d at)
+  function-among x name d e = on_bind (function_place x name) (slice_get x.functions) d e (λ k k_is at. among-at x.functions k d at)
 
   -- a function of a replaced module still fits a handle of another module
   fits-still : (m x y : Module) (handle : FunctionHandle) (name : List ℕ) (d : FunctionDefinition) → have_one_name m x ≡ false → may_replace x y ≡ true → function_named x name ≡ Some d

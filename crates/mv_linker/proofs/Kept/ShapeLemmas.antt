@@ -24,7 +24,8 @@ use Rattle.mv_linker.specs.declared.shapes.Part.{Part}
 use Rattle.mv_linker.specs.declared.shapes.Part.TheVariants.{Struct, Nothing}
 use Rattle.mv_linker.specs.Handles.{AreStructsAt}
 use Rattle.mv_linker.specs.Shapes.{AreParts, AreShapes, IsPart, part_by, parts_by, shapes_by}
-use Rattle.mv_linker.proofs.Found.{each, on_some, there_at}
+use Rattle.mv_module_text.proofs.Texts.{on_bind}
+use Rattle.mv_linker.proofs.Found.{each, there_at}
 
 -- a struct has at most 32 fields
 pub few-fields : (m : Module) (i : ℕ) (d : StructDefinition) → list_all (struct_definition_fits m.version) m.structs ≡ true → slice_get m.structs i ≡ Some d → length d.fields ≤ 32
@@ -36,9 +37,9 @@ few-fields m i d h at =
 -- the module of a struct's name is one that a handle names
 pub struct-module : (m : Module) (h : ℕ) (name : StructName) → struct_name m h ≡ Some name → (i : ℕ) × (module_name m i ≡ Some name.home)
 struct-module m h name e =
-    on_some (slice_get m.struct_handles h) _ name e (λ handle at e1.
-    on_some (module_name m handle.«module») _ name e1 (λ home home_is e2.
-    on_some (slice_get m.identifiers handle.name) _ name e2 (λ identifier identifier_is e3.
+    on_bind (slice_get m.struct_handles h) _ name e (λ handle at e1.
+    on_bind (module_name m handle.«module») _ name e1 (λ home home_is e2.
+    on_bind (slice_get m.identifiers handle.name) _ name e2 (λ identifier identifier_is e3.
     (handle.«module», home_is ∙ ap Some (ap (λ (n : StructName). n.home) (same_Some _ name e3))))))
 
 -- ---- the parts of the first fields

@@ -16,7 +16,8 @@ use Rattle.mv_linker.specs.Kept.{AreKeyed, name_in, published_as, published_unde
 use Rattle.mv_linker.specs.Link.{IsStore, tables_in}
 use Rattle.mv_linker.specs.Stored.{AreCodesOf}
 use Rattle.mv_linker.proofs.Joining.Assembling.{passed-among}
-use Rattle.mv_linker.proofs.Found.{on_some, then_found}
+use Rattle.mv_module_text.proofs.Texts.{on_bind}
+use Rattle.mv_linker.proofs.Found.{then_found}
 use Rattle.mv_linker.proofs.LinkedCode.Linkable.{at-all, mapped-at}
 use Rattle.mv_linker.proofs.Members.{among-at}
 use Rattle.mv_linker.proofs.OwnDefinitions.{named_in, own-definition, owns-structs}
@@ -44,9 +45,9 @@ unnamed-there modules codes place index code are code_at none =
 -- the identifier in a struct's name
 identifier-in : (m : Module) (d : StructDefinition) (name : StructName) → name_of_struct m d ≡ Some name → name.name ≡ identifier_or_none m d
 identifier-in m d name named =
-    on_some (slice_get m.struct_handles d.handle) (λ handle. module_name m handle.module >>= λ home. slice_get m.identifiers handle.name >>= λ id. Some (named_in home id)) name named
-    (λ handle is e1. on_some (module_name m handle.module) (λ home. slice_get m.identifiers handle.name >>= λ id. Some (named_in home id)) name e1
-    (λ home is2 e2. on_some (slice_get m.identifiers handle.name) (λ id. Some (named_in home id)) name e2
+    on_bind (slice_get m.struct_handles d.handle) (λ handle. module_name m handle.module >>= λ home. slice_get m.identifiers handle.name >>= λ id. Some (named_in home id)) name named
+    (λ handle is e1. on_bind (module_name m handle.module) (λ home. slice_get m.identifiers handle.name >>= λ id. Some (named_in home id)) name e1
+    (λ home is2 e2. on_bind (slice_get m.identifiers handle.name) (λ id. Some (named_in home id)) name e2
     (λ id is3 e3.
     sym (ap (λ (s : StructName). s.name) (same_Some (named_in home id) name e3))
     ∙ sym (ap (λ o. unwrap_or o []) (then_found (slice_get m.struct_handles d.handle) (λ handle. slice_get m.identifiers handle.name) handle (Some id) is is3)))))

@@ -21,7 +21,8 @@ use Rattle.mv_linker.specs.declared.sizes.Size.{Size}
 use Rattle.mv_linker.specs.declared.sizes.Defined.{Defined}
 use Rattle.mv_linker.specs.declared.sizes.Defined.TheVariants.{Published, Bundled}
 use Rattle.mv_linker.specs.Sizes.{IsSized, IsDefined, AreDefined, AreSizes, AreSmall, Total, greater, total_of, small_size, size_at, size_of_token, size_of_struct, row_of, next_rows, rows_after}
-use Rattle.mv_linker.proofs.Found.{on_some, then_found, there_at, each, all_from, some_fails}
+use Rattle.mv_module_text.proofs.Texts.{on_bind}
+use Rattle.mv_linker.proofs.Found.{then_found, there_at, each, all_from, some_fails}
 use Rattle.mv_linker.proofs.StructSizes.Totals.{greater-left, greater-right}
 
 -- the rows of the first modules, and of one more
@@ -158,12 +159,12 @@ module _ (modules bundle : List Module) (handles : List (List Defined)) (a : Are
   field_more : (k : ℕ) (m : Module) (f : Field) (fs : List Field) (s : Option Size) (r : Option Total) → TokenKnown k m f.token s → FieldsKnown k m fs r
       → FieldsKnown k m (f ∷ fs) (s >>= λ s. r >>= λ r. Some (record { leaves = s.leaves + r.leaves; nesting = greater s.nesting r.nesting }))
   field_more k m f fs None r token rest = λ n e.
-      on_some (leaves_at k m f.token) (λ x. fields_at k m fs >>= λ y. Some (x + y)) n e
-      (λ x is e1. on_some (fields_at k m fs) (λ y. Some (x + y)) n e1
+      on_bind (leaves_at k m f.token) (λ x. fields_at k m fs >>= λ y. Some (x + y)) n e
+      (λ x is e1. on_bind (fields_at k m fs) (λ y. Some (x + y)) n e1
       (λ y is2 e2. (let big = token x is in let sum = same_Some (x + y) n e2 in omega (arith, big, sum))))
   field_more k m f fs (Some s) None token rest = λ n e.
-      on_some (leaves_at k m f.token) (λ x. fields_at k m fs >>= λ y. Some (x + y)) n e
-      (λ x is e1. on_some (fields_at k m fs) (λ y. Some (x + y)) n e1
+      on_bind (leaves_at k m f.token) (λ x. fields_at k m fs >>= λ y. Some (x + y)) n e
+      (λ x is e1. on_bind (fields_at k m fs) (λ y. Some (x + y)) n e1
       (λ y is2 e2. (let big = rest y is2 in let sum = same_Some (x + y) n e2 in omega (arith, big, sum))))
   field_more k m f fs (Some s) (Some r) token rest = λ q.
       ap₂ (λ x y. x >>= λ a. y >>= λ b. Some (a + b)) (token q) (rest q) ∙ sum_two s.nesting r.nesting s.leaves r.leaves q
@@ -219,8 +220,8 @@ module _ (modules bundle : List Module) (handles : List (List Defined)) (a : Are
 
   is_at : (i j : ℕ) (name : StructName) → name_at bundle i j ≡ Some name → IsAt i j name
   is_at i j name e =
-      on_some (slice_get bundle i) (λ m. slice_get m.structs j >>= λ d. name_of_struct m d) name e
-      (λ m is e1. on_some (slice_get m.structs j) (λ d. name_of_struct m d) name e1
+      on_bind (slice_get bundle i) (λ m. slice_get m.structs j >>= λ d. name_of_struct m d) name e
+      (λ m is e1. on_bind (slice_get m.structs j) (λ d. name_of_struct m d) name e1
       (λ d is2 e2.
       let low = slice_get_within bundle i m is in
       let there = there_at handles i (omega (arith, low, a.len)) in

@@ -26,7 +26,8 @@ use Rattle.mv_linker.specs.Links.{struct_is_there, structs_are_there, struct_is_
 use Rattle.mv_linker.specs.Upgrades.{same_fields, same_struct_definition, structs_stay}
 use Rattle.mv_linker.specs.Sizes.{OwnsStructs, Keeps, IsSized}
 use Rattle.mv_linker.specs.declared.sizes.Size.{Size}
-use Rattle.mv_linker.proofs.Found.{on_some, then_found, each, all_from}
+use Rattle.mv_module_text.proofs.Texts.{on_bind}
+use Rattle.mv_linker.proofs.Found.{then_found, each, all_from}
 use Rattle.mv_linker.proofs.NameLemmas.{same_struct-is, module_place-is}
 
 -- the leaves of a type by name
@@ -38,13 +39,13 @@ leaves_of_tag struct (ReferenceTag is_mutable to) = None
 leaves_by_tag : (struct : StructName → Option ℕ) (m : Module) (t : Token) (tag : Tag) → token_named m t ≡ Some tag → leaves_of struct m t ≡ leaves_of_tag struct tag
 leaves_by_tag struct m (Plain (OfLeaf kind)) tag e = ap (leaves_of_tag struct) (same_Some (LeafTag kind) tag e)
 leaves_by_tag struct m (Plain (OfStruct h)) tag e =
-    on_some (struct_name m h) (λ name. Some (StructTag name)) tag e
+    on_bind (struct_name m h) (λ name. Some (StructTag name)) tag e
     (λ name is g. ap (λ o. o >>= struct) is ∙ ap (leaves_of_tag struct) (same_Some (StructTag name) tag g))
 leaves_by_tag struct m (Reference t) tag e =
-    on_some (value_type_named m t) (λ to. Some (ReferenceTag false to)) tag e
+    on_bind (value_type_named m t) (λ to. Some (ReferenceTag false to)) tag e
     (λ to is g. ap (leaves_of_tag struct) (same_Some (ReferenceTag false to) tag g))
 leaves_by_tag struct m (MutableReference t) tag e =
-    on_some (value_type_named m t) (λ to. Some (ReferenceTag true to)) tag e
+    on_bind (value_type_named m t) (λ to. Some (ReferenceTag true to)) tag e
     (λ to is g. ap (leaves_of_tag struct) (same_Some (ReferenceTag true to) tag g))
 
 one_tag : (struct : StructName → Option ℕ) (a b : Tag) → same_tag a b ≡ true → leaves_of_tag struct a ≡ leaves_of_tag struct b
@@ -165,9 +166,9 @@ record IsDefinition (modules : List Module) (name : StructName) (m : Module) (fi
 
 definition_from : (modules : List Module) (name : StructName) (m : Module) (fields : List Field) → definition_of modules name ≡ Some (m, fields) → IsDefinition modules name m fields
 definition_from modules name m fields e =
-    on_some (module_named modules name.home) (λ m. find_index (is_struct m name) m.structs >>= λ i. slice_get m.structs i >>= λ d. Some (m, d.fields)) (m, fields) e
-    (λ x is e1. on_some (find_index (is_struct x name) x.structs) (λ i. slice_get x.structs i >>= λ d. Some (x, d.fields)) (m, fields) e1
-    (λ i is2 e2. on_some (slice_get x.structs i) (λ d. Some (x, d.fields)) (m, fields) e2
+    on_bind (module_named modules name.home) (λ m. find_index (is_struct m name) m.structs >>= λ i. slice_get m.structs i >>= λ d. Some (m, d.fields)) (m, fields) e
+    (λ x is e1. on_bind (find_index (is_struct x name) x.structs) (λ i. slice_get x.structs i >>= λ d. Some (x, d.fields)) (m, fields) e1
+    (λ i is2 e2. on_bind (slice_get x.structs i) (λ d. Some (x, d.fields)) (m, fields) e2
     (λ d is3 e3.
     let pair : ◌≡◌ {A = Module × List Field} (x, d.fields) (m, fields) = same_Some (x, d.fields) (m, fields) e3 in
     let one : x ≡ m = ap (λ (w : Module × List Field). w.0) pair in
@@ -212,7 +213,7 @@ declared_there store name abilities e =
 
 pub handle_defined : (store : List Module) (m : Module) (h : ℕ) (name : StructName) → structs_are_there store m 0 m.struct_handles ≡ true → struct_name m h ≡ Some name → Defines store name
 handle_defined store m h name all e =
-    on_some (slice_get m.struct_handles h) (λ handle. module_name m handle.module >>= λ home. slice_get m.identifiers handle.name >>= λ id. Some (record { home = home; name = id })) name e
+    on_bind (slice_get m.struct_handles h) (λ handle. module_name m handle.module >>= λ home. slice_get m.identifiers handle.name >>= λ id. Some (record { home = home; name = id })) name e
     (λ handle at e1.
     let there = ap (λ k. struct_is_there store m k handle) (let same : h ≡ 0 + h = omega arith in same) ∙ there_from store m h 0 m.struct_handles handle all at in
     let seen : option_map_or (same_abilities handle.abilities) (declared store name) false ≡ true =

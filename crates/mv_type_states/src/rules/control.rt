@@ -1,27 +1,13 @@
-// What takes an operand away, returns and calls.
+// Returns and calls.
 ghost use Rattle.std.specs.Prelude.{reverse, IfErr, ◌≡◌};
-ghost use Rattle.mv_type_states.specs.TypeRules.{of_pop, of_return, of_call};
+ghost use Rattle.mv_type_states.specs.TypeRules.{of_return, of_call};
 ghost use Rattle.mv_type_states.specs.Answers.{Follows};
 ghost use Rattle.mv_type_states.specs.Scopes.{IsScope};
 
 use crate::scope::Scope;
-use crate::stack::{abilities, pop_all, push_all, take_top};
+use crate::stack::{pop_all, push_all};
 use mv_bounds::Bounded;
 use mv_move_types::{Refusal, Token};
-
-/// Takes a value that may be dropped.
-pub fn pop_any(m: &Bounded<'_>, stack: &mut Vec<Token>) -> Result<(), Refusal>
-    ensures types { Follows result (of_pop m.now (reverse stack.old.items)) (reverse stack.new.items) }
-    ensures phase { IfErr result (λ e. e ≡ Refusal.Phase 8) }
-{
-    let token = take_top(stack)?;
-    let abilities = abilities(m, token)?;
-    if abilities.drop {
-        Ok(())
-    } else {
-        Err(Refusal::Phase(8))
-    }
-}
 
 /// Takes the parameters of a called function, and gives its results.
 pub fn call(m: &Bounded<'_>, index: u16, stack: &mut Vec<Token>) -> Result<(), Refusal>

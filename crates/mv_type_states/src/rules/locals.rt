@@ -1,14 +1,29 @@
-// Locals: copied, moved, stored and borrowed.
+// Values that are taken away, and locals: copied, moved, stored and borrowed.
 ghost use Rattle.std.specs.Prelude.{reverse, slice_get, IfErr, ◌≡◌, ◌++◌};
 ghost use Rattle.mv_move_types.specs.Module.{local_type};
-ghost use Rattle.mv_type_states.specs.TypeRules.{of_copy, of_borrow_local, types_after};
+ghost use Rattle.mv_type_states.specs.TypeRules.{of_copy, of_pop, of_borrow_local, types_after};
 ghost use Rattle.mv_type_states.specs.Answers.{Follows, Finds};
 ghost use Rattle.mv_type_states.specs.Scopes.{IsScope};
 
 use crate::rules::numbers::plain;
 use crate::scope::Scope;
-use crate::stack::{abilities, pop, push};
+use crate::stack::{abilities, pop, push, take_top};
+use mv_bounds::Bounded;
 use mv_move_types::{Instruction, Refusal, Token};
+
+/// Takes a value that may be dropped.
+pub fn pop_any(m: &Bounded<'_>, stack: &mut Vec<Token>) -> Result<(), Refusal>
+    ensures types { Follows result (of_pop m.now (reverse stack.old.items)) (reverse stack.new.items) }
+    ensures phase { IfErr result (λ e. e ≡ Refusal.Phase 8) }
+{
+    let token = take_top(stack)?;
+    let abilities = abilities(m, token)?;
+    if abilities.drop {
+        Ok(())
+    } else {
+        Err(Refusal::Phase(8))
+    }
+}
 
 /// The type at an index of two lists, one after the other.
 fn among(first: &[Token], second: &[Token], index: usize) -> Option<Token>
