@@ -32,7 +32,7 @@ mod unordered;
 /// How many edges are stated of a block at most: a certificate has no more, and a search states no more.
 pub const MOST_EDGES: usize = 1024;
 
-/// How many positions a label has at most that is stated.
+/// How many positions the label of a stated edge has at most.
 pub const MOST_POSITIONS: usize = 8;
 
 pub use edge::Edge;
