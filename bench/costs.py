@@ -200,6 +200,18 @@ def calling(times, references):
     return m.bytes(), b"\x01" * (1 + references) + b"\x00" + STATED
 
 
+def gathering(times):
+    """So many fields at different paths of what it refers to are borrowed, and a function returns one reference for all of them."""
+    m = Module()
+    m.struct("T", "has copy, drop", "; ".join(f"g{n}: u64" for n in range(8)))
+    m.struct("S", "has copy, drop", "; ".join(f"f{n}: T" for n in range(32)))
+    m.function("first", "&S", "&u64", "", "MoveLoc 0; ImmBorrowField S.f0; ImmBorrowField T.g0; Ret", entry=False)
+    m.function("with", "&u64; &u64", "&u64", "", "MoveLoc 0; Ret", entry=False)
+    paths = [f"CopyLoc 0; ImmBorrowField S.f{n // 8}; ImmBorrowField T.g{n % 8}; Call with;" for n in range(times)]
+    m.function("f", "&S; u64", "", "", "CopyLoc 0; Call first;" + "".join(paths) + "Pop; MoveLoc 0; Pop; Ret", entry=False)
+    return m.bytes(), b"\x01\x01\x00" + b"\x01\x01\x01\x00" + STATED
+
+
 def tell_dearest(program):
     """What records cost that are dear for their size, beside ordinary ones."""
     ordinary = inputs.all_families(inputs.LARGE, 5).bytes()
@@ -237,6 +249,8 @@ def tell_dearest(program):
         ("20 moves of it above 125 copies", moving(20, 125)),
         ("100 calls with 8 copies of it that return as many, of 4,000 that fit", calling(100, 8)),
         ("50 calls with 8 copies of it that return as many", calling(50, 8)),
+        ("256 fields of it at different paths, gathered in one reference by as many calls", gathering(256)),
+        ("128 fields of it gathered so", gathering(128)),
     ):
         tell_one(what, record(1, publish(made)))
     for per_megabyte, each, what, spent, size in sorted(dear, reverse=True):

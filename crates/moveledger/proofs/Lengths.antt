@@ -4,7 +4,7 @@ use Rattle.mv_uleb.specs.Uleb.{IsUleb}
 use Rattle.std.specs.Prelude.{Some, None}
 use Rattle.mv_uleb.specs.Parsing.{number_from}
 use Rattle.mv_uleb.proofs.Spelled.{spelled-front, number_from-some}
-use Rattle.moveledger.specs.Records.{payload_limit}
+use Rattle.mv_move_types.specs.Limits.{most_payload_bytes}
 use Rattle.moveledger.specs.Reading.{NoLength, AreHigh}
 
 pub AreHigh-push : (bs : List ℕ) (b : ℕ) → AreHigh bs → 128 ≤ b → AreHigh (bs ++ b ∷ [])
@@ -69,7 +69,7 @@ IsUleb-whole took b n used h lt u =
     subst P (last_of_length took [] (take used s) (drop used s) b n h lt u (append-nil s ∙ sym (take-append-drop used s))) u
 
 -- where nothing is read from them, no length stands there
-pub NoLength-bad : (took left : List ℕ) (b : ℕ) → AreHigh took → b < 128 → ((n len : ℕ) → n ≤ payload_limit → IsUleb (take len (took ++ b ∷ [])) n → ⊥) → NoLength ((took ++ b ∷ []) ++ left)
+pub NoLength-bad : (took left : List ℕ) (b : ℕ) → AreHigh took → b < 128 → ((n len : ℕ) → n ≤ most_payload_bytes → IsUleb (take len (took ++ b ∷ [])) n → ⊥) → NoLength ((took ++ b ∷ []) ++ left)
 NoLength-bad took left b h lt none n len more le u e =
     let s : List ℕ = took ++ b ∷ [] in
     let P : List ℕ → Type 0 = λ l. IsUleb l n in

@@ -1,7 +1,8 @@
 -- What is unfinished or cut is no whole record.
 use Rattle.std.proofs.Common.{◌≡◌, ◌≢◌, ℕ, ◌<◌, ◌≤◌, List, [], ◌∷◌, ◌++◌, length, take, drop, arith, sym, subst, inl, inr, append-nil, take-append-drop, length-take-le}
 use Rattle.mv_uleb.specs.Uleb.{IsUleb}
-use Rattle.moveledger.specs.Records.{NoWhole, payload_limit}
+use Rattle.mv_move_types.specs.Limits.{most_payload_bytes}
+use Rattle.moveledger.specs.Records.{NoWhole}
 use Rattle.moveledger.specs.Reading.{AreHigh, NoLength, IsLengthBegun, HasNoLength, LengthFails, IsUnfinished, IsCutAt, has_no_end, is_no_number, at_kind, in_length, in_payload, at_end, at_length}
 use Rattle.moveledger.proofs.Lengths.{NoLength-bad, NoLength-high, NoLength-ten}
 use Rattle.moveledger.proofs.Whole.{NoWhole-length, NoWhole-nil, NoWhole-payload}
@@ -34,7 +35,7 @@ length-begun i bytes high ten less =
     (high, omega (arith, size, less))
 
 -- a first byte that isn't high ends a length, which fails where it spells no number
-pub length-fails : (took : List ℕ) (b : ℕ) → IsLengthBegun took → b < 128 → ((n len : ℕ) → n ≤ payload_limit → IsUleb (take len (took ++ b ∷ [])) n → ⊥) → LengthFails (took ++ b ∷ [])
+pub length-fails : (took : List ℕ) (b : ℕ) → IsLengthBegun took → b < 128 → ((n len : ℕ) → n ≤ most_payload_bytes → IsUleb (take len (took ++ b ∷ [])) n → ⊥) → LengthFails (took ++ b ∷ [])
 length-fails took b begun low none =
     let P : List ℕ → Type 0 = λ l. NoLength l in
     is_no_number took b begun low (subst P (append-nil (took ++ b ∷ [])) (NoLength-bad took [] b begun.0 low none))
@@ -45,7 +46,7 @@ cut-length kind took left begun none =
     let P : List ℕ → Type 0 = λ l. IsCutAt (kind ∷ took) l in
     subst P (sym none) (at_end (kind ∷ took) (λ e. cc) (in_length kind took begun))
 
-pub cut-payload : (kind n : ℕ) (len took left : List ℕ) → IsUleb len n → n ≤ payload_limit → length took < n → left ≡ [] → IsCutAt (kind ∷ (len ++ took)) left
+pub cut-payload : (kind n : ℕ) (len took left : List ℕ) → IsUleb len n → n ≤ most_payload_bytes → length took < n → left ≡ [] → IsCutAt (kind ∷ (len ++ took)) left
 cut-payload kind n len took left u within less none =
     let P : List ℕ → Type 0 = λ l. IsCutAt (kind ∷ (len ++ took)) l in
     subst P (sym none) (at_end (kind ∷ (len ++ took)) (λ e. cc) (in_payload kind n len took u within less))

@@ -2,7 +2,8 @@
 use Rattle.std.proofs.Common.{◌≡◌, ℕ, ◌+◌, ◌≤◌, ◌<◌, List, [], ◌∷◌, ◌++◌, length, arith, refl, sym, ap, ◌∙◌, append_assoc, length-append, subst}
 use Rattle.mv_uleb.specs.Uleb.{IsUleb}
 use Rattle.mv_uleb.proofs.Spelled.{one_form}
-use Rattle.moveledger.specs.Records.{IsText, NoWhole, payload_limit}
+use Rattle.mv_move_types.specs.Limits.{most_payload_bytes}
+use Rattle.moveledger.specs.Records.{IsText, NoWhole}
 use Rattle.moveledger.specs.Reading.{NoLength}
 use Rattle.moveledger.specs.declared.engine.EngineError.{EngineError}
 use Rattle.moveledger.specs.declared.engine.EngineError.TheVariants.{Read, Write}
@@ -32,7 +33,7 @@ NoWhole-payload k n len took u lt kind payload front more t e =
     omega (arith, sizes, same, one.1)
 
 -- a length and a payload of that many bytes are a record
-pub IsText-from : (k n : ℕ) (len took items : List ℕ) → IsUleb len n → n ≤ payload_limit → items ≡ took → length took ≡ n → IsText (k ∷ (len ++ took)) k items
+pub IsText-from : (k n : ℕ) (len took items : List ℕ) → IsUleb len n → n ≤ most_payload_bytes → items ≡ took → length took ≡ n → IsText (k ∷ (len ++ took)) k items
 IsText-from k n len took items u le e size =
     let P : List ℕ → Type 0 = λ l. IsText (k ∷ (len ++ took)) k l in
     let Q : ℕ → Type 0 = λ m. IsUleb len m in

@@ -1,5 +1,6 @@
 -- Whether a module is accepted with the text of a certificate, and else the first phase that they fail.
 use Rattle.std.specs.Prelude.{ℕ, ◌-◌, ◌≤◌, ◌==◌, if◌then◌else◌, List, length, take, slice_index, ⊤}
+use Rattle.mv_move_types.specs.Limits.{most_module_bytes}
 use Rattle.mv_move_types.specs.declared.refusal.Refusal.{Refusal}
 use Rattle.mv_move_types.specs.declared.refusal.Refusal.TheVariants.{Phase, Memory}
 use Rattle.mv_move_types.specs.Module.{Module}
@@ -22,7 +23,7 @@ refusal_of _ = Phase 9
 
 -- the bytes of a module are within their limit, and so are the digits of a certificate
 abbrev pub AreShort : List ℕ → List ℕ → Type 0
-AreShort bytes digits = (length bytes ≤ 65536) × (length digits ≤ 2097152)
+AreShort bytes digits = (length bytes ≤ most_module_bytes) × (length digits ≤ 2097152)
 
 -- the bytes of a module, offered with those of a certificate
 abbrev pub offer_of : List ℕ → List ℕ → Offer

@@ -1,5 +1,6 @@
 -- The text of a certificate that is made for a module, or why there is none.
 use Rattle.std.specs.Prelude.{◌≡◌, ℕ, ◌≤◌, List, [], ◌∷◌, ◌++◌, length, ⊤}
+use Rattle.mv_move_types.specs.Limits.{most_module_bytes}
 use Rattle.mv_move_types.specs.declared.refusal.Refusal.{Refusal}
 use Rattle.mv_move_types.specs.declared.refusal.Refusal.TheVariants.{Phase, Memory as OutOfMemory}
 use Rattle.mv_move_types.specs.Module.{Module}
@@ -15,7 +16,7 @@ use Rattle.moveledger.specs.Checking.{FailsAlone, IsAccepted, offer_of}
 
 -- the bytes of a module are within their limit
 abbrev pub IsShort : List ℕ → Type 0
-IsShort bytes = length bytes ≤ 65536
+IsShort bytes = length bytes ≤ most_module_bytes
 
 -- the text is the hexadecimal, in lower case, of a certificate's text, and with this the module passes phases 2 to 12
 pub record IsProvedBy (bytes text : List ℕ) : Type 0 where

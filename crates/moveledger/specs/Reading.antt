@@ -1,7 +1,8 @@
 -- What was read of a record.
 use Rattle.std.specs.Prelude.{◌≡◌, ◌≢◌, ℕ, ◌≤◌, ◌<◌, List, [], ◌∷◌, ◌++◌, length, ◌⊎◌}
 use Rattle.mv_uleb.specs.Uleb.{IsUleb}
-use Rattle.moveledger.specs.Records.{Record, Whole, Cut, IsText, payload_limit}
+use Rattle.mv_move_types.specs.Limits.{most_payload_bytes}
+use Rattle.moveledger.specs.Records.{Record, Whole, Cut, IsText}
 
 -- the most bytes of a payload that room is made for before they are read
 abbrev pub piece_limit : ℕ
@@ -9,7 +10,7 @@ piece_limit = 65536
 
 -- no length stands at the front
 abbrev pub NoLength : List ℕ → Type 0
-NoLength bytes = (n : ℕ) (len more : List ℕ) → n ≤ payload_limit → IsUleb len n → bytes ≡ len ++ more → ⊥
+NoLength bytes = (n : ℕ) (len more : List ℕ) → n ≤ most_payload_bytes → IsUleb len n → bytes ≡ len ++ more → ⊥
 
 -- each byte says that another one follows
 abbrev pub AreHigh : List ℕ → Type 0
@@ -35,7 +36,7 @@ HasNoLength took left = (IsLengthBegun took × (left ≡ [])) ⊎ LengthFails to
 pub data IsUnfinished : List ℕ → Type 0 where
   at_kind : IsUnfinished []
   in_length : (kind : ℕ) (bytes : List ℕ) → IsLengthBegun bytes → IsUnfinished (kind ∷ bytes)
-  in_payload : (kind n : ℕ) (len bytes : List ℕ) → IsUleb len n → n ≤ payload_limit → length bytes < n → IsUnfinished (kind ∷ (len ++ bytes))
+  in_payload : (kind n : ℕ) (len bytes : List ℕ) → IsUleb len n → n ≤ most_payload_bytes → length bytes < n → IsUnfinished (kind ∷ (len ++ bytes))
 
 -- These bytes were taken of a cut record, and those are left: it ends with the input, unfinished; or its length fails, and nothing
 -- behind the length was read.

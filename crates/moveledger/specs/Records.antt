@@ -1,6 +1,7 @@
 -- Which records an input is, apart from any reader.
 use Rattle.std.specs.Prelude.{◌≡◌, ◌≢◌, ℕ, ◌≤◌, List, [], ◌∷◌, ◌++◌, length}
 use Rattle.mv_uleb.specs.Uleb.{IsUleb}
+use Rattle.mv_move_types.specs.Limits.{most_payload_bytes}
 
 pub data Record : Type 0 where
   -- its kind and its payload
@@ -8,13 +9,9 @@ pub data Record : Type 0 where
   -- what is no whole record, however much of it there is
   Cut : Record
 
--- the most bytes that a payload may have
-abbrev pub payload_limit : ℕ
-payload_limit = 33554432
-
 -- the bytes are this whole record: its kind, the length of its payload, its payload
 abbrev pub IsText : List ℕ → ℕ → List ℕ → Type 0
-IsText bytes kind payload = (len : List ℕ) × IsUleb len (length payload) × (length payload ≤ payload_limit) × (bytes ≡ kind ∷ (len ++ payload))
+IsText bytes kind payload = (len : List ℕ) × IsUleb len (length payload) × (length payload ≤ most_payload_bytes) × (bytes ≡ kind ∷ (len ++ payload))
 
 -- no whole record stands at the front
 abbrev pub NoWhole : List ℕ → Type 0

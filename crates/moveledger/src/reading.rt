@@ -2,7 +2,7 @@
 ghost use Rattle.std.specs.Prelude.{◌≡◌, ◌≢◌, ℕ, ◌≤◌, ◌<◌, List, [], ◌∷◌, length, min, take, IfOk, IfErr, MatchOption};
 ghost use Rattle.std.specs.Io.KnownBytes.{Consumes, IsAtEnd};
 ghost use Rattle.mv_uleb.specs.Uleb.{IsUleb};
-ghost use Rattle.moveledger.specs.Records.{payload_limit};
+ghost use Rattle.mv_move_types.specs.Limits.{most_payload_bytes};
 ghost use Rattle.moveledger.specs.Reading.{HasNoLength, IsLengthBegun, IsUnfinished, piece_limit};
 ghost use Rattle.moveledger.specs.Next.{IsNext};
 ghost use Rattle.moveledger.specs.Outcome.{left_of};
@@ -53,7 +53,7 @@ fn read_length<R: Read>(reader: &mut R) -> Result<Option<u64>, EngineError>
     ensures ok { IfOk result (λ len. (took : List ℕ)
         × Consumes (R.remaining reader.old) (R.remaining reader.new) took
         × MatchOption len (HasNoLength took (left_of (R.remaining reader.new)))
-        (λ n. IsUleb took n × (n ≤ payload_limit))) }
+        (λ n. IsUleb took n × (n ≤ most_payload_bytes))) }
     ensures err { IfErr result (λ e. (e ≡ EngineError.Read) × (took : List ℕ)
         × Consumes (R.remaining reader.old) (R.remaining reader.new) took × IsLengthBegun took) }
 {

@@ -2,6 +2,7 @@
 use Rattle.std.specs.Prelude.{ℕ, ◌==◌, ◌||◌, List, length, flat_map, nat_lt, [], ◌∷◌, filter, ◌+◌, ◌++◌, nat_le, IsTrue, sum_by, ◌≡◌, IsPermutation}
 use Rattle.std.specs.List.{list_all}
 use Rattle.std.specs.Int.{w32, to_le_bytes}
+use Rattle.mv_move_types.specs.Limits.{most_functions}
 use Rattle.mv_move_types.specs.Module.{Module}
 use Rattle.mv_module_text.specs.Entries.{module_handle_text, struct_definition_text, address_text, function_handle_text, struct_handle_text, identifier_text, signature_text, function_definition_text, constant_text, field_handle_text, counted}
 use Rattle.mv_uleb.specs.Uleb.{uleb}
@@ -65,7 +66,7 @@ pub record HasText (m : Module) : Type 0 where
   pub addresses : IsTrue (list_all address_fits m.addresses)
   pub structs : IsTrue (list_all (struct_definition_fits m.version) m.structs)
   pub functions : IsTrue (list_all (function_definition_fits m.version) m.functions)
-  pub few_functions : IsTrue (nat_le (length m.functions) 256)
+  pub few_functions : IsTrue (nat_le (length m.functions) most_functions)
   pub field_handles : IsTrue (list_all field_handle_fits m.field_handles)
   pub own : IsTrue (is_index m.own)
   pub size : IsTrue (nat_le (sum_by (λ t. length t.content) (tables m)) 65536)

@@ -4,6 +4,7 @@ use Rattle.std.specs.Bool.{then_some}
 use Rattle.std.specs.List.{find, list_any}
 use Rattle.std.specs.Option.{option_map_or}
 use Rattle.mv_uleb.specs.Parsing.{number_from}
+use Rattle.mv_move_types.specs.Limits.{most_functions}
 use Rattle.mv_move_types.specs.Options.{◌>>=◌}
 use Rattle.mv_move_types.specs.Module.{Module}
 use Rattle.mv_module_text.specs.Parsing.{Read, byte_from, mark_from, bytes_from, index_from, counted_from, all_from, module_handle_from, struct_handle_from, function_handle_from, signature_from, identifier_from, address_from, struct_definition_from, function_definition_from, constant_from, field_handle_from, number_of_from}
@@ -84,7 +85,7 @@ module_from version own tables = do
   structs ← entries_of 0x0A (struct_definition_from version) addresses.1
   functions ← entries_of 0x0C (function_definition_from version) structs.1
   field_handles ← entries_of 0x0D field_handle_from functions.1
-  then_some ((length field_handles.1 == 0) && nat_le (length functions.0) 256) (record {
+  then_some ((length field_handles.1 == 0) && nat_le (length functions.0) most_functions) (record {
     version = version;
     module_handles = module_handles.0;
     struct_handles = struct_handles.0;

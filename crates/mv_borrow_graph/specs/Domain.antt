@@ -1,6 +1,7 @@
 -- The edges of a function's borrow graph as a domain of states.
 use Rattle.std.specs.Prelude.{◌≡◌, ℕ, Bool, true, false, nat_le, List, length, Option, Some, None, Result, Ok, Err, slice_get, IsSome}
 use Rattle.std.specs.Option.{option_map_or}
+use Rattle.mv_move_types.specs.Limits.{most_operands}
 use Rattle.mv_move_types.specs.declared.token.Token.{Token}
 use Rattle.mv_move_types.specs.Options.{◌>>=◌}
 use Rattle.mv_move_types.specs.Module.{Module, FunctionDefinition, local_type}
@@ -37,7 +38,7 @@ edges_step m d at edges = do
 
 -- a stack never has more than 128 values
 abbrev pub is_low : Types → Bool
-is_low types = nat_le (length types) 128
+is_low types = nat_le (length types) most_operands
 
 -- whether a type is a reference, or a mutable one where only those are asked for
 abbrev pub is_picked : Bool → Token → Bool

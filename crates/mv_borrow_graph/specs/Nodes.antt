@@ -2,6 +2,7 @@
 use Rattle.std.specs.Prelude.{ℕ, Bool, false, not, ◌&&◌, nat_lt, nat_le, List, [], length, reverse, slice_get, IsTrue}
 use Rattle.std.specs.List.{list_all}
 use Rattle.std.specs.Option.{option_map_or}
+use Rattle.mv_move_types.specs.Limits.{most_edges, most_fields, most_positions}
 use Rattle.mv_move_types.specs.declared.borrow.Node.{Node}
 use Rattle.mv_move_types.specs.declared.borrow.Node.TheVariants.{Slot, Own, Glob, Temp}
 use Rattle.mv_move_types.specs.declared.token.Token.{Token}
@@ -38,7 +39,7 @@ leads_in p (Temp k) = has_place is_reference_token p.types k
 
 -- an edge leads between two such nodes, by positions of fields
 abbrev pub edge_is_there : Point → Edge → Bool
-edge_is_there p e = leads_out p e.from && leads_in p e.to && not (same_node e.from e.to) && list_all (λ i. nat_lt i 32) e.label.path
+edge_is_there p e = leads_out p e.from && leads_in p e.to && not (same_node e.from e.to) && list_all (λ i. nat_lt i most_fields) e.label.path
 
 -- each of the edges does
 abbrev pub are_there : Point → List Edge → Bool
@@ -50,11 +51,11 @@ may_begin_with m d edges = are_there (point_at m d []) edges
 
 -- few edges, with short labels
 abbrev pub are_few : List Edge → Bool
-are_few edges = nat_le (length edges) 1024 && list_all (λ e. nat_le (length e.label.path) 8) edges
+are_few edges = nat_le (length edges) most_edges && list_all (λ e. nat_le (length e.label.path) most_positions) edges
 
 -- the flow graph of a function that is well typed, in a module whose structs have at most 32 fields, none of them a reference
 pub record IsGraphOf (m : Module) (d : FunctionDefinition) (g : Cfg) : Type 0 where
   pub flow : IsFlowGraph d.code g
   pub typed : IsTrue (function_is_typed m d)
   pub fields : IsTrue (list_all (λ (s : StructDefinition). list_all (λ f. not (is_reference_token f.token)) s.fields) m.structs)
-  pub few : IsTrue (list_all (λ (s : StructDefinition). nat_le (length s.fields) 32) m.structs)
+  pub few : IsTrue (list_all (λ (s : StructDefinition). nat_le (length s.fields) most_fields) m.structs)

@@ -3,6 +3,7 @@ use Rattle.std.specs.Prelude.{ℕ, ◌==◌, Bool, true, false, cond, List, [], 
 use Rattle.std.specs.Bool.{then_some}
 use Rattle.mv_uleb.specs.Parsing.{number_from}
 use Rattle.mv_module_text.specs.Parsing.{Read, index_from, byte_from, mark_from, entries_from, counted_from}
+use Rattle.mv_move_types.specs.Limits.{most_edges, most_positions}
 use Rattle.mv_move_types.specs.Options.{◌>>=◌}
 use Rattle.mv_move_types.specs.declared.borrow.Availability.{Availability}
 use Rattle.mv_move_types.specs.declared.borrow.Availability.TheVariants.{Unavailable, Available, Maybe}
@@ -51,7 +52,7 @@ openness_from bytes = do
 -- a label at the front: its positions after their number, and whether it is open
 abbrev pub label_from : List ℕ → Read Label
 label_from bytes = do
-  path ← counted_from 8 (number_from 31) bytes
+  path ← counted_from most_positions (number_from 31) bytes
   is_open ← openness_from path.1
   Some (record { path = path.0; is_open = is_open.0 }, is_open.1)
 
@@ -66,7 +67,7 @@ edge_from m d bytes = do
 -- edges after their number, which ascend
 abbrev pub edges_from : Module → FunctionDefinition → List ℕ → Read (List Edge)
 edges_from m d bytes = do
-  edges ← counted_from 1024 (edge_from m d) bytes
+  edges ← counted_from most_edges (edge_from m d) bytes
   then_some (are_ascending edges.0) edges
 
 -- what is known, at the front: an availability for each local, and the edges

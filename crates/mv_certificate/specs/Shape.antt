@@ -2,6 +2,7 @@
 use Rattle.std.specs.Prelude.{ℕ, Bool, false, not, nat_lt, length, ◌&&◌, nat_le, ◌==◌, ◌≡◌, ◌↔◌, true, IsTrue, Option, Some, IsSome, slice_get, List, [], ◌∷◌}
 use Rattle.std.specs.Option.{option_map_or}
 use Rattle.std.specs.List.{list_all}
+use Rattle.mv_move_types.specs.Limits.{most_edges, most_fields, most_positions}
 use Rattle.mv_move_types.specs.declared.token.Token.{Token}
 use Rattle.mv_move_types.specs.Module.{Module, FunctionDefinition, local_tokens, local_type}
 use Rattle.mv_move_types.specs.declared.borrow.Node.{Node}
@@ -34,13 +35,13 @@ is_target m d (Temp k) = false
 abbrev pub edge_fits : Module → FunctionDefinition → Edge → Bool
 edge_fits m d e =
     is_source m d e.from && is_target m d e.to && not (same_node e.from e.to)
-    && nat_le (length e.label.path) 8 && list_all (λ i. nat_lt i 32) e.label.path
+    && nat_le (length e.label.path) most_positions && list_all (λ i. nat_lt i most_fields) e.label.path
 
 -- what is known fits the function: its locals, and few edges that ascend
 abbrev pub known_fits : Module → FunctionDefinition → Known → Bool
 known_fits m d known =
     option_map_or (λ tokens. length known.locals == length tokens) (local_tokens m d) false
-    && nat_le (length known.edges) 1024 && list_all (edge_fits m d) known.edges && are_ascending known.edges
+    && nat_le (length known.edges) most_edges && list_all (edge_fits m d) known.edges && are_ascending known.edges
 
 -- a state is stated exactly where the block is reached, and fits
 pub record StatedFits (m : Module) (d : FunctionDefinition) (stated : Stated) : Type 0 where

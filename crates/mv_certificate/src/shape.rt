@@ -2,6 +2,7 @@
 
 ghost use Rattle.std.specs.Prelude.{◌≡◌, ◌++◌, length, ◌<◌, ◌≤◌, Some, slice_get, option_map, nat_lt, IsSome, IsTrue};
 ghost use Rattle.std.specs.List.{list_all};
+ghost use Rattle.mv_move_types.specs.Limits.{most_locals};
 ghost use Rattle.mv_bounds.specs.Bounds.{local_count as function_locals};
 ghost use Rattle.mv_cfg.specs.FlowGraph.{IsFlowGraph};
 ghost use Rattle.mv_move_types.specs.Module.{local_tokens, local_type as type_of_local};
@@ -28,7 +29,7 @@ pub fn function_at<'t>(m: &'t Typed<'_>, f: usize) -> &'t FunctionDefinition
     requires { f < length m.now.functions }
     ensures at { slice_get m.entry.now.functions f ≡ Some result.now }
     ensures typed { IsTrue (function_is_typed m.entry.now result.now) }
-    ensures small { function_locals m.entry.now result.now ≤ 64 }
+    ensures small { function_locals m.entry.now result.now ≤ most_locals }
 {
     &m.module().functions()[f]
 }

@@ -1,6 +1,7 @@
 // A search by halves, and the order of edges.
 ghost use Rattle.std.specs.Prelude.{◌≡◌, ◌+◌, ◌*◌, ◌<◌, ◌≤◌, min, Some, length, take, drop, slice_get, IfOk, IfErr, IsTrue};
 ghost use Rattle.std.specs.List.{list_all, list_any};
+ghost use Rattle.mv_move_types.specs.Limits.{most_edges, most_positions};
 ghost use Rattle.mv_edges.specs.Edges.{same_edge, edge_leq, edges_leq, longest};
 ghost use Rattle.mv_edges.specs.Ascending.{edge_before, edge_order, are_ascending};
 ghost use Rattle.mv_edges.specs.Counts.{IsWithin, IsCounted, counted};
@@ -109,7 +110,7 @@ impl Edges {
         ensures value { result ≡ edges_leq a.now b.now }
         ensures each { IsTrue result → 0 < length b.now → counted (length a.now) comparisons.old ≤ comparisons.new }
         ensures some { 0 < length a.now → 0 < length b.now → counted 1 comparisons.old ≤ comparisons.new }
-        ensures count { length b.now ≤ 1024 → longest b.now ≤ 8 → comparisons.new ≤ comparisons.old + 110 * length a.now }
+        ensures count { length b.now ≤ most_edges → longest b.now ≤ most_positions → comparisons.new ≤ comparisons.old + 110 * length a.now }
     {
         let deepest = b.longest();
         for e in a.as_slice() {

@@ -5,6 +5,7 @@
 --   AreLeaves kinds numbers    the numbers are those of leaves of these kinds
 use Rattle.std.specs.Prelude.{ℕ, zero, suc, Bool, false, cond, IsTrue, List, [], ◌∷◌, ◌++◌, length, slice_get, Option, Some, None}
 use Rattle.std.specs.Option.{option_map_or}
+use Rattle.mv_move_types.specs.Limits.{most_nesting}
 use Rattle.mv_move_types.specs.declared.tables.Definition.{Definition}
 use Rattle.mv_move_types.specs.declared.tables.Field.{Field}
 use Rattle.mv_move_types.specs.declared.token.LeafKind.{LeafKind}
@@ -40,7 +41,7 @@ kinds_within (suc depth) modules name =
 
 -- the kinds of the leaves of a struct's values, in order
 abbrev pub leaf_kinds : List Module → StructName → Option (List LeafKind)
-leaf_kinds = kinds_within 8
+leaf_kinds = kinds_within most_nesting
 
 -- how many structs the module at a place has; none, if no module is there
 abbrev pub structs_at : List Module → ℕ → ℕ

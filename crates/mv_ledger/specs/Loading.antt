@@ -1,6 +1,7 @@
 -- Which bytes are loaded, as which ledger, and else the first reason against them.
 use Rattle.std.specs.Prelude.{◌≡◌, ℕ, ◌+◌, ◌*◌, ◌≤◌, IsTrue, List, ◌++◌, map, Option, Some, None, ⊤}
 use Rattle.std.specs.List.{AllByRecursion}
+use Rattle.mv_move_types.specs.Limits.{most_steps}
 use Rattle.mv_move_types.specs.Published.{PublishedModule}
 use Rattle.mv_bounds.specs.Definitions.{all_differ}
 use Rattle.mv_machine.specs.Count.{count}
@@ -26,7 +27,7 @@ pub record AreLinked (ps : List PublishedModule) : Type 0 where
 -- Of each struct no more values were made than the runs can have made, and as many are stored, at any depth, as were made and
 -- not taken apart.
 abbrev pub AreTallied : LedgerState → Type 0
-AreTallied s = AllByRecursion (λ t. (t.packs ≤ 10000000 * s.runs) × (count s.storage t.struct + t.unpacks ≡ t.packs)) s.tallies
+AreTallied s = AllByRecursion (λ t. (t.packs ≤ most_steps * s.runs) × (count s.storage t.struct + t.unpacks ≡ t.packs)) s.tallies
 
 -- The bytes are loaded as this ledger: they are its text in one of the forms, its modules pass phases 2 to 12 with their
 -- certificates, they are linked, and its tallies are those of what is stored.

@@ -2,6 +2,7 @@
 use Rattle.std.specs.Prelude.{ℕ, nat_lt, List, Some, None, map, nat_le, length}
 use Rattle.std.specs.Bool.{then_some}
 use Rattle.mv_uleb.specs.Parsing.{number_from}
+use Rattle.mv_move_types.specs.Limits.{most_arguments, most_certificate_bytes, most_module_bytes, most_offers}
 use Rattle.mv_move_types.specs.declared.token.LeafKind.{LeafKind}
 use Rattle.mv_move_types.specs.declared.token.LeafKind.TheVariants.{Boolean, Number, Address, Signer}
 use Rattle.mv_move_types.specs.Options.{◌>>=◌}
@@ -17,13 +18,13 @@ sized_from most bytes = number_from most bytes >>= λ n. bytes_from n.0 n.1
 -- a module and its certificate
 abbrev pub offer_from : List ℕ → Read Offer
 offer_from bytes = do
-  text ← sized_from 65536 bytes
-  certificate ← sized_from 1048576 text.1
+  text ← sized_from most_module_bytes bytes
+  certificate ← sized_from most_certificate_bytes text.1
   Some (record { text = text.0; certificate = certificate.0 }, certificate.1)
 
 -- the modules of a bundle, at least one
 abbrev pub offers_from : List ℕ → Read (List Offer)
-offers_from bytes = counted_from 16 offer_from bytes >>= λ offers. then_some (nat_le 1 (length offers.0)) offers
+offers_from bytes = counted_from most_offers offer_from bytes >>= λ offers. then_some (nat_le 1 (length offers.0)) offers
 
 -- a sender, and a bundle
 abbrev pub bundle_from : List ℕ → Read (ℕ × List Offer)
@@ -55,7 +56,7 @@ run_from bytes = do
   name ← identifier_from home.1
   function ← identifier_from name.1
   budget ← number_from 18446744073709551615 function.1
-  arguments ← counted_from 16 argument_from budget.1
+  arguments ← counted_from most_arguments argument_from budget.1
   Some (
     record {
       sender = sender.0;

@@ -1,5 +1,6 @@
 -- Whether a bundle is published, and else the first phase that it fails.
 use Rattle.std.specs.Prelude.{◌≡◌, ℕ, ◌≤◌, IsTrue, List, [], ◌∷◌, ◌++◌, length, Some, ⊤}
+use Rattle.mv_move_types.specs.Limits.{most_modules}
 use Rattle.mv_move_types.specs.Module.{Module}
 use Rattle.mv_move_types.specs.Published.{PublishedModule, with_modules}
 use Rattle.mv_binary_format.specs.ModuleText.{IsModuleText}
@@ -66,7 +67,7 @@ IsLinked sender s bundle = MayJoin (Some sender) (modules_of s) (tables_in bundl
 
 -- the ledger has room for the bundle
 abbrev pub HasRoom : LedgerState → List PublishedModule → Type 0
-HasRoom s bundle = length (with_modules s.published bundle) ≤ 4096
+HasRoom s bundle = length (with_modules s.published bundle) ≤ most_modules
 
 -- the phase that is answered is the first that the offer fails, or memory ran out
 abbrev pub IsRefusedOffer : Offer → Refusal → Type 0

@@ -1,6 +1,7 @@
 -- The text of records.
 use Rattle.std.specs.Prelude.{ℕ, List, [], ◌∷◌, Bool, false, ◌++◌, length, ◌&&◌, nat_le, ◌^◌, nat_lt, ◌≡◌, IsTrue, ◌≢◌}
 use Rattle.std.specs.List.{list_all}
+use Rattle.mv_move_types.specs.Limits.{most_arguments, most_certificate_bytes, most_module_bytes, most_offers}
 use Rattle.mv_move_types.specs.declared.token.LeafKind.{LeafKind}
 use Rattle.mv_move_types.specs.declared.token.LeafKind.TheVariants.{Boolean, Number, Address, Signer}
 use Rattle.mv_module_text.specs.Entries.{address_text, leaf_token, number_text, counted, identifier_text}
@@ -40,8 +41,8 @@ offer_text o = sized o.text ++ sized o.certificate
 -- a module and a certificate within their limits
 abbrev pub offer_fits : Offer → Bool
 offer_fits o =
-    nat_le (length o.text) 65536 && list_all is_byte o.text
-    && nat_le (length o.certificate) 1048576 && list_all is_byte o.certificate
+    nat_le (length o.text) most_module_bytes && list_all is_byte o.text
+    && nat_le (length o.certificate) most_certificate_bytes && list_all is_byte o.certificate
 
 -- a sender and a bundle
 abbrev pub publish_text : ℕ → List Offer → List ℕ
@@ -50,7 +51,7 @@ publish_text sender offers = address_text sender ++ counted offer_text offers
 -- a bundle has 1 to 16 modules
 abbrev pub publish_fits : ℕ → List Offer → Bool
 publish_fits sender offers =
-    address_fits sender && nat_le 1 (length offers) && nat_le (length offers) 16 && list_all offer_fits offers
+    address_fits sender && nat_le 1 (length offers) && nat_le (length offers) most_offers && list_all offer_fits offers
 
 -- a sender, the function's names, a budget and the arguments
 abbrev pub run_text : RunRequest → List ℕ
@@ -62,7 +63,7 @@ run_text r =
 abbrev pub run_fits : RunRequest → Bool
 run_fits r =
     address_fits r.sender && address_fits r.home.address && identifier_fits r.home.name && identifier_fits r.function
-    && nat_lt r.budget (2 ^ 64) && nat_le (length r.arguments) 16 && list_all argument_fits r.arguments
+    && nat_lt r.budget (2 ^ 64) && nat_le (length r.arguments) most_arguments && list_all argument_fits r.arguments
 
 -- how a report is wanted: nothing for text, one byte for JSON
 abbrev pub format_text : Format → List ℕ

@@ -1,6 +1,7 @@
 -- Laws of saved ledgers.
 use Rattle.std.specs.Prelude.{◌≡◌, ℕ, ◌*◌, ◌^◌, ◌<◌, ◌≤◌, List, map, length}
 use Rattle.std.specs.List.{AllByRecursion}
+use Rattle.mv_move_types.specs.Limits.{most_steps}
 use Rattle.mv_machine.specs.Ledger.{LedgerState}
 use Rattle.mv_ledger.specs.SavedText.{Form, Second, saved_text, HeadFits, IsSavedText}
 use Rattle.mv_ledger.specs.Publishing.{AllPass, offered}
@@ -11,7 +12,7 @@ use Rattle.mv_ledger.specs.Loading.{IsLoaded, FailsLoad}
 pub record IsSavable (s : LedgerState) : Type 0 where
   pub head : HeadFits s.runs (map offered s.published)
   pub passed : AllPass (map offered s.published) s.published
-  pub packs : AllByRecursion (λ t. t.packs ≤ 10000000 * s.runs) s.tallies
+  pub packs : AllByRecursion (λ t. t.packs ≤ most_steps * s.runs) s.tallies
   pub few : length s.storage < 2 ^ 64
 
 -- a ledger has one text of each form

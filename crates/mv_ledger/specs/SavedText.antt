@@ -4,6 +4,7 @@ use Rattle.std.specs.Option.{option_map_or}
 use Rattle.std.specs.List.{list_all, filter, enumerate_from}
 use Rattle.std.specs.Int.{w128, to_le_bytes}
 use Rattle.mv_uleb.specs.Uleb.{uleb}
+use Rattle.mv_move_types.specs.Limits.{most_modules, most_runs}
 use Rattle.mv_move_types.specs.declared.tables.Definition.{Definition}
 use Rattle.mv_move_types.specs.Module.{Module, StructDefinition, struct_abilities}
 use Rattle.mv_module_text.specs.Entries.{address_text, counted}
@@ -98,8 +99,8 @@ tally_fits form t = nat_le t.packs (greatest_count form) && nat_le t.unpacks (gr
 
 -- the number of runs and the modules are within their limits
 pub record HeadFits (runs : ℕ) (offers : List Offer) : Type 0 where
-  pub had : runs ≤ 4294967296
-  pub few : length offers ≤ 4096
+  pub had : runs ≤ most_runs
+  pub few : length offers ≤ most_modules
   pub sized : IsTrue (list_all offer_fits offers)
 
 -- The bytes are the text of a ledger in a form: its parts are within their limits, its modules are those that their texts

@@ -1,6 +1,7 @@
 -- How the lines of a show and of an audit are made, and which of them are left.
 use Rattle.std.specs.Prelude.{◌≡◌, ℕ, ◌+◌, List, [], ◌∷◌, ◌++◌, map, length, Option, Some, None, option_map, unwrap_or}
 use Rattle.std.specs.Borrow.{Bor}
+use Rattle.mv_move_types.specs.Limits.{most_nesting}
 use Rattle.mv_move_types.specs.Names.{StructName}
 use Rattle.mv_move_types.specs.Module.{Module}
 use Rattle.std.specs.Option.{option_map_or}
@@ -27,7 +28,7 @@ key_name_text name = option_map_or struct_text name []
 -- the text of the value of a struct that begins with these words
 abbrev pub key_value_text : List Module → Option StructName → List ℕ → List ℕ
 key_value_text modules name words =
-    value_text (unwrap_or (name >>= λ n. struct_from 8 modules n words >>= λ v. Some v.0) (Leaf Boolean 0))
+    value_text (unwrap_or (name >>= λ n. struct_from most_nesting modules n words >>= λ v. Some v.0) (Leaf Boolean 0))
 
 -- the lines of a show over these entries, after so many others
 abbrev pub show_from : List Module → List FlatEntry → ℕ → List (List ℕ)

@@ -1,13 +1,14 @@
 -- What a ledger holds, and the machine's state that it stands for.
 use Rattle.std.specs.Prelude.{◌≡◌, ℕ, ◌+◌, ◌*◌, ◌≤◌, List, [], ◌∷◌, map, length, All, IsSome, IsTrue, unwrap_or}
 use Rattle.std.specs.List.{flat_map, filter, list_all, enumerate_from}
+use Rattle.mv_move_types.specs.Limits.{most_modules, most_runs, most_steps}
 use Rattle.mv_move_types.specs.Module.{Module, name_at}
 use Rattle.mv_move_types.specs.Published.{PublishedModule}
 use Rattle.mv_machine.specs.Flat.{FlatEntry, storage_of}
 use Rattle.mv_machine.specs.Lines.{Tallied}
 use Rattle.mv_machine.specs.Ledger.{LedgerState}
 use Rattle.mv_linker.specs.Link.{tables_in}
-use Rattle.mv_linker.specs.Scarce.{is_scarce_struct}
+use Rattle.mv_move_types.specs.Scarce.{is_scarce_struct}
 use Rattle.mv_frames.specs.Counters.{IsClear, HasCounts}
 use Rattle.mv_frames.specs.declared.counters.Count.{Count}
 use Rattle.mv_interpreter.specs.Runs.{IsFineWords}
@@ -65,7 +66,7 @@ IsNamed modules t = IsSome (name_at modules t.place t.index)
 
 -- in so many runs, each of at most 10,000,000 steps, no step made or took apart more than one value of the struct
 abbrev pub IsSmall : ℕ → Tally → Type 0
-IsSmall runs t = (t.packs ≤ runs * 10000000) × (t.unpacks ≤ runs * 10000000)
+IsSmall runs t = (t.packs ≤ runs * most_steps) × (t.unpacks ≤ runs * most_steps)
 
 -- each module's list has the tallies of its structs with neither copy nor drop, in order
 abbrev pub AreScarce : List Module → List (List Tally) → Type 0
@@ -86,7 +87,7 @@ AreSized published = IsTrue (list_all offer_fits (map offered published))
 -- tally one of a struct in its range; each module has the tallies of its structs with neither copy nor drop; the counters that
 -- runs count in are zero, and have room for each of those structs; and the machine's ledger that it stands for is sound.
 pub record IsLedger (published : List PublishedModule) (stored : List FlatEntry) (tallies : List (List Tally)) (counters : List (List Count)) (runs : ℕ) : Type 0 where
-  pub few : length published ≤ 4096
+  pub few : length published ≤ most_modules
   pub sized : AreSized published
   pub fine : All (IsFineWords (tables_in published)) stored
   pub placed : length tallies ≡ length published
@@ -95,5 +96,5 @@ pub record IsLedger (published : List PublishedModule) (stored : List FlatEntry)
   pub small : All (IsSmall runs) (all_of tallies)
   pub clear : IsClear counters
   pub countable : AreCountable counters tallies
-  pub counted : runs ≤ 4294967296
+  pub counted : runs ≤ most_runs
   pub sound : IsSoundLedger (state_of (view_of published stored (all_of tallies) runs))

@@ -1,6 +1,7 @@
 // Runs: which are begun, and what they change.
 ghost use Rattle.std.specs.Prelude.{◌≡◌, ◌<◌, ◌≤◌, ◌+◌, ℕ, All, IsTrue, length, map, IfOk, OnOk};
 ghost use Rattle.std.specs.List.{list_all};
+ghost use Rattle.mv_move_types.specs.Limits.{most_modules, most_runs, most_steps};
 ghost use Rattle.mv_machine.specs.Ledger.{is_argument, are_arguments, with_signer as with_sender};
 ghost use Rattle.mv_linker.specs.Link.{IsStore, tables_in};
 ghost use Rattle.mv_frames.specs.Counters.{IsClear};
@@ -112,11 +113,11 @@ fn are_passed(tokens: &[Token], arguments: &[Arg]) -> bool
 /// it; 5, a function that is no entry; 6, arguments that are not of its parameters' types; 7, no further run may be had.
 /// `Memory`, where a growth was refused.
 pub fn admitted(store: &Store, runs: u64, asked: RunRecord<'_>) -> Result<Call, Barred>
-    requires few { length store.now ≤ 4096 }
+    requires few { length store.now ≤ most_modules }
     requires range { IsTrue (list_all (λ (a : Argument). number_fits a.kind a.number) asked.arguments.items) }
     ensures call { IfOk result (λ c. IsCall (tables_in store.now) c.function c.arguments.items) }
-    ensures runs { OnOk result (runs < 4294967296) }
-    ensures budget { IfOk result (λ c. c.budget ≤ 10000000) }
+    ensures runs { OnOk result (runs < most_runs) }
+    ensures budget { IfOk result (λ c. c.budget ≤ most_steps) }
     ensures admitted { IsAdmitted store.now runs (request_of asked.entry) result }
     ensures store { OnOk result (IsStore store.now) }
 {
@@ -161,12 +162,12 @@ pub fn execute(
     call: &Call,
 ) -> Reply
     requires store { IsStore store.now }
-    requires few { length store.now ≤ 4096 }
+    requires few { length store.now ≤ most_modules }
     requires call { IsCall (tables_in store.now) call.now.function call.now.arguments.items }
     requires stored { All (IsFineWords (tables_in store.now)) storage.old }
     requires named { All (IsNamed (tables_in store.now)) (all_of tallies.old) }
     requires room { All HasRoomLeft (all_of tallies.old) }
-    requires budget { call.now.budget ≤ 10000000 }
+    requires budget { call.now.budget ≤ most_steps }
     requires scarce { AreScarce (tables_in store.now) tallies.old }
     requires clear { IsClear counters.old }
     requires countable { AreCountable counters.old tallies.old }

@@ -1,5 +1,6 @@
 // Publishing a bundle: its phases in order, and what it changes.
 ghost use Rattle.std.specs.Prelude.{◌≡◌, ℕ, ◌+◌, ◌^◌, ◌<◌, ◌≤◌, List, nat_lt, nat_le, count_by, option_and_then, All, length, map, Some, IfOk, IfErr, OnOk, OnErr};
+ghost use Rattle.mv_move_types.specs.Limits.{most_modules};
 ghost use Rattle.mv_move_types.specs.Module.{own_name};
 ghost use Rattle.mv_move_types.specs.Named.{module_place};
 ghost use Rattle.mv_ledger.specs.declared.tallies.Placed.{Placed as Standing};
@@ -161,7 +162,7 @@ pub fn count_behind(placed: &[Placed], count: usize) -> usize
 /// Whether a bundle makes more modules than a ledger may have of so many that are there.
 fn is_too_much(placed: &[Placed], count: usize) -> bool
     requires { count + length placed.now < 2 ^ 63 }
-    ensures { result ≡ nat_lt 4096 (count + count_by (λ (p : Standing). nat_le count p.place) placed.now) }
+    ensures { result ≡ nat_lt most_modules (count + count_by (λ (p : Standing). nat_le count p.place) placed.now) }
 {
     count + count_behind(placed, count) > MOST_MODULES
 }
@@ -174,7 +175,7 @@ fn join_bundle(
     counters: &mut Counters,
     bundle: &Bundle<'_>,
 ) -> Result<u64, Refusal>
-    requires few { length store.old ≤ 4096 }
+    requires few { length store.old ≤ most_modules }
     requires asked { (payload : List ℕ) × IsShaped 1 payload (Publish bundle.now.sender (offers_of bundle.now.offers.items)) }
     requires placed { length tallies.old ≡ length store.old }
     requires named { All (IsNamed (tables_in store.old)) (all_of tallies.old) }
@@ -182,7 +183,7 @@ fn join_bundle(
     requires countable { AreCountable counters.old tallies.old }
     ensures store { OnOk result (IsStore store.old) }
     ensures whole { OnOk result (IsStore store.new) }
-    ensures room { OnOk result (length store.new ≤ 4096) }
+    ensures room { OnOk result (length store.new ≤ most_modules) }
     ensures err { OnErr result (store.new ≡ store.old) }
     ensures kept { OnErr result (tallies.new ≡ tallies.old) }
     ensures counts { AreSameCounts counters.old counters.new }
@@ -221,14 +222,14 @@ pub fn publish(
     counters: &mut Counters,
     payload: &[u8],
 ) -> Result<u64, Refusal>
-    requires few { length store.old ≤ 4096 }
+    requires few { length store.old ≤ most_modules }
     requires placed { length tallies.old ≡ length store.old }
     requires named { All (IsNamed (tables_in store.old)) (all_of tallies.old) }
     requires scarce { AreScarce (tables_in store.old) tallies.old }
     requires countable { AreCountable counters.old tallies.old }
     ensures store { OnOk result (IsStore store.old) }
     ensures whole { OnOk result (IsStore store.new) }
-    ensures room { OnOk result (length store.new ≤ 4096) }
+    ensures room { OnOk result (length store.new ≤ most_modules) }
     ensures err { OnErr result (store.new ≡ store.old) }
     ensures kept { OnErr result (tallies.new ≡ tallies.old) }
     ensures counts { AreSameCounts counters.old counters.new }

@@ -18,7 +18,6 @@ pub mod Ordering
 pub mod Reached
 pub mod Relinked
 pub mod Resolved
-pub mod Scarce
 pub mod Scope
 pub mod Shapes
 pub mod Sizes

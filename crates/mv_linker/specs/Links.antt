@@ -2,6 +2,7 @@
 use Rattle.std.specs.Prelude.{ℕ, zero, suc, ◌+◌, Bool, true, false, not, ◌&&◌, ◌||◌, nat_le, IsTrue, List, [], ◌∷◌, length, Option, Contains, slice_get}
 use Rattle.std.specs.List.{list_all, list_any}
 use Rattle.std.specs.Option.{option_map_or}
+use Rattle.mv_move_types.specs.Limits.{most_leaves, most_nesting}
 use Rattle.mv_move_types.specs.declared.tables.StructHandle.{StructHandle}
 use Rattle.mv_move_types.specs.declared.tables.FunctionHandle.{FunctionHandle}
 use Rattle.mv_move_types.specs.Options.{◌>>=◌}
@@ -64,7 +65,7 @@ pub data Reaches (store : List Module) : Module → Module → Type 0 where
 -- g: a struct's nesting is at most 8, and it has at most 256 leaf values
 abbrev pub struct_is_small : List Module → Module → StructDefinition → Bool
 struct_is_small store m d =
-    option_map_or (λ n. nat_le n 256) (name_of_struct m d >>= leaves_within 8 store) false
+    option_map_or (λ n. nat_le n most_leaves) (name_of_struct m d >>= leaves_within most_nesting store) false
 
 -- the modules of a store name each other as they are, without a cycle, and their structs are small
 pub record Links (store : List Module) : Type 0 where

@@ -1,6 +1,7 @@
 -- Sizes of structs: their leaf values and their nesting.
 use Rattle.std.specs.Prelude.{◌≡◌, ℕ, zero, suc, ◌+◌, ◌≤◌, ◌⊎◌, ◌&&◌, nat_le, nat_lt, cond, IsTrue, List, [], ◌∷◌, length, map, Option, Some, None, slice_get, unwrap_or}
 use Rattle.std.specs.List.{list_all}
+use Rattle.mv_move_types.specs.Limits.{most_leaves, most_nesting}
 use Rattle.mv_move_types.specs.declared.token.Token.{Token}
 use Rattle.mv_move_types.specs.declared.token.Token.TheVariants.{Plain}
 use Rattle.mv_move_types.specs.declared.token.ValueType.TheVariants.{OfLeaf, OfStruct}
@@ -38,7 +39,7 @@ pub record AreSizes (modules bundle : List Module) (sizes : List (List Size)) : 
   pub len : length sizes ≡ length bundle
   pub count : (i : ℕ) (m : Module) (row : List Size) → slice_get bundle i ≡ Some m → slice_get sizes i ≡ Some row → length row ≡ length m.structs
   pub each : (i j : ℕ) (name : StructName) (row : List Size) (s : Size) → name_at bundle i j ≡ Some name → slice_get sizes i ≡ Some row → slice_get row j ≡ Some s
-      → IsSized modules name s × (s.leaves ≤ 256) × (s.nesting ≤ 8)
+      → IsSized modules name s × (s.leaves ≤ most_leaves) × (s.nesting ≤ most_nesting)
 
 -- each struct of a bundle is small
 abbrev pub AreSmall : List Module → List Module → Type 0
@@ -85,7 +86,7 @@ total_of size (f ∷ fs) = do
 
 -- the size of a struct with such fields, if it is small
 abbrev pub small_size : Total → Option Size
-small_size t = cond (nat_le t.leaves 256 && nat_lt t.nesting 8) (Some (record { leaves = t.leaves; nesting = t.nesting + 1 })) None
+small_size t = cond (nat_le t.leaves most_leaves && nat_lt t.nesting most_nesting) (Some (record { leaves = t.leaves; nesting = t.nesting + 1 })) None
 
 -- the size of a struct with these fields, if it is known and small
 abbrev pub size_of_struct : List (List (Option Size)) → List Defined → List Field → Option Size

@@ -1,5 +1,6 @@
 // The identifiers of the structs that a module defines.
 ghost use Rattle.std.specs.Prelude.{◌≡◌, ◌≤◌, [], length, option_map, slice_get, IfOk};
+ghost use Rattle.mv_move_types.specs.Limits.{most_name_bytes};
 ghost use Rattle.mv_linker.specs.Identifiers.{identifier_or_none, identifiers_of};
 
 use crate::names::struct_identifier;
@@ -30,7 +31,7 @@ impl Model for Identifiers {
 // The identifier of a struct, which is there.
 fn identifier_of<'a>(m: &Module<'a>, d: &StructDefinition) -> &'a [u8]
     ensures value { result.now ≡ identifier_or_none m.now d.now }
-    ensures short { length result.now ≤ 128 }
+    ensures short { length result.now ≤ most_name_bytes }
 {
     // For the prover: an identifier has at most 128 bytes.
     m.has_text();

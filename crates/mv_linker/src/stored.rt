@@ -1,5 +1,6 @@
 // What a store keeps of its modules beside their texts.
 ghost use Rattle.std.specs.Prelude.{◌≡◌, ◌<◌, ◌≤◌, IsSome, Some, length, map, option_map, slice_get, IfSome, IfOk};
+ghost use Rattle.mv_move_types.specs.Limits.{most_functions};
 ghost use Rattle.mv_move_types.specs.Module.{name_at};
 ghost use Rattle.mv_move_types.specs.Named.{function_place};
 ghost use Rattle.mv_linker.specs.Link.{IsStore, tables_in};
@@ -89,7 +90,7 @@ impl Store {
         requires { place < length self.now }
         ensures index { IfSome (slice_get (tables_in self.now) place) (λ m. option_map (λ p. p.0) result ≡ function_place m name.now) }
         ensures interface { IfSome result (λ p. IsInterfaceAt (tables_in self.now) place p.0 p.1.now) }
-        ensures few { IfSome result (λ p. p.0 < 256) }
+        ensures few { IfSome result (λ p. p.0 < most_functions) }
         ensures store { IsStore self.now }
     {
         let interfaces = &self.codes[place].interfaces;

@@ -1,10 +1,11 @@
 -- The ledger's state, its requests, and what each request changes and answers.
-use Rattle.std.specs.Prelude.{ℕ, List, [], map, ◌||◌, cond, Option, Some, None, flat_map, filter_map, find, unwrap_or, Bool, false, ◌∷◌, ◌≡◌, true, ◌&&◌, ◌^◌, nat_lt, nat_le, Result, Ok, ok_or, slice_get, ◌+◌, Err, length}
-use Rattle.std.specs.Option.{option_map_or}
+use Rattle.std.specs.Prelude.{ℕ, List, [], map, cond, Option, Some, None, flat_map, filter_map, find, unwrap_or, Bool, false, ◌∷◌, ◌≡◌, true, ◌&&◌, ◌^◌, nat_lt, nat_le, Result, Ok, ok_or, slice_get, ◌+◌, Err, length}
 use Rattle.mv_machine.specs.State.{Storage, Event}
 use Rattle.mv_machine.specs.Lines.{Tallied, Reply, Returned as RanToEnd, Aborted as RanToAbort, Exhausted as RanOut, Rejected, Published, Refused, Told, show_lines, audit_lines, show_json, audit_json}
+use Rattle.mv_move_types.specs.Limits.{most_runs, most_steps}
+use Rattle.mv_move_types.specs.Scarce.{is_scarce_struct}
 pub use Rattle.mv_move_types.specs.Published.{PublishedModule, has_name_of, with_module, with_modules}
-use Rattle.mv_move_types.specs.Module.{Module, StructDefinition, name_of_struct, struct_abilities, parameter_tokens}
+use Rattle.mv_move_types.specs.Module.{Module, StructDefinition, name_of_struct, parameter_tokens}
 use Rattle.mv_move_types.specs.Names.{ModuleName, StructName, same_struct}
 use Rattle.mv_machine.specs.Value.{Value, Leaf}
 use Rattle.mv_machine.specs.Run.{run, packs, unpacks, FunctionCall, RunOutcome, Returned, Aborted, Exhausted, Faulted}
@@ -60,7 +61,7 @@ pub data Request : Type 0 where
 
 -- a struct's name, if it has neither copy nor drop
 abbrev pub scarce_name : Module → StructDefinition → Option StructName
-scarce_name m d = option_map_or (λ a. cond (a.copy || a.drop) None (name_of_struct m d)) (struct_abilities m d) None
+scarce_name m d = cond (is_scarce_struct m d) (name_of_struct m d) None
 
 -- the structs with neither copy nor drop, by place of their module and index of their definition
 abbrev pub scarce_structs : List Module → List StructName
@@ -108,7 +109,7 @@ with_signer sender _ arguments = arguments
 -- the call that a run asks for, or the first reason against it; a payload of no shape is reason 1
 unfoldable pub admitted : LedgerState → RunRequest → Result FunctionCall ℕ
 admitted s r = do
-  need (nat_le r.budget 10000000) 2
+  need (nat_le r.budget most_steps) 2
   place ← ok_or (module_place (modules_of s) r.home) 3
   home ← ok_or (slice_get (modules_of s) place) 3
   index ← ok_or (function_place home r.function) 4
@@ -116,7 +117,7 @@ admitted s r = do
   need d.is_entry 5
   tokens ← ok_or (parameter_tokens home d) 6
   need (are_arguments tokens (with_signer r.sender tokens r.arguments)) 6
-  need (nat_lt s.runs (2 ^ 32)) 7
+  need (nat_lt s.runs most_runs) 7
   Ok (record { function = record { place = place; index = index }; arguments = with_signer r.sender tokens r.arguments })
 
 -- a struct's tally with those of a run

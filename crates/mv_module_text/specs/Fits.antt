@@ -1,6 +1,7 @@
 -- Which entries have a text.
 use Rattle.std.specs.Prelude.{ℕ, ◌^◌, Bool, not, nat_lt, true, ◌&&◌, nat_le, List, length, ◌||◌, ◌==◌, false, [], ◌∷◌}
 use Rattle.std.specs.List.{list_all}
+use Rattle.mv_move_types.specs.Limits.{most_fields, most_instructions, most_name_bytes, most_types}
 use Rattle.mv_move_types.specs.declared.token.Width.{Width}
 use Rattle.mv_move_types.specs.declared.token.Width.TheVariants.{U16, U32}
 use Rattle.mv_move_types.specs.declared.token.LeafKind.TheVariants.{Boolean, Number, Address, Signer}
@@ -59,7 +60,7 @@ function_handle_fits h = is_index h.module && is_index h.name && is_index h.para
 
 -- it has at most 64 types, and each can be written
 abbrev pub signature_fits : ℕ → List Token → Bool
-signature_fits version tokens = nat_le (length tokens) 64 && list_all (token_fits version) tokens
+signature_fits version tokens = nat_le (length tokens) most_types && list_all (token_fits version) tokens
 
 -- whether a number is a byte
 abbrev pub is_byte : ℕ → Bool
@@ -84,7 +85,7 @@ is_identifier (c ∷ cs) = (is_letter c || (c == 95) && nat_lt 0 (length cs)) &&
 
 -- an identifier of at most 128 bytes
 abbrev pub identifier_fits : List ℕ → Bool
-identifier_fits name = nat_le (length name) 128 && is_identifier name
+identifier_fits name = nat_le (length name) most_name_bytes && is_identifier name
 
 -- a number of 128 bits
 abbrev pub address_fits : ℕ → Bool
@@ -96,7 +97,7 @@ field_fits version f = is_index f.name && token_fits version f.token
 
 -- it has at most 32 fields, and each can be written
 abbrev pub struct_definition_fits : ℕ → StructDefinition → Bool
-struct_definition_fits version d = is_index d.handle && nat_le (length d.fields) 32 && list_all (field_fits version) d.fields
+struct_definition_fits version d = is_index d.handle && nat_le (length d.fields) most_fields && list_all (field_fits version) d.fields
 
 -- an immediate is in its range
 abbrev pub immediate_fits : Immediate → Bool
@@ -125,7 +126,7 @@ instruction_fits version i = (not (is_late i) || version == 6) && immediate_fits
 abbrev pub function_definition_fits : ℕ → FunctionDefinition → Bool
 function_definition_fits version d =
     is_index d.handle && is_index d.locals && is_index (length d.acquires) && list_all is_index d.acquires
-    && nat_le (length d.code) 4096 && list_all (instruction_fits version) d.code
+    && nat_le (length d.code) most_instructions && list_all (instruction_fits version) d.code
 
 -- its indices can be written
 abbrev pub field_handle_fits : FieldHandle → Bool

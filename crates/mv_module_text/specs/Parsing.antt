@@ -3,6 +3,7 @@ use Rattle.std.specs.Prelude.{ℕ, zero, suc, ◌==◌, nat_le, Bool, true, fals
 use Rattle.std.specs.Bool.{then_some}
 use Rattle.std.specs.Int.{w128, from_be_bytes}
 use Rattle.mv_uleb.specs.Parsing.{number_from}
+use Rattle.mv_move_types.specs.Limits.{most_fields, most_instructions, most_name_bytes, most_types}
 use Rattle.mv_move_types.specs.declared.tables.ModuleHandle.{ModuleHandle}
 use Rattle.mv_move_types.specs.declared.tables.StructHandle.{StructHandle}
 use Rattle.mv_move_types.specs.declared.tables.FunctionHandle.{FunctionHandle}
@@ -162,7 +163,7 @@ function_handle_from bytes = do
 
 -- its types
 abbrev pub signature_from : ℕ → List ℕ → Read (List Token)
-signature_from version = counted_from 64 (token_from version)
+signature_from version = counted_from most_types (token_from version)
 
 -- its type, and its bytes after their number
 abbrev pub constant_from : ℕ → List ℕ → Read Constant
@@ -175,7 +176,7 @@ constant_from version bytes = do
 -- its bytes after their number
 abbrev pub identifier_from : List ℕ → Read (List ℕ)
 identifier_from bytes = do
-  n ← number_from 128 bytes
+  n ← number_from most_name_bytes bytes
   name ← bytes_from n.0 n.1
   then_some (identifier_fits name.0) name
 
@@ -197,7 +198,7 @@ abbrev pub struct_definition_from : ℕ → List ℕ → Read StructDefinition
 struct_definition_from version bytes = do
   handle ← index_from bytes
   rest ← mark_from 2 handle.1
-  fields ← counted_from 32 (field_from version) rest
+  fields ← counted_from most_fields (field_from version) rest
   Some (record { handle = handle.0; fields = fields.0 }, fields.1)
 
 -- a visibility by its byte
@@ -263,7 +264,7 @@ function_definition_from version bytes = do
   is_entry ← entry_from visibility.1
   acquires ← counted_from 65535 index_from is_entry.1
   locals ← index_from acquires.1
-  code ← counted_from 4096 (instruction_from version) locals.1
+  code ← counted_from most_instructions (instruction_from version) locals.1
   Some (record { handle = handle.0; visibility = visibility.0; is_entry = is_entry.0; acquires = acquires.0; locals = locals.0; code = code.0 }, code.1)
 
 -- its struct definition and its position

@@ -14,3 +14,5 @@ pub mod Flow
 pub mod Published
 pub mod Paths
 pub mod Refusals
+pub mod Limits
+pub mod Scarce

@@ -2,6 +2,7 @@
 use Rattle.std.specs.Prelude.{ℕ, is_some, Bool, true, false, ◌&&◌, nat_le, length, slice_get, List, ◌∷◌, ◌==◌, not, ◌||◌, IsTrue}
 use Rattle.std.specs.Option.{option_map_or}
 use Rattle.std.specs.List.{list_all}
+use Rattle.mv_move_types.specs.Limits.{most_locals, most_parameters, most_results}
 use Rattle.mv_move_types.specs.declared.token.LeafKind.TheVariants.{Signer}
 use Rattle.mv_move_types.specs.declared.token.ValueType.TheVariants.{OfLeaf}
 use Rattle.mv_move_types.specs.declared.token.Token.{Token}
@@ -21,8 +22,8 @@ may_be_field (MutableReference t) = false
 -- at most 16 parameters and 8 results
 abbrev pub handle_is_small : Module → FunctionHandle → Bool
 handle_is_small m h =
-    option_map_or (λ ts. nat_le (length ts) 16) (slice_get m.signatures h.parameters) false
-    && option_map_or (λ ts. nat_le (length ts) 8) (slice_get m.signatures h.results) false
+    option_map_or (λ ts. nat_le (length ts) most_parameters) (slice_get m.signatures h.parameters) false
+    && option_map_or (λ ts. nat_le (length ts) most_results) (slice_get m.signatures h.results) false
 
 -- a leaf of its type, of exactly its length
 abbrev pub is_constant : Constant → Bool
@@ -57,6 +58,6 @@ entry_fits m d = not d.is_entry || has_no_results m d && option_map_or are_entry
 pub record WellSigned (m : Module) : Type 0 where
   pub fields : IsTrue (list_all (λ (d : StructDefinition). list_all (λ f. may_be_field f.token) d.fields) m.structs)
   pub handles : IsTrue (list_all (handle_is_small m) m.function_handles)
-  pub locals : IsTrue (list_all (λ d. nat_le (local_count m d) 64) m.functions)
+  pub locals : IsTrue (list_all (λ d. nat_le (local_count m d) most_locals) m.functions)
   pub constants : IsTrue (list_all is_constant m.constants)
   pub entries : IsTrue (list_all (entry_fits m) m.functions)

@@ -3,6 +3,7 @@ use Rattle.std.specs.Prelude.{ℕ, ◌+◌, ◌-◌, Bool, false, ◌&&◌, ◌=
 use Rattle.std.specs.Bool.{then_some}
 use Rattle.std.specs.List.{list_all}
 use Rattle.std.specs.Option.{option_map_or}
+use Rattle.mv_move_types.specs.Limits.{most_operands}
 use Rattle.mv_move_types.specs.declared.instruction.Instruction.{Instruction}
 use Rattle.mv_move_types.specs.declared.instruction.Instruction.TheVariants.{Pop, Ret, BrTrue, BrFalse, Branch, LdU64, LdConst, LdTrue, LdFalse, CopyLoc, MoveLoc, StLoc, MutBorrowLoc, ImmBorrowLoc, MutBorrowField, ImmBorrowField, Call, Pack, Unpack, ReadRef, WriteRef, Add, Sub, Mul, Mod, Div, BitOr, BitAnd, Xor, Or, And, Not, Eq, Neq, Lt, Gt, Le, Ge, Abort, Nop, Exists, MutBorrowGlobal, ImmBorrowGlobal, MoveFrom, MoveTo, FreezeRef, Shl, Shr, LdU8, LdU128, CastU8, CastU64, CastU128, LdU16, LdU32, CastU16, CastU32}
 use Rattle.mv_move_types.specs.Options.{◌>>=◌}
@@ -103,7 +104,7 @@ effect_of m d CastU32 = effect 1 1
 
 -- the height after an effect, where there is as much as it takes and the stack never has more than 128
 abbrev pub raised : ℕ → StackEffect → Option ℕ
-raised height e = then_some (nat_le e.takes height && nat_le (height - e.takes + e.gives) 128) (height - e.takes + e.gives)
+raised height e = then_some (nat_le e.takes height && nat_le (height - e.takes + e.gives) most_operands) (height - e.takes + e.gives)
 
 -- the height after these instructions
 abbrev pub height_through : Module → FunctionDefinition → List Instruction → ℕ → Option ℕ

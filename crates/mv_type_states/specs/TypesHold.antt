@@ -2,6 +2,7 @@
 use Rattle.std.specs.Prelude.{nat_le, cond, List, [], ◌∷◌, length, Option, Some, None, ◌+◌, Bool, false, ◌==◌, slice_range, IsTrue}
 use Rattle.std.specs.Option.{option_map_or}
 use Rattle.std.specs.List.{list_all}
+use Rattle.mv_move_types.specs.Limits.{most_operands}
 use Rattle.mv_move_types.specs.declared.instruction.Instruction.{Instruction}
 use Rattle.mv_move_types.specs.Options.{◌>>=◌}
 use Rattle.mv_move_types.specs.Module.{Module, FunctionDefinition}
@@ -13,7 +14,7 @@ abbrev pub types_through : Module → FunctionDefinition → List Instruction �
 types_through m d [] stack = Some stack
 types_through m d (i ∷ is) stack = do
   after ← types_after m d i stack
-  cond (nat_le (length after) 128) (types_through m d is after) None
+  cond (nat_le (length after) most_operands) (types_through m d is after) None
 
 -- a block begins and ends with nothing on the stack
 abbrev pub block_is_typed : Module → FunctionDefinition → BasicBlock → Bool

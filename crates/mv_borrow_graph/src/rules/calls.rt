@@ -2,6 +2,7 @@
 ghost use Rattle.std.specs.Prelude.{◌≡◌, ◌+◌, ◌++◌, ◌∷◌, [], ◌≤◌, ◌^◌, ◌&&◌, ◌||◌, ◌-◌, length, slice_get, option_map, Err, IfOk, IfSome, OnOk, IsTrue};
 ghost use Rattle.std.specs.Bool.{then_some};
 ghost use Rattle.std.specs.List.{list_all, list_any};
+ghost use Rattle.mv_move_types.specs.Limits.{most_operands, most_types};
 ghost use Rattle.mv_move_types.specs.declared.borrow.Node.TheVariants.{Glob, Temp};
 ghost use Rattle.mv_edges.specs.Edges.{changed, inherited};
 ghost use Rattle.mv_edges.specs.declared.label.Change.TheVariants.{Kept};
@@ -187,7 +188,7 @@ impl<'d, 'm> Site<'d, 'm> {
     /// The types of a signature, at most 64, if it is there.
     fn signature(&self, index: u16) -> Option<&[Token]>
         ensures value { option_map (λ tokens. tokens.now) result ≡ slice_get self.now.home.signatures index }
-        ensures short { IfSome result (λ tokens. length tokens.now ≤ 64) }
+        ensures short { IfSome result (λ tokens. length tokens.now ≤ most_types) }
     {
         self.module.module().signature(usize::from(index))
     }
@@ -195,7 +196,7 @@ impl<'d, 'm> Site<'d, 'm> {
     /// The place of the first of the topmost operands, by how many they are.
     fn first_of(&self, count: usize) -> usize
         ensures value { result ≡ length self.now.types - count }
-        ensures low { result ≤ 128 }
+        ensures low { result ≤ most_operands }
     {
         self.stack.len().saturating_sub(count)
     }

@@ -17,7 +17,7 @@ use Rattle.mv_move_types.specs.Named.{is_module, is_struct, have_one_name, modul
 use Rattle.mv_move_types.specs.Published.{PublishedModule, has_name_of, with_module, with_modules}
 use Rattle.mv_linker.specs.Upgrades.{same_fields, same_struct_definition, structs_stay, function_stays, may_replace}
 use Rattle.mv_linker.specs.Link.{IsStore, tables_in, are_compatible}
-use Rattle.mv_linker.specs.Scarce.{is_scarce_struct}
+use Rattle.mv_move_types.specs.Scarce.{is_scarce_struct}
 use Rattle.mv_linker.proofs.Joining.Upgraded.{same_abilities-is}
 use Rattle.mv_linker.proofs.NameLemmas.{same_module-same, is_module-is}
 use Rattle.mv_module_text.proofs.Texts.{on_bind}

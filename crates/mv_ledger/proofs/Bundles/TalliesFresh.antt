@@ -1,19 +1,17 @@
 -- The tallies of a module that is published.
 use Rattle.std.proofs.Common.{◌≡◌, ℕ, suc, ◌+◌, ◌<◌, ◌≤◌, Bool, true, false, cond, List, [], ◌∷◌, ◌++◌, map, length, take, get_or, Option, Some, None, refl, sym, ap, ap₂, ◌∙◌, subst, arith, zero-add}
-use Rattle.std.specs.Prelude.{◌&&◌, ◌||◌, not, All, IsSome, slice_get, unwrap_or, filter_map}
+use Rattle.std.specs.Prelude.{All, IsSome, slice_get, unwrap_or, filter_map}
 use Rattle.std.specs.List.{filter, enumerate_from, cons_option, list_all}
-use Rattle.std.specs.Option.{option_map_or}
 use Rattle.std.specs.Cmp.{first_so, second_so}
 use Rattle.std.proofs.lemmas.List.{append-nil, map-append, take_all}
 use Rattle.std.proofs.lemmas.List.Elements.{All-nil, All-cons, filter_more}
 use Rattle.std.proofs.lemmas.List.FromFn.{length-enumerate_from, get_or-enumerate_from}
-use Rattle.mv_move_types.specs.declared.token.Abilities.{Abilities}
 use Rattle.mv_move_types.specs.Names.{StructName}
-use Rattle.mv_move_types.specs.Module.{Module, StructDefinition, name_at, name_of_struct, module_name, struct_abilities}
+use Rattle.mv_move_types.specs.Module.{Module, StructDefinition, name_at, name_of_struct, module_name}
 use Rattle.mv_bounds.specs.Bounds.{InBounds, below, struct_in, field_in, struct_handle_in}
 use Rattle.mv_machine.specs.Lines.{Tallied}
 use Rattle.mv_machine.specs.Ledger.{scarce_name, untouched_tally}
-use Rattle.mv_linker.specs.Scarce.{is_scarce_struct}
+use Rattle.mv_move_types.specs.Scarce.{is_scarce_struct}
 use Rattle.mv_linker.proofs.Found.{then_found, there_below, each}
 use Rattle.mv_linker.proofs.OwnDefinitions.{module_there}
 use Rattle.mv_interpreter.specs.Flat.Agreement.{nameless}
@@ -103,25 +101,17 @@ module _ (m : Module) where
     -- are those of their names
     pub fresh-tallied : (n : ℕ) (ds : List StructDefinition) → AreThere n ds → map (tallied modules) (fresh_from n ds) ≡ map untouched_tally (filter_map (scarce_name m) ds)
     fresh-tallied n [] there = refl
-    fresh-tallied n (d ∷ ds) there = by_abilities (fresh-tallied (n + 1) ds (next n d ds there)) (struct_abilities m d)
+    fresh-tallied n (d ∷ ds) there = by_test (fresh-tallied (n + 1) ds (next n d ds there)) (is_scarce_struct m d)
       where
-        by_test : map (tallied modules) (fresh_from (n + 1) ds) ≡ map untouched_tally (filter_map (scarce_name m) ds) → (x y : Bool) → map (tallied modules)
-            (map (fresh_tally place) (map (λ p. p.0) (cond (not x && not y) ((n, d) ∷ filter (λ p. is_scarce_struct m p.1) (enumerate_from (n + 1) ds))
+        by_test : map (tallied modules) (fresh_from (n + 1) ds) ≡ map untouched_tally (filter_map (scarce_name m) ds) → (b : Bool) → map (tallied modules)
+            (map (fresh_tally place) (map (λ p. p.0) (cond b ((n, d) ∷ filter (λ p. is_scarce_struct m p.1) (enumerate_from (n + 1) ds))
             (filter (λ p. is_scarce_struct m p.1) (enumerate_from (n + 1) ds)))))
-            ≡ map untouched_tally (cons_option (cond (x || y) None (name_of_struct m d)) (filter_map (scarce_name m) ds))
-        by_test rest true y = rest
-        by_test rest false true = rest
-        by_test rest false false =
+            ≡ map untouched_tally (cons_option (cond b (name_of_struct m d) None) (filter_map (scarce_name m) ds))
+        by_test rest false = rest
+        by_test rest true =
             let here = first n d ds there in
             ap₂ (λ (o : Option StructName) (ts : List Tallied). untouched_tally (unwrap_or o nameless) ∷ ts) here.2 rest
             ∙ ap (λ (o : Option StructName). map untouched_tally (cons_option o (filter_map (scarce_name m) ds))) (sym here.1)
-
-        by_abilities : map (tallied modules) (fresh_from (n + 1) ds) ≡ map untouched_tally (filter_map (scarce_name m) ds) → (o : Option Abilities) → map (tallied modules)
-            (map (fresh_tally place) (map (λ p. p.0) (cond (option_map_or (λ (a : Abilities). not a.copy && not a.drop) o false)
-            ((n, d) ∷ filter (λ p. is_scarce_struct m p.1) (enumerate_from (n + 1) ds)) (filter (λ p. is_scarce_struct m p.1) (enumerate_from (n + 1) ds)))))
-            ≡ map untouched_tally (cons_option (option_map_or (λ (a : Abilities). cond (a.copy || a.drop) None (name_of_struct m d)) o None) (filter_map (scarce_name m) ds))
-        by_abilities rest None = rest
-        by_abilities rest (Some a) = by_test rest a.copy a.drop
 
     -- and have names
     pub fresh-named : (n : ℕ) (ds : List StructDefinition) → AreThere n ds → All (IsNamed modules) (fresh_from n ds)

@@ -1,12 +1,13 @@
 -- The structs with neither copy nor drop, each of which has a tally.
-use Rattle.std.proofs.Common.{◌≡◌, ℕ, zero, suc, Bool, true, false, cond, List, [], ◌∷◌, ◌++◌, Option, Some, None, refl, sym, ap, subst, ◌∙◌, inl, inr}
-use Rattle.std.specs.Prelude.{slice_get, ◌||◌, ◌⊎◌, map, filter_map}
+use Rattle.std.proofs.Common.{◌≡◌, ℕ, zero, suc, Bool, true, false, cond, List, [], ◌∷◌, ◌++◌, Option, Some, None, refl, sym, ap, ap₂, subst, ◌∙◌, inl, inr}
+use Rattle.std.specs.Prelude.{slice_get, not, ◌&&◌, ◌⊎◌, map, filter_map}
 use Rattle.std.specs.Option.{option_map_or}
 use Rattle.std.specs.List.{AllByRecursion, cons_option}
 use Rattle.std.proofs.lemmas.Option.{same_Some}
 use Rattle.mv_move_types.specs.declared.token.Abilities.{Abilities}
 use Rattle.mv_move_types.specs.Names.{StructName}
 use Rattle.mv_move_types.specs.Module.{Module, StructDefinition, name_of_struct, struct_abilities}
+use Rattle.mv_move_types.specs.Scarce.{is_scarce_struct}
 use Rattle.mv_machine.specs.Ledger.{scarce_name, scarce_structs}
 use Rattle.mv_ledger.specs.Counting.Kept.{IsScarce}
 use Rattle.mv_ledger.specs.Counting.Fine.{IsAbleStore}
@@ -30,12 +31,12 @@ all-filter_map P f (x ∷ xs) h = by_case (f x) refl (all-filter_map P f xs h)
 scarce_name-scarce : (modules : List Module) (m : Module) (d : StructDefinition) (name : StructName) → HandlesDeclared modules m → scarce_name m d ≡ Some name → IsScarce modules name
 scarce_name-scarce modules m d name declares e = by_case (struct_abilities m d) refl e
   where
-    by_copy : (copy drop : Bool) (a : Abilities) → a.copy ≡ copy → a.drop ≡ drop → struct_abilities m d ≡ Some a → cond (copy || drop) None (name_of_struct m d) ≡ Some name → IsScarce modules name
+    by_copy : (copy drop : Bool) (a : Abilities) → a.copy ≡ copy → a.drop ≡ drop → struct_abilities m d ≡ Some a → cond (not copy && not drop) (name_of_struct m d) None ≡ Some name → IsScarce modules name
     by_copy false false a c dr s g = record { abilities = a; is_declared = definition-declared modules m d name a declares g s; copy = c; drop = dr }
     by_copy false true a c dr s g = absurd cc
     by_copy true drop a c dr s g = absurd cc
 
-    by_case : (o : Option Abilities) → struct_abilities m d ≡ o → option_map_or (λ a. cond (a.copy || a.drop) None (name_of_struct m d)) o None ≡ Some name → IsScarce modules name
+    by_case : (o : Option Abilities) → struct_abilities m d ≡ o → cond (option_map_or (λ (a : Abilities). not a.copy && not a.drop) o false) (name_of_struct m d) None ≡ Some name → IsScarce modules name
     by_case (Some a) s g = by_copy a.copy a.drop a refl refl s g
     by_case None s g = absurd cc
 
@@ -104,5 +105,6 @@ scarce-among (x ∷ xs) name (suc place) i m d m_is d_is e =
 pub scarce_name-is : (m : Module) (d : StructDefinition) (name : StructName) (a : Abilities) → name_of_struct m d ≡ Some name → struct_abilities m d ≡ Some a → a.copy ≡ false → a.drop ≡ false
     → scarce_name m d ≡ Some name
 scarce_name-is m d name a name_is a_is c dr =
-    let named : cond (a.copy || a.drop) None (name_of_struct m d) ≡ Some name = rw (c, dr) name_is in
-    ap (λ (o : Option Abilities). option_map_or (λ (a : Abilities). cond (a.copy || a.drop) None (name_of_struct m d)) o None) a_is ∙ named
+    let both : is_scarce_struct m d ≡ true =
+          ap (λ (o : Option Abilities). option_map_or (λ (a : Abilities). not a.copy && not a.drop) o false) a_is ∙ ap₂ (λ (x y : Bool). not x && not y) c dr in
+    ap (λ (b : Bool). cond b (name_of_struct m d) None) both ∙ name_is

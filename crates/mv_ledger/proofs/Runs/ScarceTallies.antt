@@ -7,7 +7,7 @@ use Rattle.std.specs.List.Sorted.{IsStrictlyIncreasing}
 use Rattle.std.specs.Option.{option_map_or}
 use Rattle.std.proofs.lemmas.List.Elements.{All-nil, All-cons, All-head, All-tail, All-append, All-weaker}
 use Rattle.mv_move_types.specs.Module.{Module, StructDefinition}
-use Rattle.mv_linker.specs.Scarce.{is_scarce_struct, is_scarce_at, is_scarce_in}
+use Rattle.mv_move_types.specs.Scarce.{is_scarce_struct, is_scarce_at, is_scarce_in}
 use Rattle.mv_ledger.specs.declared.tallies.Tally.{Tally}
 use Rattle.mv_ledger.specs.View.{all_of, ArePlaced, AreScarce, scarce_indices}
 use Rattle.mv_ledger.specs.Tallying.{AreInOrder}

@@ -13,7 +13,7 @@ use Rattle.mv_machine.specs.Run.{RunOutcome, run, Returned, Aborted, Exhausted, 
 use Rattle.mv_machine.specs.Ledger.{LedgerState, settled}
 use Rattle.mv_storage.specs.Map.{Layers}
 use Rattle.mv_linker.specs.Link.{tables_in}
-use Rattle.mv_linker.specs.Scarce.{is_scarce_in}
+use Rattle.mv_move_types.specs.Scarce.{is_scarce_in}
 use Rattle.mv_frames.specs.declared.counters.StructTally.{StructTally}
 use Rattle.mv_interpreter.specs.declared.Arg.{Arg}
 use Rattle.mv_interpreter.specs.Runs.{Agrees, call_of}

@@ -11,7 +11,7 @@ use Rattle.mv_machine.specs.Lines.{Tallied}
 use Rattle.mv_machine.specs.Run.{packs, unpacks}
 use Rattle.mv_machine.specs.Ledger.{tally_with}
 use Rattle.mv_linker.specs.Link.{tables_in}
-use Rattle.mv_linker.specs.Scarce.{is_scarce_in}
+use Rattle.mv_move_types.specs.Scarce.{is_scarce_in}
 use Rattle.mv_linker.proofs.Found.{some-of}
 use Rattle.mv_frames.specs.Counters.{packs_at, unpacks_at}
 use Rattle.mv_frames.specs.declared.counters.Count.{Count}

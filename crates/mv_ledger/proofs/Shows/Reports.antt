@@ -14,7 +14,7 @@ use Rattle.mv_machine.specs.State.{Storage}
 use Rattle.mv_machine.specs.Lines.{Tallied, Refused as ToldRefused, Told as ToldLines, audit_lines, audit_json, end_line, json_line}
 use Rattle.mv_machine.specs.Ledger.{Format, Publish, Run, Show, Audit, BadRun, Bad, shown, audited}
 use Rattle.mv_linker.specs.Link.{IsPublishable, tables_in}
-use Rattle.mv_linker.specs.Scarce.{is_scarce_struct}
+use Rattle.mv_move_types.specs.Scarce.{is_scarce_struct}
 use Rattle.mv_ledger.specs.declared.tallies.Tally.{Tally}
 use Rattle.mv_ledger.specs.RecordText.{IsShapeless, format_text}
 use Rattle.mv_ledger.specs.Answering.{Replies}

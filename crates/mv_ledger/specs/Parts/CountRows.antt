@@ -9,6 +9,7 @@
 --   IsTallied rows runs t      a tally is that of a struct of which so many values are stored, after so many runs
 use Rattle.std.specs.Prelude.{◌≡◌, ℕ, ◌+◌, ◌-◌, ◌*◌, ◌^◌, ◌<◌, ◌≤◌, min, ◌&&◌, ◌==◌, List, [], map, length, replicate, Some, slice_set, slice_index_or}
 use Rattle.std.specs.List.{filter}
+use Rattle.mv_move_types.specs.Limits.{most_steps}
 use Rattle.mv_move_types.specs.declared.tables.Definition.{Definition}
 use Rattle.mv_move_types.specs.Names.{StructName}
 use Rattle.mv_move_types.specs.Module.{Module, name_at}
@@ -61,4 +62,4 @@ pub record AreAll (modules : List Module) (entries : List FlatEntry) (rows : Lis
 
 -- a tally is that of a struct of which so many values are stored, after so many runs
 abbrev pub IsTallied : List (List ℕ) → ℕ → Tally → Type 0
-IsTallied rows runs t = (t.packs ≤ 10000000 * runs) × (count_at rows (record { place = t.place; index = t.index }) + t.unpacks ≡ t.packs)
+IsTallied rows runs t = (t.packs ≤ most_steps * runs) × (count_at rows (record { place = t.place; index = t.index }) + t.unpacks ≡ t.packs)

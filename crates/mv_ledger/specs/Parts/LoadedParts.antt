@@ -12,6 +12,7 @@
 use Rattle.std.specs.Prelude.{◌≡◌, ◌==◌, ℕ, ◌+◌, ◌*◌, ◌^◌, ◌<◌, ◌≤◌, cond, All, IsTrue, List, [], ◌++◌, map, flat_map, length, Option, Some, None, ⊤}
 use Rattle.std.specs.List.{list_all, AllByRecursion}
 use Rattle.mv_uleb.specs.Parsing.{number_from}
+use Rattle.mv_move_types.specs.Limits.{most_modules, most_runs, most_steps}
 use Rattle.mv_move_types.specs.declared.refusal.Refusal.{Refusal}
 use Rattle.mv_move_types.specs.declared.refusal.Refusal.TheVariants.{Phase, Memory as NoMemory}
 use Rattle.mv_move_types.specs.Options.{◌>>=◌}
@@ -75,8 +76,8 @@ abbrev pub head_from : List ℕ → Read SavedHead
 head_from bytes = do
   rest ← marks_from bytes
   form ← form_from rest
-  runs ← number_from 4294967296 form.1
-  offers ← counted_from 4096 offer_from runs.1
+  runs ← number_from most_runs form.1
+  offers ← counted_from most_modules offer_from runs.1
   Some (record { form = form.0; runs = runs.0; offers = offers.0 }, offers.1)
 
 -- the beginning that was read
@@ -161,4 +162,4 @@ EachReadIsBody =
 -- of each struct no more values were made than so many runs can have made, and as many are stored, at any depth, as were made
 -- and not taken apart
 abbrev pub AreCounted : ℕ → Storage → List Tallied → Type 0
-AreCounted runs storage tallies = AllByRecursion (λ t. (t.packs ≤ 10000000 * runs) × (count storage t.struct + t.unpacks ≡ t.packs)) tallies
+AreCounted runs storage tallies = AllByRecursion (λ t. (t.packs ≤ most_steps * runs) × (count storage t.struct + t.unpacks ≡ t.packs)) tallies

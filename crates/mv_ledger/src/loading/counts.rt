@@ -1,6 +1,7 @@
 // The tallies of a saved ledger against what it stores.
 ghost use Rattle.std.specs.Prelude.{◌≡◌, ◌*◌, ◌+◌, ◌↔◌, ◌≤◌, All, IsTrue, IfOk, length, map, slice_set};
 ghost use Rattle.std.specs.List.{AllByRecursion};
+ghost use Rattle.mv_move_types.specs.Limits.{most_modules, most_steps};
 ghost use Rattle.mv_interpreter.specs.Runs.{IsFineWords};
 ghost use Rattle.mv_linker.specs.Link.{tables_in};
 ghost use Rattle.mv_machine.specs.Flat.{storage_of};
@@ -87,7 +88,7 @@ impl Counts {
 
 /// Whether a tally is that of a struct of which so many values are stored, after so many runs.
 fn is_counted(tally: &Tally, stored: u128, runs: u64) -> bool
-    ensures { IsTrue result ↔ ((tally.now.packs ≤ 10000000 * runs) × (stored + tally.now.unpacks ≡ tally.now.packs)) }
+    ensures { IsTrue result ↔ ((tally.now.packs ≤ most_steps * runs) × (stored + tally.now.unpacks ≡ tally.now.packs)) }
 {
     tally.packs <= u128::from(runs) * MOST_PACKS
         && tally.unpacks <= tally.packs
@@ -206,7 +207,7 @@ pub fn are_tallied(
     tallies: &Tallies,
     runs: u64,
 ) -> Result<bool, AllocError>
-    requires few { length store.now ≤ 4096 }
+    requires few { length store.now ≤ most_modules }
     requires stored { All (IsFineWords (tables_in store.now)) storage.now }
     requires named { All (IsNamed (tables_in store.now)) (all_of tallies.now) }
     requires scarce { AreScarce (tables_in store.now) tallies.now }

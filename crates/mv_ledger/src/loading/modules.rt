@@ -1,6 +1,7 @@
 // The modules of a saved ledger: they pass every phase, are linked, and have empty tallies. They join group by group, so that
 // no more than one group is held decoded.
 ghost use Rattle.std.specs.Prelude.{◌≡◌, ◌==◌, ◌+◌, ◌≤◌, ◌++◌, [], List, nat_le, count_by, take, length, IfOk, IfErr, OnOk, OnErr};
+ghost use Rattle.mv_move_types.specs.Limits.{most_modules};
 ghost use Rattle.mv_frames.specs.Counters.{AreSameCounts, KeepsCounts};
 ghost use Rattle.mv_linker.specs.News.{AreTexts, published_of};
 ghost use Rattle.mv_machine.specs.Ledger.{Offer};
@@ -61,7 +62,7 @@ impl Joined {
     /// `Phase(13)`, where all of them together are not linked; `Memory`, where a growth was refused. Nothing joins then.
     fn append(&mut self, alloc: Global, news: Vec<New<'_>>) -> Result<(), Refusal>
         requires texts { AreTexts news.items }
-        requires few { length self.old.store + length news.items ≤ 4096 }
+        requires few { length self.old.store + length news.items ≤ most_modules }
         requires joined { IsJoined self.old.store self.old.tallies self.old.counters }
         ensures joined { OnOk result ((before offers : List Offer) → AreJoined before self.old.store self.old.tallies self.old.counters → AllPass offers (published_of news.entry.items) → AreJoined (before ++ offers) self.new.store self.new.tallies self.new.counters) }
         ensures refused { IfErr result (IsRefusedIn 13 (AreLinked (self.old.store ++ published_of news.entry.items))) }
@@ -86,7 +87,7 @@ impl Joined {
     /// `Module`, where one of them fails one of phases 2 to 12; else `Link`, where they are not linked with those that are
     /// there; `Memory`, where a growth was refused.
     fn join(&mut self, alloc: Global, offers: &[Offered<'_>]) -> Result<(), LoadError>
-        requires few { length self.old.store + length offers.now ≤ 4096 }
+        requires few { length self.old.store + length offers.now ≤ most_modules }
         requires joined { IsJoined self.old.store self.old.tallies self.old.counters }
         ensures joined { (before : List Offer) → AreJoined before self.old.store self.old.tallies self.old.counters → OnOk result (AreJoined (before ++ offers_of offers.now) self.new.store self.new.tallies self.new.counters) }
         ensures refused { (before : List Offer) → AreJoined before self.old.store self.old.tallies self.old.counters → IfErr result (AreNotJoined (before ++ offers_of offers.now)) }
@@ -107,7 +108,7 @@ impl Joined {
     ///
     /// `Module`, where one of them fails one of phases 2 to 12; `Memory`, where a growth was refused.
     fn join_group(&mut self, alloc: Global, offers: &[Offered<'_>]) -> Result<usize, LoadError>
-        requires few { length self.old.store + length offers.now ≤ 4096 }
+        requires few { length self.old.store + length offers.now ≤ most_modules }
         requires joined { IsJoined self.old.store self.old.tallies self.old.counters }
         ensures few { IfOk result (λ n. n ≤ length offers.now) }
         ensures joined { (before : List Offer) → AreJoined before self.old.store self.old.tallies self.old.counters → IfOk result (λ n. AreJoined (before ++ take n (offers_of offers.now)) self.new.store self.new.tallies self.new.counters) }
@@ -136,7 +137,7 @@ impl Joined {
     /// `Module`, where one of them fails one of phases 2 to 12; else `Link`, where they are not linked; `Memory`, where a growth
     /// was refused.
     pub fn join_offers(&mut self, alloc: Global, offers: &[Offered<'_>]) -> Result<(), LoadError>
-        requires few { length offers.now ≤ 4096 }
+        requires few { length offers.now ≤ most_modules }
         requires empty { AreJoined [] self.old.store self.old.tallies self.old.counters }
         ensures joined { OnOk result (AreJoined (offers_of offers.now) self.new.store self.new.tallies self.new.counters) }
         ensures refused { IfErr result (AreNotJoined (offers_of offers.now)) }
