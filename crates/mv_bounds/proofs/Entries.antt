@@ -1,8 +1,8 @@
 -- Entries of a list, one after another.
-use Rattle.std.proofs.Common.{◌≡◌, ℕ, ◌+◌, ◌<◌, ◌≤◌, Bool, true, false, List, length, get_or, take, Some, None, inl, inr, arith, slice_get, ◌∙◌, ap, sym, ◌&&◌, [], ◌∷◌, ◌++◌, map, ap₂, Bor, refl}
+use Rattle.std.proofs.Common.{◌≡◌, ℕ, ◌+◌, ◌<◌, Bool, true, false, List, length, get_or, take, Some, None, inl, inr, arith, slice_get, ◌∙◌, ap, sym, ◌&&◌, [], ◌∷◌, ◌++◌, map, ap₂, Bor, refl}
 use Rattle.std.specs.List.{list_all}
 use Rattle.std.specs.Slice.{IsItemAt}
-use Rattle.std.proofs.lemmas.List.{map-append, take_all, take_more}
+use Rattle.std.proofs.lemmas.List.{map-append, take_more}
 use Rattle.std.proofs.lemmas.List.Folds.{list_all_more, list_all_at}
 use Rattle.std.proofs.lemmas.Option.{slice_get_within, slice_get_cases, slice_get_past, slice_get_read, none-some, get_or_from_slice_get}
 
@@ -16,28 +16,6 @@ all_pass_more p xs i x e h here =
 pub all_pass_not : {A : Type 0} (p : A → Bool) (xs : List A) (i : ℕ) (x : A) → Some x ≡ slice_get xs i → p x ≡ false → list_all p xs ≡ false
 all_pass_not p xs i x e fails =
     list_all_at p xs i x (slice_get_within xs i x (sym e)) (ap p (get_or_from_slice_get xs i x x (sym e)) ∙ fails)
-
--- the next entry of a table passes too
-pub next_passes : {A : Type 0} (p : A → Bool) (xs : List A) (i : ℕ) (d : A) → i < length xs → list_all p (take i xs) ≡ true → p (get_or xs i d) ≡ true → list_all p (take (i + 1) xs) ≡ true
-next_passes p xs i d low before here = list_all_more p xs i d low ∙ ap (λ b. b && p (get_or xs i d)) before ∙ here
-
--- each entry of a table passed
-pub table_passes : {A : Type 0} (p : A → Bool) (xs table : List A) (i : ℕ) → xs ≡ table → length xs ≤ i → list_all p (take i xs) ≡ true → true ≡ list_all p table
-table_passes p xs table i is ends all = sym all ∙ ap (list_all p) (take_all i xs ends ∙ is)
-
--- an entry of a table fails
-pub table_fails : {A : Type 0} (p : A → Bool) (xs table : List A) (i : ℕ) (d : A) → xs ≡ table → i < length xs → p (get_or xs i d) ≡ false → false ≡ list_all p table
-table_fails p xs table i d is low fails = sym (ap (list_all p) (sym is) ∙ list_all_at p xs i d low fails)
-
--- what is left begins with an entry that passes, so all pass where the others do
-pub first_passes : {A : Type 0} (p : A → Bool) (xs left : List A) (x : A) (others : List A) → list_all p xs ≡ list_all p left → left ≡ x ∷ others → p x ≡ true → list_all p xs ≡ list_all p others
-first_passes p xs left x others all begins here =
-    all ∙ ap (list_all p) begins ∙ ap (λ b. b && list_all p others) here
-
--- what is left begins with an entry that fails
-pub first_fails : {A : Type 0} (p : A → Bool) (xs left : List A) (x : A) (others : List A) → list_all p xs ≡ list_all p left → left ≡ x ∷ others → p x ≡ false → false ≡ list_all p xs
-first_fails p xs left x others all begins here =
-    sym (all ∙ ap (list_all p) begins ∙ ap (λ b. b && list_all p others) here)
 
 -- one entry more of those that were read
 pub read_more : {A B : Type 0} (f : A → B) (read : List A) (xs : List B) (i : ℕ) (x : A) → map f read ≡ take i xs → Some (f x) ≡ slice_get xs i → map f (read ++ x ∷ []) ≡ take (i + 1) xs

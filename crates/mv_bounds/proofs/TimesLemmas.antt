@@ -29,9 +29,6 @@ one_at_most false = omega arith
 pub is_zero_at_most : (n : ℕ) → is_zero n ≤ 1
 is_zero_at_most n = one_at_most (n == 0)
 
-pub mark_at_most : (b : Bool) → as_number b ≤ 1
-mark_at_most b = one_at_most b
-
 pub times_length : (j : ℕ) (xs : List ℕ) → times j xs ≤ length xs
 times_length j [] = omega arith
 times_length j (x ∷ xs) = omega (arith, times_length j xs, one_at_most (x == j))

@@ -196,12 +196,7 @@ fn constants_differ(alloc: Global, constants: &[Constant]) -> Result<bool, Alloc
 fn has_name(fields: &[Field], name: u16) -> bool
     ensures { result ≡ list_any (λ (f : FieldEntry). name == f.name) fields.now }
 {
-    for f in fields {
-        if name == f.name {
-            return true;
-        }
-    }
-    false
+    fields.iter().any(|f| name == f.name)
 }
 
 /// Whether no two of a struct's fields have one name. It has at most 32.
@@ -222,24 +217,14 @@ fn field_names_differ(fields: &[Field]) -> bool
 fn all_field_names_differ(m: &Module) -> bool
     ensures { result ≡ list_all (λ (d : StructTable). all_differ (λ (x y : FieldEntry). x.name == y.name) d.fields) m.now.structs }
 {
-    for d in m.structs() {
-        if !field_names_differ(d.fields()) {
-            return false;
-        }
-    }
-    true
+    m.structs().iter().all(|d| field_names_differ(d.fields()))
 }
 
 /// Whether each struct has fields.
 fn all_have_fields(m: &Module) -> bool
     ensures { result ≡ list_all (λ (d : StructTable). nat_lt 0 (length d.fields)) m.now.structs }
 {
-    for d in m.structs() {
-        if d.fields().is_empty() {
-            return false;
-        }
-    }
-    true
+    m.structs().iter().all(|d| !d.fields().is_empty())
 }
 
 /// How often each number below `n` stands among the items.

@@ -36,12 +36,7 @@ fn module_handle_in(m: &Module, h: ModuleHandle) -> bool
 fn module_handles_in(m: &Module) -> bool
     ensures { result ≡ list_all (module_handle_in m.now) m.now.module_handles }
 {
-    for h in m.module_handles() {
-        if !module_handle_in(m, *h) {
-            return false;
-        }
-    }
-    true
+    m.module_handles().iter().all(|h| module_handle_in(m, *h))
 }
 
 /// Whether a struct handle's module and name are there.
@@ -55,12 +50,7 @@ fn struct_handle_in(m: &Module, h: StructHandle) -> bool
 fn struct_handles_in(m: &Module) -> bool
     ensures { result ≡ list_all (struct_handle_in m.now) m.now.struct_handles }
 {
-    for h in m.struct_handles() {
-        if !struct_handle_in(m, *h) {
-            return false;
-        }
-    }
-    true
+    m.struct_handles().iter().all(|h| struct_handle_in(m, *h))
 }
 
 /// Whether a function handle's module, name and signatures are there.
@@ -80,12 +70,7 @@ fn function_handle_in(m: &Module, h: FunctionHandle) -> bool
 fn function_handles_in(m: &Module) -> bool
     ensures { result ≡ list_all (function_handle_in m.now) m.now.function_handles }
 {
-    for h in m.function_handles() {
-        if !function_handle_in(m, *h) {
-            return false;
-        }
-    }
-    true
+    m.function_handles().iter().all(|h| function_handle_in(m, *h))
 }
 
 /// Whether a type's struct handle is there.
@@ -111,12 +96,7 @@ fn token_in(m: &Module, t: Token) -> bool
 fn tokens_in(m: &Module, tokens: &[Token]) -> bool
     ensures { result ≡ list_all (token_in m.now) tokens.now }
 {
-    for t in tokens {
-        if !token_in(m, *t) {
-            return false;
-        }
-    }
-    true
+    tokens.iter().all(|t| token_in(m, *t))
 }
 
 /// Whether the struct handles of the types in signatures are there.
@@ -138,12 +118,7 @@ fn signatures_in(m: &Module) -> bool
 fn constants_in(m: &Module) -> bool
     ensures { result ≡ list_all (λ (c : ConstantEntry). token_in m.now c.token) m.now.constants }
 {
-    for c in m.constants() {
-        if !token_in(m, c.token()) {
-            return false;
-        }
-    }
-    true
+    m.constants().iter().all(|c| token_in(m, c.token()))
 }
 
 /// Whether a field's name and type are there.
@@ -157,12 +132,7 @@ fn field_in(m: &Module, f: Field) -> bool
 fn fields_in(m: &Module, fields: &[Field]) -> bool
     ensures { result ≡ list_all (field_in m.now) fields.now }
 {
-    for f in fields {
-        if !field_in(m, *f) {
-            return false;
-        }
-    }
-    true
+    fields.iter().all(|f| field_in(m, *f))
 }
 
 /// Whether a struct's handle is there, and what its fields name.
@@ -176,12 +146,7 @@ fn struct_in(m: &Module, d: &StructDefinition) -> bool
 fn structs_in(m: &Module) -> bool
     ensures { result ≡ list_all (struct_in m.now) m.now.structs }
 {
-    for d in m.structs() {
-        if !struct_in(m, d) {
-            return false;
-        }
-    }
-    true
+    m.structs().iter().all(|d| struct_in(m, d))
 }
 
 /// Whether a field handle's struct definition is there and has the position.
@@ -198,12 +163,7 @@ fn field_handle_in(m: &Module, h: FieldHandle) -> bool
 fn field_handles_in(m: &Module) -> bool
     ensures { result ≡ list_all (field_handle_in m.now) m.now.field_handles }
 {
-    for h in m.field_handles() {
-        if !field_handle_in(m, *h) {
-            return false;
-        }
-    }
-    true
+    m.field_handles().iter().all(|h| field_handle_in(m, *h))
 }
 
 /// How many locals a function has, parameters included; 0 where a signature is missing.
@@ -242,12 +202,7 @@ fn code_in(m: &Module, locals: usize, code: &[Instruction]) -> bool
     ensures { result ≡ list_all (instruction_in m.now locals (length code.now)) code.now }
 {
     let size = code.len();
-    for i in code {
-        if !immediate_in(m, locals, size, i.immediate()) {
-            return false;
-        }
-    }
-    true
+    code.iter().all(|i| immediate_in(m, locals, size, i.immediate()))
 }
 
 /// Whether the struct definitions that a function says it reaches are there.
@@ -255,12 +210,7 @@ fn acquires_in(m: &Module, d: &FunctionDefinition) -> bool
     ensures { result ≡ list_all (λ i. below i m.now.structs) d.now.acquires }
 {
     let structs = m.structs().len();
-    for i in d.acquires() {
-        if usize::from(*i) >= structs {
-            return false;
-        }
-    }
-    true
+    d.acquires().iter().all(|i| usize::from(*i) < structs)
 }
 
 /// Whether a function's handle, locals, acquires list and code name what is there.
@@ -278,10 +228,5 @@ fn function_in(m: &Module, d: &FunctionDefinition) -> bool
 fn functions_in(m: &Module) -> bool
     ensures { result ≡ list_all (function_in m.now) m.now.functions }
 {
-    for d in m.functions() {
-        if !function_in(m, d) {
-            return false;
-        }
-    }
-    true
+    m.functions().iter().all(|d| function_in(m, d))
 }
