@@ -1,9 +1,7 @@
--- What maps say of the modules of a bundle: the place of each name, which module of the bundle stands at each place, and
--- which names there are.
-use Rattle.std.specs.Prelude.{◌≡◌, ℕ, Bool, true, cond, ◌==◌, List, Some, None, is_some, position}
+-- What maps say of the modules of a bundle: the place of each name, and which names there are.
+use Rattle.std.specs.Prelude.{◌≡◌, ℕ, Bool, true, cond, List, Some, None, is_some}
 use Rattle.std.specs.List.{list_any}
 use Rattle.std.specs.Map.{lookup}
-use Rattle.std.specs.Option.{option_or}
 use Rattle.mv_move_types.specs.Names.{same_module}
 use Rattle.mv_move_types.specs.Module.{Module}
 use Rattle.mv_move_types.specs.Named.{is_module}
@@ -19,10 +17,6 @@ has_name_of q k = same_module (name_in q) (name_in k)
 abbrev pub ArePlacesOf : List (Name × ℕ) → List Module → List ℕ → Type 0
 ArePlacesOf entries ns places = (q : Name) → lookup (has_name_of q) entries ≡ found_among (name_in q) ns places None
 
--- at each place is which of a list it is
-abbrev pub AreIndicesOf : List (ℕ × ℕ) → List ℕ → Type 0
-AreIndicesOf entries places = (q : ℕ) → lookup (λ p. q == p) entries ≡ position (λ p. p == q) places
-
 -- the names are those of modules
 abbrev pub AreNamesIn : {V : Type 0} → List (Name × V) → List Kept → Type 0
 AreNamesIn entries kept = (q : Name) → is_some (lookup (has_name_of q) entries) ≡ list_any (λ k. is_module (name_in q) k.published.tables) kept
@@ -34,7 +28,3 @@ PutsPlace old new name place = (q : Name) → lookup (has_name_of q) new ≡ con
 -- a name is put among others
 abbrev pub PutsName : {V : Type 0} → List (Name × V) → List (Name × V) → Name → Type 0
 PutsName old new name = (q : Name) → is_some (lookup (has_name_of q) new) ≡ cond (has_name_of name q) true (is_some (lookup (has_name_of q) old))
-
--- an index is put under a place that has none
-abbrev pub PutsFirst : List (ℕ × ℕ) → List (ℕ × ℕ) → ℕ → ℕ → Type 0
-PutsFirst old new place index = (q : ℕ) → lookup (λ p. q == p) new ≡ option_or (lookup (λ p. q == p) old) (cond (place == q) (Some index) None)

@@ -1,9 +1,9 @@
-// The modules of a bundle, found by their names and by their places.
+// The modules of a bundle, found by their names.
 ghost use Rattle.std.specs.Prelude.{◌≡◌, not, is_some, IfOk, OnOk};
 ghost use Rattle.std.specs.Option.{option_or};
 ghost use Rattle.std.specs.Map.{lookup};
 ghost use Rattle.mv_move_types.specs.Named.{module_place};
-ghost use Rattle.mv_linker.specs.Indexed.{AreIndicesOf, PutsFirst, PutsName, PutsPlace, has_name_of};
+ghost use Rattle.mv_linker.specs.Indexed.{PutsName, PutsPlace, has_name_of};
 ghost use Rattle.mv_linker.specs.Kept.{name_in};
 ghost use Rattle.mv_linker.specs.Link.{tables_in};
 
@@ -49,32 +49,4 @@ pub fn put_name<'a>(names: &mut IndexMap<Name<'a>, ()>, name: Name<'a>) -> Resul
         Ok(old) => Ok(old.is_none()),
         Err(_) => Err(AllocError),
     }
-}
-
-/// Puts an index under a place that has none.
-fn put_first(
-    indices: &mut IndexMap<usize, usize>,
-    place: usize,
-    index: usize,
-) -> Result<(), AllocError>
-    ensures { OnOk result (PutsFirst indices.old.entries indices.new.entries place index) }
-{
-    if indices.contains_key(&place) {
-        return Ok(());
-    }
-    match indices.insert(place, index) {
-        Ok(_) => Ok(()),
-        Err(_) => Err(AllocError),
-    }
-}
-
-/// Which of a list each place is first.
-pub fn indices_of(alloc: Global, places: &[usize]) -> Result<IndexMap<usize, usize>, AllocError>
-    ensures { IfOk result (λ m. AreIndicesOf m.entries places.now) }
-{
-    let mut indices = IndexMap::new(alloc);
-    for k in 0..places.len() {
-        put_first(&mut indices, places[k], k)?;
-    }
-    Ok(indices)
 }

@@ -3,13 +3,13 @@ ghost use Rattle.std.specs.Prelude.{◌≡◌, ◌+◌, ◌≤◌, ◌==◌, Som
 ghost use Rattle.mv_move_types.specs.Module.{own_name as name_of_module};
 ghost use Rattle.mv_move_types.specs.Named.{is_module as has_this_name};
 ghost use Rattle.mv_bounds.specs.Definitions.{all_differ};
-ghost use Rattle.mv_linker.specs.Indexed.{ArePlacesOf, AreIndicesOf};
+ghost use Rattle.mv_linker.specs.Indexed.{ArePlacesOf};
 ghost use Rattle.mv_linker.specs.Kept.{name_in};
 ghost use Rattle.mv_linker.specs.Link.{IsStore, tables_in, have_one_name};
 ghost use Rattle.mv_linker.specs.Scope.{offered, places_in, all_named};
 
 use crate::entry::Name;
-use crate::indexed::{indices_of, place_of, put_place};
+use crate::indexed::{place_of, put_place};
 use crate::names::name_of;
 use crate::{New, Store};
 use indexmap::IndexMap;
@@ -29,13 +29,10 @@ pub struct Scope<'a> {
     pub places: Vec<usize>,
     /// The same by name.
     pub names: IndexMap<Name<'static>, usize>,
-    /// Which module of the bundle stands at each place.
-    indices: IndexMap<usize, usize>,
     ghost placed: { places.items ≡ places_in (tables_in store.now) (offered new.now) },
     ghost named: { IsTrue (all_named (offered new.now)) },
     ghost once: { IsTrue (all_differ have_one_name (offered new.now)) },
     ghost found: { ArePlacesOf names.entries (offered new.now) places.items },
-    ghost indexed: { AreIndicesOf indices.entries places.items },
 }
 
 /// Whether it is the module of this address and identifier.
@@ -103,13 +100,11 @@ impl<'a> Scope<'a> {
         ensures sound { OnOk result (IsStore store.entry.now) }
     {
         let Places { places, names } = places_of(alloc, store, new)?;
-        let indices = indices_of(alloc, &places)?;
         Ok(Scope {
             store,
             new,
             places,
             names,
-            indices,
         })
     }
 
@@ -117,9 +112,6 @@ impl<'a> Scope<'a> {
     pub fn bundled(&self, place: usize) -> Option<usize>
         ensures { result ≡ position (λ p. p == place) self.now.places.items }
     {
-        match self.indices.get(&place) {
-            Some(index) => Some(*index),
-            None => None,
-        }
+        self.places.iter().position(|p| *p == place)
     }
 }

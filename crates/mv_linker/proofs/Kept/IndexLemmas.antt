@@ -1,6 +1,6 @@
 -- The modules of a bundle are found in maps as the lists say.
-use Rattle.std.proofs.Common.{◌≡◌, ℕ, zero, suc, ◌≤◌, Bool, true, false, cond, List, [], ◌∷◌, ◌++◌, length, take, Option, Some, None, option_map, refl, sym, ap, ◌∙◌, arith}
-use Rattle.std.specs.Prelude.{◌==◌, ◌&&◌, ◌||◌, not, is_some}
+use Rattle.std.proofs.Common.{◌≡◌, ℕ, zero, suc, ◌≤◌, Bool, true, false, cond, List, [], ◌∷◌, ◌++◌, length, take, Option, Some, None, refl, sym, ap, ◌∙◌, arith}
+use Rattle.std.specs.Prelude.{◌&&◌, ◌||◌, not, is_some}
 use Rattle.std.specs.List.{list_any}
 use Rattle.std.specs.Map.{lookup}
 use Rattle.std.specs.Option.{option_or, option_map_or}
@@ -8,13 +8,12 @@ use Rattle.std.proofs.lemmas.List.Folds.{list_any-append}
 use Rattle.mv_move_types.specs.Names.{ModuleName, same_module}
 use Rattle.mv_move_types.specs.Module.{Module, own_name}
 use Rattle.mv_move_types.specs.Named.{is_module, have_one_name}
-use Rattle.mv_move_types.specs.Options.{find_index}
 use Rattle.mv_bounds.specs.Definitions.{all_differ}
 use Rattle.mv_linker.specs.declared.entry.Name.{Name}
-use Rattle.mv_linker.specs.Indexed.{ArePlacesOf, AreIndicesOf, AreNamesIn, PutsPlace, PutsName, PutsFirst}
+use Rattle.mv_linker.specs.Indexed.{ArePlacesOf, AreNamesIn, PutsPlace, PutsName}
 use Rattle.mv_linker.specs.Kept.{Kept, name_in}
 use Rattle.mv_linker.specs.Scope.{found_among}
-use Rattle.mv_linker.proofs.Kept.Keyed.{position-find_index, same_module-turns}
+use Rattle.mv_linker.proofs.Kept.Keyed.{same_module-turns}
 
 -- the first of two, and then a third
 or-or : {A : Type 0} (o : Option A) (p : A) (before : Option A) → option_or (option_or o (Some p)) before ≡ option_or o (Some p)
@@ -52,26 +51,6 @@ places-put old new ns places n own p so puts named len q =
     ∙ ap (cond (same_module (name_in own) (name_in q)) (Some p)) (so q)
     ∙ ap (λ b. cond b (Some p) (found_among (name_in q) ns places None)) (sym (has-name n (name_in own) (name_in q) named))
     ∙ sym (found-push (name_in q) ns places n p None len)
-
--- one more is first where none was before
-find-push : {A : Type 0} (f : A → Bool) (xs : List A) (x : A) → find_index f (xs ++ x ∷ []) ≡ option_or (find_index f xs) (cond (f x) (Some (length xs)) None)
-find-push f [] x = refl
-find-push f (y ∷ ys) x = step (f y) (find_index f ys) (f x) (find-push f ys x)
-  where
-    step : (b : Bool) (o : Option ℕ) (c : Bool) → find_index f (ys ++ x ∷ []) ≡ option_or o (cond c (Some (length ys)) None)
-        → cond b (Some 0) (option_map suc (find_index f (ys ++ x ∷ []))) ≡ option_or (cond b (Some 0) (option_map suc o)) (cond c (Some (suc (length ys))) None)
-    step true o c e = refl
-    step false (Some k) c e = ap (option_map suc) e
-    step false None true e = ap (option_map suc) e
-    step false None false e = ap (option_map suc) e
-
-pub indices-put : (old new : List (ℕ × ℕ)) (places : List ℕ) (p k : ℕ) → AreIndicesOf old places → PutsFirst old new p k → k ≡ length places → AreIndicesOf new (places ++ p ∷ [])
-indices-put old new places p k so puts len q =
-    puts q
-    ∙ ap (λ (o : Option ℕ). option_or o (cond (p == q) (Some k) None)) (so q ∙ position-find_index (λ p. p == q) places)
-    ∙ ap (λ n. option_or (find_index (λ p. p == q) places) (cond (p == q) (Some n) None)) len
-    ∙ sym (find-push (λ p. p == q) places p)
-    ∙ sym (position-find_index (λ p. p == q) (places ++ p ∷ []))
 
 -- ---- names that differ
 
