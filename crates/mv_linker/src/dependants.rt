@@ -8,8 +8,8 @@ ghost use Rattle.mv_linker.specs.Relinked.{Joins, NamesBundle, IsApart, IsDepend
 ghost use Rattle.mv_linker.specs.Stored.{AreNames};
 ghost use Rattle.mv_linker.specs.Targets.{modules_in};
 
-use crate::links::Names;
 use crate::scope::Scope;
+use crate::store_rules::Names;
 use indexmap::IndexSet;
 use mv_binary_format::Module;
 use mv_move_types::Refusal;

@@ -1,4 +1,4 @@
-// The rules of phase 13.
+// The rules of phase 13: a and b are here, h is in upgrades.rt, and c to g, over the whole store, are in store_rules.rt.
 ghost use Rattle.std.specs.Prelude.{◌≡◌, ◌↔◌, ◌+◌, ◌≤◌, All, length, IsTrue, IfOk, IfErr, OnOk};
 ghost use Rattle.std.specs.List.{list_all};
 ghost use Rattle.mv_move_types.specs.Published.{with_modules};
@@ -11,8 +11,8 @@ ghost use Rattle.mv_linker.specs.Stored.{KeepsDependencies, Relinks};
 
 use crate::entry::Entry;
 use crate::indexed::put_name;
-use crate::links::Changes;
 use crate::scope::Scope;
+use crate::store_rules::Changes;
 use crate::upgrades::all_follow;
 use crate::{New, Store};
 use indexmap::IndexMap;

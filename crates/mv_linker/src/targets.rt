@@ -1,4 +1,5 @@
-// The modules that a store has once a bundle joins it, found by name and by place.
+// The modules that a store has once a bundle joins it, found by name and by place; and rule c of linking: those that a
+// module's handles name are there.
 ghost use Rattle.std.specs.Prelude.{◌≡◌, ◌<◌, Some, length, map, slice_get, IsTrue, IfOk, IfErr, OnOk};
 ghost use Rattle.mv_move_types.specs.Refusals.{IsRefusedIn};
 ghost use Rattle.mv_move_types.specs.Named.{module_place};

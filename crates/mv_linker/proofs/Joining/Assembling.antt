@@ -17,7 +17,7 @@ use Rattle.mv_linker.specs.Scope.{offered, with_tables}
 use Rattle.mv_linker.specs.News.{published_of}
 use Rattle.mv_linker.specs.Stored.{AreNames, AreNamesOf}
 use Rattle.mv_linker.specs.declared.New.{New}
-use Rattle.mv_linker.specs.declared.links.Names.{Names}
+use Rattle.mv_linker.specs.declared.store_rules.Names.{Names}
 use Rattle.mv_linker.proofs.Members.{Among, among-at, all-among, among-all, among-result, bundle-there}
 use Rattle.mv_linker.proofs.StructSizes.JoinedSizes.{small-joined}
 use Rattle.mv_linker.proofs.Joining.Resolving.{each_push}

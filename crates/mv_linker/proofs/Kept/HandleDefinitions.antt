@@ -9,7 +9,7 @@ use Rattle.mv_move_types.specs.Names.{StructName}
 use Rattle.mv_move_types.specs.Module.{Module, StructDefinition, own_name, name_of_struct, name_at}
 use Rattle.mv_move_types.specs.Named.{is_struct, module_named, definition_of}
 use Rattle.mv_move_types.specs.Options.{◌>>=◌, find_index}
-use Rattle.mv_linker.specs.declared.links.Names.{Names}
+use Rattle.mv_linker.specs.declared.store_rules.Names.{Names}
 use Rattle.mv_linker.specs.declared.sizes.Defined.{Defined}
 use Rattle.mv_linker.specs.declared.sizes.Defined.TheVariants.{Published, Bundled}
 use Rattle.mv_linker.specs.Links.{structs_are_there}

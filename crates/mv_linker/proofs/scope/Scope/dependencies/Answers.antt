@@ -3,7 +3,7 @@ use Rattle.std.proofs.lemmas.List.{length-map}
 use Rattle.std.proofs.lemmas.Option.{slice_get_read}
 use Rattle.mv_move_types.specs.Module.{Module}
 use Rattle.mv_linker.specs.declared.New.{New}
-use Rattle.mv_linker.specs.declared.links.Names.{Names}
+use Rattle.mv_linker.specs.declared.store_rules.Names.{Names}
 use Rattle.mv_linker.specs.Link.{tables_in}
 use Rattle.mv_linker.specs.Order.{AreHandlePlaces}
 use Rattle.mv_linker.specs.Scope.{offered, places_in}

@@ -1,6 +1,0 @@
-use Rattle.std.proofs.Common.{◌≡◌, map, take, ℕ, Vec, Global}
-use Rattle.mv_linker.specs.Order.{shifted}
-use Rattle.mv_linker.proofs.order.graph_from.Given as goal
-
-abbrev pub invariant-loop-places : goal.invariant-loop-places
-invariant-loop-places l = map (λ (s : Vec ℕ Global). s.items) l.graph.items ≡ map (λ (d : Vec ℕ Global). shifted l.base d.items) (take l.places-index l.dependencies)
