@@ -9,6 +9,7 @@
 --   TalliesFresh   The tallies of a module that is published.
 --   TalliesJoined  The tallies after a bundle: each struct with neither copy nor drop has the one that it had, or an empty one.
 --   Joining        A bundle that may join, and was placed: the store and the tallies after it.
+pub mod Common
 pub mod Stores
 pub mod Places
 pub mod Heirs

@@ -11,6 +11,7 @@
 --   Typed, Admitted                `fine-kept`, `admitted-entry`: what the store and admission give a run to begin with
 --   Tallied, Ended                 `returned-balanced`, `bundle-balanced`, `counts-tallied`: the ledger's tallies stay balanced
 --   Worked                         the words at work
+pub mod Common
 pub mod Own
 pub mod Counts
 pub mod Keys

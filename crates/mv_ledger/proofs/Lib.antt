@@ -3,6 +3,7 @@
 --   Shapes, ShapesOfArguments, Spelling   payloads and texts are read exactly where they have their shape
 --   Phases, Replying, Ledgers             which phase is answered, what is replied, and that what a ledger holds stays as it has to
 --   SavedOnce, SavedFails                 one ledger to a text, and one reason where there is none
+pub mod Common
 pub mod Spelling
 pub mod Ledgers
 pub mod Phases

@@ -21,6 +21,7 @@
 --   CountedStorage  How many values of a struct are stored, at any depth, from how many values are stored of each struct with key.
 --   TalliesCounted  Tallies against the counts of what is stored.
 --   Loaded          From its parts, which ledger bytes are loaded as, and why they are not.
+pub mod Common
 pub mod LoadedHead
 pub mod Grouping
 pub mod LoadedModules

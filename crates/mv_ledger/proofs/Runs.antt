@@ -9,6 +9,7 @@
 --   TalliesAdding       A run's tally as it is added, entry by entry.
 --   TalliesByModule     A run's tally as it is added, entry by entry, each to the tallies of its module alone.
 --   StoredRuns          What a run leaves is what the machine's run asks for.
+pub mod Common
 pub mod Calls
 pub mod Admissions
 pub mod AdmissionsAnswered

@@ -12,6 +12,7 @@
 --   SavedLimits   A ledger is within the limits of a saved one.
 --   SavedLoads    What is saved of a sound ledger is loaded, what is loaded is sound, and what is loaded is saved as it was.
 --   SavedRows     Texts of worked ledgers, by computation: an empty one, and one with a coin of 7, whose module has 99 bytes.
+pub mod Common
 pub mod LayoutParts
 pub mod PartKinds
 pub mod KeyedIndices

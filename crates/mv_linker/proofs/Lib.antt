@@ -6,6 +6,7 @@
 --   StructSizes  rule g
 --   LinkedCode   the code that stands for a module's
 --   Kept         what else the store keeps
+pub mod Common
 pub mod Found
 pub mod ListTests
 pub mod Orders

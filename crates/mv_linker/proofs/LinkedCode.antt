@@ -18,6 +18,7 @@
 --   RelinkingLemmas  `relinks`: modules that were linked: the codes of a store's modules with theirs are those of the result's modules
 --   PlacedCodes      `relinking`: the code of each module that was linked, with its place: with it a bundle that joins is linked
 --   StoredCodes      `program-is`, `code-there`: what a store's codes say of its modules
+pub mod Common
 pub mod Constants
 pub mod TopLemmas
 pub mod WidthLemmas

@@ -1,32 +1,19 @@
 -- What stands in a module's place after a bundle: the module itself, or one of its name that may replace it. Its structs stay.
-use Rattle.std.proofs.Common.{◌≡◌, ℕ, zero, suc, ◌+◌, Bool, true, false, cond, List, [], ◌∷◌, ◌++◌, map, Option, Some, None, option_map, refl, sym, ap, ap₂, ◌∙◌, subst, append-nil, ◌⊎◌, inl, inr}
-use Rattle.std.specs.Prelude.{slice_get, not, ◌&&◌, ◌||◌, fold, option_and_then}
-use Rattle.std.specs.List.{list_all, filter, enumerate_from, AllByRecursion}
-use Rattle.std.specs.Option.{option_map_or}
-use Rattle.std.specs.Cmp.{first_so, second_so}
-use Rattle.std.specs.Str.{bytes_eq}
+use Rattle.mv_ledger.proofs.Bundles.Common.{[], ℕ, ◌++◌, ◌+◌, ◌∙◌, ◌∷◌, ◌≡◌, ◌⊎◌, Bool, List, None, Option, Some, ap, append-nil, ap₂, cond, false, inl, inr, map, option_map, refl, subst, suc, sym}
+use Rattle.mv_ledger.proofs.Bundles.Common.{true, zero, same_Some, first_so, second_so, AllByRecursion, enumerate_from, filter, list_all, option_map_or, ◌&&◌, ◌||◌, fold, not, option_and_then}
+use Rattle.mv_ledger.proofs.Bundles.Common.{slice_get, bytes_eq, Module, StructDefinition, name_at, name_of_struct, own_name, struct_abilities, definition_of, have_one_name, is_module, is_struct}
+use Rattle.mv_ledger.proofs.Bundles.Common.{module_named, module_place, ModuleName, StructName, same_module, find_index, PublishedModule, has_name_of, with_module, with_modules, each, then_found}
+use Rattle.mv_ledger.proofs.Bundles.Common.{is_module-is, same_module-same, IsStore, are_compatible, tables_in, own_of_store, AreScarce, scarce_indices, Tally}
 use Rattle.std.proofs.lemmas.Slice.Eq.{bytes_eq-Decides}
-use Rattle.std.proofs.lemmas.Option.{same_Some}
 use Rattle.mv_move_types.specs.declared.token.Abilities.{Abilities}
 use Rattle.mv_move_types.specs.declared.tables.Field.{Field}
 use Rattle.mv_move_types.specs.AbilitySets.{same_abilities}
-use Rattle.mv_move_types.specs.Options.{find_index}
-use Rattle.mv_move_types.specs.Names.{ModuleName, StructName, same_module}
-use Rattle.mv_move_types.specs.Module.{Module, StructDefinition, own_name, name_of_struct, struct_abilities, name_at}
-use Rattle.mv_move_types.specs.Named.{is_module, is_struct, have_one_name, module_place, module_named, definition_of}
-use Rattle.mv_move_types.specs.Published.{PublishedModule, has_name_of, with_module, with_modules}
 use Rattle.mv_linker.specs.Upgrades.{same_fields, same_struct_definition, structs_stay, function_stays, may_replace}
-use Rattle.mv_linker.specs.Link.{IsStore, tables_in, are_compatible}
 use Rattle.mv_move_types.specs.Scarce.{is_scarce_struct}
 use Rattle.mv_linker.proofs.Joining.Upgraded.{same_abilities-is}
-use Rattle.mv_linker.proofs.NameLemmas.{same_module-same, is_module-is}
 use Rattle.mv_module_text.proofs.Texts.{on_bind}
-use Rattle.mv_linker.proofs.Found.{each, then_found}
 use Rattle.mv_interpreter.specs.Owned.{IsOwn}
 use Rattle.mv_interpreter.proofs.Lists.{mapped_at}
-use Rattle.mv_interpreter.proofs.Homes.{own_of_store}
-use Rattle.mv_ledger.specs.declared.tallies.Tally.{Tally}
-use Rattle.mv_ledger.specs.View.{AreScarce, scarce_indices}
 use Rattle.mv_ledger.proofs.Bundles.Stores.{one_own}
 use Rattle.mv_ledger.proofs.Bundles.Places.{had}
 

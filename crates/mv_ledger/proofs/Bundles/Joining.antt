@@ -1,20 +1,8 @@
 -- A bundle that may join, and was placed: the store and the tallies after it.
-use Rattle.std.proofs.Common.{◌≡◌, ℕ, suc, cond, ◌+◌, ◌<◌, ◌≤◌, List, [], ◌∷◌, length, Option, refl, sym, ap, ap₂, ◌∙◌, subst, arith}
-use Rattle.std.specs.Prelude.{All, nat_le, nat_lt, count_by, ◌&&◌, true, false}
-use Rattle.std.specs.List.{list_all}
-use Rattle.std.specs.Cmp.{first_so, second_so}
-use Rattle.std.proofs.lemmas.Bool.{leb-true, ltb-true, ltb-false}
-use Rattle.std.proofs.lemmas.List.{length-map}
-use Rattle.mv_move_types.specs.Module.{Module}
-use Rattle.mv_move_types.specs.Published.{PublishedModule, with_modules}
-use Rattle.mv_module_text.specs.Fits.{address_fits}
-use Rattle.mv_machine.specs.Ledger.{Offer, Publish}
-use Rattle.mv_linker.specs.Link.{MayJoin, IsStore, tables_in}
-use Rattle.mv_ledger.specs.declared.tallies.Tally.{Tally}
-use Rattle.mv_ledger.specs.declared.tallies.Placed.{Placed}
+use Rattle.mv_ledger.proofs.Bundles.Common.{[], ℕ, ◌+◌, ◌<◌, ◌∙◌, ◌∷◌, ◌≡◌, ◌≤◌, List, Option, ap, ap₂, arith, cond, false, length, refl, subst, suc, sym, true, leb-true, ltb-false, ltb-true}
+use Rattle.mv_ledger.proofs.Bundles.Common.{length-map, first_so, second_so, list_all, ◌&&◌, All, count_by, nat_le, nat_lt, Module, PublishedModule, with_modules, address_fits, Offer, Publish}
+use Rattle.mv_ledger.proofs.Bundles.Common.{IsStore, MayJoin, tables_in, AddsTallies, ArePlacedFor, AreWithin, is_published, with_placed, ArePlaced, AreScarce, IsNamed, IsSmall, all_of, Placed, Tally}
 use Rattle.mv_ledger.specs.RecordText.{IsShaped, offer_fits}
-use Rattle.mv_ledger.specs.View.{all_of, ArePlaced, AreScarce, IsNamed, IsSmall}
-use Rattle.mv_ledger.specs.Tallying.{AddsTallies, AreWithin, is_published, ArePlacedFor, with_placed}
 use Rattle.mv_ledger.proofs.Bundles.Places.{AreSpotted, EachIs, had, had-at, all-spotted, count-joined, each-first, each-joined, each-length, spotted-within, had-found}
 use Rattle.mv_ledger.proofs.Bundles.Heirs.{inherited}
 use Rattle.mv_ledger.proofs.Bundles.TalliesJoined.{tallies-added, scarce-added, named-added, small-added}

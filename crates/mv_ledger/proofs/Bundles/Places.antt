@@ -1,25 +1,12 @@
 -- Where the modules of a bundle stand in the store that it joins, and the tallies of each module then.
-use Rattle.std.proofs.Common.{◌≡◌, ℕ, zero, suc, ◌+◌, ◌<◌, ◌≤◌, Bool, true, false, cond, List, [], ◌∷◌, ◌++◌, map, length, drop, Option, Some, None, option_map, refl, sym, ap, ap₂, ◌∙◌, subst, arith, zero-add, append-nil}
-use Rattle.std.specs.Prelude.{◌||◌, not, All, nat_lt, nat_le, slice_get, unwrap_or, option_and_then, count_by, fold}
-use Rattle.std.specs.List.{list_any, AllByRecursion}
-use Rattle.std.specs.Option.{option_map_or}
-use Rattle.std.specs.Cmp.{first_so, second_so}
-use Rattle.std.proofs.lemmas.Bool.{lt-ltb, le-ltb, le-leb, lt-leb}
-use Rattle.std.proofs.lemmas.List.{drop_all, length-map}
-use Rattle.std.proofs.lemmas.List.Elements.{All-nil, All-append, All-map}
+use Rattle.mv_ledger.proofs.Bundles.Common.{[], ℕ, ◌++◌, ◌+◌, ◌<◌, ◌∙◌, ◌∷◌, ◌≡◌, ◌≤◌, Bool, List, None, Option, Some, ap, append-nil, ap₂, arith, cond, drop, false, length, map, option_map, refl}
+use Rattle.mv_ledger.proofs.Bundles.Common.{subst, suc, sym, true, zero, zero-add, le-leb, le-ltb, lt-leb, lt-ltb, drop_all, length-map, All-append, All-map, All-nil, first_so, second_so}
+use Rattle.mv_ledger.proofs.Bundles.Common.{AllByRecursion, list_any, option_map_or, ◌||◌, All, count_by, fold, nat_le, nat_lt, not, option_and_then, slice_get, unwrap_or, Module, own_name}
+use Rattle.mv_ledger.proofs.Bundles.Common.{have_one_name, is_module, module_place, ModuleName, find_index, PublishedModule, has_name_of, with_module, with_modules, tables_in, ArePlacedFor, AreWithin}
+use Rattle.mv_ledger.proofs.Bundles.Common.{fresh_tally, place_for, tallies_at, with_placed, ArePlaced, AreScarce, scarce_indices, Placed, Tally}
 use Rattle.std.proofs.lemmas.List.Sums.{sum_by-cons}
-use Rattle.mv_move_types.specs.Names.{ModuleName}
-use Rattle.mv_move_types.specs.Module.{Module, own_name}
-use Rattle.mv_move_types.specs.Named.{is_module, have_one_name, module_place}
-use Rattle.mv_move_types.specs.Options.{find_index}
-use Rattle.mv_move_types.specs.Published.{PublishedModule, has_name_of, with_module, with_modules}
 use Rattle.mv_bounds.specs.Definitions.{all_differ}
-use Rattle.mv_linker.specs.Link.{tables_in}
 use Rattle.mv_linker.specs.Stored.{with_at}
-use Rattle.mv_ledger.specs.declared.tallies.Tally.{Tally}
-use Rattle.mv_ledger.specs.declared.tallies.Placed.{Placed}
-use Rattle.mv_ledger.specs.View.{ArePlaced, AreScarce, scarce_indices}
-use Rattle.mv_ledger.specs.Tallying.{fresh_tally, tallies_at, with_placed, AreWithin, place_for, ArePlacedFor}
 use Rattle.mv_ledger.proofs.Bundles.Stores.{one_name-turns, one_name-same}
 
 -- the place that a module of this name takes: that of the one of its name, or the next one

@@ -1,18 +1,10 @@
 -- The modules of a bundle are placed one after the other.
-use Rattle.std.proofs.Common.{◌≡◌, Bor, ℕ, zero, suc, ◌+◌, ◌<◌, ◌≤◌, Bool, true, false, cond, List, [], ◌∷◌, ◌++◌, map, length, take, drop, get_or, Option, Some, None, refl, sym, ap, ap₂, ◌∙◌, subst, arith, zero-add}
-use Rattle.std.specs.Prelude.{All, nat_lt, slice_get, slice_set, unwrap_or, option_and_then, is_none, is_some, not, ◌==◌}
+use Rattle.mv_ledger.proofs.Bundles.Common.{[], ℕ, ◌++◌, ◌+◌, ◌<◌, ◌∙◌, ◌∷◌, ◌≡◌, ◌≤◌, Bool, Bor, List, None, Option, Some, ap, ap₂, arith, cond, drop, false, get_or, length, map, refl, subst, suc}
+use Rattle.mv_ledger.proofs.Bundles.Common.{sym, take, true, zero, zero-add, eqb-false, eqb-true, ltb-false, ltb-true, append_assoc, length-map, map-append, map-set, map_more, ◌==◌, All, is_none}
+use Rattle.mv_ledger.proofs.Bundles.Common.{is_some, nat_lt, not, option_and_then, slice_get, slice_set, unwrap_or, Module, own_name, module_place, PublishedModule, tables_in, ArePlacedFor, AreWithin}
+use Rattle.mv_ledger.proofs.Bundles.Common.{fresh_tally, is_published, place_for, tallies_at, with_placed, ArePlaced, scarce_indices, Placed, Tally}
 use Rattle.std.specs.declared.vec.Vec.{Vec}
 use Rattle.std.specs.declared.alloc.Global.{Global}
-use Rattle.std.proofs.lemmas.Bool.{ltb-true, ltb-false, eqb-true, eqb-false}
-use Rattle.std.proofs.lemmas.List.{append_assoc, length-map, map-append, map-set, map_more}
-use Rattle.mv_move_types.specs.Module.{Module, own_name}
-use Rattle.mv_move_types.specs.Named.{module_place}
-use Rattle.mv_move_types.specs.Published.{PublishedModule}
-use Rattle.mv_linker.specs.Link.{tables_in}
-use Rattle.mv_ledger.specs.declared.tallies.Tally.{Tally}
-use Rattle.mv_ledger.specs.declared.tallies.Placed.{Placed}
-use Rattle.mv_ledger.specs.View.{ArePlaced, scarce_indices}
-use Rattle.mv_ledger.specs.Tallying.{fresh_tally, tallies_at, with_placed, AreWithin, place_for, is_published, ArePlacedFor}
 use Rattle.mv_ledger.proofs.Runs.TalliesByModule.{lists}
 use Rattle.mv_linker.specs.declared.New.{New}
 use Rattle.mv_linker.specs.News.{published_one, published_of}

@@ -1,18 +1,10 @@
 -- Texts and certificates are within their limits: those of a bundle, and so those of the store that it joined.
-use Rattle.std.proofs.Common.{◌≡◌, ℕ, Bool, true, false, cond, List, [], ◌∷◌, map, length, Result, Ok, Err, refl, sym, ap₂, ◌∙◌, subst}
-use Rattle.std.specs.Prelude.{◌&&◌, IsTrue, nat_le, OnOk, IfOk}
-use Rattle.std.specs.Cmp.{first_so, second_so}
-use Rattle.std.specs.List.{list_all}
-use Rattle.std.proofs.lemmas.Bool.{and_from}
-use Rattle.mv_move_types.specs.declared.refusal.Refusal.{Refusal}
-use Rattle.mv_move_types.specs.Published.{PublishedModule, has_name_of, with_module, with_modules}
-use Rattle.mv_module_text.specs.Fits.{address_fits}
-use Rattle.mv_machine.specs.Ledger.{Offer, LedgerState, Publish}
+use Rattle.mv_ledger.proofs.Bundles.Common.{[], ℕ, ◌∙◌, ◌∷◌, ◌≡◌, Bool, Err, List, Ok, Result, ap₂, cond, false, length, map, refl, subst, sym, true, and_from, first_so, second_so, list_all, ◌&&◌}
+use Rattle.mv_ledger.proofs.Bundles.Common.{IfOk, IsTrue, OnOk, nat_le, PublishedModule, has_name_of, with_module, with_modules, Refusal, address_fits, LedgerState, Offer, Publish, AreSized}
 use Rattle.mv_ledger.specs.RecordText.{IsShaped, offer_fits}
 use Rattle.mv_ledger.specs.Publishing.{AllPass, offered}
 use Rattle.mv_ledger.specs.Exact.{IsAccepted}
 use Rattle.mv_ledger.specs.Judging.{IsAcceptedBy}
-use Rattle.mv_ledger.specs.View.{AreSized}
 
 -- whether all modules' texts are within their limits
 abbrev all_sized : List PublishedModule → Bool

@@ -1,13 +1,9 @@
 -- What is stored stays as it was where a bundle is published: its words are fine, and stand for the same values.
-use Rattle.std.proofs.Common.{◌≡◌, ℕ, zero, suc, ◌+◌, Bool, true, false, List, [], ◌∷◌, Option, Some, None, Result, Ok, Err, refl, sym, ap, ap₂, ◌∙◌, subst, arith, inl, inr, ◌⊎◌}
-use Rattle.std.specs.Prelude.{All, OnOk, IfOk, slice_get, unwrap_or, ◌&&◌, option_map, option_and_then}
-use Rattle.std.specs.Option.{option_map_or}
-use Rattle.std.specs.Cmp.{first_so, second_so}
-use Rattle.std.specs.Str.{bytes_eq}
-use Rattle.std.proofs.lemmas.List.Elements.{All-head, All-tail, All-weaker}
-use Rattle.std.proofs.lemmas.Option.{same_Some}
-use Rattle.std.proofs.lemmas.Bool.{and_from}
-use Rattle.mv_move_types.specs.declared.refusal.Refusal.{Refusal}
+use Rattle.mv_ledger.proofs.Bundles.Common.{[], ℕ, ◌+◌, ◌∙◌, ◌∷◌, ◌≡◌, ◌⊎◌, Bool, Err, List, None, Ok, Option, Result, Some, ap, ap₂, arith, false, inl, inr, option_map, refl, subst, suc, sym, true}
+use Rattle.mv_ledger.proofs.Bundles.Common.{zero, and_from, All-head, All-tail, All-weaker, same_Some, first_so, second_so, option_map_or, ◌&&◌, All, IfOk, OnOk, option_and_then, slice_get, unwrap_or}
+use Rattle.mv_ledger.proofs.Bundles.Common.{bytes_eq, Module, StructDefinition, name_at, name_of_struct, struct_abilities, struct_name, declared, declared_in, definition_of, is_struct, module_named}
+use Rattle.mv_ledger.proofs.Bundles.Common.{module_place, StructName, same_struct, ◌>>=◌, find_index, PublishedModule, Refusal, address_fits, each, then_found, same_struct-is, IsStore, tables_in}
+use Rattle.mv_ledger.proofs.Bundles.Common.{own_of_store}
 use Rattle.mv_move_types.specs.declared.tables.Field.{Field}
 use Rattle.mv_move_types.specs.declared.tables.Key.{Key}
 use Rattle.mv_move_types.specs.declared.tables.StructHandle.{StructHandle}
@@ -19,12 +15,6 @@ use Rattle.mv_move_types.specs.declared.token.ValueType.TheVariants.{OfLeaf, OfS
 use Rattle.mv_move_types.specs.AbilitySets.{same_abilities}
 use Rattle.mv_move_types.specs.Tokens.{same_kind}
 use Rattle.mv_move_types.specs.Tags.{Tag, LeafTag, StructTag, ReferenceTag, same_tag}
-use Rattle.mv_move_types.specs.Options.{find_index, ◌>>=◌}
-use Rattle.mv_move_types.specs.Names.{StructName, same_struct}
-use Rattle.mv_move_types.specs.Module.{Module, StructDefinition, struct_name, name_of_struct, struct_abilities, name_at}
-use Rattle.mv_move_types.specs.Named.{is_struct, module_place, module_named, definition_of, declared, declared_in}
-use Rattle.mv_move_types.specs.Published.{PublishedModule}
-use Rattle.mv_module_text.specs.Fits.{address_fits}
 use Rattle.mv_machine.specs.Value.{Value, Leaf, Struct, Ref, Values, NoMore, More}
 use Rattle.mv_machine.specs.State.{Storage}
 use Rattle.mv_machine.specs.Typed.{leaf_fits, is_of_type, are_of_types, is_of_struct, abilities_at, is_fine_entry, is_fine_storage}
@@ -32,14 +22,10 @@ use Rattle.mv_machine.specs.Flat.{FlatEntry, value_from, fields_from, struct_fro
 use Rattle.mv_linker.specs.TypesByName.{token_named, value_type_named}
 use Rattle.mv_linker.specs.Upgrades.{same_field, same_fields}
 use Rattle.mv_linker.specs.Links.{struct_is_there, structs_are_there}
-use Rattle.mv_linker.specs.Link.{IsStore, tables_in}
-use Rattle.mv_linker.proofs.NameLemmas.{same_struct-is}
 use Rattle.mv_module_text.proofs.Texts.{on_bind}
-use Rattle.mv_linker.proofs.Found.{each, then_found}
 use Rattle.mv_linker.proofs.TagTests.{same_tag-is}
 use Rattle.mv_interpreter.specs.Owned.{IsOwn}
 use Rattle.mv_interpreter.specs.Runs.{IsFineWords}
-use Rattle.mv_interpreter.proofs.Homes.{own_of_store}
 use Rattle.mv_ledger.specs.Judging.{IsAcceptedBy}
 use Rattle.mv_ledger.proofs.Counting.Packs.{there-get}
 use Rattle.mv_ledger.proofs.Bundles.Heirs.{Inherits, inherited, tested, found-passes, on_and_then, stayed, name-stays, Stayed}

@@ -1,14 +1,7 @@
 -- Modules of one name.
-use Rattle.std.proofs.Common.{◌≡◌, ℕ, true, false, List, [], ◌∷◌, Option, Some, None, refl, sym, ap, ◌∙◌, arith}
-use Rattle.std.specs.Prelude.{◌&&◌, ◌==◌}
-use Rattle.std.specs.Option.{option_map_or}
-use Rattle.std.specs.Str.{bytes_eq}
+use Rattle.mv_ledger.proofs.Bundles.Common.{[], ℕ, ◌∙◌, ◌∷◌, ◌≡◌, List, None, Option, Some, ap, arith, false, refl, sym, true, option_map_or, ◌&&◌, ◌==◌, bytes_eq, Module, own_name, have_one_name}
+use Rattle.mv_ledger.proofs.Bundles.Common.{is_module, ModuleName, same_module, is_module-is}
 use Rattle.std.proofs.lemmas.Bool.Decides.{nat_tests}
-use Rattle.mv_move_types.specs.Names.{ModuleName, same_module}
-use Rattle.mv_move_types.specs.Module.{Module, own_name}
-use Rattle.mv_linker.specs.Link.{have_one_name}
-use Rattle.mv_move_types.specs.Named.{is_module}
-use Rattle.mv_linker.proofs.NameLemmas.{is_module-is}
 
 -- equality of bytes is symmetric
 nat-turns : (a b : ℕ) → (a == b) ≡ (b == a)

@@ -1,23 +1,14 @@
 -- The tallies of a module that is published.
-use Rattle.std.proofs.Common.{◌≡◌, ℕ, suc, ◌+◌, ◌<◌, ◌≤◌, Bool, true, false, cond, List, [], ◌∷◌, ◌++◌, map, length, take, get_or, Option, Some, None, refl, sym, ap, ap₂, ◌∙◌, subst, arith, zero-add}
-use Rattle.std.specs.Prelude.{All, IsSome, slice_get, unwrap_or, filter_map}
-use Rattle.std.specs.List.{filter, enumerate_from, cons_option, list_all}
-use Rattle.std.specs.Cmp.{first_so, second_so}
-use Rattle.std.proofs.lemmas.List.{append-nil, map-append, take_all}
-use Rattle.std.proofs.lemmas.List.Elements.{All-nil, All-cons, filter_more}
+use Rattle.mv_ledger.proofs.Bundles.Common.{[], ℕ, ◌++◌, ◌+◌, ◌<◌, ◌∙◌, ◌∷◌, ◌≡◌, ◌≤◌, Bool, List, None, Option, Some, ap, append-nil, ap₂, arith, cond, false, get_or, length, map, refl, subst, suc}
+use Rattle.mv_ledger.proofs.Bundles.Common.{sym, take, true, zero-add, map-append, take_all, All-cons, All-nil, filter_more, first_so, second_so, cons_option, enumerate_from, filter, list_all, All}
+use Rattle.mv_ledger.proofs.Bundles.Common.{IsSome, filter_map, slice_get, unwrap_or, Module, StructDefinition, module_name, name_at, name_of_struct, StructName, scarce_name, untouched_tally, each}
+use Rattle.mv_ledger.proofs.Bundles.Common.{then_found, there_below, fresh_tally, IsNamed, scarce_indices, tallied, Tally}
 use Rattle.std.proofs.lemmas.List.FromFn.{length-enumerate_from, get_or-enumerate_from}
-use Rattle.mv_move_types.specs.Names.{StructName}
-use Rattle.mv_move_types.specs.Module.{Module, StructDefinition, name_at, name_of_struct, module_name}
 use Rattle.mv_bounds.specs.Bounds.{InBounds, below, struct_in, field_in, struct_handle_in}
 use Rattle.mv_machine.specs.Lines.{Tallied}
-use Rattle.mv_machine.specs.Ledger.{scarce_name, untouched_tally}
 use Rattle.mv_move_types.specs.Scarce.{is_scarce_struct}
-use Rattle.mv_linker.proofs.Found.{then_found, there_below, each}
 use Rattle.mv_linker.proofs.OwnDefinitions.{module_there}
 use Rattle.mv_interpreter.specs.Flat.Agreement.{nameless}
-use Rattle.mv_ledger.specs.declared.tallies.Tally.{Tally}
-use Rattle.mv_ledger.specs.View.{IsNamed, scarce_indices, tallied}
-use Rattle.mv_ledger.specs.Tallying.{fresh_tally}
 
 module _ (m : Module) where
   -- the indices of the first so many structs that are scarce

@@ -1,28 +1,15 @@
 -- The tallies after a bundle: each struct with neither copy nor drop has the one that it had, or an empty one.
-use Rattle.std.proofs.Common.{◌≡◌, ℕ, zero, suc, ◌+◌, ◌*◌, ◌<◌, ◌≤◌, Bool, true, false, cond, List, [], ◌∷◌, ◌++◌, map, length, drop, Option, Some, None, option_map, refl, sym, ap, ap₂, ◌∙◌, subst, arith, zero-add}
-use Rattle.std.specs.Prelude.{◌==◌, ◌&&◌, All, IsSome, slice_get, unwrap_or, filter_map, find}
-use Rattle.std.specs.Cmp.{first_so, second_so}
-use Rattle.std.proofs.lemmas.Bool.{and_from, eq-eqb, eqb-true}
+use Rattle.mv_ledger.proofs.Bundles.Common.{[], ℕ, ◌*◌, ◌++◌, ◌+◌, ◌<◌, ◌∙◌, ◌∷◌, ◌≡◌, ◌≤◌, Bool, List, None, Option, Some, ap, ap₂, arith, cond, drop, false, length, map, option_map, refl, subst}
+use Rattle.mv_ledger.proofs.Bundles.Common.{suc, sym, true, zero, zero-add, and_from, eq-eqb, eqb-true, length-map, map-append, All-append, All-cons, All-head, All-map, All-nil, All-tail, All-weaker}
+use Rattle.mv_ledger.proofs.Bundles.Common.{same_Some, first_so, second_so, ◌&&◌, ◌==◌, All, IsSome, filter_map, find, slice_get, unwrap_or, Module, name_at, StructName, same_struct, PublishedModule}
+use Rattle.mv_ledger.proofs.Bundles.Common.{scarce_name, scarce_structs, tally_of, untouched_tally, some-of, then_found, same_struct-is, same_struct-same, IsPublishable, IsStore, tables_in, index_of}
+use Rattle.mv_ledger.proofs.Bundles.Common.{AddsTallies, fresh_tally, tallies_at, ArePlaced, AreScarce, IsNamed, IsSmall, all_of, scarce_indices, tallied, Tally}
 use Rattle.std.proofs.lemmas.Bool.Decides.{same_from_decides}
-use Rattle.std.proofs.lemmas.Option.{same_Some}
-use Rattle.std.proofs.lemmas.List.{map-append, length-map}
 use Rattle.std.proofs.Math.Seq.{drop-append_seam}
-use Rattle.std.proofs.lemmas.List.Elements.{All-nil, All-cons, All-head, All-tail, All-append, All-map, All-weaker}
-use Rattle.mv_move_types.specs.Names.{StructName, same_struct}
-use Rattle.mv_move_types.specs.Module.{Module, name_at}
-use Rattle.mv_move_types.specs.Published.{PublishedModule}
 use Rattle.mv_bounds.specs.Bounds.{InBounds}
 use Rattle.mv_machine.specs.Lines.{Tallied}
-use Rattle.mv_machine.specs.Ledger.{scarce_name, scarce_structs, tally_of, untouched_tally}
-use Rattle.mv_linker.specs.Link.{IsStore, IsPublishable, tables_in}
-use Rattle.mv_linker.proofs.NameLemmas.{same_struct-same, same_struct-is}
-use Rattle.mv_linker.proofs.Found.{then_found, some-of}
-use Rattle.mv_interpreter.proofs.Homes.{index_of}
 use Rattle.mv_interpreter.proofs.Lists.{mapped_at, All-at}
 use Rattle.mv_interpreter.specs.Flat.Agreement.{nameless}
-use Rattle.mv_ledger.specs.declared.tallies.Tally.{Tally}
-use Rattle.mv_ledger.specs.View.{all_of, ArePlaced, AreScarce, IsNamed, IsSmall, tallied, scarce_indices}
-use Rattle.mv_ledger.specs.Tallying.{AddsTallies, fresh_tally, tallies_at}
 use Rattle.mv_ledger.proofs.Bundles.Places.{had, EachIs}
 use Rattle.mv_ledger.proofs.Bundles.Heirs.{Inherits, had-first, name-stays}
 use Rattle.mv_ledger.proofs.Runs.ScarceTallies.{All-back, Ascends, ascend-from}

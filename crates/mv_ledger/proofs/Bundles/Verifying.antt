@@ -1,12 +1,8 @@
 -- Offers are verified one after the other.
-use Rattle.std.proofs.Common.{◌≡◌, ℕ, suc, ◌+◌, ◌≤◌, ◌<◌, List, [], ◌∷◌, ◌++◌, length, take, drop, get_or, refl, sym, ap, ◌∙◌, subst}
-use Rattle.std.proofs.lemmas.List.{drop_more, map_more, map-append, take_all, take-append-drop}
-use Rattle.std.proofs.lemmas.List.Elements.{All-nil, All-cons, All-append}
-use Rattle.mv_move_types.specs.declared.refusal.Refusal.{Refusal}
+use Rattle.mv_ledger.proofs.Bundles.Common.{[], ℕ, ◌++◌, ◌+◌, ◌<◌, ◌∙◌, ◌∷◌, ◌≡◌, ◌≤◌, List, ap, drop, get_or, length, refl, subst, suc, sym, take, drop_more, map-append, map_more, take-append-drop}
+use Rattle.mv_ledger.proofs.Bundles.Common.{take_all, All-append, All-cons, All-nil, PublishedModule, Refusal, Offer}
 use Rattle.mv_move_types.specs.declared.refusal.Refusal.TheVariants.{Phase, Memory}
-use Rattle.mv_move_types.specs.Published.{PublishedModule}
 use Rattle.mv_certificate.specs.Certificate.{Certificate}
-use Rattle.mv_machine.specs.Ledger.{Offer}
 use Rattle.mv_linker.specs.declared.New.{New}
 use Rattle.mv_linker.specs.News.{HasItsTexts, AreTexts, published_one, published_of}
 use Rattle.mv_ledger.specs.declared.payload.Offered.{Offered}

@@ -1,19 +1,7 @@
 -- A run that is admitted is of an entry function, with leaves.
-use Rattle.std.proofs.Common.{◌≡◌, ◌^◌, true, List, [], ◌∷◌, Ok, subst}
-use Rattle.std.specs.Prelude.{slice_get, nat_le, nat_lt}
-use Rattle.std.specs.Cmp.{first_so, second_so}
-use Rattle.std.specs.List.{AllByRecursion}
-use Rattle.mv_move_types.specs.declared.token.ValueType.TheVariants.{OfLeaf, OfStruct}
-use Rattle.mv_move_types.specs.declared.token.Token.{Token}
-use Rattle.mv_move_types.specs.declared.token.Token.TheVariants.{Plain, Reference as ReferenceTo, MutableReference as MutableReferenceTo}
-use Rattle.mv_move_types.specs.Module.{parameter_tokens}
-use Rattle.mv_move_types.specs.Named.{module_place, function_place}
-use Rattle.mv_machine.specs.Value.{Value, Leaf, Struct, Ref}
-use Rattle.mv_machine.specs.Run.{FunctionCall}
+use Rattle.mv_ledger.proofs.Counting.Common.{[], ◌^◌, ◌∷◌, ◌≡◌, List, Ok, subst, true, first_so, second_so, AllByRecursion, nat_le, nat_lt, slice_get, parameter_tokens, function_place, module_place}
+use Rattle.mv_ledger.proofs.Counting.Common.{Token, MutableReferenceTo, Plain, ReferenceTo, OfLeaf, OfStruct, WhereOk, on_some, on_need, FunctionCall, Leaf, Ref, Struct, Value, IsEntryCall, IsLeaf}
 use Rattle.mv_machine.specs.Ledger.{LedgerState, RunRequest, modules_of, is_argument, are_arguments, with_signer, admitted}
-use Rattle.mv_machine.proofs.Laws.{on_need}
-use Rattle.mv_ledger.specs.Counting.Conservation.{IsLeaf, IsEntryCall}
-use Rattle.mv_machine.proofs.Binds.{on_some, WhereOk}
 
 argument-leaf : (t : Token) (v : Value) → is_argument t v ≡ true → IsLeaf v
 argument-leaf (Plain (OfLeaf k)) (Leaf j n) e = tt

@@ -1,34 +1,17 @@
 -- Along a run what is held and unmade stays what was stored at first and made; at the return all of it is stored.
-use Rattle.std.proofs.Common.{◌≡◌, ℕ, ◌+◌, Bool, true, false, cond, List, [], ◌∷◌, ◌++◌, Some, None, Ok, refl, sym, ap, subst, ◌∙◌, arith, length}
-use Rattle.std.specs.Prelude.{map, reverse, replicate, slice_get, slice_set, ◌==◌, ◌&&◌, ◌||◌, not, IsTrue}
-use Rattle.std.specs.List.{AllByRecursion, list_all}
-use Rattle.std.proofs.lemmas.Bool.{eqb-true}
+use Rattle.mv_ledger.proofs.Counting.Common.{[], ℕ, ◌++◌, ◌+◌, ◌∙◌, ◌∷◌, ◌≡◌, Bool, List, None, Ok, Some, ap, arith, cond, false, length, refl, subst, sym, true, eqb-true, same_Some, AllByRecursion}
+use Rattle.mv_ledger.proofs.Counting.Common.{list_all, option_map_or, ◌&&◌, ◌==◌, ◌||◌, IsTrue, map, not, replicate, reverse, slice_get, slice_set, FunctionDefinition, Module, parameter_tokens}
+use Rattle.mv_ledger.proofs.Counting.Common.{StructName, same_struct, Tag, Token, WhereOk, entry-is, on_some, place-written, Called, Effect, Ends, Left, MovedFrom, MovedLocal, MovedTo, Packed}
+use Rattle.mv_ledger.proofs.Counting.Common.{Restacked, Resumed, StoredLocal, Unpacked, Went, Written, arrived, count, AtReturn, FunctionCall, packs, run, unpacks, Event, Frame, State, Storage}
+use Rattle.mv_ledger.proofs.Counting.Common.{with_local, with_root, Goes, Here, Returns, Turn, may_drop, with_stack, entry, tag_named, Leaf, Local, Ref, Root, Stored, Struct, Value, each, Conserves}
+use Rattle.mv_ledger.proofs.Counting.Common.{IsEntryCall, IsFineStorage, IsLeaf, Balances, IsAbleStore, IsFine, held, held_in_frames, held_in_locals, held_in_stack, made, unmade, IsScarce}
+use Rattle.mv_ledger.proofs.Counting.Common.{StackIsKept}
 use Rattle.std.proofs.lemmas.List.Sums.{sum_by-cons}
-use Rattle.std.proofs.lemmas.Option.{same_Some}
 use Rattle.mv_move_types.specs.declared.tables.Definition.{Definition}
 use Rattle.mv_move_types.specs.declared.tables.FunctionHandle.{FunctionHandle}
-use Rattle.mv_move_types.specs.declared.token.Token.{Token}
 use Rattle.mv_move_types.specs.Results.{for_each}
-use Rattle.mv_move_types.specs.Names.{StructName, same_struct}
-use Rattle.mv_move_types.specs.Module.{Module, FunctionDefinition, parameter_tokens}
-use Rattle.std.specs.Option.{option_map_or}
-use Rattle.mv_machine.specs.Value.{Value, Leaf, Struct, Ref, Root, Local, Stored}
-use Rattle.mv_machine.specs.State.{Frame, Event, Storage, State, with_local, with_root}
-use Rattle.mv_move_types.specs.Tags.{Tag}
-use Rattle.mv_machine.specs.Typing.{entry, tag_named}
-use Rattle.mv_machine.specs.Count.{count}
 use Rattle.mv_signatures.specs.Signatures.{entry_fits, has_no_results, are_entry_parameters}
-use Rattle.mv_machine.specs.Step.{Here, Turn, Goes, Returns, with_stack, may_drop}
 use Rattle.mv_machine.specs.StepControl.{signature_tags}
-use Rattle.mv_machine.specs.Run.{FunctionCall, run, packs, unpacks}
-use Rattle.mv_linker.proofs.Found.{each}
-use Rattle.mv_ledger.specs.Counting.Held.{held_in_stack, held_in_locals, held_in_frames, held, made, unmade}
-use Rattle.mv_ledger.specs.Counting.Kept.{IsScarce, StackIsKept}
-use Rattle.mv_machine.proofs.Effects.{Effect, Restacked, MovedLocal, StoredLocal, Packed, Unpacked, Written, MovedFrom, MovedTo, Called, Resumed, Ends, Went, Left, arrived}
-use Rattle.mv_ledger.specs.Counting.Fine.{IsAbleStore, IsFine, Balances}
-use Rattle.mv_machine.specs.Returns.{AtReturn}
-use Rattle.mv_ledger.specs.Counting.Conservation.{IsLeaf, IsEntryCall, IsFineStorage, Conserves}
-use Rattle.mv_machine.proofs.Binds.{on_some, place-written, entry-is, WhereOk}
 use Rattle.mv_ledger.proofs.Counting.Counts.{held-entered, held-reverse, kept-entered}
 use Rattle.mv_ledger.proofs.Counting.Keeps.{effect-fine, effect-balances, left-none}
 use Rattle.mv_ledger.proofs.Counting.Packs.{each-get}

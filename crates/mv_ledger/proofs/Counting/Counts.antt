@@ -1,20 +1,10 @@
 -- Counts in values, operands and locals, and what copies and losses do not count.
-use Rattle.std.proofs.Common.{◌≡◌, ℕ, zero, suc, ◌+◌, Bool, true, false, cond, List, [], ◌∷◌, ◌++◌, Option, Some, None, refl, sym, ap, subst, ◌∙◌, arith}
-use Rattle.std.specs.Prelude.{reverse, map, replicate, slice_get, slice_set, unwrap_or, option_and_then}
+use Rattle.mv_ledger.proofs.Counting.Common.{[], ℕ, ◌++◌, ◌+◌, ◌∙◌, ◌∷◌, ◌≡◌, Bool, List, None, Option, Some, ap, arith, cond, false, refl, subst, suc, sym, true, zero, same_Some, map}
+use Rattle.mv_ledger.proofs.Counting.Common.{option_and_then, replicate, reverse, slice_get, slice_set, unwrap_or, no_abilities, Module, declared, StructName, same_struct, Abilities, map-is, then-is}
+use Rattle.mv_ledger.proofs.Counting.Common.{count_in, count_in_fields, abilities_of, Leaf, More, NoMore, Ref, Struct, Value, Values, field, field_of, fields_of, list_of, value_at, with_field}
+use Rattle.mv_ledger.proofs.Counting.Common.{with_field_of, with_value_at, same_struct-is, held_in_local, held_in_locals, held_in_stack, Allows, AreKept, IsKept, IsScarce, LocalIsKept, LocalsAreKept}
+use Rattle.mv_ledger.proofs.Counting.Common.{StackIsKept}
 use Rattle.std.proofs.lemmas.List.{reverse-append}
-use Rattle.std.proofs.lemmas.Option.{same_Some}
-use Rattle.mv_move_types.specs.declared.token.Abilities.{Abilities}
-use Rattle.mv_move_types.specs.Names.{StructName, same_struct}
-use Rattle.mv_move_types.specs.Module.{Module}
-use Rattle.mv_machine.specs.Value.{Value, Leaf, Struct, Ref, Values, NoMore, More, list_of, fields_of, field, with_field, field_of, with_field_of, value_at, with_value_at}
-use Rattle.mv_move_types.specs.Named.{declared}
-use Rattle.mv_move_types.specs.AbilitySets.{no_abilities}
-use Rattle.mv_machine.specs.Typing.{abilities_of}
-use Rattle.mv_machine.specs.Count.{count_in, count_in_fields}
-use Rattle.mv_linker.proofs.NameLemmas.{same_struct-is}
-use Rattle.mv_ledger.specs.Counting.Held.{held_in_stack, held_in_local, held_in_locals}
-use Rattle.mv_ledger.specs.Counting.Kept.{Allows, IsKept, AreKept, IsScarce, StackIsKept, LocalIsKept, LocalsAreKept}
-use Rattle.mv_machine.proofs.Binds.{map-is, then-is}
 
 -- the abilities of a struct that is declared
 pub declared-abilities : (modules : List Module) (name : StructName) (fields : Values) (a : Abilities) → declared modules name ≡ Some a → abilities_of modules (Struct name fields) ≡ a

@@ -1,23 +1,12 @@
 -- Structs that are declared: the definitions behind them, which stay when a bundle is published, and those that are not.
-use Rattle.std.proofs.Common.{◌≡◌, ℕ, Bool, true, false, cond, List, [], ◌∷◌, Some, None, refl, sym, ap, ◌∙◌, arith}
-use Rattle.std.specs.Prelude.{slice_get, option_map, option_and_then}
-use Rattle.mv_move_types.specs.declared.tables.StructHandle.{StructHandle}
-use Rattle.mv_move_types.specs.declared.token.Abilities.{Abilities}
-use Rattle.mv_move_types.specs.Options.{find_index}
-use Rattle.mv_move_types.specs.Names.{StructName, same_struct}
-use Rattle.mv_move_types.specs.Module.{Module, StructDefinition, name_of_struct, struct_abilities}
-use Rattle.mv_move_types.specs.Named.{is_struct, module_place, module_named, declared_in, declared}
+use Rattle.mv_ledger.proofs.Counting.Common.{[], ℕ, ◌∙◌, ◌∷◌, ◌≡◌, Bool, List, None, Some, ap, arith, cond, false, refl, sym, true, option_and_then, option_map, slice_get, Module, StructDefinition}
+use Rattle.mv_ledger.proofs.Counting.Common.{name_of_struct, struct_abilities, declared, declared_in, is_struct, module_named, module_place, StructName, same_struct, find_index, StructHandle}
+use Rattle.mv_ledger.proofs.Counting.Common.{Abilities, map-is, count, count_in, count_in_fields, Storage, Leaf, More, NoMore, Ref, Struct, Value, Values, then_found, same_struct-is, AreKept, IsKept}
+use Rattle.mv_ledger.proofs.Counting.Common.{StorageIsKept}
 use Rattle.mv_move_types.specs.Published.{PublishedModule}
-use Rattle.mv_machine.specs.Value.{Value, Leaf, Struct, Ref, Values, NoMore, More}
-use Rattle.mv_machine.specs.State.{Storage}
-use Rattle.mv_machine.specs.Count.{count, count_in, count_in_fields}
 use Rattle.mv_linker.specs.Link.{IsStore, tables_in}
-use Rattle.mv_linker.proofs.NameLemmas.{same_struct-is}
 use Rattle.mv_module_text.proofs.Texts.{on_bind}
-use Rattle.mv_linker.proofs.Found.{then_found}
-use Rattle.mv_ledger.specs.Counting.Kept.{IsKept, AreKept, StorageIsKept}
 use Rattle.mv_ledger.proofs.Bundles.Heirs.{Inherits, Stayed, tested, found-passes, on_and_then, stayed}
-use Rattle.mv_machine.proofs.Binds.{map-is}
 use Rattle.mv_ledger.proofs.Counting.Packs.{HandlesDeclared, each-declared, each-get}
 
 -- the module and the definition that declare a struct

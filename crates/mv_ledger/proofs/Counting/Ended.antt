@@ -1,18 +1,10 @@
 -- A run that is answered ends as it should, and what is stored is what the tallies leave.
-use Rattle.std.proofs.Common.{◌≡◌, ℕ, ◌+◌, ◌-◌, ◌≤◌, List, [], ◌∷◌, Some, Result, Ok, Err, refl, subst, arith}
-use Rattle.std.specs.Prelude.{slice_get}
-use Rattle.std.specs.List.{AllByRecursion}
-use Rattle.mv_move_types.specs.Module.{Module}
-use Rattle.mv_machine.specs.State.{State, Storage}
-use Rattle.mv_machine.specs.Typing.{Failure, Aborts, Faults}
-use Rattle.mv_machine.specs.Count.{count}
+use Rattle.mv_ledger.proofs.Counting.Common.{[], ℕ, ◌+◌, ◌-◌, ◌∷◌, ◌≡◌, ◌≤◌, Err, List, Ok, Result, Some, arith, refl, subst, AllByRecursion, slice_get, Module, WhereOk, on_some, steps_taken}
+use Rattle.mv_ledger.proofs.Counting.Common.{turns-bound, count, Answers, Audit, Bad, BadRun, LedgerState, Publish, Request, Run, Show, admitted, attempted, modules_of, settled, AtReturn, State}
+use Rattle.mv_ledger.proofs.Counting.Common.{Storage, Aborts, Failure, Faults}
 use Rattle.mv_machine.specs.Run.{RunOutcome, Returned, Aborted, Exhausted, Faulted, FunctionCall, first_state, outcome_from, run, turns}
 use Rattle.mv_machine.specs.Lines.{Reply, Tallied}
-use Rattle.mv_machine.specs.Ledger.{LedgerState, Request, Publish, Run, Show, Audit, BadRun, Bad, modules_of, admitted, attempted, settled, Answers}
-use Rattle.mv_machine.proofs.Laws.{steps_taken, turns-bound}
 use Rattle.mv_ledger.specs.Counting.Headline.{IsOwnWork, EndsWell, CallEndsWell, RunsWell, EveryCountIsTallied}
-use Rattle.mv_machine.specs.Returns.{AtReturn}
-use Rattle.mv_machine.proofs.Binds.{on_some, WhereOk}
 use Rattle.mv_ledger.proofs.Counting.Own.{run-own}
 
 outcome-bound : (modules : List Module) (budget : ℕ) (r : Result State Failure) → ((s : State) → r ≡ Ok s → s.steps ≡ 0) → steps_taken (outcome_from modules budget r) ≤ budget

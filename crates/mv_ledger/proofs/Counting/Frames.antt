@@ -1,19 +1,10 @@
 -- Counts in frames and states, and what a write at a root does to them.
-use Rattle.std.proofs.Common.{◌≡◌, ℕ, ◌+◌, Bool, true, false, cond, List, [], ◌∷◌, Some, refl, ap, arith}
-use Rattle.std.specs.Prelude.{map, slice_set, ◌==◌}
-use Rattle.std.proofs.lemmas.Bool.{eqb-true}
-use Rattle.mv_move_types.specs.Names.{StructName}
-use Rattle.mv_move_types.specs.Module.{Module}
-use Rattle.mv_machine.specs.Value.{Value, Root, Local, Stored}
-use Rattle.mv_machine.specs.State.{Frame, State, frames, local_value, local_in, root_value, with_local, with_root}
-use Rattle.mv_machine.specs.Count.{count_in}
-use Rattle.mv_machine.specs.Step.{with_stack}
+use Rattle.mv_ledger.proofs.Counting.Common.{[], ℕ, ◌+◌, ◌∷◌, ◌≡◌, Bool, List, Some, ap, arith, cond, false, refl, true, eqb-true, ◌==◌, map, slice_set, Module, StructName, count_in, Frame, State}
+use Rattle.mv_ledger.proofs.Counting.Common.{frames, local_in, local_value, root_value, with_local, with_root, with_stack, Local, Root, Stored, Value, IsFine, held, held_in_frame, held_in_frames}
+use Rattle.mv_ledger.proofs.Counting.Common.{held_in_locals, FrameIsKept, FramesAreKept, IsKept, StackIsKept}
 use Rattle.mv_interpreter.proofs.Typing.Frames.{held_entry, written_below}
 use Rattle.mv_interpreter.specs.Typing.StateTyped.{Numbered}
 use Rattle.mv_interpreter.proofs.Typing.Write.{numbers_stay}
-use Rattle.mv_ledger.specs.Counting.Held.{held_in_locals, held_in_frame, held_in_frames, held}
-use Rattle.mv_ledger.specs.Counting.Kept.{IsKept, StackIsKept, FrameIsKept, FramesAreKept}
-use Rattle.mv_ledger.specs.Counting.Fine.{IsFine}
 use Rattle.mv_ledger.proofs.Counting.Counts.{held-set, kept-set, kept-get}
 use Rattle.mv_ledger.proofs.Counting.Stored.{count-over, kept-stored_at, kept-with, ascending-with}
 

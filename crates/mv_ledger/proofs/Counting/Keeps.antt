@@ -1,26 +1,14 @@
 -- Each effect keeps a state fine, and balances what is held against what is made and unmade.
-use Rattle.std.proofs.Common.{◌≡◌, ℕ, ◌+◌, true, cond, List, [], ◌∷◌, ◌++◌, Option, Some, None, refl, sym, ap, subst, ◌∙◌, arith}
-use Rattle.std.specs.Prelude.{reverse, map, replicate, slice_get, slice_set}
-use Rattle.std.specs.List.{AllByRecursion, list_all}
-use Rattle.std.specs.Cmp.{first_so, second_so}
-use Rattle.std.proofs.lemmas.Option.{same_Some}
+use Rattle.mv_ledger.proofs.Counting.Common.{[], ℕ, ◌++◌, ◌+◌, ◌∙◌, ◌∷◌, ◌≡◌, List, None, Option, Some, ap, arith, cond, refl, subst, sym, true, same_Some, first_so, second_so, AllByRecursion}
+use Rattle.mv_ledger.proofs.Counting.Common.{list_all, map, replicate, reverse, slice_get, slice_set, Module, StructName, same_struct, place-written, then-is, Appears, Called, Effect, MovedFrom}
+use Rattle.mv_ledger.proofs.Counting.Common.{MovedLocal, MovedTo, Packed, Restacked, Resumed, Stands, StoredLocal, Unpacked, Written, a_copy, a_leaf, a_reference, at_place, in_local, count, count_in}
+use Rattle.mv_ledger.proofs.Counting.Common.{count_in_fields, State, place_value, root_value, with_place, with_root, with_stored, without_stored, Here, may_drop, with_stack, abilities_of, Leaf, Local}
+use Rattle.mv_ledger.proofs.Counting.Common.{Place, Ref, Root, Stored, Struct, Value, fields_of, list_of, value_at, same_struct-is, Balances, IsAbleStore, IsFine, held, held_in_frame, held_in_frames}
+use Rattle.mv_ledger.proofs.Counting.Common.{held_in_local, held_in_locals, held_in_stack, made, unmade, FramesAreKept, IsKept, IsScarce, LocalIsKept, LocalsAreKept, StackIsKept}
 use Rattle.mv_move_types.specs.declared.token.LeafKind.TheVariants.{Address}
 use Rattle.std.proofs.lemmas.List.{reverse-reverse}
-use Rattle.mv_move_types.specs.Names.{StructName, same_struct}
-use Rattle.mv_move_types.specs.Module.{Module}
-use Rattle.mv_machine.specs.Value.{Value, Leaf, Struct, Ref, Root, Local, Stored, Place, value_at, list_of, fields_of}
-use Rattle.mv_machine.specs.State.{State, root_value, place_value, with_root, with_place, without_stored, with_stored}
-use Rattle.mv_machine.specs.Typing.{abilities_of}
-use Rattle.mv_machine.specs.Count.{count, count_in, count_in_fields}
-use Rattle.mv_machine.specs.Step.{Here, with_stack, may_drop}
 use Rattle.mv_machine.specs.StepParts.{can_drop}
 use Rattle.mv_interpreter.specs.Typing.StateTyped.{Numbered}
-use Rattle.mv_ledger.specs.Counting.Held.{held_in_stack, held_in_local, held_in_locals, held_in_frame, held_in_frames, held, made, unmade}
-use Rattle.mv_ledger.specs.Counting.Kept.{IsKept, IsScarce, StackIsKept, LocalIsKept, LocalsAreKept, FramesAreKept}
-use Rattle.mv_machine.proofs.Effects.{Stands, in_local, at_place, Appears, a_leaf, a_reference, a_copy, Effect, Restacked, MovedLocal, StoredLocal, Packed, Unpacked, Written, MovedFrom, MovedTo, Called, Resumed}
-use Rattle.mv_ledger.specs.Counting.Fine.{IsAbleStore, IsFine, Balances}
-use Rattle.mv_machine.proofs.Binds.{then-is, place-written}
-use Rattle.mv_linker.proofs.NameLemmas.{same_struct-is}
 use Rattle.mv_ledger.proofs.Counting.Counts.{none_in, lacks_copy, lacks_drop, held-append, held-reverse, held-list_of, held-fields_of, held-set, held-entered, kept-append, kept-first, kept-rest, kept-reverse, kept-list_of, kept-set, kept-get, kept-entered, kept-value_at, Replaces, replaces-at}
 use Rattle.mv_ledger.proofs.Counting.Stored.{count-without, count-new, kept-stored_at, kept-without, kept-with, ascending-without, ascending-with}
 use Rattle.mv_ledger.proofs.Counting.Frames.{fine-stack, kept-root, fine-root, held-root}

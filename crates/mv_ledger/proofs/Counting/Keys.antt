@@ -1,8 +1,6 @@
 -- The order of keys.
-use Rattle.std.proofs.Common.{◌≡◌, true, false, sym, ◌∙◌, inl, inr}
-use Rattle.std.proofs.lemmas.Bool.{both_ways}
+use Rattle.mv_ledger.proofs.Counting.Common.{◌∙◌, ◌≡◌, false, inl, inr, sym, true, both_ways, key_before, same_key}
 use Rattle.mv_move_types.specs.declared.tables.Key.{Key}
-use Rattle.mv_machine.specs.State.{key_before, same_key}
 use Rattle.mv_storage.proofs.Keys.{before-apart, before-trans, keys_compare, same_key-refl, same_key-symm}
 
 -- of two keys at most one is before the other

@@ -1,17 +1,9 @@
 -- Each struct value is made and taken apart by code of the struct's own module.
-use Rattle.std.proofs.Common.{◌≡◌, ℕ, List, Some, Ok, refl, sym, subst}
-use Rattle.mv_move_types.specs.Module.{Module}
-use Rattle.mv_machine.specs.Value.{Value, Root, Local, Stored, Place}
-use Rattle.mv_machine.specs.State.{Storage, State, with_root, with_place}
-use Rattle.mv_machine.specs.Step.{Here, Turn, Goes, Returns, OwnStruct, with_stack}
+use Rattle.mv_ledger.proofs.Counting.Common.{ℕ, ◌≡◌, List, Ok, Some, refl, subst, sym, Module, place-written, Called, Effect, Ends, Left, MovedFrom, MovedLocal, MovedTo, Packed, Restacked, Resumed}
+use Rattle.mv_ledger.proofs.Counting.Common.{StoredLocal, Unpacked, Went, Written, own_struct-own, AtReturn, FunctionCall, run, State, Storage, with_place, with_root, Goes, Here, OwnStruct, Returns}
+use Rattle.mv_ledger.proofs.Counting.Common.{Turn, with_stack, Local, Place, Root, Stored, Value, same_module-is}
 use Rattle.mv_machine.specs.StepStructs.{own_struct}
-use Rattle.mv_machine.specs.Run.{FunctionCall, run}
-use Rattle.mv_machine.proofs.Laws.{own_struct-own}
-use Rattle.mv_linker.proofs.NameLemmas.{same_module-is}
 use Rattle.mv_ledger.specs.Counting.Headline.{IsOwnWork}
-use Rattle.mv_machine.proofs.Effects.{Effect, Restacked, MovedLocal, StoredLocal, Packed, Unpacked, Written, MovedFrom, MovedTo, Called, Resumed, Ends, Went, Left}
-use Rattle.mv_machine.specs.Returns.{AtReturn}
-use Rattle.mv_machine.proofs.Binds.{place-written}
 use Rattle.mv_machine.proofs.Runs.{step-stepped, run-keeps}
 
 -- the struct that an instruction names is of the module at work

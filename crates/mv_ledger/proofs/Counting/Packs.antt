@@ -1,34 +1,13 @@
 -- A struct value that is packed is kept, and declared as its own definition says.
-use Rattle.std.proofs.Common.{◌≡◌, ℕ, zero, suc, ◌+◌, Bool, true, false, List, [], ◌∷◌, Option, Some, Ok, sym, ap, subst, ◌∙◌, arith}
-use Rattle.std.specs.Prelude.{◌&&◌, slice_get, ◌||◌}
-use Rattle.std.specs.List.{AllByRecursion, list_all}
-use Rattle.std.specs.Option.{option_map_or}
-use Rattle.std.specs.Cmp.{first_so, second_so}
-use Rattle.std.proofs.lemmas.Option.{same_Some}
-use Rattle.mv_move_types.specs.declared.tables.StructHandle.{StructHandle}
-use Rattle.mv_move_types.specs.declared.token.Abilities.{Abilities}
-use Rattle.mv_move_types.specs.Options.{◌>>=◌}
+use Rattle.mv_ledger.proofs.Counting.Common.{[], ℕ, ◌+◌, ◌∙◌, ◌∷◌, ◌≡◌, Bool, List, Ok, Option, Some, ap, arith, false, subst, suc, sym, true, zero, same_Some, first_so, second_so, AllByRecursion}
+use Rattle.mv_ledger.proofs.Counting.Common.{list_all, option_map_or, ◌&&◌, ◌||◌, slice_get, same_abilities, Module, own_name, struct_abilities, struct_name, declared, StructName, same_module, ◌>>=◌}
+use Rattle.mv_ledger.proofs.Counting.Common.{Tag, StructHandle, Abilities, WhereOk, on_some, on_need, on_ok, State, Here, OwnStruct, abilities_of, has_tag, have_tags, tag_named, Struct, Value}
+use Rattle.mv_ledger.proofs.Counting.Common.{fields_of, AbilitiesHold, field_is_able, implies, struct_is_able, token_abilities, each, IsAbleStore, Allows, AreKept, IsKept, StackIsKept}
 use Rattle.mv_move_types.specs.Results.{for_each}
-use Rattle.mv_move_types.specs.Names.{StructName, same_module}
-use Rattle.mv_move_types.specs.Module.{Module, own_name, struct_name, struct_abilities}
 use Rattle.mv_move_types.specs.declared.tables.Field.{Field}
-use Rattle.mv_machine.specs.Value.{Value, Struct, fields_of}
-use Rattle.mv_machine.specs.State.{State}
-use Rattle.mv_move_types.specs.Tags.{Tag}
-use Rattle.mv_move_types.specs.Named.{declared}
-use Rattle.mv_move_types.specs.AbilitySets.{same_abilities}
-use Rattle.mv_machine.specs.Typing.{abilities_of, has_tag, have_tags, tag_named}
-use Rattle.mv_abilities.specs.Abilities.{token_abilities}
-use Rattle.mv_abilities.specs.Abilities.{AbilitiesHold, implies, field_is_able, struct_is_able}
 use Rattle.mv_linker.specs.Links.{struct_is_there, structs_are_there}
-use Rattle.mv_machine.specs.Step.{Here, OwnStruct}
 use Rattle.mv_machine.specs.StepStructs.{own_struct}
-use Rattle.mv_machine.proofs.Laws.{on_ok, on_need}
 use Rattle.mv_linker.proofs.Joining.Upgraded.{same_abilities-is}
-use Rattle.mv_linker.proofs.Found.{each}
-use Rattle.mv_ledger.specs.Counting.Kept.{Allows, IsKept, AreKept, StackIsKept}
-use Rattle.mv_ledger.specs.Counting.Fine.{IsAbleStore}
-use Rattle.mv_machine.proofs.Binds.{on_some, WhereOk}
 use Rattle.mv_ledger.proofs.Counting.Tags.{has_tag-abilities, tag_named-abilities}
 use Rattle.mv_ledger.proofs.Bundles.Heirs.{tested}
 

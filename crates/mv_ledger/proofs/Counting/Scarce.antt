@@ -1,16 +1,8 @@
 -- The structs with neither copy nor drop, each of which has a tally.
-use Rattle.std.proofs.Common.{◌≡◌, ℕ, zero, suc, Bool, true, false, cond, List, [], ◌∷◌, ◌++◌, Option, Some, None, refl, sym, ap, ap₂, subst, ◌∙◌, inl, inr}
-use Rattle.std.specs.Prelude.{slice_get, not, ◌&&◌, ◌⊎◌, map, filter_map}
-use Rattle.std.specs.Option.{option_map_or}
-use Rattle.std.specs.List.{AllByRecursion, cons_option}
-use Rattle.std.proofs.lemmas.Option.{same_Some}
-use Rattle.mv_move_types.specs.declared.token.Abilities.{Abilities}
-use Rattle.mv_move_types.specs.Names.{StructName}
-use Rattle.mv_move_types.specs.Module.{Module, StructDefinition, name_of_struct, struct_abilities}
+use Rattle.mv_ledger.proofs.Counting.Common.{[], ℕ, ◌++◌, ◌∙◌, ◌∷◌, ◌≡◌, Bool, List, None, Option, Some, ap, ap₂, cond, false, inl, inr, refl, subst, suc, sym, true, zero, same_Some, AllByRecursion}
+use Rattle.mv_ledger.proofs.Counting.Common.{cons_option, option_map_or, ◌&&◌, ◌⊎◌, filter_map, map, not, slice_get, Module, StructDefinition, name_of_struct, struct_abilities, StructName, Abilities}
+use Rattle.mv_ledger.proofs.Counting.Common.{scarce_name, scarce_structs, IsAbleStore, IsScarce}
 use Rattle.mv_move_types.specs.Scarce.{is_scarce_struct}
-use Rattle.mv_machine.specs.Ledger.{scarce_name, scarce_structs}
-use Rattle.mv_ledger.specs.Counting.Kept.{IsScarce}
-use Rattle.mv_ledger.specs.Counting.Fine.{IsAbleStore}
 use Rattle.mv_ledger.proofs.Counting.Packs.{HandlesDeclared, each-declared}
 use Rattle.mv_ledger.proofs.Counting.Declared.{definition-declared}
 

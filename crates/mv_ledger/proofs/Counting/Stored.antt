@@ -1,14 +1,8 @@
 -- Counts in the storage, whose keys ascend.
-use Rattle.std.proofs.Common.{◌≡◌, ◌+◌, Bool, true, false, cond, List, [], ◌∷◌, Some, None, refl, ap, subst, arith}
-use Rattle.std.proofs.lemmas.Option.{same_Some}
+use Rattle.mv_ledger.proofs.Counting.Common.{[], ◌+◌, ◌∷◌, ◌≡◌, Bool, List, None, Some, ap, arith, cond, false, refl, subst, true, same_Some, Module, StructName, count, count_in, Storage, key_before}
+use Rattle.mv_ledger.proofs.Counting.Common.{same_key, stored_at, with_stored, without_stored, Value, AreAbove, IsAscending, IsKept, StorageIsKept}
 use Rattle.mv_move_types.specs.declared.tables.Key.{Key}
-use Rattle.mv_move_types.specs.Names.{StructName}
-use Rattle.mv_move_types.specs.Module.{Module}
-use Rattle.mv_machine.specs.Value.{Value}
-use Rattle.mv_machine.specs.State.{Storage, key_before, same_key, stored_at, with_stored, without_stored}
-use Rattle.mv_machine.specs.Count.{count, count_in}
 use Rattle.mv_storage.proofs.Keys.{same_key-to, before-trans}
-use Rattle.mv_ledger.specs.Counting.Kept.{IsKept, StorageIsKept, AreAbove, IsAscending}
 use Rattle.mv_ledger.proofs.Counting.Keys.{before-clash, before-or}
 
 -- ---- what is stored

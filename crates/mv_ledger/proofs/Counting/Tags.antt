@@ -1,27 +1,11 @@
 -- The abilities that a tag stands for.
-use Rattle.std.proofs.Common.{◌≡◌, true, false, List, Option, Some, None, Ok, refl, sym, ap, subst, ◌∙◌}
-use Rattle.std.specs.Prelude.{unwrap_or, slice_get, option_and_then}
-use Rattle.std.specs.Option.{option_map_or}
-use Rattle.std.proofs.lemmas.Option.{same_Some}
+use Rattle.mv_ledger.proofs.Counting.Common.{◌∙◌, ◌≡◌, List, None, Ok, Option, Some, ap, false, refl, subst, sym, true, same_Some, option_map_or, option_and_then, slice_get, unwrap_or, leaf_abilities}
+use Rattle.mv_ledger.proofs.Counting.Common.{no_abilities, reference_abilities, same_abilities, Module, struct_name, declared, ◌>>=◌, LeafTag, ReferenceTag, StructTag, Tag, same_tag, StructHandle}
+use Rattle.mv_ledger.proofs.Counting.Common.{Abilities, Token, MutableReferenceTo, Plain, ReferenceTo, OfLeaf, OfStruct, WhereOk, map-is, on_some, on_need, on_ok, State, place_value, abilities_of}
+use Rattle.mv_ledger.proofs.Counting.Common.{has_tag, plain_tag, tag_named, tag_of, value_type_tag, Leaf, Ref, Struct, Value, token_abilities, value_type_abilities}
 use Rattle.mv_move_types.specs.declared.token.ValueType.{ValueType}
-use Rattle.mv_move_types.specs.declared.token.ValueType.TheVariants.{OfLeaf, OfStruct}
-use Rattle.mv_move_types.specs.declared.token.Token.{Token}
-use Rattle.mv_move_types.specs.declared.token.Token.TheVariants.{Plain, Reference as ReferenceTo, MutableReference as MutableReferenceTo}
-use Rattle.mv_move_types.specs.declared.token.Abilities.{Abilities}
-use Rattle.mv_move_types.specs.declared.tables.StructHandle.{StructHandle}
-use Rattle.mv_move_types.specs.Options.{◌>>=◌}
-use Rattle.mv_move_types.specs.Module.{Module, struct_name}
-use Rattle.mv_machine.specs.Value.{Value, Leaf, Struct, Ref}
-use Rattle.mv_machine.specs.State.{State, place_value}
-use Rattle.mv_move_types.specs.Tags.{Tag, LeafTag, StructTag, ReferenceTag, same_tag}
-use Rattle.mv_move_types.specs.Named.{declared}
-use Rattle.mv_move_types.specs.AbilitySets.{same_abilities, leaf_abilities, reference_abilities, no_abilities}
-use Rattle.mv_machine.specs.Typing.{abilities_of, plain_tag, tag_of, has_tag, value_type_tag, tag_named}
-use Rattle.mv_machine.proofs.Laws.{on_ok, on_need}
-use Rattle.mv_abilities.specs.Abilities.{value_type_abilities, token_abilities}
 use Rattle.mv_linker.proofs.Joining.Upgraded.{same_abilities-is}
 use Rattle.mv_linker.proofs.TagTests.{same_tag-is}
-use Rattle.mv_machine.proofs.Binds.{on_some, WhereOk, map-is}
 
 -- the abilities of values of this tag
 abbrev pub tag_abilities : List Module → Tag → Abilities

@@ -1,21 +1,8 @@
 -- The tallies stay those of the structs with neither copy nor drop, and balanced, after a run that returned and where a bundle is published.
-use Rattle.std.proofs.Common.{◌≡◌, ◌+◌, Bool, true, false, cond, List, [], ◌∷◌, Option, Some, None, refl, sym, ap, ap₂, subst, ◌∙◌, arith}
-use Rattle.std.specs.Prelude.{map, find, unwrap_or}
-use Rattle.std.specs.List.{AllByRecursion}
-use Rattle.std.proofs.lemmas.Option.{same_Some}
-use Rattle.mv_move_types.specs.declared.token.Abilities.{Abilities}
-use Rattle.mv_move_types.specs.Names.{StructName, same_struct}
-use Rattle.mv_move_types.specs.Module.{Module}
-use Rattle.mv_move_types.specs.Named.{declared}
-use Rattle.mv_machine.specs.Count.{count}
+use Rattle.mv_ledger.proofs.Counting.Common.{[], ◌+◌, ◌∙◌, ◌∷◌, ◌≡◌, Bool, List, None, Option, Some, ap, ap₂, arith, cond, false, refl, subst, sym, true, same_Some, AllByRecursion, find, map}
+use Rattle.mv_ledger.proofs.Counting.Common.{unwrap_or, Module, declared, StructName, same_struct, Abilities, count, scarce_name, scarce_structs, tally_of, tally_with, untouched_tally, packs, unpacks}
+use Rattle.mv_ledger.proofs.Counting.Common.{Event, Storage, same_struct-is, same_struct-same, Conserves, IsAbleStore, IsScarce, StorageIsKept}
 use Rattle.mv_machine.specs.Lines.{Tallied}
-use Rattle.mv_machine.specs.State.{Event, Storage}
-use Rattle.mv_machine.specs.Run.{packs, unpacks}
-use Rattle.mv_machine.specs.Ledger.{scarce_name, scarce_structs, untouched_tally, tally_of, tally_with}
-use Rattle.mv_linker.proofs.NameLemmas.{same_struct-is, same_struct-same}
-use Rattle.mv_ledger.specs.Counting.Kept.{IsScarce, StorageIsKept}
-use Rattle.mv_ledger.specs.Counting.Fine.{IsAbleStore}
-use Rattle.mv_ledger.specs.Counting.Conservation.{Conserves}
 use Rattle.mv_ledger.proofs.Counting.Declared.{declared-by, Remembers, unknown-stored}
 use Rattle.mv_ledger.proofs.Counting.Scarce.{SomeOf, some-map, some-each, scarce-all, scarce-among, scarce_name-is}
 

@@ -1,33 +1,15 @@
 -- Values of their types are kept, over a store whose abilities hold.
-use Rattle.std.proofs.Common.{◌≡◌, Bool, true, false, List, [], ◌∷◌, Some, sym, ap, subst, ◌∙◌}
-use Rattle.std.specs.Prelude.{slice_get, ◌&&◌, ◌||◌}
-use Rattle.std.specs.Cmp.{first_so, second_so}
-use Rattle.std.specs.List.{list_all}
-use Rattle.std.specs.Option.{option_map_or}
-use Rattle.std.proofs.lemmas.Option.{same_Some}
+use Rattle.mv_ledger.proofs.Counting.Common.{[], ◌∙◌, ◌∷◌, ◌≡◌, Bool, List, Some, ap, false, subst, sym, true, same_Some, first_so, second_so, list_all, option_map_or, ◌&&◌, ◌||◌, slice_get}
+use Rattle.mv_ledger.proofs.Counting.Common.{leaf_abilities, Module, name_at, name_of_struct, struct_abilities, struct_name, declared, definition_of, is_struct, module_named, module_place, StructName}
+use Rattle.mv_ledger.proofs.Counting.Common.{same_struct, find_index, Abilities, Token, MutableReferenceTo, Plain, ReferenceTo, OfLeaf, OfStruct, Storage, abilities_of, Leaf, More, NoMore, Ref}
+use Rattle.mv_ledger.proofs.Counting.Common.{Struct, Value, Values, AbilitiesHold, field_is_able, implies, struct_is_able, token_abilities, each, same_struct-is, IsAbleStore, Allows, AreKept, IsKept}
+use Rattle.mv_ledger.proofs.Counting.Common.{StorageIsKept}
 use Rattle.mv_move_types.specs.declared.tables.Field.{Field}
-use Rattle.mv_move_types.specs.declared.token.Abilities.{Abilities}
-use Rattle.mv_move_types.specs.declared.token.Token.{Token}
-use Rattle.mv_move_types.specs.declared.token.Token.TheVariants.{Plain, Reference as ReferenceTo, MutableReference as MutableReferenceTo}
-use Rattle.mv_move_types.specs.declared.token.ValueType.TheVariants.{OfLeaf, OfStruct}
-use Rattle.mv_move_types.specs.AbilitySets.{leaf_abilities}
-use Rattle.mv_move_types.specs.Options.{find_index}
 use Rattle.mv_move_types.specs.Tokens.{same_kind}
-use Rattle.mv_move_types.specs.Names.{StructName, same_struct}
-use Rattle.mv_move_types.specs.Module.{Module, struct_name, name_of_struct, name_at, struct_abilities}
-use Rattle.mv_move_types.specs.Named.{is_struct, module_place, module_named, definition_of, declared}
 use Rattle.mv_module_text.specs.Fits.{address_fits}
-use Rattle.mv_machine.specs.Value.{Value, Leaf, Struct, Ref, Values, NoMore, More}
-use Rattle.mv_machine.specs.State.{Storage}
 use Rattle.mv_machine.specs.Typed.{leaf_fits, is_of_type, are_of_types, is_of_struct, abilities_at, is_fine_entry, is_fine_storage}
-use Rattle.mv_machine.specs.Typing.{abilities_of}
-use Rattle.mv_abilities.specs.Abilities.{AbilitiesHold, token_abilities, implies, field_is_able, struct_is_able}
-use Rattle.mv_linker.proofs.NameLemmas.{same_struct-is}
 use Rattle.mv_module_text.proofs.Texts.{on_bind}
-use Rattle.mv_linker.proofs.Found.{each}
 use Rattle.mv_interpreter.proofs.Typing.Tests.{same_kind-is}
-use Rattle.mv_ledger.specs.Counting.Kept.{Allows, IsKept, AreKept, StorageIsKept}
-use Rattle.mv_ledger.specs.Counting.Fine.{IsAbleStore}
 use Rattle.mv_ledger.proofs.Bundles.Heirs.{tested, found-passes, on_and_then}
 use Rattle.mv_ledger.proofs.Counting.Counts.{declared-abilities}
 use Rattle.mv_ledger.proofs.Counting.Packs.{HandlesDeclared, each-declared, each-get, implied}

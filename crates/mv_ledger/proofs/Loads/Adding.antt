@@ -1,19 +1,11 @@
 -- Counts with more values of structs: what is added to them one after the other.
-use Rattle.std.proofs.Common.{◌≡◌, ℕ, suc, ◌+◌, ◌-◌, ◌*◌, ◌^◌, ◌<◌, ◌≤◌, Bool, true, false, cond, List, [], ◌∷◌, ◌++◌, length, take, get_or, Option, Some, None, refl, sym, ap, ◌∙◌, subst, arith, ⊎_elim}
-use Rattle.std.specs.Prelude.{min, slice_set}
-use Rattle.std.specs.Option.{option_map_or}
-use Rattle.std.proofs.lemmas.Bool.{cases_eq}
-use Rattle.std.proofs.lemmas.List.{get_or-set_same, get_or-set_other, length-set, take_all, take_more}
-use Rattle.std.proofs.lemmas.Option.{same_Some}
-use Rattle.mv_move_types.specs.declared.tables.Definition.{Definition}
-use Rattle.mv_move_types.specs.Names.{StructName, same_struct}
-use Rattle.mv_move_types.specs.Module.{Module, name_at}
-use Rattle.mv_linker.proofs.NameLemmas.{same_struct-is, same_struct-same}
+use Rattle.mv_ledger.proofs.Loads.Common.{[], ℕ, ⊎_elim, ◌*◌, ◌++◌, ◌+◌, ◌-◌, ◌<◌, ◌^◌, ◌∙◌, ◌∷◌, ◌≡◌, ◌≤◌, Bool, List, None, Option, Some, ap, arith, cond, false, get_or, length, refl, subst, suc}
+use Rattle.mv_ledger.proofs.Loads.Common.{sym, take, true, cases_eq, get_or-set_other, get_or-set_same, length-set, take_all, take_more, same_Some, option_map_or, min, slice_set, Module, name_at}
+use Rattle.mv_ledger.proofs.Loads.Common.{StructName, same_struct, Definition, same_struct-is, same_struct-same, structs_in_part, structs_in_parts, structs_under, structs_within, Adds, HasRows}
+use Rattle.mv_ledger.proofs.Loads.Common.{capped, count_at, row_at, with_count}
 use Rattle.mv_interpreter.proofs.Homes.{index_of}
 use Rattle.mv_linker.specs.declared.shapes.Part.{Part}
 use Rattle.mv_linker.specs.Shapes.{AreFieldsAt, IsMadeOf}
-use Rattle.mv_ledger.specs.Parts.CountRows.{row_at, capped, count_at, with_count, Adds, HasRows}
-use Rattle.mv_ledger.specs.Inside.{structs_under, structs_in_part, structs_in_parts, structs_within}
 use Rattle.mv_ledger.specs.Parts.LayoutParts.{IsOfStore}
 use Rattle.mv_ledger.proofs.Saves.LayoutParts.{structs-there, missing-name}
 

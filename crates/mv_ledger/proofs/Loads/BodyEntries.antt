@@ -1,22 +1,8 @@
 -- The text of a stored value is read as its key and leaves, and what is read is such a text.
-use Rattle.std.proofs.Common.{◌≡◌, ℕ, List, [], ◌∷◌, ◌++◌, ap, sym, ◌∙◌, subst, refl, Option, Some, None, IsTrue, append_assoc}
-use Rattle.std.specs.Prelude.{unwrap_or}
-use Rattle.std.proofs.lemmas.Option.{some_pair_parts}
-use Rattle.mv_uleb.specs.Uleb.{uleb}
-use Rattle.mv_move_types.specs.declared.tables.Definition.{Definition}
-use Rattle.mv_move_types.specs.declared.tables.Key.{Key}
-use Rattle.mv_move_types.specs.declared.token.LeafKind.{LeafKind}
-use Rattle.mv_move_types.specs.Module.{Module}
-use Rattle.mv_module_text.specs.Entries.{address_text}
-use Rattle.mv_module_text.specs.Fits.{address_fits, is_index}
-use Rattle.mv_module_text.specs.Laws.{AreBytes}
-use Rattle.mv_module_text.specs.Parsing.{index_from, address_from}
-use Rattle.mv_module_text.proofs.Texts.{Front, on_bind, Front-from, Front-join, index-parts, index-whole}
+use Rattle.mv_ledger.proofs.Loads.Common.{[], ℕ, ◌++◌, ◌∙◌, ◌∷◌, ◌≡◌, IsTrue, List, None, Option, Some, ap, append_assoc, refl, subst, sym, some_pair_parts, unwrap_or, Module, Definition, Key}
+use Rattle.mv_ledger.proofs.Loads.Common.{LeafKind, uleb, Front, Front-from, Front-join, index-parts, index-whole, on_bind, address_text, address_fits, is_index, AreBytes, address_from, index_from}
+use Rattle.mv_ledger.proofs.Loads.Common.{FlatEntry, AreLeaves, coded, kinds_under, leaf_from, leaf_bytes}
 use Rattle.mv_module_text.proofs.Addresses.{address-parts, address-whole}
-use Rattle.mv_machine.specs.Flat.{FlatEntry}
-use Rattle.mv_ledger.specs.Payloads.{leaf_from}
-use Rattle.mv_ledger.specs.RecordText.{leaf_bytes}
-use Rattle.mv_ledger.specs.Layouts.{kinds_under, coded, AreLeaves}
 use Rattle.mv_ledger.specs.Parts.BodyParts.{leaves_from, struct_from, entry_from}
 use Rattle.mv_ledger.proofs.ShapesOfArguments.{leaf-parts, leaf-whole}
 

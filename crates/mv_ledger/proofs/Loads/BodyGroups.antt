@@ -1,23 +1,9 @@
 -- The texts of stored values by ascending key, after their number, are read as what they are put into.
-use Rattle.std.proofs.Common.{◌≡◌, ℕ, zero, suc, ◌^◌, ◌<◌, Bool, true, false, List, [], ◌∷◌, ◌++◌, flat_map, length, Option, Some, None, refl, sym, ap, ap₂, ◌∙◌, subst, arith, inl, inr, ◌⊎◌, append_assoc, append-nil, eq-eqb, eqb-true}
-use Rattle.std.specs.Prelude.{◌==◌}
+use Rattle.mv_ledger.proofs.Loads.Common.{[], ℕ, ◌++◌, ◌<◌, ◌^◌, ◌∙◌, ◌∷◌, ◌≡◌, ◌⊎◌, Bool, List, None, Option, Some, ap, append-nil, append_assoc, ap₂, arith, eq-eqb, eqb-true, false, flat_map, inl}
+use Rattle.mv_ledger.proofs.Loads.Common.{inr, length, refl, subst, suc, sym, true, zero, and_from, and_parts, both_ways, filter-append, some_pair_parts, AllByRecursion, ◌==◌, Module, ◌>>=◌}
+use Rattle.mv_ledger.proofs.Loads.Common.{Definition, Key, number_from, uleb, Front, Front-from, Front-join, number-front, number-whole, on_bind, then_some-parts, counted, AreBytes, FlatEntry}
+use Rattle.mv_ledger.proofs.Loads.Common.{Ascends, IsBelow, entry_from, group_into, groups_into, is_after, rising_into, with_entry}
 use Rattle.std.specs.Bool.{then_some}
-use Rattle.std.specs.List.{AllByRecursion}
-use Rattle.std.proofs.lemmas.Bool.{and_parts, and_from, both_ways}
-use Rattle.std.proofs.lemmas.Option.{some_pair_parts}
-use Rattle.std.proofs.lemmas.List.Elements.{filter-append}
-use Rattle.mv_uleb.specs.Uleb.{uleb}
-use Rattle.mv_uleb.specs.Parsing.{number_from}
-use Rattle.mv_move_types.specs.declared.tables.Definition.{Definition}
-use Rattle.mv_move_types.specs.declared.tables.Key.{Key}
-use Rattle.mv_move_types.specs.Options.{◌>>=◌}
-use Rattle.mv_move_types.specs.Module.{Module}
-use Rattle.mv_module_text.specs.Entries.{counted}
-use Rattle.mv_module_text.specs.Laws.{AreBytes}
-use Rattle.mv_module_text.proofs.Texts.{Front, on_bind, then_some-parts, Front-from, Front-join, number-front, number-whole}
-use Rattle.mv_machine.specs.Flat.{FlatEntry}
-use Rattle.mv_storage.specs.Map.{IsBelow, Ascends}
-use Rattle.mv_ledger.specs.Parts.BodyParts.{entry_from, is_after, with_entry, rising_into, group_into, groups_into}
 use Rattle.mv_ledger.proofs.Loads.BodyLookups.{puts, is_of, under, Ascends-under}
 use Rattle.mv_ledger.proofs.Loads.BodyEntries.{struct_under, entry_text, IsEntry, entry-parts, entry-whole}
 

@@ -1,13 +1,7 @@
 -- The structs with key, by place of their module and index: each stands once among them.
-use Rattle.std.proofs.Common.{◌≡◌, ℕ, zero, suc, ◌+◌, ◌<◌, ◌≤◌, Bool, true, false, cond, List, [], ◌∷◌, ◌++◌, map, Option, Some, None, refl, ap, ◌∙◌, subst, arith, inl, inr, ◌⊎◌, zero-add}
-use Rattle.std.specs.Prelude.{slice_get}
-use Rattle.std.specs.List.{filter, enumerate_from, AllByRecursion}
-use Rattle.std.specs.Option.{option_map_or}
-use Rattle.mv_move_types.specs.declared.tables.Definition.{Definition}
-use Rattle.mv_move_types.specs.Options.{◌>>=◌}
-use Rattle.mv_move_types.specs.Module.{Module, StructDefinition, struct_abilities}
-use Rattle.mv_ledger.specs.Layouts.{is_keyed}
-use Rattle.mv_ledger.specs.SavedText.{has_key, keyed_indices, keyed_from}
+use Rattle.mv_ledger.proofs.Loads.Common.{[], ℕ, ◌++◌, ◌+◌, ◌<◌, ◌∙◌, ◌∷◌, ◌≡◌, ◌≤◌, ◌⊎◌, Bool, List, None, Option, Some, ap, arith, cond, false, inl, inr, map, refl, subst, suc, true, zero, zero-add}
+use Rattle.mv_ledger.proofs.Loads.Common.{AllByRecursion, enumerate_from, filter, option_map_or, slice_get, Module, StructDefinition, struct_abilities, ◌>>=◌, Definition, is_keyed, has_key}
+use Rattle.mv_ledger.proofs.Loads.Common.{keyed_from, keyed_indices}
 use Rattle.mv_ledger.proofs.Loads.BodyGroups.{Among, IsApart, Distinct}
 
 -- ---- of one module

@@ -1,26 +1,12 @@
 -- What follows the modules in the text of a saved ledger is read as its tallies' counts and its storage, and nothing else is.
-use Rattle.std.proofs.Common.{◌≡◌, ℕ, ◌^◌, ◌<◌, ◌≤◌, List, [], ◌∷◌, ◌++◌, map, flat_map, length, Option, Some, ◌-◌, refl, ap, ap₂, sym, ◌∙◌, arith, append_assoc, append-nil, nat_le, leb-true, le-leb}
-use Rattle.std.specs.Prelude.{Bool, ◌&&◌}
+use Rattle.mv_ledger.proofs.Loads.Common.{[], ℕ, ◌++◌, ◌-◌, ◌<◌, ◌^◌, ◌∙◌, ◌∷◌, ◌≡◌, ◌≤◌, Bool, List, Option, Some, ap, append-nil, append_assoc, ap₂, arith, flat_map, le-leb, leb-true, length, map}
+use Rattle.mv_ledger.proofs.Loads.Common.{refl, sym, and_from, and_parts, length-map, some_pair_parts, list_all, ◌&&◌, nat_le, ◌>>=◌, uleb, Front-as, Front-join, Parts, Whole, entries-front}
+use Rattle.mv_ledger.proofs.Loads.Common.{entries-whole, number-front, number-whole, on_bind, Read, entries_from, flat_storage, Tallied, Storage, tables_in, FlatStorage, count_from, storage_into}
+use Rattle.mv_ledger.proofs.Loads.Common.{tally_from, EachBodyIsRead, EachReadIsBody, counted_by, First, Form, Second, greatest_count, storage_text, tally_fits, tally_text}
 use Rattle.std.specs.Int.{w128, to_le_bytes}
-use Rattle.std.specs.List.{list_all}
-use Rattle.std.proofs.lemmas.Bool.{and_parts, and_from}
-use Rattle.std.proofs.lemmas.List.{length-map}
 use Rattle.std.proofs.lemmas.List.Folds.{list_all-map}
-use Rattle.std.proofs.lemmas.Option.{some_pair_parts}
-use Rattle.mv_uleb.specs.Uleb.{uleb}
 use Rattle.mv_move_types.specs.declared.token.Width.TheVariants.{U128}
-use Rattle.mv_move_types.specs.Options.{◌>>=◌}
-use Rattle.mv_module_text.specs.Parsing.{Read, entries_from}
-use Rattle.mv_module_text.proofs.Texts.{Parts, Whole, on_bind, Front-join, Front-as, number-front, number-whole, entries-front, entries-whole}
 use Rattle.mv_module_text.proofs.Numbers.{number_of-front, number_of-whole}
-use Rattle.mv_machine.specs.Flat.{flat_storage}
-use Rattle.mv_machine.specs.Lines.{Tallied}
-use Rattle.mv_machine.specs.State.{Storage}
-use Rattle.mv_storage.specs.FlatStorage.{FlatStorage}
-use Rattle.mv_linker.specs.Link.{tables_in}
-use Rattle.mv_ledger.specs.SavedText.{Form, First, Second, tally_text, tally_fits, greatest_count, storage_text}
-use Rattle.mv_ledger.specs.Parts.BodyParts.{count_from, tally_from, storage_into}
-use Rattle.mv_ledger.specs.Parts.LoadedParts.{counted_by, EachBodyIsRead, EachReadIsBody}
 use Rattle.mv_ledger.proofs.Loads.BodyValues.{valued}
 use Rattle.mv_ledger.proofs.Loads.BodyStorage.{storage-parts, storage-whole}
 

@@ -1,16 +1,8 @@
 -- Stored values that were put one after the other: what stands under each key, and which stand under one struct's keys.
-use Rattle.std.proofs.Common.{◌≡◌, ℕ, Bool, true, false, cond, List, [], ◌∷◌, ◌++◌, Option, Some, None, refl, sym, ap, ◌∙◌, ⊎_elim}
-use Rattle.std.specs.Prelude.{◌&&◌, ◌==◌, is_some}
-use Rattle.std.specs.List.{filter}
-use Rattle.mv_move_types.specs.declared.tables.Definition.{Definition}
-use Rattle.mv_move_types.specs.declared.tables.Key.{Key}
-use Rattle.mv_machine.specs.State.{key_before, same_key}
-use Rattle.mv_machine.specs.Flat.{FlatEntry}
-use Rattle.mv_storage.specs.FlatStorage.{words_under, with_words}
-use Rattle.mv_storage.specs.Map.{IsBelow, Ascends}
+use Rattle.mv_ledger.proofs.Loads.Common.{[], ℕ, ⊎_elim, ◌++◌, ◌∙◌, ◌∷◌, ◌≡◌, Bool, List, None, Option, Some, ap, cond, false, refl, sym, true, filter, ◌&&◌, ◌==◌, is_some, Definition, Key, FlatEntry}
+use Rattle.mv_ledger.proofs.Loads.Common.{key_before, same_key, with_words, words_under, Ascends, IsBelow, with_entry}
 use Rattle.mv_storage.proofs.Keys.{same_key-to, before-trans}
 use Rattle.mv_storage.proofs.Maps.{bool_cases, words_under-same, words_under-with_words, Ascends-with_words, entries_from_words}
-use Rattle.mv_ledger.specs.Parts.BodyParts.{with_entry}
 
 -- ---- one after the other
 

@@ -1,21 +1,9 @@
 -- Reading what stands after the modules of a saved ledger: how far it has come.
-use Rattle.std.proofs.Common.{◌≡◌, ℕ, suc, ◌+◌, ◌-◌, ◌<◌, ◌≤◌, Bool, true, false, cond, List, [], ◌∷◌, ◌++◌, length, map, take, drop, get_or, Option, Some, None, Result, Ok, Err, option_map, refl, sym, ap, ◌∙◌, arith, append_assoc, append-nil}
-use Rattle.std.specs.Prelude.{is_some, not, slice_set, OnErr}
-use Rattle.std.proofs.Math.Seq.{map-set_same}
-use Rattle.std.proofs.lemmas.List.{drop_more, drop_all, map-append, take_more_set}
-use Rattle.mv_uleb.specs.Parsing.{number_from}
-use Rattle.mv_move_types.specs.declared.tables.Definition.{Definition}
-use Rattle.mv_move_types.specs.declared.tables.Key.{Key}
-use Rattle.mv_move_types.specs.declared.token.LeafKind.{LeafKind}
-use Rattle.mv_move_types.specs.Options.{◌>>=◌}
-use Rattle.mv_move_types.specs.Module.{Module}
-use Rattle.mv_module_text.specs.Parsing.{Read, entries_from}
+use Rattle.mv_ledger.proofs.Loads.Common.{[], ℕ, ◌++◌, ◌+◌, ◌-◌, ◌<◌, ◌∙◌, ◌∷◌, ◌≡◌, ◌≤◌, Bool, Err, List, None, Ok, Option, Result, Some, ap, append-nil, append_assoc, arith, cond, drop, false}
+use Rattle.mv_ledger.proofs.Loads.Common.{get_or, length, map, option_map, refl, suc, sym, take, true, map-set_same, drop_all, drop_more, map-append, take_more_set, OnErr, is_some, not, slice_set}
+use Rattle.mv_ledger.proofs.Loads.Common.{Module, ◌>>=◌, Definition, Key, LeafKind, number_from, Read, entries_from, FlatEntry, FlatStorage, with_words, words_under, counts_of, entry_from, group_into}
+use Rattle.mv_ledger.proofs.Loads.Common.{groups_into, is_after, leaves_from, rising_into, struct_of, with_entry, leaf_from, Tally}
 use Rattle.mv_module_text.proofs.Entries.{after, ReadsOn}
-use Rattle.mv_machine.specs.Flat.{FlatEntry}
-use Rattle.mv_storage.specs.FlatStorage.{FlatStorage, words_under, with_words}
-use Rattle.mv_ledger.specs.declared.tallies.Tally.{Tally}
-use Rattle.mv_ledger.specs.Payloads.{leaf_from}
-use Rattle.mv_ledger.specs.Parts.BodyParts.{counts_of, struct_of, leaves_from, entry_from, is_after, with_entry, rising_into, group_into, groups_into}
 
 -- what holds anyway holds of an error
 pub OnErr-any : {T E : Type 0} (r : Result T E) (P : Type 0) → P → OnErr r P

@@ -1,42 +1,16 @@
 -- The text of what is stored is read as its words, and what is read is such a text.
-use Rattle.std.proofs.Common.{◌≡◌, ℕ, zero, suc, ◌^◌, ◌<◌, ◌≤◌, Bool, true, false, cond, List, [], ◌∷◌, ◌++◌, map, flat_map, length, Option, Some, None, IsTrue, refl, ap, ap₂, sym, ◌∙◌, subst, arith, inl, inr, ◌⊎◌, lt-ltb}
-use Rattle.std.specs.Prelude.{All, slice_get, is_some, nat_le}
-use Rattle.std.specs.List.{list_all, filter, AllByRecursion}
-use Rattle.std.specs.Cmp.{first_so, second_so}
-use Rattle.std.specs.Option.{option_map_or}
-use Rattle.std.proofs.lemmas.Bool.{and_from}
-use Rattle.std.proofs.lemmas.List.{length-map}
-use Rattle.std.proofs.lemmas.List.Elements.{All-head, All-tail}
-use Rattle.std.proofs.lemmas.Option.{slice_get_within}
-use Rattle.mv_uleb.specs.Uleb.{uleb}
-use Rattle.mv_move_types.specs.declared.tables.Definition.{Definition}
-use Rattle.mv_move_types.specs.declared.tables.Key.{Key}
-use Rattle.mv_move_types.specs.Options.{◌>>=◌}
-use Rattle.mv_move_types.specs.Names.{StructName}
-use Rattle.mv_move_types.specs.Module.{Module, name_of_struct, name_at}
-use Rattle.mv_move_types.specs.Published.{PublishedModule}
-use Rattle.mv_move_types.specs.Leaves.{leaves_within}
+use Rattle.mv_ledger.proofs.Loads.Common.{[], ℕ, ◌++◌, ◌<◌, ◌^◌, ◌∙◌, ◌∷◌, ◌≡◌, ◌≤◌, ◌⊎◌, Bool, IsTrue, List, None, Option, Some, ap, ap₂, arith, cond, false, flat_map, inl, inr, length, lt-ltb, map}
+use Rattle.mv_ledger.proofs.Loads.Common.{refl, subst, suc, sym, true, zero, and_from, length-map, All-head, All-tail, slice_get_within, first_so, second_so, AllByRecursion, filter, list_all}
+use Rattle.mv_ledger.proofs.Loads.Common.{option_map_or, All, is_some, nat_le, slice_get, leaves_within, Module, name_at, name_of_struct, StructName, ◌>>=◌, PublishedModule, Definition, Key, uleb}
+use Rattle.mv_ledger.proofs.Loads.Common.{Front, on_bind, counted, is_index, AreBytes, FlatEntry, flat_storage, Storage, key_before, same_key, is_fine_entry, is_fine_storage, IsPublishable, IsStore}
+use Rattle.mv_ledger.proofs.Loads.Common.{tables_in, struct_is_small, with_words, words_under, Ascends, IsAscending, is_keyed, storage_into, with_entry, First, Form, Second, addressed_text, is_under}
+use Rattle.mv_ledger.proofs.Loads.Common.{keyed_from, storage_text, stored_text, struct_text}
 use Rattle.mv_binary_format.specs.ModuleText.{HasText}
 use Rattle.mv_binary_format.proofs.Fitting.{few_structs}
-use Rattle.mv_module_text.specs.Entries.{counted}
-use Rattle.mv_module_text.specs.Fits.{is_index}
-use Rattle.mv_module_text.specs.Laws.{AreBytes}
-use Rattle.mv_module_text.proofs.Texts.{Front, on_bind}
-use Rattle.mv_machine.specs.State.{Storage, key_before, same_key}
-use Rattle.mv_machine.specs.Flat.{FlatEntry, flat_storage}
-use Rattle.mv_machine.specs.Typed.{is_fine_entry, is_fine_storage}
-use Rattle.mv_storage.specs.FlatStorage.{words_under, with_words}
-use Rattle.mv_storage.specs.Map.{Ascends}
 use Rattle.mv_storage.proofs.Keys.{same_key-to}
 use Rattle.mv_storage.proofs.Maps.{entries_from_words}
-use Rattle.mv_linker.specs.Link.{IsStore, IsPublishable, tables_in}
-use Rattle.mv_linker.specs.Links.{struct_is_small}
 use Rattle.mv_linker.proofs.Found.{each}
 use Rattle.mv_linker.proofs.Joining.Scopes.{within_tables}
-use Rattle.mv_ledger.specs.Counting.Kept.{IsAscending}
-use Rattle.mv_ledger.specs.Layouts.{is_keyed}
-use Rattle.mv_ledger.specs.Parts.BodyParts.{with_entry, storage_into}
-use Rattle.mv_ledger.specs.SavedText.{Form, First, Second, stored_text, addressed_text, is_under, struct_text, storage_text, keyed_from}
 use Rattle.mv_ledger.proofs.Loads.BodyLookups.{or_else, words-append, puts, words-puts, Ascends-puts, puts-ascending, is_of, under, is_key_of, words-under, under-puts}
 use Rattle.mv_ledger.proofs.Loads.BodyEntries.{struct_under, entry_text, IsEntry}
 use Rattle.mv_ledger.proofs.Loads.BodyGroups.{rises-ascends, ascends-rises, group-parts, group-whole, Among, group_text, groups-parts, groups-whole, is-own, own-is}

@@ -1,19 +1,11 @@
 -- Reading the tallies of all modules: how far it has come, and what stays.
-use Rattle.std.proofs.Common.{◌≡◌, ℕ, zero, suc, ◌+◌, ◌<◌, ◌≤◌, List, [], ◌∷◌, ◌++◌, length, map, take, drop, get_or, Some, None, option_map, refl, sym, ap, ◌∙◌, subst, arith, append_assoc, append-nil, length-append, zero-add}
-use Rattle.std.specs.Prelude.{slice_set, All}
+use Rattle.mv_ledger.proofs.Loads.Common.{[], ℕ, ◌++◌, ◌+◌, ◌<◌, ◌∙◌, ◌∷◌, ◌≡◌, ◌≤◌, List, None, Some, ap, append-nil, append_assoc, arith, drop, get_or, length, length-append, map, option_map, refl}
+use Rattle.mv_ledger.proofs.Loads.Common.{subst, suc, sym, take, zero, zero-add, map-set_same, drop-set-lt, drop_all, drop_more, get_or-map, length-map, map-append, map-set, take_all, take_more_set}
+use Rattle.mv_ledger.proofs.Loads.Common.{with_items_is, All-cons, All-head, All-nil, All-tail, All, slice_set, ◌>>=◌, Definition, Read, entries_from, counts_of, struct_of, ArePlaced, all_of, Tally}
 use Rattle.std.specs.declared.vec.Vec.{Vec}
 use Rattle.std.specs.Vec.{with_items}
 use Rattle.std.specs.declared.alloc.Global.{Global}
-use Rattle.std.proofs.Math.Seq.{map-set_same}
-use Rattle.std.proofs.lemmas.List.{drop_more, drop_all, take_all, map-append, map-set, get_or-map, length-map, take_more_set, drop-set-lt, with_items_is}
-use Rattle.std.proofs.lemmas.List.Elements.{All-nil, All-cons, All-head, All-tail}
-use Rattle.mv_move_types.specs.declared.tables.Definition.{Definition}
-use Rattle.mv_move_types.specs.Options.{◌>>=◌}
-use Rattle.mv_module_text.specs.Parsing.{Read, entries_from}
 use Rattle.mv_module_text.proofs.Entries.{after}
-use Rattle.mv_ledger.specs.declared.tallies.Tally.{Tally}
-use Rattle.mv_ledger.specs.Parts.BodyParts.{counts_of, struct_of}
-use Rattle.mv_ledger.specs.View.{all_of, ArePlaced}
 
 -- ---- so many entries, and then others
 

@@ -1,32 +1,11 @@
 -- Entries whose words are leaves of their structs' kinds are stored values with these leaves, and the other way round.
-use Rattle.std.proofs.Common.{◌≡◌, ℕ, Bool, true, false, cond, List, [], ◌∷◌, ◌++◌, map, length, Option, Some, None, IsTrue, refl, ap, ap₂, sym, ◌∙◌, append_assoc, append-nil}
-use Rattle.std.specs.Prelude.{◌&&◌, unwrap_or}
-use Rattle.std.specs.List.{filter}
-use Rattle.std.specs.Cmp.{first_so, second_so}
-use Rattle.std.specs.Option.{option_map, option_map_or}
-use Rattle.std.proofs.lemmas.Bool.{and_from}
-use Rattle.std.proofs.lemmas.Option.{none-some}
-use Rattle.mv_uleb.specs.Uleb.{uleb}
-use Rattle.mv_move_types.specs.declared.tables.Definition.{Definition}
-use Rattle.mv_move_types.specs.declared.tables.Key.{Key}
-use Rattle.mv_move_types.specs.declared.token.LeafKind.{LeafKind}
+use Rattle.mv_ledger.proofs.Loads.Common.{[], ℕ, ◌++◌, ◌∙◌, ◌∷◌, ◌≡◌, Bool, IsTrue, List, None, Option, Some, ap, append-nil, append_assoc, ap₂, cond, false, length, map, option_map, refl, sym, true}
+use Rattle.mv_ledger.proofs.Loads.Common.{and_from, none-some, first_so, second_so, filter, option_map_or, ◌&&◌, unwrap_or, leaves_within, Module, name_at, StructName, ◌>>=◌, Definition, Key}
+use Rattle.mv_ledger.proofs.Loads.Common.{LeafKind, uleb, on_bind, address_text, address_fits, Entry, Storage, abilities_at, is_fine_entry, is_of_struct, Leaf, Value, Ascends, IsBelow, AreAbove}
+use Rattle.mv_ledger.proofs.Loads.Common.{IsAscending, AreLeaves, coded, is_keyed, kinds_under, kinds_within, leaf_kinds, addressed_text, is_under, leaves_text, stored_text}
 use Rattle.mv_move_types.specs.declared.token.LeafKind.TheVariants.{Boolean}
 use Rattle.mv_move_types.specs.declared.token.Abilities.{Abilities}
-use Rattle.mv_move_types.specs.Options.{◌>>=◌}
-use Rattle.mv_move_types.specs.Names.{StructName}
-use Rattle.mv_move_types.specs.Module.{Module, name_at}
-use Rattle.mv_move_types.specs.Leaves.{leaves_within}
-use Rattle.mv_module_text.specs.Entries.{address_text}
-use Rattle.mv_module_text.specs.Fits.{address_fits}
-use Rattle.mv_module_text.proofs.Texts.{on_bind}
-use Rattle.mv_machine.specs.Value.{Value, Leaf}
-use Rattle.mv_machine.specs.State.{Entry, Storage}
 use Rattle.mv_machine.specs.Flat.{FlatEntry, flat, flat_storage, struct_from, value_under}
-use Rattle.mv_machine.specs.Typed.{is_of_struct, abilities_at, is_fine_entry}
-use Rattle.mv_storage.specs.Map.{IsBelow, Ascends}
-use Rattle.mv_ledger.specs.Counting.Kept.{AreAbove, IsAscending}
-use Rattle.mv_ledger.specs.Layouts.{kinds_within, leaf_kinds, is_keyed, kinds_under, coded, AreLeaves}
-use Rattle.mv_ledger.specs.SavedText.{leaves_text, stored_text, addressed_text, is_under}
 use Rattle.mv_ledger.proofs.Loads.LeafKinds.{kinds-count, struct-leaves}
 use Rattle.mv_ledger.proofs.Loads.Decoded.{struct-decoded}
 use Rattle.mv_ledger.proofs.Loads.BodyLookups.{is_of, under, IsLow, low-all}

@@ -1,12 +1,8 @@
 -- Counts of the values of structs, as they are made and changed.
-use Rattle.std.proofs.Common.{◌≡◌, ℕ, zero, suc, ◌+◌, ◌<◌, ◌≤◌, List, [], ◌∷◌, ◌++◌, map, length, take, get_or, refl, sym, ap, ap₂, ◌∙◌, arith}
-use Rattle.std.specs.Prelude.{replicate, slice_set}
+use Rattle.mv_ledger.proofs.Loads.Common.{[], ℕ, ◌++◌, ◌+◌, ◌<◌, ◌∙◌, ◌∷◌, ◌≡◌, ◌≤◌, List, ap, ap₂, arith, get_or, length, map, refl, suc, sym, take, zero, get_or-map, length-map, map-append, map-set}
+use Rattle.mv_ledger.proofs.Loads.Common.{take_more, replicate, slice_set, Module, structs_at, no_counts, row_at}
 use Rattle.std.specs.declared.vec.Vec.{Vec}
 use Rattle.std.specs.declared.alloc.Global.{Global}
-use Rattle.std.proofs.lemmas.List.{map-append, map-set, get_or-map, length-map, take_more}
-use Rattle.mv_move_types.specs.Module.{Module}
-use Rattle.mv_ledger.specs.Layouts.{structs_at}
-use Rattle.mv_ledger.specs.Parts.CountRows.{row_at, no_counts}
 
 -- the counts in vectors
 abbrev pub rows_in : List (Vec ℕ Global) → List (List ℕ)

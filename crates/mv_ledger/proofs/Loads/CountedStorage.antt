@@ -1,16 +1,6 @@
 -- How many values of a struct are stored, at any depth, from how many values are stored of each struct with key.
-use Rattle.std.proofs.Common.{◌≡◌, ℕ, suc, ◌+◌, ◌*◌, Bool, true, cond, List, [], ◌∷◌, length, Option, refl, ap, ap₂, sym, ◌∙◌, subst, arith, inl, inr}
-use Rattle.std.specs.List.{AllByRecursion}
-use Rattle.std.specs.Option.{option_map_or}
-use Rattle.mv_move_types.specs.declared.tables.Definition.{Definition}
-use Rattle.mv_move_types.specs.Names.{StructName}
-use Rattle.mv_move_types.specs.Module.{Module}
-use Rattle.mv_machine.specs.Count.{count}
-use Rattle.mv_machine.specs.Flat.{FlatEntry, flat_storage}
-use Rattle.mv_machine.specs.State.{Storage}
-use Rattle.mv_machine.specs.Typed.{is_fine_storage}
-use Rattle.mv_ledger.specs.Inside.{structs_within, structs_under}
-use Rattle.mv_ledger.specs.SavedText.{keyed_from}
+use Rattle.mv_ledger.proofs.Loads.Common.{[], ℕ, ◌*◌, ◌+◌, ◌∙◌, ◌∷◌, ◌≡◌, Bool, List, Option, ap, ap₂, arith, cond, inl, inr, length, refl, subst, suc, sym, true, AllByRecursion, option_map_or}
+use Rattle.mv_ledger.proofs.Loads.Common.{Module, StructName, Definition, count, FlatEntry, flat_storage, Storage, is_fine_storage, structs_under, structs_within, keyed_from}
 use Rattle.mv_ledger.proofs.Loads.BodyLookups.{under}
 use Rattle.mv_ledger.proofs.Loads.BodyEntries.{struct_under}
 use Rattle.mv_ledger.proofs.Loads.BodyGroups.{is-own, is-other, Among, IsApart, Distinct, apart-among}

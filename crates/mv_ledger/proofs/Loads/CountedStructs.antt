@@ -1,26 +1,13 @@
 -- The values that are stored, counted one after the other under their structs, and then struct by struct at any depth.
-use Rattle.std.proofs.Common.{◌≡◌, ℕ, suc, ◌+◌, ◌*◌, ◌^◌, ◌<◌, ◌≤◌, Bool, true, false, List, [], ◌∷◌, ◌++◌, length, take, get_or, Option, Some, None, refl, sym, ap, ◌∙◌, subst, arith}
-use Rattle.std.specs.Prelude.{All, replicate, slice_get}
-use Rattle.std.specs.Option.{option_map_or}
-use Rattle.std.proofs.lemmas.List.{get_or-replicate, length-map, length-replicate, take_all, take_more}
-use Rattle.std.proofs.lemmas.Option.{slice_get_within}
-use Rattle.mv_move_types.specs.declared.tables.Definition.{Definition}
-use Rattle.mv_move_types.specs.Names.{StructName}
-use Rattle.mv_move_types.specs.Module.{Module, name_at, name_of_struct}
-use Rattle.mv_move_types.specs.Published.{PublishedModule}
+use Rattle.mv_ledger.proofs.Loads.Common.{[], ℕ, ◌*◌, ◌++◌, ◌+◌, ◌<◌, ◌^◌, ◌∙◌, ◌∷◌, ◌≡◌, ◌≤◌, Bool, List, None, Option, Some, ap, arith, false, get_or, length, refl, subst, suc, sym, take, true}
+use Rattle.mv_ledger.proofs.Loads.Common.{get_or-replicate, length-map, length-replicate, take_all, take_more, slice_get_within, option_map_or, All, replicate, slice_get, Module, name_at}
+use Rattle.mv_ledger.proofs.Loads.Common.{name_of_struct, StructName, PublishedModule, Definition, on_bind, count, FlatEntry, storage_of, IsStore, tables_in, structs_under, structs_within, structs_at}
+use Rattle.mv_ledger.proofs.Loads.Common.{Adds, AreAll, AreStored, HasRows, capped, count_at, no_counts, row_at, stored_of, with_count, keyed_from}
 use Rattle.mv_binary_format.proofs.Back.{filter-shorter}
-use Rattle.mv_machine.specs.Count.{count}
-use Rattle.mv_machine.specs.Flat.{FlatEntry, storage_of}
-use Rattle.mv_linker.specs.Link.{IsStore, tables_in}
-use Rattle.mv_module_text.proofs.Texts.{on_bind}
 use Rattle.mv_interpreter.specs.Runs.{IsFineWords}
 use Rattle.mv_interpreter.proofs.Flat.FineWords.{fine_words-typed}
 use Rattle.mv_interpreter.proofs.Typing.Fine.{typed_is_fine}
-use Rattle.mv_ledger.specs.Parts.CountRows.{row_at, capped, count_at, no_counts, stored_of, with_count, Adds, AreAll, AreStored, HasRows}
-use Rattle.mv_ledger.specs.Inside.{structs_under, structs_within}
-use Rattle.mv_ledger.specs.Layouts.{structs_at}
 use Rattle.mv_ledger.specs.Parts.LayoutParts.{IsOfStore}
-use Rattle.mv_ledger.specs.SavedText.{keyed_from}
 use Rattle.mv_ledger.proofs.Accepted.Stores.{accepted_store}
 use Rattle.mv_ledger.proofs.Loads.Adding.{capped-more, own-count, other-count, rows-kept}
 use Rattle.mv_ledger.proofs.Loads.BodyEntries.{struct_under}

@@ -1,26 +1,11 @@
 -- Leaves of the kinds that a struct's values have are those of such a value.
-use Rattle.std.proofs.Common.{◌≡◌, ℕ, zero, suc, true, false, List, [], ◌∷◌, ◌++◌, ap, ap₂, sym, ◌∙◌, subst, refl, Option, Some, append_assoc}
-use Rattle.std.specs.Option.{option_map_or}
-use Rattle.std.specs.Cmp.{second_so}
-use Rattle.std.proofs.lemmas.Bool.{and_from}
-use Rattle.std.proofs.lemmas.Option.{none-some, same_Some}
-use Rattle.mv_move_types.specs.declared.tables.Field.{Field}
-use Rattle.mv_move_types.specs.declared.token.LeafKind.{LeafKind}
-use Rattle.mv_move_types.specs.declared.token.ValueType.TheVariants.{OfLeaf, OfStruct}
-use Rattle.mv_move_types.specs.declared.token.Token.{Token}
-use Rattle.mv_move_types.specs.declared.token.Token.TheVariants.{Plain, Reference as ReferenceTo, MutableReference as MutableReferenceTo}
+use Rattle.mv_ledger.proofs.Loads.Common.{[], ℕ, ◌++◌, ◌∙◌, ◌∷◌, ◌≡◌, List, Option, Some, ap, append_assoc, ap₂, false, refl, subst, suc, sym, true, zero, and_from, none-some, same_Some, second_so}
+use Rattle.mv_ledger.proofs.Loads.Common.{option_map_or, Module, struct_name, definition_of, StructName, same_struct, ◌>>=◌, Field, LeafKind, Token, MutableReferenceTo, Plain, ReferenceTo, OfLeaf}
+use Rattle.mv_ledger.proofs.Loads.Common.{OfStruct, on_bind, are_of_types, is_of_struct, is_of_type, leaf_fits, Leaf, More, NoMore, Struct, Value, Values, same_struct-same, AreLeaves, kinds_of_fields}
+use Rattle.mv_ledger.proofs.Loads.Common.{kinds_of_token, kinds_within}
 use Rattle.mv_move_types.specs.Tokens.{same_kind}
-use Rattle.mv_move_types.specs.Names.{StructName, same_struct}
-use Rattle.mv_move_types.specs.Options.{◌>>=◌}
-use Rattle.mv_move_types.specs.Module.{Module, struct_name}
-use Rattle.mv_move_types.specs.Named.{definition_of}
-use Rattle.mv_machine.specs.Value.{Value, Leaf, Struct, Values, NoMore, More}
 use Rattle.mv_machine.specs.Flat.{flat, flat_fields, value_from, fields_from, struct_from}
-use Rattle.mv_machine.specs.Typed.{leaf_fits, is_of_type, are_of_types, is_of_struct}
-use Rattle.mv_module_text.proofs.Texts.{on_bind}
-use Rattle.mv_linker.proofs.NameLemmas.{same_struct-same}
 use Rattle.mv_interpreter.proofs.Typing.Tests.{same_kind-same}
-use Rattle.mv_ledger.specs.Layouts.{kinds_of_token, kinds_of_fields, kinds_within, AreLeaves}
 
 -- ---- leaves one after the other
 

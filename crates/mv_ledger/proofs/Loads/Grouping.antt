@@ -1,20 +1,11 @@
 -- Which of the next modules name none that comes later.
-use Rattle.std.proofs.Common.{◌≡◌, ℕ, zero, suc, ◌+◌, ◌<◌, ◌≤◌, Bool, true, false, cond, List, [], ◌∷◌, map, take, length, get_or, Option, Some, None, option_map, IsTrue, refl, sym, ap, ◌∙◌, subst, arith, add-one, nat_cmp, is_lt, Less, Equal, Greater}
-use Rattle.std.specs.Prelude.{◌||◌, ◌&&◌, ◌==◌, nat_lt, nat_le, is_some}
-use Rattle.std.specs.List.{list_any, list_all, position}
-use Rattle.std.specs.Option.{option_map_or}
+use Rattle.mv_ledger.proofs.Loads.Common.{[], ℕ, ◌+◌, ◌<◌, ◌∙◌, ◌∷◌, ◌≡◌, ◌≤◌, Bool, Equal, Greater, IsTrue, Less, List, None, Option, Some, add-one, ap, arith, cond, false, get_or, is_lt, leb-true}
+use Rattle.mv_ledger.proofs.Loads.Common.{length, map, nat_cmp, option_map, refl, subst, suc, sym, take, true, zero, and_from, and_parts, leb-false, ltb-false, ltb-true, length-map, take-map}
+use Rattle.mv_ledger.proofs.Loads.Common.{list_all, list_any, position, option_map_or, ◌&&◌, ◌==◌, ◌||◌, is_some, nat_le, nat_lt, Module, module_name, is_module, module_place, ModuleName, find_index}
+use Rattle.mv_ledger.proofs.Loads.Common.{PublishedModule, tables_in, module_is_there, modules_are_there}
 use Rattle.std.specs.Ordering.{ord_max}
-use Rattle.std.proofs.lemmas.Bool.{and_parts, and_from, ltb-true, ltb-false, leb-true, leb-false}
-use Rattle.std.proofs.lemmas.List.{take-map, length-map}
 use Rattle.std.proofs.lemmas.List.Folds.{list_any-append, list_all_more}
-use Rattle.mv_move_types.specs.Names.{ModuleName}
-use Rattle.mv_move_types.specs.Module.{Module, module_name}
-use Rattle.mv_move_types.specs.Named.{is_module, module_place}
-use Rattle.mv_move_types.specs.Options.{find_index}
-use Rattle.mv_move_types.specs.Published.{PublishedModule}
 use Rattle.mv_linker.specs.declared.New.{New}
-use Rattle.mv_linker.specs.Link.{tables_in}
-use Rattle.mv_linker.specs.Links.{module_is_there, modules_are_there}
 use Rattle.mv_linker.specs.News.{published_one, published_of}
 use Rattle.mv_linker.proofs.Kept.Keyed.{position-find_index}
 use Rattle.mv_linker.proofs.ListTests.{list_all-maps}

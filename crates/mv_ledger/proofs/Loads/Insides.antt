@@ -1,25 +1,10 @@
 -- How many values of a struct are stored is known from how many values of each struct are stored under a key.
-use Rattle.std.proofs.Common.{◌≡◌, ℕ, zero, suc, ◌+◌, true, false, cond, List, [], ◌∷◌, Option, Some, refl, ap, ap₂, sym, ◌∙◌, subst}
-use Rattle.std.specs.Cmp.{first_so, second_so}
-use Rattle.std.specs.Option.{option_map_or}
-use Rattle.std.proofs.lemmas.Option.{none-some}
-use Rattle.mv_move_types.specs.declared.tables.Field.{Field}
+use Rattle.mv_ledger.proofs.Loads.Common.{[], ℕ, ◌+◌, ◌∙◌, ◌∷◌, ◌≡◌, List, Option, Some, ap, ap₂, cond, false, refl, subst, suc, sym, true, zero, none-some, first_so, second_so, option_map_or}
+use Rattle.mv_ledger.proofs.Loads.Common.{leaves_of, leaves_within, sum_of_fields, Module, struct_name, definition_of, StructName, same_struct, ◌>>=◌, Field, Token, MutableReferenceTo, Plain}
+use Rattle.mv_ledger.proofs.Loads.Common.{ReferenceTo, OfLeaf, OfStruct, on_bind, count_in, count_in_fields, are_of_types, is_of_struct, is_of_type, Leaf, More, NoMore, Ref, Struct, Value, Values}
+use Rattle.mv_ledger.proofs.Loads.Common.{same_struct-is, structs_in_fields, structs_in_token, structs_within}
 use Rattle.mv_move_types.specs.declared.token.ValueType.{ValueType}
-use Rattle.mv_move_types.specs.declared.token.ValueType.TheVariants.{OfLeaf, OfStruct}
-use Rattle.mv_move_types.specs.declared.token.Token.{Token}
-use Rattle.mv_move_types.specs.declared.token.Token.TheVariants.{Plain, Reference as ReferenceTo, MutableReference as MutableReferenceTo}
-use Rattle.mv_move_types.specs.Names.{StructName, same_struct}
-use Rattle.mv_move_types.specs.Options.{◌>>=◌}
-use Rattle.mv_move_types.specs.Module.{Module, struct_name}
-use Rattle.mv_move_types.specs.Named.{definition_of}
-use Rattle.mv_move_types.specs.Leaves.{sum_of_fields, leaves_of, leaves_within}
-use Rattle.mv_machine.specs.Value.{Value, Leaf, Struct, Ref, Values, NoMore, More}
-use Rattle.mv_machine.specs.Typed.{is_of_type, are_of_types, is_of_struct}
-use Rattle.mv_machine.specs.Count.{count_in, count_in_fields}
-use Rattle.mv_module_text.proofs.Texts.{on_bind}
-use Rattle.mv_linker.proofs.NameLemmas.{same_struct-is}
 use Rattle.mv_interpreter.proofs.Typing.Callees.{on_found}
-use Rattle.mv_ledger.specs.Inside.{structs_in_token, structs_in_fields, structs_within}
 
 module _ (modules : List Module) (s : StructName) where
   -- a struct of these fields

@@ -1,30 +1,13 @@
 -- The leaves of a fine value are of the kinds that its struct says, and its text is theirs.
-use Rattle.std.proofs.Common.{◌≡◌, ℕ, zero, suc, ◌+◌, true, false, List, [], ◌∷◌, ◌++◌, length, refl, sym, ap, ap₂, ◌∙◌, subst, Option, Some, None, option_map, append_assoc, append-nil, length-append}
-use Rattle.std.specs.Cmp.{first_so, second_so}
-use Rattle.std.specs.Option.{option_map_or}
-use Rattle.std.proofs.lemmas.Option.{same_Some, none-some}
-use Rattle.mv_move_types.specs.declared.tables.Field.{Field}
-use Rattle.mv_move_types.specs.declared.token.LeafKind.{LeafKind}
+use Rattle.mv_ledger.proofs.Loads.Common.{[], ℕ, ◌++◌, ◌+◌, ◌∙◌, ◌∷◌, ◌≡◌, List, None, Option, Some, ap, append-nil, append_assoc, ap₂, false, length, length-append, option_map, refl, subst, suc, sym}
+use Rattle.mv_ledger.proofs.Loads.Common.{true, zero, none-some, same_Some, first_so, second_so, option_map_or, leaves_of, leaves_within, sum_of_fields, Module, struct_name, definition_of, StructName}
+use Rattle.mv_ledger.proofs.Loads.Common.{same_struct, ◌>>=◌, Field, LeafKind, Token, MutableReferenceTo, Plain, ReferenceTo, OfLeaf, OfStruct, on_bind, flat, flat_fields, are_of_types, is_of_struct}
+use Rattle.mv_ledger.proofs.Loads.Common.{is_of_type, leaf_fits, Leaf, More, NoMore, Ref, Struct, Value, Values, same_struct-is, AreLeaves, coded, kinds_of_fields, kinds_of_token, kinds_within}
+use Rattle.mv_ledger.proofs.Loads.Common.{leaf_bytes, leaves_of_fields, leaves_text}
 use Rattle.mv_move_types.specs.declared.token.ValueType.{ValueType}
-use Rattle.mv_move_types.specs.declared.token.ValueType.TheVariants.{OfLeaf, OfStruct}
-use Rattle.mv_move_types.specs.declared.token.Token.{Token}
-use Rattle.mv_move_types.specs.declared.token.Token.TheVariants.{Plain, Reference as ReferenceTo, MutableReference as MutableReferenceTo}
 use Rattle.mv_move_types.specs.Tokens.{same_kind}
-use Rattle.mv_move_types.specs.Names.{StructName, same_struct}
-use Rattle.mv_move_types.specs.Options.{◌>>=◌}
-use Rattle.mv_move_types.specs.Module.{Module, struct_name}
-use Rattle.mv_move_types.specs.Named.{definition_of}
-use Rattle.mv_move_types.specs.Leaves.{sum_of_fields, leaves_of, leaves_within}
-use Rattle.mv_machine.specs.Value.{Value, Leaf, Struct, Ref, Values, NoMore, More}
-use Rattle.mv_machine.specs.Flat.{flat, flat_fields}
-use Rattle.mv_machine.specs.Typed.{leaf_fits, is_of_type, are_of_types, is_of_struct}
-use Rattle.mv_module_text.proofs.Texts.{on_bind}
-use Rattle.mv_linker.proofs.NameLemmas.{same_struct-is}
 use Rattle.mv_interpreter.proofs.Typing.Callees.{on_found}
 use Rattle.mv_interpreter.proofs.Typing.Tests.{same_kind-is}
-use Rattle.mv_ledger.specs.RecordText.{leaf_bytes}
-use Rattle.mv_ledger.specs.SavedText.{leaves_text, leaves_of_fields}
-use Rattle.mv_ledger.specs.Layouts.{kinds_of_token, kinds_of_fields, kinds_within, coded, AreLeaves}
 
 -- ---- there are as many kinds as leaves
 

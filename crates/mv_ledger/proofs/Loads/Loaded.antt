@@ -1,25 +1,13 @@
 -- From its parts, which ledger bytes are loaded as, and why they are not.
-use Rattle.std.proofs.Common.{◌≡◌, ℕ, ◌+◌, ◌*◌, ◌^◌, ◌<◌, ◌≤◌, List, [], ◌∷◌, ◌++◌, map, flat_map, length, Some, IsTrue, ◌⊎◌, inl, inr, arith, refl, sym, ap, ap₂, ◌∙◌, subst}
-use Rattle.std.specs.Prelude.{All}
-use Rattle.std.specs.List.{list_all, AllByRecursion}
-use Rattle.std.specs.Cmp.{first_so, second_so}
-use Rattle.std.proofs.lemmas.List.{length-map}
-use Rattle.std.proofs.lemmas.List.Elements.{All-nil, All-cons}
-use Rattle.std.proofs.lemmas.Option.{same_Some}
+use Rattle.mv_ledger.proofs.Loads.Common.{[], ℕ, ◌*◌, ◌++◌, ◌+◌, ◌<◌, ◌^◌, ◌∙◌, ◌∷◌, ◌≡◌, ◌≤◌, ◌⊎◌, IsTrue, List, Some, ap, ap₂, arith, flat_map, inl, inr, length, map, refl, subst, sym, length-map}
+use Rattle.mv_ledger.proofs.Loads.Common.{All-cons, All-nil, same_Some, first_so, second_so, AllByRecursion, list_all, All, Module, PublishedModule, AreBytes, count, flat, flat_storage, storage_of}
+use Rattle.mv_ledger.proofs.Loads.Common.{LedgerState, Offer, scarce_structs, Tallied, Storage, is_fine_entry, is_fine_storage, IsStore, tables_in, FlatStorage, IsAscending, FailsLoad, HasHead}
+use Rattle.mv_ledger.proofs.Loads.Common.{IsLoadRefusal, IsLoaded, no_body, no_links, no_module, no_tallies, counts_of, struct_of, AreCounted, AreJoined, AreNotJoined, EachBodyIsRead, EachReadIsBody}
+use Rattle.mv_ledger.proofs.Loads.Common.{IsBody, IsNoBody, SavedHead, body_from, counted_by, head_from, reason_of, offer_fits, HeadFits, IsSavedText, body_text, head_text, storage_text, tally_text}
+use Rattle.mv_ledger.proofs.Loads.Common.{IsLedger, IsSmall, all_of, state_of, tallied, view_of, Tally}
 use Rattle.mv_move_types.specs.declared.refusal.Refusal.{Refusal}
 use Rattle.mv_move_types.specs.declared.refusal.Refusal.TheVariants.{Phase, Memory as NoMemory}
-use Rattle.mv_move_types.specs.Module.{Module}
-use Rattle.mv_move_types.specs.Published.{PublishedModule}
-use Rattle.mv_module_text.specs.Laws.{AreBytes}
-use Rattle.mv_machine.specs.Count.{count}
-use Rattle.mv_machine.specs.Flat.{flat, flat_storage, storage_of}
-use Rattle.mv_machine.specs.Ledger.{Offer, LedgerState, scarce_structs}
-use Rattle.mv_machine.specs.Lines.{Tallied}
-use Rattle.mv_machine.specs.State.{Storage}
-use Rattle.mv_machine.specs.Typed.{is_fine_entry, is_fine_storage}
-use Rattle.mv_storage.specs.FlatStorage.{FlatStorage}
 use Rattle.mv_frames.specs.declared.counters.Count.{Count}
-use Rattle.mv_linker.specs.Link.{IsStore, tables_in}
 use Rattle.mv_interpreter.specs.Runs.{IsFineWords}
 use Rattle.mv_interpreter.specs.Typing.Accepted.{StoreAccepted}
 use Rattle.mv_interpreter.specs.Typing.StateTyped.{StorageTyped}
@@ -28,16 +16,8 @@ use Rattle.mv_interpreter.proofs.Flat.Sizes.{sizes}
 use Rattle.mv_interpreter.proofs.Flat.Decoding.{storage_decoded}
 use Rattle.mv_ledger.specs.declared.loading.LoadError.{LoadError}
 use Rattle.mv_ledger.specs.declared.loading.LoadError.TheVariants.{Head, Module as BadModule, Link, Body, Tally as BadTally, Memory}
-use Rattle.mv_ledger.specs.declared.tallies.Tally.{Tally}
-use Rattle.mv_ledger.specs.Parts.BodyParts.{counts_of, struct_of}
-use Rattle.mv_ledger.specs.Counting.Kept.{IsAscending}
 use Rattle.mv_ledger.specs.Accepted.SoundLedger.{IsSoundLedger}
-use Rattle.mv_ledger.specs.Loading.{HasHead, IsLoaded, FailsLoad, no_module, no_links, no_body, no_tallies, IsLoadRefusal}
-use Rattle.mv_ledger.specs.Parts.LoadedParts.{SavedHead, head_from, reason_of, AreJoined, AreNotJoined, body_from, IsNoBody, IsBody, counted_by, EachBodyIsRead, EachReadIsBody, AreCounted}
 use Rattle.mv_ledger.specs.Publishing.{AllPass, offered}
-use Rattle.mv_ledger.specs.RecordText.{offer_fits}
-use Rattle.mv_ledger.specs.SavedText.{head_text, body_text, tally_text, storage_text, HeadFits, IsSavedText}
-use Rattle.mv_ledger.specs.View.{state_of, view_of, all_of, tallied, IsSmall, IsLedger}
 use Rattle.mv_ledger.proofs.Accepted.Stores.{accepted_store}
 use Rattle.mv_ledger.proofs.Loads.LoadedHead.{head-parts, head-whole, head-had}
 use Rattle.mv_ledger.proofs.Runs.Countable.{still-countable}

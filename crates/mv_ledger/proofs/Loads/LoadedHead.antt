@@ -1,22 +1,8 @@
 -- A head is read exactly where the text of one stands.
-use Rattle.std.proofs.Common.{◌≡◌, ℕ, List, [], ◌∷◌, ◌++◌, length, cond, append_assoc, arith, refl, ap, sym, ◌∙◌, subst, Option, Some, None, Bool, true, false, nat_le, leb-true, le-leb, eqb-true}
-use Rattle.std.specs.Prelude.{◌==◌}
-use Rattle.std.specs.List.{list_all}
-use Rattle.std.proofs.lemmas.Bool.{and_parts, and_from}
-use Rattle.std.proofs.lemmas.Option.{none-some, some_pair_parts}
-use Rattle.mv_uleb.specs.Uleb.{uleb}
-use Rattle.mv_uleb.specs.Parsing.{number_from}
-use Rattle.mv_move_types.specs.Options.{◌>>=◌}
-use Rattle.mv_module_text.specs.Entries.{counted}
-use Rattle.mv_module_text.specs.Laws.{AreBytes}
-use Rattle.mv_module_text.specs.Parsing.{byte_from, mark_from, counted_from}
-use Rattle.mv_module_text.proofs.Texts.{Front, Front-join, on_bind, byte-front, mark-front, number-front, number-whole, counted-parts, counted-whole}
-use Rattle.mv_machine.specs.Ledger.{Offer}
-use Rattle.mv_ledger.specs.RecordText.{offer_text, offer_fits}
-use Rattle.mv_ledger.specs.Payloads.{offer_from}
-use Rattle.mv_ledger.specs.SavedText.{Form, First, Second, form_byte, head_text, HeadFits}
-use Rattle.mv_ledger.specs.Loading.{HasHead, FailsLoad, no_head}
-use Rattle.mv_ledger.specs.Parts.LoadedParts.{SavedHead, form_by, form_from, marks_from, head_from}
+use Rattle.mv_ledger.proofs.Loads.Common.{[], ℕ, ◌++◌, ◌∙◌, ◌∷◌, ◌≡◌, Bool, List, None, Option, Some, ap, append_assoc, arith, cond, eqb-true, false, le-leb, leb-true, length, refl, subst, sym, true}
+use Rattle.mv_ledger.proofs.Loads.Common.{and_from, and_parts, none-some, some_pair_parts, list_all, ◌==◌, nat_le, ◌>>=◌, number_from, uleb, Front, Front-join, byte-front, counted-parts}
+use Rattle.mv_ledger.proofs.Loads.Common.{counted-whole, mark-front, number-front, number-whole, on_bind, counted, AreBytes, byte_from, counted_from, mark_from, Offer, FailsLoad, HasHead, no_head}
+use Rattle.mv_ledger.proofs.Loads.Common.{SavedHead, form_by, form_from, head_from, marks_from, offer_from, offer_fits, offer_text, First, Form, HeadFits, Second, form_byte, head_text}
 use Rattle.mv_ledger.proofs.Shapes.{offer-parts, offer-whole}
 
 -- the three bytes at the front

@@ -1,39 +1,26 @@
 -- Modules of a saved ledger that join one group after the other: a group joins those that are there exactly where all of them together
 -- are linked.
-use Rattle.std.proofs.Common.{◌≡◌, ℕ, zero, suc, ◌+◌, ◌≤◌, List, [], ◌∷◌, ◌++◌, map, take, drop, length, cond, append_assoc, append-nil, refl, ap, ap₂, sym, ◌∙◌, subst, Option, None, Some, IsTrue, Bool, true, false, arith}
-use Rattle.std.specs.Prelude.{not, ◌||◌, ◌&&◌, ◌==◌, nat_le, count_by, unwrap_or}
-use Rattle.std.specs.List.{list_any, list_all, find}
-use Rattle.std.proofs.lemmas.Bool.{and_parts, and_from, true≢false, eqb-true, eqb-false}
-use Rattle.std.proofs.Math.Seq.{take-add}
-use Rattle.std.proofs.lemmas.List.{length-append, length-map, length-take, length-drop, take_all, take-map, take-take, drop-map, take-append-drop}
+use Rattle.mv_ledger.proofs.Loads.Common.{[], ℕ, ◌++◌, ◌+◌, ◌∙◌, ◌∷◌, ◌≡◌, ◌≤◌, Bool, IsTrue, List, None, Option, Some, ap, append-nil, append_assoc, ap₂, arith, cond, drop, eqb-true, false, length}
+use Rattle.mv_ledger.proofs.Loads.Common.{length-append, map, refl, subst, suc, sym, take, true, zero, take-add, and_from, and_parts, eqb-false, true≢false, drop-map, length-drop, length-map}
+use Rattle.mv_ledger.proofs.Loads.Common.{length-take, take-append-drop, take-map, take-take, take_all, find, list_all, list_any, ◌&&◌, ◌==◌, ◌||◌, count_by, nat_le, not, unwrap_or, Module}
+use Rattle.mv_ledger.proofs.Loads.Common.{StructName, same_struct, PublishedModule, with_module, with_modules, Offer, scarce_structs, tally_of, untouched_tally, Tallied, same_struct-is, IsStore}
+use Rattle.mv_ledger.proofs.Loads.Common.{MayJoin, are_compatible, have_one_name, tables_in, Links, AreLinked, AreJoined, AreNotJoined, reason_of, AreCountable, ArePlaced, all_of, tallied, Tally}
 use Rattle.mv_move_types.specs.declared.refusal.Refusal.{Refusal}
 use Rattle.mv_move_types.specs.declared.refusal.Refusal.TheVariants.{Phase, Memory}
-use Rattle.mv_move_types.specs.Module.{Module}
-use Rattle.mv_move_types.specs.Names.{StructName, same_struct}
-use Rattle.mv_move_types.specs.Published.{PublishedModule, with_module, with_modules}
 use Rattle.mv_move_types.specs.Refusals.{IsRefusedIn}
 use Rattle.mv_bounds.specs.Definitions.{all_differ}
 use Rattle.mv_frames.specs.Counters.{AreSameCounts}
 use Rattle.mv_frames.specs.declared.counters.Count.{Count}
-use Rattle.mv_linker.specs.Link.{MayJoin, IsStore, tables_in, have_one_name, are_compatible}
-use Rattle.mv_linker.specs.Links.{Links}
 use Rattle.mv_linker.specs.Upgrades.{may_replace}
-use Rattle.mv_linker.proofs.NameLemmas.{same_struct-is}
 use Rattle.mv_interpreter.proofs.Guided.Tiles.{find-has}
 use Rattle.mv_linker.specs.declared.New.{New}
 use Rattle.mv_linker.specs.News.{published_one, published_of}
 use Rattle.mv_ledger.specs.declared.payload.Offered.{Offered}
 use Rattle.mv_ledger.specs.Asking.{offer_of, offers_of}
-use Rattle.mv_machine.specs.Ledger.{Offer, scarce_structs, tally_of, untouched_tally}
-use Rattle.mv_machine.specs.Lines.{Tallied}
 use Rattle.mv_ledger.specs.declared.loading.LoadError.TheVariants.{Module as NoModule, Link as NoLink}
-use Rattle.mv_ledger.specs.declared.tallies.Tally.{Tally}
 use Rattle.mv_ledger.specs.declared.tallies.Placed.{Placed}
-use Rattle.mv_ledger.specs.Loading.{AreLinked}
-use Rattle.mv_ledger.specs.Parts.LoadedParts.{reason_of, AreJoined, AreNotJoined}
 use Rattle.mv_ledger.specs.Publishing.{AllPass, FailsAmong, IsRefusedAmong}
 use Rattle.mv_ledger.specs.Tallying.{AreWithin, ArePlacedFor, with_placed}
-use Rattle.mv_ledger.specs.View.{all_of, tallied, ArePlaced, AreCountable}
 use Rattle.mv_ledger.proofs.Bundles.Joining.{IsPlacedBundle, placed-length, joined-within, after-length, after-scarce, after-named, after-tallied}
 use Rattle.mv_ledger.proofs.Bundles.Places.{is_there, length-with, count-joined}
 use Rattle.mv_ledger.proofs.Bundles.Stores.{one_name-turns}

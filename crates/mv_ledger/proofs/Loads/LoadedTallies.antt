@@ -1,17 +1,7 @@
 -- Tallies whose counts were read are of the same structs.
-use Rattle.std.proofs.Common.{◌≡◌, List, [], ◌∷◌, ◌++◌, map, length, flat_map, sym, ap, ◌∙◌, subst, refl}
-use Rattle.std.specs.Prelude.{All, IsSome, unwrap_or}
-use Rattle.std.proofs.lemmas.List.{map-append, length-map}
-use Rattle.std.proofs.lemmas.List.Elements.{All-map}
-use Rattle.mv_move_types.specs.declared.tables.Definition.{Definition}
-use Rattle.mv_move_types.specs.Names.{StructName}
-use Rattle.mv_move_types.specs.Module.{Module, name_at}
-use Rattle.mv_machine.specs.Lines.{Tallied}
+use Rattle.mv_ledger.proofs.Loads.Common.{[], ◌++◌, ◌∙◌, ◌∷◌, ◌≡◌, List, ap, flat_map, length, map, refl, subst, sym, length-map, map-append, All-map, All, IsSome, unwrap_or, Module, name_at}
+use Rattle.mv_ledger.proofs.Loads.Common.{StructName, Definition, Tallied, counts_of, struct_of, counted_by, AreScarce, IsNamed, all_of, scarce_indices, tallied, Tally}
 use Rattle.mv_interpreter.specs.Flat.Agreement.{nameless}
-use Rattle.mv_ledger.specs.declared.tallies.Tally.{Tally}
-use Rattle.mv_ledger.specs.Parts.BodyParts.{counts_of, struct_of}
-use Rattle.mv_ledger.specs.Parts.LoadedParts.{counted_by}
-use Rattle.mv_ledger.specs.View.{all_of, tallied, scarce_indices, AreScarce, IsNamed}
 use Rattle.mv_ledger.proofs.Runs.ScarceTallies.{All-back}
 use Rattle.mv_ledger.proofs.Runs.TalliesAfter.{map-then}
 

@@ -1,18 +1,9 @@
 -- Tallies against the counts of what is stored.
-use Rattle.std.proofs.Common.{◌≡◌, ℕ, zero, suc, ◌+◌, ◌*◌, ◌-◌, ◌^◌, ◌<◌, ◌≤◌, List, [], ◌∷◌, ◌++◌, map, length, take, sym, ap, ◌∙◌, subst, arith, add-one}
-use Rattle.std.specs.Prelude.{All, min, slice_get, unwrap_or}
-use Rattle.std.specs.List.{AllByRecursion}
-use Rattle.std.proofs.lemmas.List.{take_all}
-use Rattle.std.proofs.lemmas.List.Elements.{All-head, All-tail}
-use Rattle.mv_move_types.specs.Module.{Module, name_at}
-use Rattle.mv_machine.specs.Count.{count}
-use Rattle.mv_machine.specs.Flat.{FlatEntry, storage_of}
+use Rattle.mv_ledger.proofs.Loads.Common.{[], ℕ, ◌*◌, ◌++◌, ◌+◌, ◌-◌, ◌<◌, ◌^◌, ◌∙◌, ◌∷◌, ◌≡◌, ◌≤◌, List, add-one, ap, arith, length, map, subst, suc, sym, take, zero, take_all, All-head, All-tail}
+use Rattle.mv_ledger.proofs.Loads.Common.{AllByRecursion, All, min, slice_get, unwrap_or, Module, name_at, count, FlatEntry, storage_of, AreAll, IsTallied, capped, count_at, AreCounted, IsNamed}
+use Rattle.mv_ledger.proofs.Loads.Common.{all_of, tallied, Tally}
 use Rattle.mv_linker.proofs.Found.{some-of}
 use Rattle.mv_interpreter.specs.Flat.Agreement.{nameless}
-use Rattle.mv_ledger.specs.declared.tallies.Tally.{Tally}
-use Rattle.mv_ledger.specs.Parts.CountRows.{capped, count_at, AreAll, IsTallied}
-use Rattle.mv_ledger.specs.Parts.LoadedParts.{AreCounted}
-use Rattle.mv_ledger.specs.View.{all_of, tallied, IsNamed}
 
 -- ---- tallies one after the other
 

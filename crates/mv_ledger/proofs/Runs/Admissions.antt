@@ -1,22 +1,13 @@
 -- The ways out of an admission: the first reason against a run, or its call.
-use Rattle.std.proofs.Common.{◌≡◌, ℕ, ◌<◌, ◌≤◌, ◌^◌, Bool, true, false, nat_lt, List, Option, Some, None, Result, Ok, Err, refl, sym, ap, ◌∙◌, subst, arith}
-use Rattle.std.specs.Prelude.{slice_get, ok_or, nat_le}
+use Rattle.mv_ledger.proofs.Runs.Common.{ℕ, ◌<◌, ◌^◌, ◌∙◌, ◌≡◌, ◌≤◌, Bool, Err, List, None, Ok, Option, Result, Some, ap, arith, false, nat_lt, refl, subst, sym, true, nat_le, ok_or, slice_get}
+use Rattle.mv_ledger.proofs.Runs.Common.{FunctionDefinition, Module, parameter_tokens, PublishedModule, Tallied, FunctionCall, Storage, tables_in, call_of, IsAdmission, IsAdmitted, Call}
 use Rattle.std.proofs.lemmas.Bool.Decides.{nat_tests}
 use Rattle.mv_move_types.specs.declared.token.Token.{Token}
 use Rattle.mv_move_types.specs.Results.{◌>>=◌, ◌>>◌, need}
-use Rattle.mv_move_types.specs.Module.{Module, FunctionDefinition, parameter_tokens}
 use Rattle.mv_move_types.specs.Named.{module_place, function_place}
-use Rattle.mv_move_types.specs.Published.{PublishedModule}
-use Rattle.mv_machine.specs.Lines.{Tallied}
-use Rattle.mv_machine.specs.State.{Storage}
-use Rattle.mv_machine.specs.Run.{FunctionCall}
 use Rattle.mv_machine.specs.Ledger.{LedgerState, RunRequest, admitted, are_arguments, with_signer}
-use Rattle.mv_linker.specs.Link.{tables_in}
-use Rattle.mv_interpreter.specs.Runs.{call_of}
-use Rattle.mv_ledger.specs.declared.executing.Call.{Call}
 use Rattle.mv_ledger.specs.declared.executing.Barred.{Barred}
 use Rattle.mv_ledger.specs.declared.executing.Barred.TheVariants.{Rejected}
-use Rattle.mv_ledger.specs.Running.{IsAdmission, IsAdmitted}
 
 -- ---- one part after the other
 

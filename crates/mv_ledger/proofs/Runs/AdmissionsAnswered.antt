@@ -1,18 +1,9 @@
 -- What the machine's ledger answers to a run record: a rejection, or what the admitted call settles.
-use Rattle.std.proofs.Common.{◌≡◌, sym, ℕ, ◌+◌, List, Result, Ok, Err, refl, ap, subst}
-use Rattle.std.specs.Prelude.{Some}
-use Rattle.mv_move_types.specs.Published.{PublishedModule}
+use Rattle.mv_ledger.proofs.Runs.Common.{ℕ, ◌+◌, ◌≡◌, Err, List, Ok, Result, Some, ap, refl, subst, sym, PublishedModule, Answers, LedgerState, Run, RunRequest, admitted, attempted, modules_of}
+use Rattle.mv_ledger.proofs.Runs.Common.{settled, Told, ToldRejected, FunctionCall, run, call_of, IsAdmission, IsAdmitted, IsSettled, state_of, view_of, Call, Tally}
 use Rattle.mv_machine.specs.Flat.{FlatEntry}
-use Rattle.mv_machine.specs.Lines.{Reply as Told, Rejected as ToldRejected}
-use Rattle.mv_machine.specs.Run.{FunctionCall, run}
-use Rattle.mv_machine.specs.Ledger.{LedgerState, RunRequest, Run, Answers, attempted, settled, admitted, modules_of}
-use Rattle.mv_interpreter.specs.Runs.{call_of}
-use Rattle.mv_ledger.specs.declared.executing.Call.{Call}
 use Rattle.mv_ledger.specs.declared.executing.Barred.TheVariants.{Rejected}
-use Rattle.mv_ledger.specs.declared.tallies.Tally.{Tally}
 use Rattle.mv_ledger.specs.Publishing.{Spells}
-use Rattle.mv_ledger.specs.Running.{IsAdmission, IsAdmitted, IsSettled}
-use Rattle.mv_ledger.specs.View.{state_of, view_of}
 
 module _ (published : List PublishedModule) (stored new : List FlatEntry) (before after : List Tally) (runs : ℕ) (r : RunRequest) where
   -- the ledger before a run, and after it

@@ -1,20 +1,13 @@
 -- Room in the counters for the struct of each tally.
-use Rattle.std.proofs.Common.{◌≡◌, ℕ, zero, suc, ◌+◌, ◌<◌, ◌≤◌, List, [], ◌∷◌, ◌++◌, length, map, drop, unwrap_or, slice_get, sym, ap, ◌∙◌, subst, Option, ⊎_elim, arith}
-use Rattle.std.specs.Prelude.{All}
-use Rattle.std.proofs.lemmas.Bool.{cases_lt}
-use Rattle.std.proofs.lemmas.List.{map_push}
-use Rattle.std.proofs.lemmas.List.Elements.{All-nil, All-cons, All-head, All-tail, All-append, All-drop, All-map, All-weaker, All-push, All-get_or}
+use Rattle.mv_ledger.proofs.Runs.Common.{[], ℕ, ⊎_elim, ◌++◌, ◌+◌, ◌<◌, ◌∙◌, ◌∷◌, ◌≡◌, ◌≤◌, List, Option, ap, arith, drop, length, map, subst, suc, sym, unwrap_or, zero, cases_lt, map_push}
+use Rattle.mv_ledger.proofs.Runs.Common.{All-append, All-cons, All-drop, All-get_or, All-head, All-map, All-nil, All-push, All-tail, All-weaker, All, slice_get, HasCounts, KeepsCounts, StructTally}
+use Rattle.mv_ledger.proofs.Runs.Common.{fresh_tally, tally_after, with_placed, AreCountable, Tally}
 use Rattle.std.proofs.lemmas.Option.{unwrap_or-slice_get, slice_get_past}
 use Rattle.mv_move_types.specs.declared.tables.Definition.{Definition}
 use Rattle.mv_linker.specs.Stored.{with_at}
-use Rattle.mv_frames.specs.Counters.{HasCounts, KeepsCounts}
 use Rattle.mv_frames.specs.declared.counters.Count.{Count}
-use Rattle.mv_frames.specs.declared.counters.StructTally.{StructTally}
-use Rattle.mv_ledger.specs.declared.tallies.Tally.{Tally}
 use Rattle.mv_ledger.specs.declared.tallies.Placed.{Placed}
 use Rattle.mv_ledger.specs.Parts.BodyParts.{struct_of}
-use Rattle.mv_ledger.specs.View.{AreCountable}
-use Rattle.mv_ledger.specs.Tallying.{fresh_tally, tally_after, with_placed}
 use Rattle.mv_ledger.proofs.Runs.ScarceTallies.{All-back}
 
 -- there is room to count values of a tally's struct

@@ -1,16 +1,9 @@
 -- The tallies of modules' structs with neither copy nor drop: each is of such a struct, and those of a module stand by ascending
 -- index.
-use Rattle.std.proofs.Common.{◌≡◌, ℕ, zero, suc, ◌+◌, ◌<◌, ◌≤◌, Bool, true, false, cond, List, [], ◌∷◌, map, get_or, Option, Some, refl, sym, ap, ◌∙◌, subst, arith, zero-add}
-use Rattle.std.specs.Prelude.{All, slice_get}
-use Rattle.std.specs.List.{filter, enumerate_from}
-use Rattle.std.specs.List.Sorted.{IsStrictlyIncreasing}
+use Rattle.mv_ledger.proofs.Runs.Common.{[], ℕ, ◌+◌, ◌<◌, ◌∙◌, ◌∷◌, ◌≡◌, ◌≤◌, Bool, List, Option, Some, ap, arith, cond, false, get_or, map, refl, subst, suc, sym, true, zero, zero-add, All-append}
+use Rattle.mv_ledger.proofs.Runs.Common.{All-cons, All-head, All-nil, All-tail, All-weaker, enumerate_from, filter, IsStrictlyIncreasing, All, slice_get, Module, StructDefinition, is_scarce_at}
+use Rattle.mv_ledger.proofs.Runs.Common.{is_scarce_in, is_scarce_struct, AreInOrder, ArePlaced, AreScarce, all_of, scarce_indices, Tally}
 use Rattle.std.specs.Option.{option_map_or}
-use Rattle.std.proofs.lemmas.List.Elements.{All-nil, All-cons, All-head, All-tail, All-append, All-weaker}
-use Rattle.mv_move_types.specs.Module.{Module, StructDefinition}
-use Rattle.mv_move_types.specs.Scarce.{is_scarce_struct, is_scarce_at, is_scarce_in}
-use Rattle.mv_ledger.specs.declared.tallies.Tally.{Tally}
-use Rattle.mv_ledger.specs.View.{all_of, ArePlaced, AreScarce, scarce_indices}
-use Rattle.mv_ledger.specs.Tallying.{AreInOrder}
 use Rattle.mv_ledger.proofs.Bundles.Heirs.{indices_from}
 
 -- what holds of what a list is made into holds so of its elements

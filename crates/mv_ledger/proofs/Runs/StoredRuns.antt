@@ -1,29 +1,14 @@
 -- What a run leaves is what the machine's run asks for.
-use Rattle.std.proofs.Common.{◌≡◌, true, Option, Some, ℕ, ◌+◌, ◌*◌, ◌≤◌, List, map, sym, ap, ap₂, ◌∙◌, arith}
-use Rattle.std.specs.Prelude.{All}
-use Rattle.std.proofs.lemmas.List.Elements.{All-weaker}
-use Rattle.mv_move_types.specs.Module.{Module}
-use Rattle.mv_move_types.specs.Published.{PublishedModule}
+use Rattle.mv_ledger.proofs.Runs.Common.{ℕ, ◌*◌, ◌+◌, ◌∙◌, ◌≡◌, ◌≤◌, List, Option, Some, ap, ap₂, arith, map, sym, true, All-weaker, All, Module, PublishedModule, is_scarce_in, LedgerState, settled}
+use Rattle.mv_ledger.proofs.Runs.Common.{Tallied, Told, Aborted, Exhausted, Faulted, Returned, RunOutcome, run, Storage, tables_in, StructTally, Agrees, call_of, IsSettled, run_of, tally_after}
+use Rattle.mv_ledger.proofs.Runs.Common.{IsNamed, IsSmall, all_of, state_of, tallied, view_of, Call, Tally}
 use Rattle.mv_machine.specs.declared.Outcome.{Outcome}
 use Rattle.mv_machine.specs.declared.Ending.TheVariants.{Returned as HasReturned, Aborted as HasAborted, Exhausted as HasExhausted}
-use Rattle.mv_machine.specs.State.{Storage}
 use Rattle.mv_machine.specs.Flat.{FlatEntry, storage_of}
-use Rattle.mv_machine.specs.Lines.{Tallied, Reply as Told}
-use Rattle.mv_machine.specs.Run.{RunOutcome, run, Returned, Aborted, Exhausted, Faulted}
-use Rattle.mv_machine.specs.Ledger.{LedgerState, settled}
 use Rattle.mv_storage.specs.Map.{Layers}
-use Rattle.mv_linker.specs.Link.{tables_in}
-use Rattle.mv_move_types.specs.Scarce.{is_scarce_in}
-use Rattle.mv_frames.specs.declared.counters.StructTally.{StructTally}
 use Rattle.mv_interpreter.specs.declared.Arg.{Arg}
-use Rattle.mv_interpreter.specs.Runs.{Agrees, call_of}
-use Rattle.mv_ledger.specs.declared.executing.Call.{Call}
-use Rattle.mv_ledger.specs.declared.tallies.Tally.{Tally}
 use Rattle.mv_ledger.specs.declared.Reply.TheVariants.{Ran}
 use Rattle.mv_ledger.specs.Answering.{told, told_ending}
-use Rattle.mv_ledger.specs.Running.{IsSettled, run_of}
-use Rattle.mv_ledger.specs.Tallying.{tally_after}
-use Rattle.mv_ledger.specs.View.{all_of, IsNamed, IsSmall, state_of, view_of, tallied}
 use Rattle.mv_ledger.proofs.Runs.TalliesAfter.{tallies-after}
 use Rattle.mv_ledger.proofs.Runs.TalliesByModule.{all-map}
 

@@ -1,12 +1,6 @@
 -- A run's tally as it is added, entry by entry.
-use Rattle.std.proofs.Common.{◌≡◌, ℕ, ◌+◌, ◌-◌, ◌^◌, ◌<◌, ◌≤◌, true, cond, List, length, take, get_or, refl, ap, ◌∙◌, arith}
-use Rattle.std.specs.List.{sum_by}
-use Rattle.std.proofs.lemmas.List.Sums.{sum_by_more_le_part}
-use Rattle.mv_frames.specs.Counters.{is_tally_at}
-use Rattle.mv_frames.specs.declared.counters.StructTally.{StructTally}
-use Rattle.mv_interpreter.specs.Runs.{AtMost}
-use Rattle.mv_ledger.specs.declared.tallies.Tally.{Tally}
-use Rattle.mv_ledger.specs.Tallying.{tally_after, HasRoomFor, HasRoomLeft}
+use Rattle.mv_ledger.proofs.Runs.Common.{ℕ, ◌+◌, ◌-◌, ◌<◌, ◌^◌, ◌∙◌, ◌≡◌, ◌≤◌, List, ap, arith, cond, get_or, length, refl, take, true, sum_by_more_le_part, sum_by, is_tally_at, StructTally, AtMost}
+use Rattle.mv_ledger.proofs.Runs.Common.{HasRoomFor, HasRoomLeft, tally_after, Tally}
 
 -- what one more entry counts fits beside what those before it did
 fits : (f : StructTally → ℕ) (run : List StructTally) (i : ℕ) (d : StructTally) (old n : ℕ) → i < length run → old + 2 ^ 64 < 2 ^ 128 → sum_by f run ≤ 2 ^ 64 - 1 → n ≡ f (get_or run i d)

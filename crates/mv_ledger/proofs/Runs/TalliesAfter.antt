@@ -1,27 +1,13 @@
 -- Tallies after a run.
-use Rattle.std.proofs.Common.{◌≡◌, ℕ, ◌+◌, ◌-◌, ◌*◌, ◌^◌, ◌≤◌, true, List, [], ◌∷◌, map, Option, refl, sym, ap, ap₂, ◌∙◌, arith}
-use Rattle.std.specs.Prelude.{All, unwrap_or}
-use Rattle.std.proofs.lemmas.List.Elements.{All-head, All-tail, All-map, All-weaker}
+use Rattle.mv_ledger.proofs.Runs.Common.{[], ℕ, ◌*◌, ◌+◌, ◌-◌, ◌^◌, ◌∙◌, ◌∷◌, ◌≡◌, ◌≤◌, List, Option, ap, ap₂, arith, map, refl, sym, true, unwrap_or, All-head, All-map, All-tail, All-weaker, All}
+use Rattle.mv_ledger.proofs.Runs.Common.{Module, name_at, PublishedModule, is_scarce_in, tally_with, Tallied, packs, unpacks, Event, tables_in, packs_at, unpacks_at, StructTally, AtMost, Tallies}
+use Rattle.mv_ledger.proofs.Runs.Common.{tally_after, AreScarce, IsNamed, IsSmall, tallied, Tally}
 use Rattle.mv_move_types.specs.declared.tables.Definition.{Definition}
 use Rattle.mv_move_types.specs.Names.{StructName}
-use Rattle.mv_move_types.specs.Module.{Module, name_at}
-use Rattle.mv_move_types.specs.Published.{PublishedModule}
-use Rattle.mv_machine.specs.State.{Event}
-use Rattle.mv_machine.specs.Lines.{Tallied}
-use Rattle.mv_machine.specs.Run.{packs, unpacks}
-use Rattle.mv_machine.specs.Ledger.{tally_with}
-use Rattle.mv_linker.specs.Link.{tables_in}
-use Rattle.mv_move_types.specs.Scarce.{is_scarce_in}
 use Rattle.mv_linker.proofs.Found.{some-of}
-use Rattle.mv_frames.specs.Counters.{packs_at, unpacks_at}
 use Rattle.mv_frames.specs.declared.counters.Count.{Count}
-use Rattle.mv_frames.specs.declared.counters.StructTally.{StructTally}
 use Rattle.mv_frames.proofs.Tallied.{tallied-packs, tallied-unpacks}
-use Rattle.mv_interpreter.specs.Runs.{Tallies, AtMost}
 use Rattle.mv_interpreter.specs.Flat.Agreement.{nameless}
-use Rattle.mv_ledger.specs.declared.tallies.Tally.{Tally}
-use Rattle.mv_ledger.specs.View.{IsNamed, IsSmall, AreScarce, tallied}
-use Rattle.mv_ledger.specs.Tallying.{tally_after}
 
 -- functions that agree on a list's elements
 pub map-where : {A B : Type 0} (P : A → Type 0) (f g : A → B) → ((x : A) → P x → f x ≡ g x) → (xs : List A) → All P xs → map f xs ≡ map g xs

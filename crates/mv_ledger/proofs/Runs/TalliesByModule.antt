@@ -1,21 +1,11 @@
 -- A run's tally as it is added, entry by entry, each to the tallies of its module alone.
-use Rattle.std.proofs.Common.{◌≡◌, ℕ, zero, suc, ◌+◌, ◌-◌, ◌^◌, ◌<◌, ◌≤◌, Bool, true, false, cond, List, [], ◌∷◌, ◌++◌, map, length, take, get_or, refl, sym, ap, ap₂, ◌∙◌, subst, arith, zero-add}
-use Rattle.std.specs.Prelude.{◌==◌, ◌&&◌, All, slice_set}
-use Rattle.std.specs.List.{sum_by}
-use Rattle.std.specs.List.Sorted.{IsStrictlyIncreasing}
+use Rattle.mv_ledger.proofs.Runs.Common.{[], ℕ, ◌++◌, ◌+◌, ◌-◌, ◌<◌, ◌^◌, ◌∙◌, ◌∷◌, ◌≡◌, ◌≤◌, Bool, List, ap, ap₂, arith, cond, false, get_or, length, map, refl, subst, suc, sym, take, true, zero}
+use Rattle.mv_ledger.proofs.Runs.Common.{zero-add, eqb-true, get_or-map, length-map, map-append, map-set, with_items_is, All-cons, All-head, All-map, All-nil, All-tail, All-weaker, sum_by-cons}
+use Rattle.mv_ledger.proofs.Runs.Common.{sum_by_more, sum_by, IsStrictlyIncreasing, ◌&&◌, ◌==◌, All, slice_set, is_tally_at, StructTally, AtMost, AreInOrder, HasRoomLeft, IsRoomFor, tally_after}
+use Rattle.mv_ledger.proofs.Runs.Common.{ArePlaced, all_of, Tally}
 use Rattle.std.specs.declared.vec.Vec.{Vec}
 use Rattle.std.specs.Vec.{with_items}
 use Rattle.std.specs.declared.alloc.Global.{Global}
-use Rattle.std.proofs.lemmas.Bool.{eqb-true}
-use Rattle.std.proofs.lemmas.List.{get_or-map, length-map, map-append, map-set, with_items_is}
-use Rattle.std.proofs.lemmas.List.Elements.{All-nil, All-cons, All-head, All-tail, All-map, All-weaker}
-use Rattle.std.proofs.lemmas.List.Sums.{sum_by-cons, sum_by_more}
-use Rattle.mv_frames.specs.Counters.{is_tally_at}
-use Rattle.mv_frames.specs.declared.counters.StructTally.{StructTally}
-use Rattle.mv_interpreter.specs.Runs.{AtMost}
-use Rattle.mv_ledger.specs.declared.tallies.Tally.{Tally}
-use Rattle.mv_ledger.specs.Tallying.{tally_after, AreInOrder, HasRoomLeft, IsRoomFor}
-use Rattle.mv_ledger.specs.View.{all_of, ArePlaced}
 use Rattle.mv_ledger.proofs.Runs.TalliesAdding.{entry-fits}
 use Rattle.mv_ledger.proofs.Runs.TalliesAfter.{map-then}
 use Rattle.mv_ledger.proofs.Runs.TalliesFound.{tally-other, with_counts}

@@ -1,20 +1,12 @@
 -- The tally of a run's entry among those of its module, which stand by ascending index.
-use Rattle.std.proofs.Common.{◌≡◌, ℕ, ◌+◌, ◌<◌, ◌≤◌, Bool, true, false, cond, List, [], ◌∷◌, map, length, get_or, Ok, Err, refl, sym, ap, ap₂, ◌∙◌, arith}
-use Rattle.std.specs.Prelude.{◌==◌, ◌&&◌, All, nat_lt, slice_set}
-use Rattle.std.specs.List.{sum_by}
-use Rattle.std.specs.List.Sorted.{IsBinarySearchResult, IsNonDecreasingBy}
+use Rattle.mv_ledger.proofs.Runs.Common.{[], ℕ, ◌+◌, ◌<◌, ◌∙◌, ◌∷◌, ◌≡◌, ◌≤◌, Bool, Err, List, Ok, ap, ap₂, arith, cond, false, get_or, length, map, nat_lt, refl, sym, true, and_from, eq-eqb}
+use Rattle.mv_ledger.proofs.Runs.Common.{eqb-false, eqb-true, ltb-false, ltb-true, ext_get_or, get_or-map, get_or-set_other, get_or-set_same, length-map, length-set, sum_by-cons, sum_by}
+use Rattle.mv_ledger.proofs.Runs.Common.{IsBinarySearchResult, IsNonDecreasingBy, ◌&&◌, ◌==◌, All, slice_set, is_tally_at, StructTally, AreInOrder, HasRoomFor, IsRoomFor, tally_after, Tally}
 use Rattle.std.specs.Ordering.{nat_cmp, ordering_index}
 use Rattle.std.proofs.lemmas.Cmp.{ranked}
-use Rattle.std.proofs.lemmas.Bool.{and_from, eq-eqb, eqb-true, eqb-false, ltb-true, ltb-false}
 use Rattle.std.proofs.lemmas.Bool.Decides.{nat_tests}
-use Rattle.std.proofs.lemmas.List.{ext_get_or, get_or-map, get_or-set_same, get_or-set_other, length-map, length-set}
 use Rattle.std.proofs.lemmas.List.Kept.{AllPairs-from_increasing}
 use Rattle.std.proofs.lemmas.List.Sorted.{IsNonDecreasingBy-from_default}
-use Rattle.std.proofs.lemmas.List.Sums.{sum_by-cons}
-use Rattle.mv_frames.specs.Counters.{is_tally_at}
-use Rattle.mv_frames.specs.declared.counters.StructTally.{StructTally}
-use Rattle.mv_ledger.specs.declared.tallies.Tally.{Tally}
-use Rattle.mv_ledger.specs.Tallying.{tally_after, HasRoomFor, IsRoomFor, AreInOrder}
 
 -- a tally with other counts
 abbrev pub with_counts : Tally → ℕ → ℕ → Tally

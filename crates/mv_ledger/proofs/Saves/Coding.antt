@@ -1,11 +1,7 @@
 -- Leaves that are coded one after the other.
-use Rattle.std.proofs.Common.{◌≡◌, ℕ, suc, ◌+◌, ◌<◌, ◌≤◌, List, [], ◌∷◌, ◌++◌, length, drop, get_or, refl, sym, ap, ap₂, ◌∙◌, subst, add-one, append_assoc, append-nil}
-use Rattle.std.specs.Prelude.{IsTrue}
+use Rattle.mv_ledger.proofs.Saves.Common.{[], ℕ, ◌++◌, ◌+◌, ◌<◌, ◌∙◌, ◌∷◌, ◌≡◌, ◌≤◌, IsTrue, List, add-one, ap, append-nil, append_assoc, ap₂, drop, get_or, length, refl, subst, suc, sym, drop_all}
+use Rattle.mv_ledger.proofs.Saves.Common.{LeafKind, leaf_fits, leaf_bytes}
 use Rattle.std.proofs.Math.Seq.{drop-cons}
-use Rattle.std.proofs.lemmas.List.{drop_all}
-use Rattle.mv_move_types.specs.declared.token.LeafKind.{LeafKind}
-use Rattle.mv_machine.specs.Typed.{leaf_fits}
-use Rattle.mv_ledger.specs.RecordText.{leaf_bytes}
 use Rattle.mv_ledger.specs.Layouts.{coded, AreLeaves}
 
 pub leaves-length : (ks : List LeafKind) (ns : List ℕ) → AreLeaves ks ns → length ks ≡ length ns

@@ -1,37 +1,18 @@
 -- What is stored, as it is put into the sections of its structs.
-use Rattle.std.proofs.Common.{◌≡◌, ℕ, suc, ◌+◌, ◌<◌, ◌≤◌, ◌^◌, Bool, true, false, cond, List, [], ◌∷◌, ◌++◌, length, refl, sym, ap, ap₂, ◌∙◌, subst, arith, Option, Some, None, slice_get, append-nil, append_assoc, length-append}
-use Rattle.std.specs.Prelude.{◌&&◌, ◌==◌, All, IsSome, IfSome}
-use Rattle.std.specs.List.{filter, flat_map, list_all}
-use Rattle.std.specs.Option.{option_map_or}
+use Rattle.mv_ledger.proofs.Saves.Common.{[], ℕ, ◌++◌, ◌+◌, ◌<◌, ◌^◌, ◌∙◌, ◌∷◌, ◌≡◌, ◌≤◌, Bool, List, None, Option, Some, ap, append-nil, append_assoc, ap₂, arith, cond, false, flat_map, length}
+use Rattle.mv_ledger.proofs.Saves.Common.{length-append, refl, slice_get, subst, suc, sym, true, eqb-true, map-append, All-cons, All-head, All-nil, All-tail, filter-append, same_Some, filter}
+use Rattle.mv_ledger.proofs.Saves.Common.{list_all, option_map_or, ◌&&◌, ◌==◌, All, IfSome, IsSome, Module, name_at, ◌>>=◌, PublishedModule, Definition, Abilities, LeafKind, on_bind, address_text}
+use Rattle.mv_ledger.proofs.Saves.Common.{FlatEntry, flat, storage_of, value_under, Entry, abilities_at, is_fine_entry, is_of_struct, some-of, then_found, IsStore, tables_in, IsOfStore, AddsValue}
+use Rattle.mv_ledger.proofs.Saves.Common.{AreSections, HasOneMore, IsAdded, IsSection, KnowsKinds, definition_at, same_definition, section_at, stored_in, struct_of, addressed_text, is_under}
+use Rattle.mv_ledger.proofs.Saves.Common.{leaves_text, Section}
 use Rattle.std.specs.Cmp.{first_so, second_so}
-use Rattle.std.proofs.lemmas.Bool.{eqb-true}
-use Rattle.std.proofs.lemmas.List.{map-append}
 use Rattle.std.proofs.lemmas.List.Concat.{flat_map-append}
-use Rattle.std.proofs.lemmas.List.Elements.{All-nil, All-cons, All-head, All-tail, filter-append}
-use Rattle.std.proofs.lemmas.Option.{same_Some}
-use Rattle.mv_move_types.specs.declared.tables.Definition.{Definition}
-use Rattle.mv_move_types.specs.declared.token.Abilities.{Abilities}
-use Rattle.mv_move_types.specs.declared.token.LeafKind.{LeafKind}
-use Rattle.mv_move_types.specs.Options.{◌>>=◌}
-use Rattle.mv_move_types.specs.Module.{Module, name_at}
-use Rattle.mv_move_types.specs.Published.{PublishedModule}
-use Rattle.mv_module_text.specs.Entries.{address_text}
 use Rattle.mv_module_text.specs.Fits.{address_fits}
-use Rattle.mv_machine.specs.State.{Entry}
-use Rattle.mv_machine.specs.Flat.{FlatEntry, flat, storage_of, value_under}
-use Rattle.mv_machine.specs.Typed.{abilities_at, is_fine_entry, is_of_struct}
-use Rattle.mv_linker.specs.Link.{IsStore, tables_in}
-use Rattle.mv_module_text.proofs.Texts.{on_bind}
-use Rattle.mv_linker.proofs.Found.{some-of, then_found}
 use Rattle.mv_interpreter.specs.Runs.{IsFineWords}
 use Rattle.mv_interpreter.proofs.Flat.FineWords.{fine_words-typed}
 use Rattle.mv_interpreter.proofs.Typing.Callees.{on_found}
 use Rattle.mv_interpreter.proofs.Typing.Fine.{typed_is_fine}
-use Rattle.mv_ledger.specs.declared.saving.Section.{Section}
 use Rattle.mv_ledger.specs.Layouts.{coded, is_keyed, kinds_under, leaf_kinds, AreLeaves}
-use Rattle.mv_ledger.specs.Parts.LayoutParts.{IsOfStore}
-use Rattle.mv_ledger.specs.SavedText.{addressed_text, is_under, leaves_text}
-use Rattle.mv_ledger.specs.Parts.Saving.{definition_at, same_definition, section_at, stored_in, struct_of, AddsValue, AreSections, HasOneMore, IsAdded, IsSection, KnowsKinds}
 use Rattle.mv_ledger.proofs.Accepted.Stores.{accepted_store}
 use Rattle.mv_ledger.proofs.Loads.LeafKinds.{HasLeaves, struct-leaves}
 

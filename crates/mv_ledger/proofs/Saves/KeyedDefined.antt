@@ -1,12 +1,7 @@
 -- Each struct with key is defined where it says.
-use Rattle.std.proofs.Common.{◌≡◌, ℕ, zero, suc, ◌+◌, ◌<◌, Bool, true, false, cond, List, [], ◌∷◌, ◌++◌, map, length, get_or, Some, refl, sym, subst, arith, slice_get}
-use Rattle.std.specs.Prelude.{IsSome}
-use Rattle.std.specs.List.{filter, enumerate_from, AllByRecursion}
-use Rattle.mv_move_types.specs.declared.tables.Definition.{Definition}
-use Rattle.mv_move_types.specs.Module.{Module, StructDefinition}
-use Rattle.mv_linker.proofs.Found.{then_found, there_at}
+use Rattle.mv_ledger.proofs.Saves.Common.{[], ℕ, ◌++◌, ◌+◌, ◌<◌, ◌∷◌, ◌≡◌, Bool, List, Some, arith, cond, false, get_or, length, map, refl, slice_get, subst, suc, sym, true, zero, AllByRecursion}
+use Rattle.mv_ledger.proofs.Saves.Common.{enumerate_from, filter, IsSome, Module, StructDefinition, Definition, then_found, there_at, definition_at}
 use Rattle.mv_ledger.specs.SavedText.{has_key, keyed_indices, keyed_from}
-use Rattle.mv_ledger.specs.Parts.Saving.{definition_at}
 
 -- the indices of structs with key among those from an index on
 abbrev keyed_after : Module → ℕ → List StructDefinition → List ℕ

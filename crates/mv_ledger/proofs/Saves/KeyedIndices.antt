@@ -1,17 +1,10 @@
 -- The structs of a module that have key, as they are found one after the other.
-use Rattle.std.proofs.Common.{◌≡◌, ℕ, ◌+◌, ◌<◌, ◌≤◌, Bool, true, false, cond, List, [], ◌∷◌, ◌++◌, map, length, take, get_or, Some, slice_get, refl, sym, ap, ap₂, ◌∙◌, subst, append_assoc, append-nil, zero-add}
-use Rattle.std.specs.Option.{option_map_or}
-use Rattle.std.specs.List.{filter, enumerate_from}
-use Rattle.std.proofs.lemmas.List.{map-append, take_all}
-use Rattle.std.proofs.lemmas.List.Elements.{filter_more}
+use Rattle.mv_ledger.proofs.Saves.Common.{[], ℕ, ◌++◌, ◌+◌, ◌<◌, ◌∙◌, ◌∷◌, ◌≡◌, ◌≤◌, Bool, List, Some, ap, append-nil, append_assoc, ap₂, cond, false, get_or, length, map, refl, slice_get, subst, sym}
+use Rattle.mv_ledger.proofs.Saves.Common.{take, true, zero-add, map-append, take_all, filter_more, get_or_from_slice_get, enumerate_from, filter, option_map_or, Module, StructDefinition, Definition}
+use Rattle.mv_ledger.proofs.Saves.Common.{there_at, keyed_at}
 use Rattle.std.proofs.lemmas.List.FromFn.{length-enumerate_from, get_or-enumerate_from}
-use Rattle.std.proofs.lemmas.Option.{get_or_from_slice_get}
-use Rattle.mv_move_types.specs.declared.tables.Definition.{Definition}
-use Rattle.mv_move_types.specs.Module.{Module, StructDefinition}
 use Rattle.mv_linker.specs.Shapes.{is_keyed, structs_in}
-use Rattle.mv_linker.proofs.Found.{there_at}
 use Rattle.mv_ledger.specs.SavedText.{has_key}
-use Rattle.mv_ledger.specs.Parts.LayoutParts.{keyed_at}
 
 module _ (m : Module) (place : ℕ) where
   -- the struct at an index

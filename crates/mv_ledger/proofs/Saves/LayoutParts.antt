@@ -1,43 +1,29 @@
 -- Of what the fields of structs are made, and the kinds of their leaves.
-use Rattle.std.proofs.Common.{◌≡◌, ◌≢◌, ℕ, zero, suc, ◌+◌, ◌-◌, ◌<◌, Bool, true, false, cond, List, [], ◌∷◌, ◌++◌, length, take, refl, sym, ap, ap₂, ◌∙◌, subst, arith, Option, Some, None, option_map, append_assoc, append-nil, slice_get}
-use Rattle.std.specs.Prelude.{is_some, nat_le}
-use Rattle.std.specs.List.{list_all}
-use Rattle.std.specs.Option.{option_map_or}
-use Rattle.std.proofs.lemmas.List.{take_more, length-take-le}
-use Rattle.std.proofs.lemmas.Option.{none-some, slice_get_within, get_or_from_slice_get}
-use Rattle.mv_move_types.specs.declared.tables.Definition.{Definition}
+use Rattle.mv_ledger.proofs.Saves.Common.{[], ℕ, ◌++◌, ◌+◌, ◌-◌, ◌<◌, ◌∙◌, ◌∷◌, ◌≡◌, ◌≢◌, Bool, List, None, Option, Some, ap, append-nil, append_assoc, ap₂, arith, cond, false, length, option_map}
+use Rattle.mv_ledger.proofs.Saves.Common.{refl, slice_get, subst, suc, sym, take, true, zero, length-take-le, take_more, get_or_from_slice_get, none-some, slice_get_within, list_all, option_map_or}
+use Rattle.mv_ledger.proofs.Saves.Common.{is_some, nat_le, Module, StructDefinition, name_at, name_of_struct, struct_abilities, struct_name, ◌>>=◌, find_index, PublishedModule, Definition, Abilities}
+use Rattle.mv_ledger.proofs.Saves.Common.{LeafKind, on_bind, abilities_at, each, then_found, IsStore, tables_in, IsOfStore, PutsKinds, keyed_at, kinds_at, kinds_of_part, kinds_of_parts, keyed_from}
 use Rattle.mv_move_types.specs.declared.tables.Field.{Field}
-use Rattle.mv_move_types.specs.declared.token.Abilities.{Abilities}
-use Rattle.mv_move_types.specs.declared.token.LeafKind.{LeafKind}
 use Rattle.mv_move_types.specs.declared.token.ValueType.TheVariants.{OfLeaf, OfStruct}
 use Rattle.mv_move_types.specs.declared.token.Token.{Token}
 use Rattle.mv_move_types.specs.declared.token.Token.TheVariants.{Plain, Reference, MutableReference}
 use Rattle.mv_move_types.specs.Names.{StructName, same_struct}
-use Rattle.mv_move_types.specs.Options.{◌>>=◌, find_index}
-use Rattle.mv_move_types.specs.Module.{Module, StructDefinition, struct_name, struct_abilities, name_of_struct, name_at}
 use Rattle.mv_move_types.specs.Named.{definition_of, is_struct}
 use Rattle.mv_move_types.specs.Leaves.{leaves_within}
-use Rattle.mv_move_types.specs.Published.{PublishedModule}
-use Rattle.mv_machine.specs.Typed.{abilities_at}
 use Rattle.mv_type_states.specs.Sound.{IsSound}
 use Rattle.mv_linker.specs.declared.shapes.Part.{Part}
 use Rattle.mv_linker.specs.declared.shapes.Part.TheVariants.{Leaf, Struct, Nothing}
 use Rattle.mv_linker.specs.Handles.{IsStructAt}
-use Rattle.mv_linker.specs.Link.{IsStore, tables_in}
 use Rattle.mv_linker.specs.Links.{struct_is_small}
 use Rattle.mv_linker.specs.Shapes.{AreFieldsAt, AreParts, IsMadeOf, IsPart, has_key, is_of_value}
 use Rattle.mv_linker.specs.Shapes.{is_keyed as keyed_in}
 use Rattle.mv_linker.proofs.Joining.Assembling.{passed-among}
-use Rattle.mv_module_text.proofs.Texts.{on_bind}
-use Rattle.mv_linker.proofs.Found.{then_found, each}
 use Rattle.mv_linker.proofs.Kept.HandleDefinitions.{name-found}
 use Rattle.mv_linker.proofs.Members.{among-at}
 use Rattle.mv_linker.proofs.OwnDefinitions.{own-definition}
 use Rattle.mv_interpreter.proofs.Typing.Callees.{on_found}
 use Rattle.mv_ledger.specs.Inside.{structs_in_fields, structs_in_part, structs_in_parts, structs_in_token, structs_within}
 use Rattle.mv_ledger.specs.Layouts.{kinds_of_token, kinds_of_fields, kinds_within, leaf_kinds, is_keyed}
-use Rattle.mv_ledger.specs.Parts.LayoutParts.{kinds_at, kinds_of_part, kinds_of_parts, keyed_at, IsOfStore, PutsKinds}
-use Rattle.mv_ledger.specs.SavedText.{keyed_from}
 use Rattle.mv_ledger.proofs.Loads.LeafKinds.{kinds-count}
 
 -- ---- of what a field is made

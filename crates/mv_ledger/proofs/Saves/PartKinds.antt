@@ -1,12 +1,8 @@
 -- The kinds of the leaves of parts, as they are put one after the other.
-use Rattle.std.proofs.Common.{◌≡◌, ℕ, ◌+◌, ◌<◌, ◌≤◌, Bool, true, false, List, [], ◌∷◌, ◌++◌, length, drop, get_or, refl, sym, ap, ◌∙◌, subst, Option, Some, None, append_assoc, append-nil, add-one}
+use Rattle.mv_ledger.proofs.Saves.Common.{[], ℕ, ◌++◌, ◌+◌, ◌<◌, ◌∙◌, ◌∷◌, ◌≡◌, ◌≤◌, Bool, List, None, Option, Some, add-one, ap, append-nil, append_assoc, drop, false, get_or, length, refl, subst}
+use Rattle.mv_ledger.proofs.Saves.Common.{sym, true, drop_all, Module, ◌>>=◌, LeafKind, PutsKinds, kinds_of_part, kinds_of_parts}
 use Rattle.std.proofs.Math.Seq.{drop-cons}
-use Rattle.std.proofs.lemmas.List.{drop_all}
-use Rattle.mv_move_types.specs.declared.token.LeafKind.{LeafKind}
-use Rattle.mv_move_types.specs.Options.{◌>>=◌}
-use Rattle.mv_move_types.specs.Module.{Module}
 use Rattle.mv_linker.specs.declared.shapes.Part.{Part}
-use Rattle.mv_ledger.specs.Parts.LayoutParts.{kinds_of_part, kinds_of_parts, PutsKinds}
 
 -- these kinds before others, if there are any
 abbrev before : List LeafKind → Option (List LeafKind) → Option (List LeafKind)

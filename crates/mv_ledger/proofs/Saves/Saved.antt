@@ -1,28 +1,14 @@
 -- A ledger has one text of each form, and a text is of one ledger.
-use Rattle.std.proofs.Common.{◌≡◌, ℕ, ◌^◌, ◌≤◌, ◌-◌, true, List, [], ◌∷◌, ◌++◌, map, flat_map, get_or, refl, sym, ap, ap₂, ◌∙◌, subst, arith, leb-true, IsTrue}
-use Rattle.std.specs.Prelude.{nat_le, All}
-use Rattle.std.specs.List.{list_all}
+use Rattle.mv_ledger.proofs.Saves.Common.{[], ℕ, ◌++◌, ◌-◌, ◌^◌, ◌∙◌, ◌∷◌, ◌≡◌, ◌≤◌, IsTrue, List, ap, ap₂, arith, flat_map, get_or, leb-true, map, refl, subst, sym, true, and_parts, All-head}
+use Rattle.mv_ledger.proofs.Saves.Common.{All-tail, some_pair_parts, list_all, All, nat_le, Module, PublishedModule, uleb, counted, IsReadByText, LedgerState, Offer, modules_of, scarce_structs}
+use Rattle.mv_ledger.proofs.Saves.Common.{Storage, is_fine_storage, Spells, offered, offer_fits, offer_text, EachLedgerHasOneText, EachTextHasOneLedger, First, Form, IsSavedText, Second, body_text}
+use Rattle.mv_ledger.proofs.Saves.Common.{form_byte, head_text, saved_text, storage_text, tally_fits, tally_text}
 use Rattle.std.specs.Int.{w128, to_le_bytes}
-use Rattle.std.proofs.lemmas.Bool.{and_parts}
-use Rattle.std.proofs.lemmas.Option.{some_pair_parts}
-use Rattle.std.proofs.lemmas.List.Elements.{All-head, All-tail}
-use Rattle.mv_uleb.specs.Uleb.{uleb}
 use Rattle.mv_move_types.specs.declared.token.Width.TheVariants.{U128}
-use Rattle.mv_move_types.specs.Module.{Module}
-use Rattle.mv_move_types.specs.Published.{PublishedModule}
-use Rattle.mv_module_text.specs.Entries.{counted}
 use Rattle.mv_module_text.specs.Parsing.{number_of_from}
 use Rattle.mv_module_text.proofs.Numbers.{number_of-whole}
-use Rattle.mv_binary_format.specs.Laws.{IsReadByText}
-use Rattle.mv_machine.specs.State.{Storage}
-use Rattle.mv_machine.specs.Typed.{is_fine_storage}
 use Rattle.mv_machine.specs.Lines.{Tallied}
-use Rattle.mv_machine.specs.Ledger.{Offer, LedgerState, modules_of, scarce_structs}
-use Rattle.mv_ledger.specs.RecordText.{offer_text, offer_fits}
-use Rattle.mv_ledger.specs.Publishing.{Spells, offered}
 use Rattle.mv_ledger.specs.Counting.Kept.{IsAscending}
-use Rattle.mv_ledger.specs.SavedText.{Form, First, Second, form_byte, head_text, tally_text, storage_text, body_text, saved_text, tally_fits, IsSavedText}
-use Rattle.mv_ledger.specs.SavedLaws.{EachLedgerHasOneText, EachTextHasOneLedger}
 use Rattle.mv_ledger.proofs.Spelling.{text_bytes, module-one}
 use Rattle.mv_ledger.proofs.SavedOnce.{IsOneOn, in_parts, uleb-one, offers-one}
 use Rattle.mv_ledger.proofs.Saves.SavedStored.{first_storage-one, second_storage-one}

@@ -1,18 +1,8 @@
 -- A ledger is within the limits of a saved one.
-use Rattle.std.proofs.Common.{◌≡◌, ℕ, ◌*◌, ◌<◌, ◌^◌, ◌≤◌, List, [], ◌∷◌, map, length, arith}
-use Rattle.std.specs.Prelude.{All}
-use Rattle.std.specs.List.{AllByRecursion}
-use Rattle.std.proofs.lemmas.List.{length-map}
-use Rattle.std.proofs.lemmas.List.Elements.{All-head, All-tail}
-use Rattle.mv_move_types.specs.Module.{Module}
-use Rattle.mv_move_types.specs.Published.{PublishedModule}
-use Rattle.mv_binary_format.specs.Laws.{IsReadByText}
-use Rattle.mv_machine.specs.Flat.{FlatEntry, storage_of}
-use Rattle.mv_linker.specs.Link.{tables_in}
+use Rattle.mv_ledger.proofs.Saves.Common.{[], ℕ, ◌*◌, ◌<◌, ◌^◌, ◌∷◌, ◌≡◌, ◌≤◌, List, arith, length, map, length-map, All-head, All-tail, AllByRecursion, All, Module, PublishedModule, IsReadByText}
+use Rattle.mv_ledger.proofs.Saves.Common.{FlatEntry, storage_of, tables_in, offered, IsSavable}
 use Rattle.mv_frames.specs.declared.counters.Count.{Count}
 use Rattle.mv_ledger.specs.declared.tallies.Tally.{Tally}
-use Rattle.mv_ledger.specs.Publishing.{offered}
-use Rattle.mv_ledger.specs.SavedLaws.{IsSavable}
 use Rattle.mv_ledger.specs.View.{state_of, view_of, all_of, tallied, IsSmall, IsLedger}
 use Rattle.mv_ledger.proofs.Saves.SavedLoads.{store_passed}
 

@@ -1,22 +1,12 @@
 -- What is saved of a sound ledger is loaded, what is loaded is sound, and what is loaded is saved as it was.
-use Rattle.std.proofs.Common.{◌≡◌, ℕ, ◌+◌, ◌*◌, ◌≤◌, true, List, [], ◌∷◌, map, refl, arith, IsTrue, le-leb}
-use Rattle.std.specs.Prelude.{nat_le, All}
-use Rattle.std.specs.List.{AllByRecursion, list_all}
-use Rattle.std.proofs.lemmas.Bool.{and_parts, and_from}
-use Rattle.std.proofs.lemmas.List.Elements.{All-nil, All-cons, All-head, All-tail}
-use Rattle.mv_move_types.specs.Published.{PublishedModule}
-use Rattle.mv_binary_format.specs.Laws.{IsReadByText}
+use Rattle.mv_ledger.proofs.Saves.Common.{[], ℕ, ◌*◌, ◌+◌, ◌∷◌, ◌≡◌, ◌≤◌, IsTrue, List, arith, le-leb, map, refl, true, and_from, and_parts, All-cons, All-head, All-nil, All-tail, AllByRecursion}
+use Rattle.mv_ledger.proofs.Saves.Common.{list_all, All, nat_le, PublishedModule, IsReadByText, LedgerState, modules_of, IsPublishable, IsStore, AllPass, offered, offer_fits, EachLoadIsSaved}
+use Rattle.mv_ledger.proofs.Saves.Common.{EachLoadIsSound, EachSaveIsLoaded, IsSavable, First, Form, IsSavedText, Second, greatest_count, saved_text, tally_fits}
 use Rattle.mv_machine.specs.Count.{count}
 use Rattle.mv_machine.specs.Lines.{Tallied}
-use Rattle.mv_machine.specs.Ledger.{LedgerState, modules_of}
-use Rattle.mv_linker.specs.Link.{IsPublishable, IsStore}
 use Rattle.mv_interpreter.proofs.Typing.Fine.{fine_storage}
-use Rattle.mv_ledger.specs.RecordText.{offer_fits}
-use Rattle.mv_ledger.specs.Publishing.{AllPass, offered}
-use Rattle.mv_ledger.specs.SavedText.{Form, First, Second, greatest_count, saved_text, tally_fits, IsSavedText}
 use Rattle.mv_ledger.specs.Accepted.SoundLedger.{IsSoundLedger}
 use Rattle.mv_ledger.specs.Loading.{AreTallied}
-use Rattle.mv_ledger.specs.SavedLaws.{EachSaveIsLoaded, EachLoadIsSound, EachLoadIsSaved, IsSavable}
 use Rattle.mv_ledger.proofs.Accepted.Stores.{accepted_store}
 use Rattle.mv_ledger.proofs.Accepted.Sound.{sound_stored}
 use Rattle.mv_ledger.proofs.Spelling.{text_bytes, read-spelled, spelled-read, passed-spelled}

@@ -1,11 +1,9 @@
 -- Texts of worked ledgers, by computation: an empty one, and one with a coin of 7, whose module has 99 bytes.
-use Rattle.std.specs.Prelude.{◌≡◌, refl, ℕ, List, [], ◌∷◌, ◌++◌, length, take, drop, replicate}
-use Rattle.mv_machine.specs.Ledger.{LedgerState, empty_ledger, with_bundle}
+use Rattle.mv_ledger.proofs.Saves.Common.{[], ℕ, ◌++◌, ◌∷◌, ◌≡◌, List, drop, length, refl, take, replicate, LedgerState, empty_ledger, with_bundle, First, Second, saved_text}
 use Rattle.mv_machine.proofs.Coin.{coin_module}
 use Rattle.mv_machine.proofs.Reported.{answer, after, mint_by, seven}
 use Rattle.mv_machine.proofs.Computed.{computed}
 use Rattle.mv_uleb.specs.Uleb.{uleb}
-use Rattle.mv_ledger.specs.SavedText.{First, Second, saved_text}
 
 abbrev one : List ℕ
 one = replicate 15 0 ++ 1 ∷ []

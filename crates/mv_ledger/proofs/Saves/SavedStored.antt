@@ -1,23 +1,13 @@
 -- A saved storage can be told from what follows it, in both forms.
-use Rattle.std.proofs.Common.{◌≡◌, ℕ, zero, suc, ◌+◌, Bool, true, false, cond, List, [], ◌∷◌, ◌++◌, map, flat_map, Option, Some, None, refl, sym, ap, ap₂, ◌∙◌, subst, arith, slice_get, inl, inr, ◌⊎◌, IsTrue}
-use Rattle.std.specs.Prelude.{◌==◌, ◌&&◌}
-use Rattle.std.specs.List.{AllByRecursion, filter, enumerate_from}
-use Rattle.std.specs.Option.{option_map_or}
-use Rattle.std.proofs.lemmas.Bool.{and_parts, and_from, eqb-true, eq-eqb, both_ways}
-use Rattle.std.proofs.lemmas.Option.{same_Some}
-use Rattle.mv_uleb.specs.Uleb.{uleb}
-use Rattle.mv_move_types.specs.declared.tables.Definition.{Definition}
+use Rattle.mv_ledger.proofs.Saves.Common.{[], ℕ, ◌++◌, ◌+◌, ◌∙◌, ◌∷◌, ◌≡◌, ◌⊎◌, Bool, IsTrue, List, None, Option, Some, ap, ap₂, arith, cond, eq-eqb, false, flat_map, inl, inr, map, refl, slice_get}
+use Rattle.mv_ledger.proofs.Saves.Common.{subst, suc, sym, true, zero, and_from, and_parts, both_ways, eqb-true, same_Some, AllByRecursion, enumerate_from, filter, option_map_or, ◌&&◌, ◌==◌, Module}
+use Rattle.mv_ledger.proofs.Saves.Common.{StructDefinition, name_at, struct_abilities, ◌>>=◌, Definition, Abilities, uleb, address_text, counted, Entry, Storage, key_before, same_key, abilities_at}
+use Rattle.mv_ledger.proofs.Saves.Common.{is_fine_entry, is_fine_storage, is_of_struct}
 use Rattle.mv_move_types.specs.declared.tables.Key.{Key}
-use Rattle.mv_move_types.specs.declared.token.Abilities.{Abilities}
-use Rattle.mv_move_types.specs.Options.{◌>>=◌}
 use Rattle.mv_move_types.specs.Names.{StructName}
-use Rattle.mv_move_types.specs.Module.{Module, StructDefinition, name_at, struct_abilities}
-use Rattle.mv_module_text.specs.Entries.{counted, address_text}
 use Rattle.mv_module_text.specs.Fits.{address_fits}
 use Rattle.mv_module_text.specs.Parsing.{address_from}
 use Rattle.mv_module_text.proofs.Addresses.{address-whole}
-use Rattle.mv_machine.specs.State.{Entry, Storage, key_before, same_key}
-use Rattle.mv_machine.specs.Typed.{abilities_at, is_of_struct, is_fine_entry, is_fine_storage}
 use Rattle.mv_storage.proofs.Keys.{same_key-to, keys_compare}
 use Rattle.mv_ledger.specs.Counting.Kept.{AreAbove, IsAscending}
 use Rattle.mv_ledger.specs.SavedText.{leaves_text, stored_text, addressed_text, has_key, keyed_indices, keyed_from, is_under, struct_text}

@@ -1,23 +1,13 @@
 -- Sections of structs: empty ones, and one with one value more.
-use Rattle.std.proofs.Common.{◌≡◌, ℕ, zero, suc, ◌+◌, ◌<◌, ◌≤◌, Bool, true, false, List, [], ◌∷◌, ◌++◌, length, refl, sym, ap, ◌∙◌, subst, arith, Some, Result, Ok, Err, get_or, option_map, slice_get, ◌⊎◌, inl, inr, length-append, eq-eqb}
-use Rattle.std.specs.Prelude.{◌&&◌, ◌==◌, All, IsSome, OnOk, slice_set}
-use Rattle.std.specs.Option.{option_map_or}
+use Rattle.mv_ledger.proofs.Saves.Common.{[], ℕ, ◌++◌, ◌+◌, ◌<◌, ◌∙◌, ◌∷◌, ◌≡◌, ◌≤◌, ◌⊎◌, Bool, Err, List, Ok, Result, Some, ap, arith, eq-eqb, false, get_or, inl, inr, length, length-append}
+use Rattle.mv_ledger.proofs.Saves.Common.{option_map, refl, slice_get, subst, suc, sym, true, zero, eqb-true, length-map, map-set, get_or_from_slice_get, none-some, same_Some, slice_get-map}
+use Rattle.mv_ledger.proofs.Saves.Common.{slice_get_read, slice_get_within, option_map_or, ◌&&◌, ◌==◌, All, IsSome, OnOk, slice_set, Module, ◌>>=◌, Definition, LeafKind, on_bind, address_text}
+use Rattle.mv_ledger.proofs.Saves.Common.{some-of, then_found, there_at, AddsValue, AreSections, HasOneMore, IsAdded, IsEmpty, definition_at, same_definition, section_at, sections_of, struct_of}
+use Rattle.mv_ledger.proofs.Saves.Common.{Section}
 use Rattle.std.specs.declared.vec.Vec.{Vec}
 use Rattle.std.specs.declared.alloc.Global.{Global}
-use Rattle.std.proofs.lemmas.Bool.{eqb-true}
-use Rattle.std.proofs.lemmas.List.{length-map, map-set}
-use Rattle.std.proofs.lemmas.Option.{same_Some, none-some, slice_get_read, slice_get_within, get_or_from_slice_get, slice_get-map}
-use Rattle.mv_move_types.specs.declared.tables.Definition.{Definition}
 use Rattle.mv_move_types.specs.declared.tables.Key.{Key}
-use Rattle.mv_move_types.specs.declared.token.LeafKind.{LeafKind}
-use Rattle.mv_move_types.specs.Options.{◌>>=◌}
-use Rattle.mv_move_types.specs.Module.{Module}
-use Rattle.mv_module_text.specs.Entries.{address_text}
-use Rattle.mv_module_text.proofs.Texts.{on_bind}
-use Rattle.mv_linker.proofs.Found.{some-of, then_found, there_at}
-use Rattle.mv_ledger.specs.declared.saving.Section.{Section}
 use Rattle.mv_ledger.specs.Layouts.{coded, kinds_under, structs_at}
-use Rattle.mv_ledger.specs.Parts.Saving.{definition_at, same_definition, section_at, sections_of, struct_of, AddsValue, AreSections, HasOneMore, IsAdded, IsEmpty}
 
 -- ---- one more element
 

@@ -1,29 +1,14 @@
 -- The parts of a saved ledger, as they are written one after the other.
-use Rattle.std.proofs.Common.{◌≡◌, ℕ, ◌+◌, ◌<◌, ◌≤◌, List, [], ◌∷◌, ◌++◌, map, take, length, get_or, Option, Some, None, Result, Ok, Err, refl, sym, ap, ap₂, ◌∙◌, subst, arith, slice_get, append-nil, append_assoc}
-use Rattle.std.specs.Prelude.{All, IfOk, IfSome, unwrap_or}
-use Rattle.std.specs.List.{flat_map}
-use Rattle.std.proofs.lemmas.List.{flat_map_more, length-map, map_more, take_all, take_more}
+use Rattle.mv_ledger.proofs.Saves.Common.{[], ℕ, ◌++◌, ◌+◌, ◌<◌, ◌∙◌, ◌∷◌, ◌≡◌, ◌≤◌, Err, List, None, Ok, Option, Result, Some, ap, append-nil, append_assoc, ap₂, arith, flat_map, get_or, length, map}
+use Rattle.mv_ledger.proofs.Saves.Common.{refl, slice_get, subst, sym, take, flat_map_more, length-map, map_more, take_all, take_more, All-weaker, get_or_from_slice_get, none-some}
+use Rattle.mv_ledger.proofs.Saves.Common.{unwrap_or-slice_get, All, IfOk, IfSome, unwrap_or, Module, PublishedModule, Definition, uleb, counted, FlatEntry, storage_of, some-of, there_at, tables_in}
+use Rattle.mv_ledger.proofs.Saves.Common.{AreSections, IsSection, IsWritable, counts_text, section_at, sections_of, written, offered, offer_text, sized, IsSavable, IsSavedText, Second, head_text}
+use Rattle.mv_ledger.proofs.Saves.Common.{keyed_from, saved_text, struct_text, tally_text, Section}
 use Rattle.std.proofs.lemmas.List.Concat.{flat_map-append}
-use Rattle.std.proofs.lemmas.List.Elements.{All-weaker}
-use Rattle.std.proofs.lemmas.Option.{get_or_from_slice_get, none-some, unwrap_or-slice_get}
 use Rattle.std.specs.declared.vec.Vec.{Vec}
 use Rattle.std.specs.declared.alloc.Global.{Global}
-use Rattle.mv_uleb.specs.Uleb.{uleb}
-use Rattle.mv_move_types.specs.declared.tables.Definition.{Definition}
-use Rattle.mv_move_types.specs.Module.{Module}
-use Rattle.mv_move_types.specs.Published.{PublishedModule}
-use Rattle.mv_module_text.specs.Entries.{counted}
-use Rattle.mv_machine.specs.Flat.{FlatEntry, storage_of}
-use Rattle.mv_linker.specs.Link.{tables_in}
-use Rattle.mv_linker.proofs.Found.{some-of, there_at}
-use Rattle.mv_ledger.specs.declared.saving.Section.{Section}
 use Rattle.mv_ledger.specs.declared.tallies.Tally.{Tally}
-use Rattle.mv_ledger.specs.Publishing.{offered}
-use Rattle.mv_ledger.specs.RecordText.{offer_text, sized}
-use Rattle.mv_ledger.specs.SavedText.{Second, head_text, keyed_from, saved_text, struct_text, tally_text, IsSavedText}
-use Rattle.mv_ledger.specs.Parts.Saving.{counts_text, section_at, sections_of, AreSections, IsSection, IsWritable, written}
 use Rattle.mv_ledger.specs.Accepted.SoundLedger.{IsSoundLedger}
-use Rattle.mv_ledger.specs.SavedLaws.{IsSavable}
 use Rattle.mv_ledger.specs.View.{all_of, state_of, tallied, view_of, IsSmall, LedgerView}
 use Rattle.mv_ledger.proofs.Saves.KeyedDefined.{keyed-defined-at}
 use Rattle.mv_ledger.proofs.Saves.SavedLoads.{text-saves}

@@ -4,28 +4,19 @@
 --   replaced-named   a published module that names one of the bundle names one whose place that takes
 --   apart-far, apart-unfound   a published module that doesn't have to be linked again
 --   DependantsSoFar   those at the first of some places
-use Rattle.std.proofs.Common.{◌≡◌, ◌↔◌, ◌⊎◌, ℕ, ◌<◌, ◌≤◌, ◌+◌, ◌++◌, [], ◌∷◌, true, false, List, length, map, Some, None, slice_get, Contains, refl, sym, ap, subst, ◌∙◌, arith, inl, inr}
-use Rattle.std.specs.Prelude.{All, ◌==◌, is_some, position}
-use Rattle.std.specs.List.{list_any}
-use Rattle.std.specs.Option.{option_map_or}
-use Rattle.std.proofs.lemmas.Bool.{both_ways, cases_Bool, cases_eq, cases_lt, eq-eqb, eqb-true, false_from_ne_true}
-use Rattle.std.proofs.lemmas.List.{length-map, map-append}
+use Rattle.mv_linker.proofs.Cycles.Common.{[], ℕ, ◌++◌, ◌+◌, ◌<◌, ◌↔◌, ◌∙◌, ◌∷◌, ◌≡◌, ◌≤◌, ◌⊎◌, Contains, List, None, Some, ap, arith, false, inl, inr, length, map, refl, slice_get, subst, sym, true}
+use Rattle.mv_linker.proofs.Cycles.Common.{both_ways, cases_Bool, cases_eq, cases_lt, eq-eqb, eqb-true, false_from_ne_true, length-map, map-append, same_Some, slice_get_within, list_any}
+use Rattle.mv_linker.proofs.Cycles.Common.{option_map_or, ◌==◌, All, is_some, position, Module, module_name, own_name, have_one_name, is_module, module_place, ModuleName, depends_on, AreDependencies}
+use Rattle.mv_linker.proofs.Cycles.Common.{offered}
 use Rattle.std.proofs.lemmas.List.Elements.{All-nil, All-push, Contains-append_left, Contains-push}
-use Rattle.std.proofs.lemmas.Option.{same_Some, slice_get_within}
 use Rattle.mv_move_types.specs.declared.tables.ModuleHandle.{ModuleHandle}
-use Rattle.mv_move_types.specs.Names.{ModuleName}
 use Rattle.mv_move_types.specs.Options.{◌>>=◌}
-use Rattle.mv_move_types.specs.Module.{Module, module_name, own_name}
-use Rattle.mv_move_types.specs.Named.{have_one_name, is_module, module_place}
 use Rattle.mv_move_types.specs.Published.{PublishedModule}
 use Rattle.mv_linker.specs.declared.dependants.Dependant.{Dependant}
 use Rattle.mv_linker.specs.declared.scope.Scope.{Scope}
 use Rattle.mv_linker.specs.Link.{tables_in}
-use Rattle.mv_linker.specs.Links.{depends_on}
 use Rattle.mv_linker.specs.Namers.{AreNamersOfAll}
-use Rattle.mv_linker.specs.Order.{AreDependencies}
 use Rattle.mv_linker.specs.Relinked.{Joins, bundled_target, NamesBundle, IsDependant, IsApart, AreDependants}
-use Rattle.mv_linker.specs.Scope.{offered}
 use Rattle.mv_linker.specs.Targets.{modules_in}
 use Rattle.mv_linker.proofs.Joining.Bundled.{place-at}
 use Rattle.mv_linker.proofs.Cycles.DependenciesStay.{dependencies-stay}

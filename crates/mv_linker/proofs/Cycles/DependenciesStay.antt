@@ -2,22 +2,12 @@
 --   dependencies-stay    of a module that stays
 --   bundled-dependencies, kept-dependencies    what stands at a place
 --   no-dependencies, keeps-dependencies        those that are kept, at first and once a bundle's are put
-use Rattle.std.proofs.Common.{◌≡◌, ℕ, zero, suc, ◌<◌, true, false, List, [], ◌∷◌, length, map, Option, Some, None, option_map, slice_get, Contains, Vec, Global, refl, sym, ap, ap₂, ◌∙◌, subst, arith, inl, inr}
-use Rattle.std.specs.Prelude.{not, ◌&&◌, ◌||◌, ◌==◌, position}
-use Rattle.std.specs.List.{zip}
-use Rattle.std.specs.Option.{option_map_or}
-use Rattle.std.proofs.lemmas.List.{length-map}
-use Rattle.std.proofs.lemmas.Option.{same_Some, none-some, slice_get_within, slice_get-map}
-use Rattle.mv_move_types.specs.Names.{ModuleName}
-use Rattle.mv_move_types.specs.Module.{Module, own_name, module_name}
-use Rattle.mv_move_types.specs.Named.{is_module, have_one_name}
-use Rattle.mv_bounds.specs.Definitions.{all_differ}
+use Rattle.mv_linker.proofs.Cycles.Common.{[], ℕ, ◌<◌, ◌||◌, ◌∙◌, ◌∷◌, ◌≡◌, Contains, Global, List, None, Option, Some, Vec, ap, ap₂, arith, false, inl, inr, length, map, option_map, refl, slice_get}
+use Rattle.mv_linker.proofs.Cycles.Common.{subst, suc, sym, true, zero, length-map, none-some, same_Some, slice_get-map, slice_get_within, zip, option_map_or, ◌&&◌, ◌==◌, not, position, Module}
+use Rattle.mv_linker.proofs.Cycles.Common.{module_name, own_name, have_one_name, is_module, ModuleName, all_differ, Links, depends_on, modules_are_there, names_module, AreDependencies}
+use Rattle.mv_linker.proofs.Cycles.Common.{AreDependenciesAt, AreDependenciesIn, ArePlaces, count_after, places_in, with_tables}
 use Rattle.mv_linker.specs.declared.dependencies.Dependencies.{Dependencies}
 use Rattle.mv_linker.specs.declared.dependencies.DependenciesAt.{DependenciesAt}
-use Rattle.mv_linker.specs.Links.{Links, depends_on, names_module, modules_are_there}
-use Rattle.mv_linker.specs.Order.{AreDependencies}
-use Rattle.mv_linker.specs.Ordering.{AreDependenciesAt, AreDependenciesIn, ArePlaces, count_after}
-use Rattle.mv_linker.specs.Scope.{with_tables, places_in}
 use Rattle.mv_linker.specs.Stored.{AreDependenciesOf, KeepsDependencies}
 use Rattle.mv_linker.proofs.Joining.Bundled.{bundle-at, old-at, place-at}
 use Rattle.mv_linker.proofs.Cycles.DependencyLemmas.{count-places, length-places, places-within}

@@ -1,16 +1,8 @@
 -- Dependencies, place by place.
-use Rattle.std.proofs.Common.{◌≡◌, ℕ, suc, ◌+◌, ◌≤◌, ◌++◌, List, [], ◌∷◌, length, map, refl, sym, ap, subst, ◌∙◌, Vec, Global, Option, Some, None, arith}
-use Rattle.std.specs.Prelude.{slice_get, unwrap_or, IsTrue}
-use Rattle.std.proofs.lemmas.List.{length_push, map-append}
-use Rattle.std.proofs.lemmas.Option.{none-some}
+use Rattle.mv_linker.proofs.Cycles.Common.{[], ℕ, ◌++◌, ◌+◌, ◌∙◌, ◌∷◌, ◌≡◌, ◌≤◌, Global, List, None, Option, Some, Vec, ap, arith, length, map, refl, slice_get, subst, suc, sym, length_push}
+use Rattle.mv_linker.proofs.Cycles.Common.{map-append, none-some, IsTrue, unwrap_or, Module, have_one_name, slice_get-second, Links, modules_are_there, AreDependencies, IsDependencyGraph}
+use Rattle.mv_linker.proofs.Cycles.Common.{AreDependenciesIn, ArePlaces, count_after, place_for, places_in, with_table, with_tables}
 use Rattle.mv_move_types.specs.Options.{find_index}
-use Rattle.mv_move_types.specs.Module.{Module}
-use Rattle.mv_move_types.specs.Named.{have_one_name}
-use Rattle.mv_bounds.proofs.PlaceLemmas.{slice_get-second}
-use Rattle.mv_linker.specs.Links.{Links, modules_are_there}
-use Rattle.mv_linker.specs.Order.{AreDependencies, IsDependencyGraph}
-use Rattle.mv_linker.specs.Ordering.{count_after, ArePlaces, AreDependenciesIn}
-use Rattle.mv_linker.specs.Scope.{with_tables, places_in, place_for, with_table}
 use Rattle.mv_linker.proofs.Found.{place_below}
 use Rattle.mv_linker.proofs.Cycles.JoinedOrder.{with_tables-appended}
 use Rattle.mv_linker.proofs.Joining.JoinedTargets.{appended-joined}

@@ -1,17 +1,10 @@
 -- Dependencies by their places: a cycle of modules is a cycle of places.
-use Rattle.std.proofs.Common.{◌≡◌, ◌↔◌, ℕ, ◌+◌, ◌-◌, ◌<◌, ◌≤◌, Bool, true, cond, List, map, length, take, Some, None, option_map, slice_get, Contains, sym, ap, ◌∙◌, subst, arith, inl, inr, eqb, leb}
-use Rattle.std.specs.Prelude.{not, nat_le}
-use Rattle.std.proofs.lemmas.Bool.{both_ways, eqb-false, ne_eqb, leb-true, le-leb, cases_lt, false_from_ne_true, not-true}
-use Rattle.std.proofs.lemmas.Option.{same_Some, slice_get_within, slice_get-map, cond_some}
-use Rattle.std.proofs.lemmas.List.{length-map}
-use Rattle.mv_move_types.specs.Names.{ModuleName}
-use Rattle.mv_move_types.specs.Module.{Module, own_name, module_name}
-use Rattle.mv_move_types.specs.Named.{have_one_name, module_place}
-use Rattle.mv_bounds.specs.Definitions.{all_differ}
+use Rattle.mv_linker.proofs.Cycles.Common.{ℕ, ◌+◌, ◌-◌, ◌<◌, ◌↔◌, ◌∙◌, ◌≡◌, ◌≤◌, Bool, Contains, List, None, Some, ap, arith, cond, eqb, inl, inr, leb, length, map, option_map, slice_get, subst, sym}
+use Rattle.mv_linker.proofs.Cycles.Common.{take, true, both_ways, cases_lt, eqb-false, false_from_ne_true, le-leb, leb-true, ne_eqb, not-true, length-map, cond_some, same_Some, slice_get-map}
+use Rattle.mv_linker.proofs.Cycles.Common.{slice_get_within, nat_le, not, Module, module_name, own_name, have_one_name, module_place, ModuleName, all_differ, Reaches, depends_on, directly, further}
+use Rattle.mv_linker.proofs.Cycles.Common.{AreDependencies, AreHandlePlaces, IsDependencyGraph, IsOrdered, others, shifted}
 use Rattle.mv_bounds.specs.Cycles.{LeadsTo, IsAcyclic}
 use Rattle.mv_bounds.specs.Cycles as C
-use Rattle.mv_linker.specs.Links.{depends_on, Reaches, directly, further}
-use Rattle.mv_linker.specs.Order.{IsOrdered, AreHandlePlaces, AreDependencies, IsDependencyGraph, others, shifted}
 use Rattle.mv_module_text.proofs.Texts.{on_bind}
 use Rattle.mv_linker.proofs.Found.{then_found, Contains-at, at-Contains, there_at, slice_get-take, kept_at, kept_from, made_at, made_from}
 use Rattle.mv_linker.proofs.NameLemmas.{have_one_name-from, have_one_name-is, name_at_one, module_place-is, module_place-from, depends_on-is, depends_on-from}

@@ -1,17 +1,8 @@
 -- Graphs of dependencies: of all modules, of modules after others, and where a store grows.
-use Rattle.std.proofs.Common.{◌≡◌, ℕ, zero, suc, ◌+◌, ◌<◌, true, false, List, [], ◌∷◌, ◌++◌, length, take, Some, slice_get, refl, sym, ap, ◌∙◌, subst, arith, inl, inr, ◌⊎◌, length-append}
-use Rattle.std.specs.List.{list_any}
-use Rattle.std.specs.Option.{option_map_or}
+use Rattle.mv_linker.proofs.Cycles.Common.{[], ℕ, ◌++◌, ◌+◌, ◌<◌, ◌∙◌, ◌∷◌, ◌≡◌, ◌⊎◌, List, Some, ap, arith, false, inl, inr, length, length-append, refl, slice_get, subst, suc, sym, take, true, zero}
+use Rattle.mv_linker.proofs.Cycles.Common.{both_ways, cases_order, or_cases, slice_get_within, list_any, option_map_or, Module, module_name, own_name, have_one_name, is_module, ModuleName}
+use Rattle.mv_linker.proofs.Cycles.Common.{slice_get-first, all_differ, Links, Reaches, directly, further, modules_are_there, AreDependencies, IsDependencyGraph}
 use Rattle.std.specs.Cmp.{first_so, second_so}
-use Rattle.std.proofs.lemmas.Bool.{cases_order, both_ways, or_cases}
-use Rattle.std.proofs.lemmas.Option.{slice_get_within}
-use Rattle.mv_move_types.specs.Names.{ModuleName}
-use Rattle.mv_move_types.specs.Module.{Module, own_name, module_name}
-use Rattle.mv_move_types.specs.Named.{is_module, have_one_name}
-use Rattle.mv_bounds.specs.Definitions.{all_differ}
-use Rattle.mv_bounds.proofs.PlaceLemmas.{slice_get-first}
-use Rattle.mv_linker.specs.Links.{Links, Reaches, directly, further, modules_are_there}
-use Rattle.mv_linker.specs.Order.{AreDependencies, IsDependencyGraph}
 use Rattle.mv_linker.proofs.Found.{each}
 use Rattle.mv_linker.proofs.NameLemmas.{is_module-is, name_at_one, depends_on-is}
 

@@ -1,10 +1,6 @@
 -- The order of modules once a bundle joins.
-use Rattle.std.proofs.Common.{◌≡◌, ℕ, zero, suc, ◌+◌, ◌≤◌, Bool, true, false, cond, List, [], ◌∷◌, ◌++◌, length, Some, slice_get, refl, sym, ap, ◌∙◌, arith, inl, inr, append_assoc, append-nil}
-use Rattle.std.proofs.lemmas.Bool.{cases_Bool}
-use Rattle.std.proofs.lemmas.Option.{none-some}
-use Rattle.mv_move_types.specs.Module.{Module, own_name}
-use Rattle.mv_move_types.specs.Named.{have_one_name}
-use Rattle.mv_linker.specs.Scope.{with_table, with_tables}
+use Rattle.mv_linker.proofs.Cycles.Common.{[], ℕ, ◌++◌, ◌+◌, ◌∙◌, ◌∷◌, ◌≡◌, ◌≤◌, Bool, List, Some, ap, append-nil, append_assoc, arith, cond, false, inl, inr, length, refl, slice_get, suc, sym, true}
+use Rattle.mv_linker.proofs.Cycles.Common.{zero, cases_Bool, none-some, Module, own_name, have_one_name, with_table, with_tables}
 use Rattle.mv_linker.proofs.NameLemmas.{have_one_name-is}
 
 -- a module takes a place of its own, or that of another

@@ -5,8 +5,8 @@
 --   IsFinding      the pairs of one module that is named, one after the other
 --   namers-join    what modules name is among the pairs once a bundle joins
 --   namers-of      who names a module is found in them
-use Rattle.std.proofs.Common.{◌≡◌, ◌↔◌, ◌⊎◌, ℕ, ◌<◌, ◌≤◌, ◌+◌, Bool, true, false, cond, List, [], ◌∷◌, length, map, Contains, Ordering, Equal, Some, slice_get, eqb, refl, sym, ap, ap₂, ◌∙◌, subst, arith, inl, inr}
-use Rattle.std.specs.Prelude.{◌&&◌, not}
+use Rattle.mv_linker.proofs.Cycles.Common.{[], ℕ, ◌+◌, ◌<◌, ◌↔◌, ◌∙◌, ◌∷◌, ◌≡◌, ◌≤◌, ◌⊎◌, Bool, Contains, Equal, List, Ordering, Some, ap, ap₂, arith, cond, eqb, false, inl, inr, length, map, refl}
+use Rattle.mv_linker.proofs.Cycles.Common.{slice_get, subst, sym, true, cases_Bool, cases_eq, none-some, same_Some, slice_get_within, ◌&&◌, not, Module, ArePlaces}
 use Rattle.std.specs.BTreeMap.{is_at}
 use Rattle.std.specs.BTreeMap.Range.{range_contains}
 use Rattle.std.specs.BTreeSet.{BTreeSet, contains, keys_between, Updates}
@@ -15,18 +15,14 @@ use Rattle.std.specs.HashSet as hash
 use Rattle.std.specs.HashSet.{HashSet}
 use Rattle.std.specs.Ordering.{is_le, is_lt, nat_cmp, ordering_then}
 use Rattle.std.specs.declared.ops.Bound.TheVariants.{Included}
-use Rattle.std.proofs.lemmas.Bool.{cases_Bool, cases_eq}
 use Rattle.std.proofs.lemmas.Bool.Decides.{nat_tests}
 use Rattle.std.proofs.lemmas.Cmp.{nat_cmp_total, nat_eq_equiv, on_total, then_total}
 use Rattle.std.proofs.lemmas.Map.Lookups.{CmpEqualImpliesEq, exact_pairs, exact_unsigned}
 use Rattle.std.proofs.lemmas.Map.Views.{btree_set_contains_iff, exact_unsigned_eq, hash_set_contains_iff, tells_apart}
-use Rattle.std.proofs.lemmas.Option.{same_Some, none-some, slice_get_within}
-use Rattle.mv_move_types.specs.Module.{Module}
 use Rattle.mv_linker.specs.declared.dependencies.Dependencies.{Dependencies}
 use Rattle.mv_linker.specs.declared.dependencies.DependenciesAt.{DependenciesAt}
 use Rattle.mv_linker.specs.Namers.{AreNamedBy, AreNamers, AreNamersOf, NamesAt}
 use Rattle.mv_linker.specs.NamerSteps.{AreNamed, HasAll, HasOthers}
-use Rattle.mv_linker.specs.Ordering.{ArePlaces}
 use Rattle.mv_linker.specs.Stored.{AreDependenciesOf, KeepsDependencies, with_dependencies}
 use Rattle.mv_linker.proofs.Found.{Contains-at, at-Contains, kept_at, there_at}
 use Rattle.mv_linker.proofs.Kept.WithAt.{first_or_later, from-put_all}

@@ -4,22 +4,13 @@
 --   IsSearch       how far the search came
 --   reached-graph  its result
 --   ordered-reached   no module depends on itself by a chain if none that is reached does
-use Rattle.std.proofs.Common.{◌≡◌, ◌↔◌, ◌⊎◌, ℕ, zero, suc, ◌+◌, ◌<◌, ◌≤◌, Bool, true, false, cond, ◌||◌, List, [], ◌∷◌, ◌++◌, length, get_or, map, Some, slice_get, Contains, Vec, Global, eqb, refl, sym, ap, ap₂, ◌∙◌, subst, arith, inl, inr}
-use Rattle.std.specs.List.{list_any, IsDistinct}
-use Rattle.std.proofs.lemmas.Bool.{both_ways, cases_lt, cases_order, eqb-true, eq-eqb}
-use Rattle.std.proofs.lemmas.List.{length-map, length_push, map-append}
+use Rattle.mv_linker.proofs.Cycles.Common.{[], ℕ, ◌++◌, ◌+◌, ◌<◌, ◌||◌, ◌↔◌, ◌∙◌, ◌∷◌, ◌≡◌, ◌≤◌, ◌⊎◌, Bool, Contains, Global, List, Some, Vec, ap, ap₂, arith, cond, eqb, false, get_or, inl, inr}
+use Rattle.mv_linker.proofs.Cycles.Common.{length, map, refl, slice_get, subst, suc, sym, true, zero, both_ways, cases_lt, cases_order, eq-eqb, eqb-true, length-map, length_push, map-append}
+use Rattle.mv_linker.proofs.Cycles.Common.{get_or_from_slice_get, none-some, same_Some, slice_get_within, IsDistinct, list_any, Module, have_one_name, slice_get-first, slice_get-second, all_differ}
+use Rattle.mv_linker.proofs.Cycles.Common.{Links, Reaches, depends_on, directly, further, AreDependencies, IsOrdered, AreDependenciesAt, with_tables}
 use Rattle.std.proofs.lemmas.Map.Keys.{apart_from_distinct}
 use Rattle.std.proofs.lemmas.Map.Steps.{length-le_from_distinct_below}
-use Rattle.std.proofs.lemmas.Option.{same_Some, none-some, slice_get_within, get_or_from_slice_get}
-use Rattle.mv_move_types.specs.Module.{Module}
-use Rattle.mv_move_types.specs.Named.{have_one_name}
-use Rattle.mv_bounds.specs.Definitions.{all_differ}
-use Rattle.mv_bounds.proofs.PlaceLemmas.{slice_get-first, slice_get-second}
-use Rattle.mv_linker.specs.Links.{Links, depends_on, Reaches, directly, further}
-use Rattle.mv_linker.specs.Order.{AreDependencies, IsOrdered}
-use Rattle.mv_linker.specs.Ordering.{AreDependenciesAt}
 use Rattle.mv_linker.specs.Reached.{AreReached, IsReachedGraph, IsExtended, AreNumbers}
-use Rattle.mv_linker.specs.Scope.{with_tables}
 use Rattle.mv_linker.proofs.Found.{Contains-at, at-Contains, there_at}
 use Rattle.mv_linker.proofs.Cycles.Graphs.{whole-graph}
 use Rattle.mv_linker.proofs.Members.{among-at, at-among, among-result}

@@ -1,22 +1,10 @@
 -- The rules of linking over all modules of a result, from those over the bundle.
-use Rattle.std.proofs.Common.{◌≡◌, ℕ, ◌+◌, take, ◌++◌, Bool, true, Some, option_map, List, [], ◌∷◌, length, refl, sym, ap, subst, ◌∙◌, inl, inr}
-use Rattle.std.specs.Prelude.{◌&&◌, All, slice_get}
-use Rattle.std.proofs.lemmas.List.{length-map, length_push}
-use Rattle.std.proofs.lemmas.Option.{none-some, slice_get-map}
-use Rattle.std.specs.List.{list_all}
-use Rattle.std.proofs.lemmas.Bool.{and_parts, and_from}
-use Rattle.std.proofs.lemmas.List.Elements.{All-head, All-tail}
-use Rattle.mv_move_types.specs.Module.{Module}
-use Rattle.mv_move_types.specs.Named.{have_one_name}
-use Rattle.mv_move_types.specs.Published.{PublishedModule}
-use Rattle.mv_bounds.specs.Bounds.{InBounds}
-use Rattle.mv_bounds.specs.Definitions.{all_differ, WellDefined}
-use Rattle.mv_linker.specs.Link.{IsStore, IsPublishable, tables_in, are_compatible}
-use Rattle.mv_linker.specs.Links.{Links, modules_are_there, structs_are_there, function_is_there, struct_is_small, names_hold, IsLinkedBundle}
-use Rattle.mv_linker.specs.Scope.{offered, with_tables}
+use Rattle.mv_linker.proofs.Joining.Common.{[], ℕ, ◌++◌, ◌+◌, ◌∙◌, ◌∷◌, ◌≡◌, Bool, List, Some, ap, inl, inr, length, option_map, refl, subst, sym, take, true, and_from, and_parts, length-map}
+use Rattle.mv_linker.proofs.Joining.Common.{length_push, All-head, All-tail, none-some, slice_get-map, list_all, ◌&&◌, All, slice_get, Module, have_one_name, PublishedModule, InBounds, WellDefined}
+use Rattle.mv_linker.proofs.Joining.Common.{all_differ, IsPublishable, IsStore, are_compatible, tables_in, IsLinkedBundle, Links, function_is_there, modules_are_there, names_hold, struct_is_small}
+use Rattle.mv_linker.proofs.Joining.Common.{structs_are_there, offered, with_tables, New}
 use Rattle.mv_linker.specs.News.{published_of}
 use Rattle.mv_linker.specs.Stored.{AreNames, AreNamesOf}
-use Rattle.mv_linker.specs.declared.New.{New}
 use Rattle.mv_linker.specs.declared.store_rules.Names.{Names}
 use Rattle.mv_linker.proofs.Members.{Among, among-at, all-among, among-all, among-result, bundle-there}
 use Rattle.mv_linker.proofs.StructSizes.JoinedSizes.{small-joined}

@@ -1,16 +1,9 @@
 -- Where the modules of a bundle stand once it joins.
-use Rattle.std.proofs.Common.{◌≡◌, ℕ, zero, suc, ◌<◌, ◌≤◌, Bool, true, false, cond, List, [], ◌∷◌, length, refl, sym, ap, ◌∙◌, ltb, get_or, Option, Some, None, slice_get, inl, inr, arith}
-use Rattle.std.specs.Prelude.{unwrap_or, ◌==◌}
-use Rattle.std.specs.List.{position, position_or_len}
-use Rattle.std.proofs.lemmas.Bool.{ltb-false, ne_eqb, eq-eqb, eqb-true, both_ways}
+use Rattle.mv_linker.proofs.Joining.Common.{[], ℕ, ◌<◌, ◌∙◌, ◌∷◌, ◌≡◌, ◌≤◌, Bool, List, None, Option, Some, ap, arith, cond, false, get_or, inl, inr, length, ltb, refl, suc, sym, true, zero}
+use Rattle.mv_linker.proofs.Joining.Common.{both_ways, eq-eqb, eqb-true, ltb-false, ne_eqb, get_or_from_slice_get, none-some, same_Some, slice_get-get_or, slice_get_within, position, position_or_len}
+use Rattle.mv_linker.proofs.Joining.Common.{◌==◌, slice_get, unwrap_or, Module, have_one_name, find_index, all_differ, newest_at, place_for, places_in, with_table, with_tables}
 use Rattle.std.proofs.lemmas.List.Quantifiers.{position-Some}
 use Rattle.std.proofs.lemmas.List.Sums.{fails_before_first}
-use Rattle.std.proofs.lemmas.Option.{same_Some, none-some, slice_get_within, slice_get-get_or, get_or_from_slice_get}
-use Rattle.mv_move_types.specs.Module.{Module}
-use Rattle.mv_move_types.specs.Named.{have_one_name}
-use Rattle.mv_move_types.specs.Options.{find_index}
-use Rattle.mv_bounds.specs.Definitions.{all_differ}
-use Rattle.mv_linker.specs.Scope.{with_table, with_tables, place_for, places_in, newest_at}
 use Rattle.mv_linker.proofs.Found.{found_at}
 use Rattle.mv_linker.proofs.Members.{Among, first_differs, rest_differ, turned}
 use Rattle.mv_linker.proofs.Joining.Scopes.{get-with_table, kept-there}

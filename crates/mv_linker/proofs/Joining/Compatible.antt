@@ -1,20 +1,10 @@
 -- What a bundle replaces, module by module.
-use Rattle.std.proofs.Common.{◌≡◌, ℕ, ◌<◌, Bool, true, false, List, length, refl, sym, ap, ◌∙◌, Option, Some, None}
-use Rattle.std.specs.Prelude.{not, ◌||◌, slice_get, option_and_then}
-use Rattle.std.specs.List.{list_all}
-use Rattle.std.specs.Option.{option_map_or}
-use Rattle.mv_move_types.specs.Names.{ModuleName}
-use Rattle.mv_move_types.specs.Module.{Module, own_name}
-use Rattle.mv_move_types.specs.Named.{is_module, have_one_name, module_place, module_named}
-use Rattle.mv_move_types.specs.Published.{PublishedModule}
-use Rattle.mv_move_types.specs.Options.{◌>>=◌}
-use Rattle.mv_bounds.specs.Definitions.{all_differ}
-use Rattle.mv_linker.specs.Link.{tables_in, are_compatible, replaced_in, follows, all_follow}
-use Rattle.mv_linker.specs.Upgrades.{may_replace}
+use Rattle.mv_linker.proofs.Joining.Common.{ℕ, ◌<◌, ◌∙◌, ◌≡◌, Bool, List, None, Option, Some, ap, false, length, refl, sym, true, list_all, option_map_or, ◌||◌, not, option_and_then, slice_get}
+use Rattle.mv_linker.proofs.Joining.Common.{Module, own_name, have_one_name, is_module, module_named, module_place, ModuleName, ◌>>=◌, PublishedModule, on_bind, all_differ, all_follow, are_compatible}
+use Rattle.mv_linker.proofs.Joining.Common.{follows, replaced_in, tables_in, may_replace}
 use Rattle.mv_linker.proofs.Joining.Scopes.{within_tables}
 use Rattle.mv_linker.proofs.Members.{Among, all-among, among-all, so-named, named-so}
 use Rattle.mv_linker.proofs.NameLemmas.{have_one_name-is, have_one_name-from}
-use Rattle.mv_module_text.proofs.Texts.{on_bind}
 use Rattle.mv_linker.proofs.Found.{found_at}
 
 -- what replaces only what it may is compatible

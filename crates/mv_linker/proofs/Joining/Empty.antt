@@ -1,12 +1,8 @@
 -- No modules are a store.
-use Rattle.std.proofs.Common.{◌≡◌, List, [], refl, sym, subst, arith}
-use Rattle.std.proofs.lemmas.List.Elements.{All-nil}
-use Rattle.mv_move_types.specs.Module.{Module}
+use Rattle.mv_linker.proofs.Joining.Common.{[], ◌≡◌, List, arith, refl, subst, sym, All-nil, Module, IsPublishable, IsStore, Reaches, directly, further}
 use Rattle.mv_linker.specs.declared.entry.Name.{Name}
 use Rattle.mv_linker.specs.declared.entry.Texts.{Texts}
 use Rattle.mv_linker.specs.Kept.{published_under, AreKeyed}
-use Rattle.mv_linker.specs.Link.{IsStore, IsPublishable}
-use Rattle.mv_linker.specs.Links.{Reaches, directly, further}
 
 none_reached : (m n : Module) → Reaches [] m n → ⊥
 none_reached m n (directly a b there _ _) = omega (arith, there.1)

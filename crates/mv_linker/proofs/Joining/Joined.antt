@@ -1,11 +1,6 @@
 -- A store that a bundle joined is a store.
-use Rattle.std.proofs.Common.{◌≡◌, ℕ, Bool, true, false, cond, List, [], ◌∷◌, Option, sym, subst}
-use Rattle.std.specs.Prelude.{All}
-use Rattle.std.proofs.lemmas.List.Elements.{All-head, All-tail, All-cons, All-nil}
-use Rattle.mv_move_types.specs.Module.{Module}
-use Rattle.mv_move_types.specs.Published.{PublishedModule, has_name_of, with_module, with_modules}
-use Rattle.mv_bounds.specs.Definitions.{all_differ}
-use Rattle.mv_linker.specs.Link.{MayJoin, IsStore, IsPublishable, tables_in, have_one_name}
+use Rattle.mv_linker.proofs.Joining.Common.{[], ℕ, ◌∷◌, ◌≡◌, Bool, List, Option, cond, false, subst, sym, true, All-cons, All-head, All-nil, All-tail, All, Module, have_one_name, PublishedModule}
+use Rattle.mv_linker.proofs.Joining.Common.{has_name_of, with_module, with_modules, all_differ, IsPublishable, IsStore, MayJoin, tables_in}
 use Rattle.mv_linker.specs.Stored.{LinkedBundle, IsLinkedTo, Relinks, KeepsDependencies}
 use Rattle.mv_linker.proofs.Members.{differ-result}
 use Rattle.mv_linker.proofs.Joining.Scopes.{all_tables}

@@ -1,21 +1,11 @@
 -- What is kept of the old modules, and what their handles lead to, once a bundle joins: for the order of modules and the sizes of structs.
-use Rattle.std.proofs.Common.{◌≡◌, ℕ, ◌+◌, true, List, length, map, Option, Some, None, slice_get, refl, sym, ap, ◌∙◌, subst}
-use Rattle.std.specs.Prelude.{option_map}
-use Rattle.std.proofs.lemmas.List.{length-map}
-use Rattle.std.proofs.lemmas.Option.{same_Some, none-some, slice_get-map}
-use Rattle.mv_move_types.specs.Options.{◌>>=◌}
-use Rattle.mv_move_types.specs.Names.{StructName}
-use Rattle.mv_move_types.specs.Module.{Module, module_name, name_of_struct, name_at}
-use Rattle.mv_move_types.specs.Named.{have_one_name, module_place, definition_of}
-use Rattle.mv_bounds.specs.Definitions.{all_differ}
-use Rattle.mv_linker.specs.Links.{Links}
-use Rattle.mv_linker.specs.Scope.{with_tables}
-use Rattle.mv_linker.specs.Targets.{AreTargets}
+use Rattle.mv_linker.proofs.Joining.Common.{ℕ, ◌+◌, ◌∙◌, ◌≡◌, List, None, Option, Some, ap, length, map, option_map, refl, subst, sym, true, length-map, none-some, same_Some, slice_get-map, slice_get}
+use Rattle.mv_linker.proofs.Joining.Common.{Module, module_name, name_at, name_of_struct, definition_of, have_one_name, module_place, StructName, ◌>>=◌, on_bind, all_differ, Links, with_tables}
+use Rattle.mv_linker.proofs.Joining.Common.{AreTargets}
 use Rattle.mv_linker.specs.Order.{AreHandlePlaces, AreDependencies, IsDependencyGraph}
 use Rattle.mv_linker.specs.Sizes.{IsSized}
 use Rattle.mv_linker.specs.declared.sizes.Size.{Size}
 use Rattle.mv_linker.specs.declared.targets.Target.{Target}
-use Rattle.mv_module_text.proofs.Texts.{on_bind}
 use Rattle.mv_linker.proofs.Found.{then_found}
 use Rattle.mv_linker.proofs.Cycles.Graphs.{appended-graph}
 use Rattle.mv_linker.proofs.Cycles.JoinedOrder.{with_tables-appended}

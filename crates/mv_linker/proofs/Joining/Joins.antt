@@ -1,22 +1,9 @@
 -- A scope whose bundle joins its store: where its modules stand, and that what they name is there.
-use Rattle.std.proofs.Common.{◌≡◌, ℕ, ◌<◌, Bool, true, false, length, List, Option, Some, None, slice_get, refl, sym, ap, ◌∙◌, arith, inl, inr}
-use Rattle.std.specs.Prelude.{◌==◌, ◌&&◌, is_some, not, position, IsSome}
-use Rattle.std.specs.List.{list_all}
-use Rattle.std.proofs.lemmas.Bool.{and_from, both_ways, eq-eqb}
-use Rattle.std.proofs.lemmas.List.{length-map}
-use Rattle.std.proofs.lemmas.Option.{slice_get_within}
-use Rattle.mv_move_types.specs.Options.{find_index}
-use Rattle.mv_move_types.specs.Module.{Module}
-use Rattle.mv_move_types.specs.Named.{have_one_name}
-use Rattle.mv_bounds.specs.Bounds.{InBounds}
-use Rattle.mv_bounds.specs.Definitions.{all_differ}
-use Rattle.mv_linker.specs.declared.New.{New}
+use Rattle.mv_linker.proofs.Joining.Common.{ℕ, ◌<◌, ◌∙◌, ◌≡◌, Bool, List, None, Option, Some, ap, arith, false, inl, inr, length, refl, sym, true, and_from, both_ways, eq-eqb, length-map}
+use Rattle.mv_linker.proofs.Joining.Common.{slice_get_within, list_all, position, ◌&&◌, ◌==◌, IsSome, is_some, not, slice_get, Module, have_one_name, find_index, InBounds, all_differ, tables_in}
+use Rattle.mv_linker.proofs.Joining.Common.{Links, function_is_there, modules_are_there, names_hold, structs_are_there, offered, modules_in, New}
 use Rattle.mv_linker.specs.declared.scope.Scope.{Scope}
-use Rattle.mv_linker.specs.Link.{tables_in}
-use Rattle.mv_linker.specs.Links.{Links, modules_are_there, structs_are_there, function_is_there, names_hold}
 use Rattle.mv_linker.specs.Relinked.{Joins}
-use Rattle.mv_linker.specs.Scope.{offered}
-use Rattle.mv_linker.specs.Targets.{modules_in}
 use Rattle.mv_linker.proofs.Joining.Assembling.{joining-offered}
 use Rattle.mv_linker.proofs.Joining.Bundled.{bundle-at, old-at, place-at}
 use Rattle.mv_linker.proofs.Cycles.DependencyLemmas.{length-places}

@@ -1,28 +1,16 @@
 -- What a handle names, in the module that its module handle leads to.
-use Rattle.std.proofs.Common.{◌≡◌, ℕ, zero, suc, ◌<◌, ◌≤◌, ◌+◌, Bool, true, false, cond, List, [], ◌∷◌, ◌++◌, length, refl, sym, ap, subst, ◌∙◌, Option, Some, None, option_map, ◌⊎◌, inl, inr, arith}
-use Rattle.std.specs.Prelude.{slice_get, option_and_then, ◌||◌, IsTrue}
-use Rattle.std.specs.Cmp.{first_so, second_so}
-use Rattle.std.specs.List.{list_all, list_any}
-use Rattle.std.proofs.lemmas.List.{length_push}
-use Rattle.std.specs.Option.{option_map_or}
-use Rattle.std.proofs.lemmas.Bool.{and_from, cases_eq}
-use Rattle.std.proofs.lemmas.Option.{slice_get_within, same_Some}
+use Rattle.mv_linker.proofs.Joining.Common.{[], ℕ, ◌++◌, ◌+◌, ◌<◌, ◌∙◌, ◌∷◌, ◌≡◌, ◌≤◌, ◌⊎◌, Bool, List, None, Option, Some, ap, arith, cond, false, inl, inr, length, option_map, refl, subst, suc, sym}
+use Rattle.mv_linker.proofs.Joining.Common.{true, zero, and_from, cases_eq, length_push, same_Some, slice_get_within, first_so, second_so, list_all, list_any, option_map_or, ◌||◌, IsTrue}
+use Rattle.mv_linker.proofs.Joining.Common.{option_and_then, slice_get, same_abilities, Module, module_name, struct_name, declared, declared_in, is_module, module_named, module_place, ModuleName}
+use Rattle.mv_linker.proofs.Joining.Common.{StructName, ◌>>=◌, StructHandle, on_bind, function_fits, function_is_there, function_named, module_is_there, modules_are_there, struct_is_there}
+use Rattle.mv_linker.proofs.Joining.Common.{structs_are_there, AreTargets, EachAt, IsFunctionAt, IsFunctionIn, IsStructAt, IsStructIn, IsTarget, function_matches, struct_matches, tables_of}
 use Rattle.mv_move_types.specs.declared.tables.Definition.{Definition}
-use Rattle.mv_move_types.specs.declared.tables.StructHandle.{StructHandle}
 use Rattle.mv_move_types.specs.declared.tables.FunctionHandle.{FunctionHandle}
 use Rattle.mv_move_types.specs.declared.refusal.Refusal.{Refusal}
 use Rattle.mv_move_types.specs.declared.refusal.Refusal.TheVariants.{Phase, Memory}
 use Rattle.mv_move_types.specs.Refusals.{IsRefusedIn}
-use Rattle.mv_move_types.specs.AbilitySets.{same_abilities}
-use Rattle.mv_move_types.specs.Names.{ModuleName, StructName}
-use Rattle.mv_move_types.specs.Module.{Module, module_name, struct_name}
-use Rattle.mv_move_types.specs.Named.{is_module, module_place, module_named, declared_in, declared}
-use Rattle.mv_move_types.specs.Options.{◌>>=◌}
-use Rattle.mv_linker.specs.Links.{module_is_there, modules_are_there, struct_is_there, structs_are_there, function_fits, function_named, function_is_there}
-use Rattle.mv_linker.specs.Targets.{tables_of, IsTarget, AreTargets, struct_matches, function_matches, IsStructIn, IsFunctionIn, IsStructAt, IsFunctionAt, EachAt}
 use Rattle.mv_linker.specs.declared.targets.Target.{Target}
 use Rattle.mv_linker.proofs.Members.{among-any, among-at, at-among, among-all, all-among}
-use Rattle.mv_module_text.proofs.Texts.{on_bind}
 use Rattle.mv_linker.proofs.Found.{found_at, there_at, place_below}
 
 -- the module of the name that a target has

@@ -1,19 +1,10 @@
 -- The modules of a scope are found by name and by place.
-use Rattle.std.proofs.Common.{◌≡◌, ℕ, zero, suc, ◌<◌, ◌≤◌, ◌+◌, take, Bool, true, false, cond, List, [], ◌∷◌, ◌++◌, length, refl, sym, ap, ◌∙◌, eqb, Option, Some, None, option_map, arith}
-use Rattle.std.specs.Prelude.{slice_get, unwrap_or, is_some, ◌==◌, IfSome}
-use Rattle.std.specs.Cmp.{first_so, second_so}
-use Rattle.std.specs.Option.{option_map_or}
-use Rattle.std.proofs.lemmas.Bool.{and_from, ne_eqb}
+use Rattle.mv_linker.proofs.Joining.Common.{[], ℕ, ◌++◌, ◌+◌, ◌<◌, ◌∙◌, ◌∷◌, ◌≡◌, ◌≤◌, Bool, List, None, Option, Some, ap, arith, cond, eqb, false, length, option_map, refl, suc, sym, take, true}
+use Rattle.mv_linker.proofs.Joining.Common.{zero, and_from, ne_eqb, first_so, second_so, option_map_or, ◌==◌, IfSome, is_some, slice_get, unwrap_or, Module, own_name, have_one_name, is_module}
+use Rattle.mv_linker.proofs.Joining.Common.{module_place, ModuleName, find_index, PublishedModule, with_module, with_modules, tables_in, all_named, found_among, newest_at, offered, place_for}
+use Rattle.mv_linker.proofs.Joining.Common.{places_in, with_table, with_tables, New}
 use Rattle.std.proofs.lemmas.Bool.Decides.{nat_tests}
-use Rattle.mv_move_types.specs.Names.{ModuleName}
-use Rattle.mv_move_types.specs.Module.{Module, own_name}
-use Rattle.mv_move_types.specs.Named.{is_module, have_one_name, module_place}
-use Rattle.mv_move_types.specs.Options.{find_index}
-use Rattle.mv_move_types.specs.Published.{PublishedModule, with_module, with_modules}
-use Rattle.mv_linker.specs.declared.New.{New}
-use Rattle.mv_linker.specs.Link.{tables_in}
 use Rattle.mv_linker.specs.News.{published_of}
-use Rattle.mv_linker.specs.Scope.{offered, with_table, with_tables, place_for, places_in, all_named, found_among, newest_at}
 use Rattle.mv_linker.proofs.NameLemmas.{is_module-is, one_test, have_one_name-is, have_one_name-from}
 use Rattle.mv_linker.proofs.Found.{there_at}
 

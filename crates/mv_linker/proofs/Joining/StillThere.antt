@@ -1,34 +1,20 @@
 -- The handles of an old module that stays lead where they led, once a bundle joins that replaces what it may.
-use Rattle.std.proofs.Common.{◌≡◌, ℕ, zero, suc, ◌+◌, Bool, true, false, List, [], ◌∷◌, refl, sym, ap, ap₂, subst, ◌∙◌, Option, Some, None, ◌⊎◌, inl, inr}
-use Rattle.std.specs.Prelude.{slice_get, not, ◌&&◌, ◌||◌, option_and_then}
-use Rattle.std.specs.Cmp.{first_so, second_so}
-use Rattle.std.specs.List.{list_all, list_any}
-use Rattle.std.specs.Option.{option_map_or}
+use Rattle.mv_linker.proofs.Joining.Common.{[], ℕ, ◌+◌, ◌∙◌, ◌∷◌, ◌≡◌, ◌⊎◌, Bool, List, None, Option, Some, ap, ap₂, false, inl, inr, refl, subst, suc, sym, true, zero, and_from, and_parts}
+use Rattle.mv_linker.proofs.Joining.Common.{cases_Bool, or_left, same_Some, first_so, second_so, list_all, list_any, option_map_or, ◌&&◌, ◌||◌, not, option_and_then, slice_get, same_abilities}
+use Rattle.mv_linker.proofs.Joining.Common.{FunctionDefinition, Module, module_name, name_of_function, own_name, struct_name, declared, declared_in, function_place, have_one_name, is_module}
+use Rattle.mv_linker.proofs.Joining.Common.{is_public, module_named, ModuleName, StructName, ◌>>=◌, StructHandle, on_bind, InBounds, WellDefined, all_differ, are_compatible, function_fits}
+use Rattle.mv_linker.proofs.Joining.Common.{function_is_there, function_named, module_is_there, modules_are_there, struct_is_there, structs_are_there, with_tables, function_stays, have_one_type}
+use Rattle.mv_linker.proofs.Joining.Common.{may_replace, structs_stay}
 use Rattle.std.specs.Str.{bytes_eq}
-use Rattle.std.proofs.lemmas.Bool.{cases_Bool, and_from, and_parts, or_left}
 use Rattle.std.proofs.lemmas.Slice.Eq.{bytes_eq-Decides}
 use Rattle.mv_move_types.specs.declared.token.Abilities.{Abilities}
-use Rattle.mv_move_types.specs.declared.tables.StructHandle.{StructHandle}
 use Rattle.mv_move_types.specs.declared.tables.FunctionHandle.{FunctionHandle}
-use Rattle.mv_move_types.specs.AbilitySets.{same_abilities}
-use Rattle.mv_move_types.specs.Names.{ModuleName, StructName}
-use Rattle.mv_move_types.specs.Module.{Module, FunctionDefinition, module_name, own_name, struct_name, name_of_function}
-use Rattle.mv_move_types.specs.Named.{is_module, have_one_name, module_named, declared_in, declared, function_place, is_public}
-use Rattle.mv_move_types.specs.Options.{◌>>=◌}
-use Rattle.mv_bounds.specs.Bounds.{InBounds}
-use Rattle.mv_bounds.specs.Definitions.{WellDefined, all_differ}
-use Rattle.mv_linker.specs.Link.{are_compatible}
-use Rattle.mv_linker.specs.Links.{module_is_there, modules_are_there, struct_is_there, structs_are_there, function_fits, function_named, function_is_there}
-use Rattle.mv_linker.specs.Scope.{with_tables}
 use Rattle.mv_linker.specs.TypesByName.{both_there, signature_named, same_signature}
 use Rattle.mv_move_types.specs.Tags.{Tag, same_tags}
-use Rattle.mv_linker.specs.Upgrades.{structs_stay, have_one_type, function_stays, may_replace}
 use Rattle.mv_linker.proofs.Members.{Among, all-among, any-among, among-any, among-at, so-named, named-so, follower}
 use Rattle.mv_linker.proofs.Joining.Upgraded.{Replaces, both-there, declared-stays}
 use Rattle.mv_linker.proofs.TagTests.{same_tags-is, same_tags-same}
-use Rattle.std.proofs.lemmas.Option.{same_Some}
 use Rattle.mv_linker.proofs.NameLemmas.{is_module-is, is_module-from, have_one_name-from, have_one_name-is}
-use Rattle.mv_module_text.proofs.Texts.{on_bind}
 use Rattle.mv_linker.proofs.Found.{found_at}
 
 -- a bundle that may join old modules

@@ -1,24 +1,13 @@
 -- What the old modules name stays there once a bundle joins that replaces what it may.
-use Rattle.std.proofs.Common.{◌≡◌, ℕ, zero, suc, ◌<◌, Bool, true, false, List, [], ◌∷◌, refl, sym, ap, ap₂, subst, ◌∙◌, Option, Some, None, option_map, arith}
-use Rattle.std.specs.Prelude.{slice_get, ◌&&◌, option_and_then}
+use Rattle.mv_linker.proofs.Joining.Common.{[], ℕ, ◌<◌, ◌∙◌, ◌∷◌, ◌≡◌, Bool, List, None, Option, Some, ap, ap₂, arith, false, option_map, refl, subst, suc, sym, true, zero, and_parts, same_Some}
+use Rattle.mv_linker.proofs.Joining.Common.{booleans_Decides, first_so, second_so, option_map_or, ◌&&◌, option_and_then, slice_get, same_abilities, Module, StructDefinition, name_of_struct, own_name}
+use Rattle.mv_linker.proofs.Joining.Common.{struct_abilities, declared_in, is_struct, ModuleName, StructName, same_struct, ◌>>=◌, find_index, StructHandle, InBounds, WellDefined, same_fields}
+use Rattle.mv_linker.proofs.Joining.Common.{same_struct_definition, structs_stay}
 use Rattle.std.specs.Bool.{beq}
-use Rattle.std.specs.Cmp.{first_so, second_so, booleans_Decides}
-use Rattle.std.specs.Option.{option_map_or}
 use Rattle.std.specs.Str.{bytes_eq}
-use Rattle.std.proofs.lemmas.Bool.{and_parts}
 use Rattle.std.proofs.lemmas.Slice.Eq.{bytes_eq-Decides}
 use Rattle.mv_move_types.specs.declared.token.Abilities.{Abilities}
-use Rattle.mv_move_types.specs.declared.tables.StructHandle.{StructHandle}
-use Rattle.mv_move_types.specs.AbilitySets.{same_abilities}
-use Rattle.mv_move_types.specs.Names.{ModuleName, StructName, same_struct}
-use Rattle.mv_move_types.specs.Module.{Module, StructDefinition, own_name, name_of_struct, struct_abilities}
-use Rattle.mv_move_types.specs.Named.{is_struct, declared_in}
-use Rattle.mv_move_types.specs.Options.{find_index, ◌>>=◌}
-use Rattle.mv_bounds.specs.Bounds.{InBounds}
-use Rattle.mv_bounds.specs.Definitions.{WellDefined}
 use Rattle.mv_linker.specs.TypesByName.{both_there}
-use Rattle.mv_linker.specs.Upgrades.{same_fields, same_struct_definition, structs_stay}
-use Rattle.std.proofs.lemmas.Option.{same_Some}
 use Rattle.mv_linker.proofs.NameLemmas.{same_struct-same}
 use Rattle.mv_linker.proofs.Found.{find_first, found_at, found_first}
 use Rattle.mv_linker.proofs.OwnDefinitions.{struct_named_so, owns-structs}

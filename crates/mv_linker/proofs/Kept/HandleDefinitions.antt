@@ -1,14 +1,7 @@
 -- Where the structs of a bundle's handles are defined, once it joins.
-use Rattle.std.proofs.Common.{◌≡◌, ℕ, zero, suc, ◌<◌, ◌+◌, ◌++◌, true, List, [], ◌∷◌, length, take, refl, sym, ap, subst, ◌∙◌, Some, None, slice_get, arith}
-use Rattle.std.specs.Prelude.{IsSome, is_some, position, ◌==◌}
-use Rattle.std.specs.List.{list_all, AllZip}
-use Rattle.std.proofs.lemmas.List.{take_more}
-use Rattle.std.proofs.lemmas.Option.{same_Some, none-some, slice_get_within, get_or_from_slice_get}
-use Rattle.mv_move_types.specs.declared.tables.Definition.{Definition}
-use Rattle.mv_move_types.specs.Names.{StructName}
-use Rattle.mv_move_types.specs.Module.{Module, StructDefinition, own_name, name_of_struct, name_at}
-use Rattle.mv_move_types.specs.Named.{is_struct, module_named, definition_of}
-use Rattle.mv_move_types.specs.Options.{◌>>=◌, find_index}
+use Rattle.mv_linker.proofs.Kept.Common.{[], ℕ, ◌++◌, ◌+◌, ◌<◌, ◌∙◌, ◌∷◌, ◌≡◌, List, None, Some, ap, arith, length, refl, slice_get, subst, suc, sym, take, true, zero, take_more}
+use Rattle.mv_linker.proofs.Kept.Common.{get_or_from_slice_get, none-some, same_Some, slice_get_within, AllZip, list_all, ◌==◌, IsSome, is_some, position, Module, StructDefinition, name_at}
+use Rattle.mv_linker.proofs.Kept.Common.{name_of_struct, own_name, definition_of, is_struct, module_named, StructName, ◌>>=◌, find_index, Definition, AreNamesOf}
 use Rattle.mv_linker.specs.declared.store_rules.Names.{Names}
 use Rattle.mv_linker.specs.declared.sizes.Defined.{Defined}
 use Rattle.mv_linker.specs.declared.sizes.Defined.TheVariants.{Published, Bundled}
@@ -16,7 +9,6 @@ use Rattle.mv_linker.specs.Links.{structs_are_there}
 use Rattle.mv_linker.specs.Scope.{with_tables, places_in}
 use Rattle.mv_linker.specs.Sizes.{IsSized, IsDefined, AreDefined}
 use Rattle.mv_linker.specs.Sizing.{IsFoundAt, AreFoundFor}
-use Rattle.mv_linker.specs.Stored.{AreNamesOf}
 use Rattle.mv_linker.specs.Targets.{IsStructAt}
 use Rattle.mv_linker.proofs.Joining.Bundled.{bundle-at, old-at, place-at}
 use Rattle.mv_linker.proofs.Cycles.DependencyLemmas.{length-places}

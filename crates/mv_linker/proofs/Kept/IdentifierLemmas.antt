@@ -1,11 +1,7 @@
 -- The identifiers of structs.
 --   identifier-short   an identifier of a module that has a text has at most 128 bytes
-use Rattle.std.proofs.Common.{◌≡◌, ℕ, ◌≤◌, true, List, [], length, Option, Some, None, unwrap_or, slice_get, refl, arith}
-use Rattle.std.specs.Prelude.{nat_le}
-use Rattle.std.proofs.lemmas.Bool.{and_parts, leb-true}
+use Rattle.mv_linker.proofs.Kept.Common.{[], ℕ, ◌≡◌, ◌≤◌, List, None, Option, Some, arith, length, refl, slice_get, true, unwrap_or, and_parts, leb-true, nat_le, Module, StructDefinition, ◌>>=◌}
 use Rattle.mv_move_types.specs.declared.tables.StructHandle.{StructHandle}
-use Rattle.mv_move_types.specs.Options.{◌>>=◌}
-use Rattle.mv_move_types.specs.Module.{Module, StructDefinition}
 use Rattle.mv_module_text.specs.Fits.{identifier_fits, is_identifier}
 use Rattle.mv_binary_format.specs.ModuleText.{HasText}
 use Rattle.mv_linker.specs.Identifiers.{identifier_or_none}

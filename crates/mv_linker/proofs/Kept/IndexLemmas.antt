@@ -1,17 +1,10 @@
 -- The modules of a bundle are found in maps as the lists say.
-use Rattle.std.proofs.Common.{◌≡◌, ℕ, zero, suc, ◌≤◌, Bool, true, false, cond, List, [], ◌∷◌, ◌++◌, length, take, Option, Some, None, refl, sym, ap, ◌∙◌, arith}
-use Rattle.std.specs.Prelude.{◌&&◌, ◌||◌, not, is_some}
-use Rattle.std.specs.List.{list_any}
+use Rattle.mv_linker.proofs.Kept.Common.{[], ℕ, ◌++◌, ◌∙◌, ◌∷◌, ◌≡◌, ◌≤◌, Bool, List, None, Option, Some, ap, arith, cond, false, length, refl, suc, sym, take, true, zero, list_any, option_map_or}
+use Rattle.mv_linker.proofs.Kept.Common.{option_or, ◌&&◌, ◌||◌, is_some, not, Module, own_name, have_one_name, is_module, ModuleName, same_module, Kept, name_in, Name}
 use Rattle.std.specs.Map.{lookup}
-use Rattle.std.specs.Option.{option_or, option_map_or}
 use Rattle.std.proofs.lemmas.List.Folds.{list_any-append}
-use Rattle.mv_move_types.specs.Names.{ModuleName, same_module}
-use Rattle.mv_move_types.specs.Module.{Module, own_name}
-use Rattle.mv_move_types.specs.Named.{is_module, have_one_name}
 use Rattle.mv_bounds.specs.Definitions.{all_differ}
-use Rattle.mv_linker.specs.declared.entry.Name.{Name}
 use Rattle.mv_linker.specs.Indexed.{ArePlacesOf, AreNamesIn, PutsPlace, PutsName}
-use Rattle.mv_linker.specs.Kept.{Kept, name_in}
 use Rattle.mv_linker.specs.Scope.{found_among}
 use Rattle.mv_linker.proofs.Kept.Keyed.{same_module-turns}
 

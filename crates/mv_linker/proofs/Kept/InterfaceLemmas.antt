@@ -3,18 +3,11 @@
 --   interface-made     an interface with those parts is the definition's
 --   function-found     the first interface with an identifier has the place of the function of this name
 --   interface-at       the interface at an index is that of the definition there
-use Rattle.std.proofs.Common.{◌≡◌, ℕ, suc, true, false, cond, List, [], ◌∷◌, length, Option, Some, option_map, slice_get, refl, sym, ap, ap₂, subst, ◌∙◌, arith}
-use Rattle.std.specs.Prelude.{◌&&◌, unwrap_or, position, IfSome}
-use Rattle.std.specs.List.{list_all}
-use Rattle.std.specs.Option.{option_map_or}
+use Rattle.mv_linker.proofs.Kept.Common.{[], ℕ, ◌∙◌, ◌∷◌, ◌≡◌, List, Option, Some, ap, ap₂, arith, cond, false, length, option_map, refl, slice_get, subst, suc, sym, true, unwrap_or, ltb-true}
+use Rattle.mv_linker.proofs.Kept.Common.{slice_get_within, list_all, option_map_or, ◌&&◌, IfSome, position, FunctionDefinition, Module, name_of_function, parameter_tokens, function_place, find_index}
 use Rattle.std.specs.Cmp.{first_so, second_so}
 use Rattle.std.specs.Str.{bytes_eq}
-use Rattle.std.proofs.lemmas.Bool.{ltb-true}
-use Rattle.std.proofs.lemmas.Option.{slice_get_within}
 use Rattle.mv_move_types.specs.declared.token.Token.{Token}
-use Rattle.mv_move_types.specs.Options.{find_index}
-use Rattle.mv_move_types.specs.Module.{Module, FunctionDefinition, name_of_function, parameter_tokens}
-use Rattle.mv_move_types.specs.Named.{function_place}
 use Rattle.mv_bounds.specs.Bounds.{InBounds, below, function_in, function_handle_in, instruction_in, local_count}
 use Rattle.mv_linker.specs.declared.interfaces.Interface.{Interface}
 use Rattle.mv_linker.specs.Interfaces.{IsInterfaceOf, AreInterfacesOf, IsInterfaceAt}

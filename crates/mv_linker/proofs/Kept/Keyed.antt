@@ -1,25 +1,14 @@
 -- A map from names to texts finds and takes what the list of its modules says.
-use Rattle.std.proofs.Common.{◌≡◌, ℕ, zero, suc, ◌+◌, Bool, true, false, cond, List, [], ◌∷◌, map, length, Option, Some, None, option_map, refl, sym, ap, ◌∙◌, subst, arith}
-use Rattle.std.specs.Prelude.{◌&&◌, not, ◌==◌, nat_lt, position, slice_get, unwrap_or, IfSome, All}
-use Rattle.std.specs.List.{prefix_len}
+use Rattle.mv_linker.proofs.Kept.Common.{[], ℕ, ◌+◌, ◌∙◌, ◌∷◌, ◌≡◌, Bool, List, None, Option, Some, ap, arith, cond, false, length, map, option_map, refl, slice_get, subst, suc, sym, true, unwrap_or}
+use Rattle.mv_linker.proofs.Kept.Common.{zero, none-some, slice_get-map, prefix_len, option_map_or, ◌&&◌, ◌==◌, All, IfSome, nat_lt, not, position, Module, own_name, is_module, module_place}
+use Rattle.mv_linker.proofs.Kept.Common.{ModuleName, same_module, find_index, PublishedModule, AreKeyed, name_in, published_as, published_under, IsPublishable, tables_in, Name, Texts}
 use Rattle.std.specs.Map.{keys_of, values_of}
-use Rattle.std.specs.Option.{option_map_or}
 use Rattle.std.specs.Cmp.{nat_eq_equiv}
 use Rattle.std.specs.Cmp.Lexicographic.{nat_list_eq_equiv}
 use Rattle.std.specs.Str.{bytes_eq}
 use Rattle.std.proofs.lemmas.Bool.Decides.{nat_tests}
 use Rattle.std.proofs.lemmas.List.Elements.{All-head, All-tail}
-use Rattle.std.proofs.lemmas.Option.{slice_get-map, none-some}
-use Rattle.mv_move_types.specs.Options.{find_index}
-use Rattle.mv_move_types.specs.Names.{ModuleName, same_module}
-use Rattle.mv_move_types.specs.Module.{Module, own_name}
-use Rattle.mv_move_types.specs.Named.{is_module, module_place}
-use Rattle.mv_move_types.specs.Published.{PublishedModule}
 use Rattle.mv_binary_format.specs.Parsing.{module_of, no_tables}
-use Rattle.mv_linker.specs.declared.entry.Name.{Name}
-use Rattle.mv_linker.specs.declared.entry.Texts.{Texts}
-use Rattle.mv_linker.specs.Kept.{name_in, published_as, published_under, AreKeyed}
-use Rattle.mv_linker.specs.Link.{IsPublishable, tables_in}
 
 -- the first place where a test passes, by the map's word and by the modules'
 pub position-find_index : {A : Type 0} (p : A → Bool) (xs : List A) → position p xs ≡ find_index p xs

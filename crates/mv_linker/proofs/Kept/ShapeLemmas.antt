@@ -3,22 +3,14 @@
 --   few-fields             a struct has at most 32 fields
 --   parts-first, parts-more, parts-all    those of the first fields
 --   struct-module          the module of a struct's name is one that a handle names
-use Rattle.std.proofs.Common.{◌≡◌, ℕ, ◌≤◌, ◌+◌, ◌<◌, true, false, List, [], ◌∷◌, ◌++◌, length, map, take, Option, Some, None, option_map, slice_get, get_or, refl, sym, ap, ◌∙◌, subst, arith, append-nil, append_assoc}
-use Rattle.std.specs.Prelude.{◌&&◌, is_some, nat_le}
-use Rattle.std.specs.List.{list_all}
-use Rattle.std.specs.Option.{option_map_or}
-use Rattle.std.proofs.lemmas.Bool.{and_parts, leb-true}
-use Rattle.std.proofs.lemmas.List.{length-map, map-append, take_all, take_more}
-use Rattle.std.proofs.lemmas.Option.{none-some, same_Some, slice_get-map, slice_get_within}
-use Rattle.mv_move_types.specs.declared.tables.Definition.{Definition}
+use Rattle.mv_linker.proofs.Kept.Common.{[], ℕ, ◌++◌, ◌+◌, ◌<◌, ◌∙◌, ◌∷◌, ◌≡◌, ◌≤◌, List, None, Option, Some, ap, append-nil, append_assoc, arith, false, get_or, length, map, option_map, refl}
+use Rattle.mv_linker.proofs.Kept.Common.{slice_get, subst, sym, take, true, and_parts, leb-true, length-map, map-append, take_all, take_more, none-some, same_Some, slice_get-map, slice_get_within}
+use Rattle.mv_linker.proofs.Kept.Common.{list_all, option_map_or, ◌&&◌, is_some, nat_le, Module, StructDefinition, module_name, struct_name, StructName, ◌>>=◌, Definition}
 use Rattle.mv_move_types.specs.declared.tables.Field.{Field}
 use Rattle.mv_move_types.specs.declared.tables.StructHandle.{StructHandle}
 use Rattle.mv_move_types.specs.declared.token.ValueType.TheVariants.{OfLeaf, OfStruct}
 use Rattle.mv_move_types.specs.declared.token.Token.{Token}
 use Rattle.mv_move_types.specs.declared.token.Token.TheVariants.{Plain, Reference, MutableReference}
-use Rattle.mv_move_types.specs.Names.{StructName}
-use Rattle.mv_move_types.specs.Options.{◌>>=◌}
-use Rattle.mv_move_types.specs.Module.{Module, StructDefinition, module_name, struct_name}
 use Rattle.mv_module_text.specs.Fits.{field_fits, is_index, struct_definition_fits}
 use Rattle.mv_linker.specs.declared.shapes.Part.{Part}
 use Rattle.mv_linker.specs.declared.shapes.Part.TheVariants.{Struct, Nothing}

@@ -1,19 +1,11 @@
 -- Of what the structs of a store's modules are made, as its codes say.
-use Rattle.std.proofs.Common.{◌≡◌, ℕ, ◌<◌, ◌≤◌, subst, Bool, false, List, length, Option, Some, None, option_map, slice_get, unwrap_or, refl, sym, ap, ◌∙◌, arith}
-use Rattle.std.specs.Option.{option_map_or}
-use Rattle.std.proofs.lemmas.List.{length-map}
-use Rattle.std.proofs.lemmas.Option.{none-some, slice_get-map, slice_get_within}
-use Rattle.mv_move_types.specs.declared.tables.Definition.{Definition}
-use Rattle.mv_move_types.specs.Options.{◌>>=◌}
-use Rattle.mv_move_types.specs.Module.{Module, StructDefinition}
-use Rattle.mv_move_types.specs.Published.{PublishedModule}
+use Rattle.mv_linker.proofs.Kept.Common.{ℕ, ◌<◌, ◌∙◌, ◌≡◌, ◌≤◌, Bool, List, None, Option, Some, ap, arith, false, length, option_map, refl, slice_get, subst, sym, unwrap_or, length-map, none-some}
+use Rattle.mv_linker.proofs.Kept.Common.{slice_get-map, slice_get_within, option_map_or, Module, StructDefinition, ◌>>=◌, PublishedModule, Definition, IsStore, tables_in, AreCodesOf}
 use Rattle.mv_binary_format.proofs.Fitting.{few_structs}
 use Rattle.mv_binary_format.specs.ModuleText.{HasText}
 use Rattle.mv_linker.specs.declared.code.Code.{Code}
 use Rattle.mv_linker.specs.declared.shapes.Part.{Part}
 use Rattle.mv_linker.specs.Shapes.{AreFieldsAt, has_key, is_keyed, structs_in}
-use Rattle.mv_linker.specs.Link.{IsStore, tables_in}
-use Rattle.mv_linker.specs.Stored.{AreCodesOf}
 use Rattle.mv_linker.proofs.Joining.Assembling.{passed-among}
 use Rattle.mv_linker.proofs.Found.{then_found, there_at}
 use Rattle.mv_linker.proofs.Members.{among-at}

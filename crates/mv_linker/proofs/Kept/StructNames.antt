@@ -1,20 +1,12 @@
 -- The names of a store's structs, by the name of their module and their identifiers there.
 --   unnamed-there    no struct stands where there is no identifier
 --   named-there      the name of a struct, by the key of its module and its identifier
-use Rattle.std.proofs.Common.{◌≡◌, ℕ, List, [], Option, Some, None, option_map, unwrap_or, slice_get, refl, sym, ap, ap₂, ◌∙◌, subst}
-use Rattle.std.proofs.lemmas.Option.{none-some, same_Some, slice_get-map}
-use Rattle.mv_move_types.specs.Options.{◌>>=◌}
-use Rattle.mv_move_types.specs.Names.{StructName}
-use Rattle.mv_move_types.specs.Module.{Module, StructDefinition, module_name, name_of_struct, name_at, own_name}
-use Rattle.mv_move_types.specs.Published.{PublishedModule}
+use Rattle.mv_linker.proofs.Kept.Common.{[], ℕ, ◌∙◌, ◌≡◌, List, None, Option, Some, ap, ap₂, option_map, refl, slice_get, subst, sym, unwrap_or, none-some, same_Some, slice_get-map, Module}
+use Rattle.mv_linker.proofs.Kept.Common.{StructDefinition, module_name, name_at, name_of_struct, own_name, StructName, ◌>>=◌, PublishedModule, AreKeyed, name_in, published_as, published_under}
+use Rattle.mv_linker.proofs.Kept.Common.{IsStore, tables_in, AreCodesOf, Name, Texts}
 use Rattle.mv_type_states.specs.Sound.{IsSound}
 use Rattle.mv_linker.specs.declared.code.Code.{Code}
-use Rattle.mv_linker.specs.declared.entry.Name.{Name}
-use Rattle.mv_linker.specs.declared.entry.Texts.{Texts}
 use Rattle.mv_linker.specs.Identifiers.{identifier_or_none}
-use Rattle.mv_linker.specs.Kept.{AreKeyed, name_in, published_as, published_under}
-use Rattle.mv_linker.specs.Link.{IsStore, tables_in}
-use Rattle.mv_linker.specs.Stored.{AreCodesOf}
 use Rattle.mv_linker.proofs.Joining.Assembling.{passed-among}
 use Rattle.mv_module_text.proofs.Texts.{on_bind}
 use Rattle.mv_linker.proofs.Found.{then_found}

@@ -2,12 +2,9 @@
 --   length-with_at, put-at, other-at   one entry
 --   set-with_at, push-with_at          how it gets there
 --   length-put_all, from-put_all       several, one after the other
-use Rattle.std.proofs.Common.{◌≡◌, ◌⊎◌, ℕ, zero, suc, ◌+◌, ◌≤◌, Bool, true, false, cond, List, [], ◌∷◌, ◌++◌, length, map, Some, slice_get, Contains, refl, sym, ap, ◌∙◌, subst, arith, inl, inr}
-use Rattle.std.specs.Prelude.{fold, ◌==◌, slice_set}
-use Rattle.std.proofs.lemmas.Bool.{eqb-true, eqb-false}
-use Rattle.std.proofs.lemmas.Option.{same_Some, none-some}
+use Rattle.mv_linker.proofs.Kept.Common.{[], ℕ, ◌++◌, ◌+◌, ◌∙◌, ◌∷◌, ◌≡◌, ◌≤◌, ◌⊎◌, Bool, Contains, List, Some, ap, arith, cond, false, inl, inr, length, map, refl, slice_get, subst, suc, sym, true}
+use Rattle.mv_linker.proofs.Kept.Common.{zero, eqb-false, eqb-true, none-some, same_Some, ◌==◌, fold, slice_set, with_at}
 use Rattle.mv_linker.specs.Ordering.{count_after, ArePlaces}
-use Rattle.mv_linker.specs.Stored.{with_at}
 use Rattle.mv_linker.proofs.Found.{Contains-at, at-Contains}
 
 -- ---- one entry

@@ -1,20 +1,7 @@
 -- What a module's handles stand for stays where sizes and places do, and no function handle leads to a replaced module.
-use Rattle.std.proofs.Common.{◌≡◌, ℕ, Bool, true, false, List, Option, Some, None, slice_get, refl, ap₂, ◌∙◌}
-use Rattle.std.specs.Prelude.{option_and_then}
-use Rattle.std.specs.List.{list_all}
-use Rattle.std.specs.Option.{option_map_or}
-use Rattle.mv_move_types.specs.declared.tables.Definition.{Definition}
-use Rattle.mv_move_types.specs.declared.tables.FunctionHandle.{FunctionHandle}
-use Rattle.mv_move_types.specs.declared.token.Token.{Token}
-use Rattle.mv_move_types.specs.Names.{ModuleName}
-use Rattle.mv_move_types.specs.Options.{◌>>=◌}
-use Rattle.mv_move_types.specs.Module.{Module, FunctionDefinition, module_name}
-use Rattle.mv_move_types.specs.Named.{module_place, module_named, function_place}
-use Rattle.mv_linker.specs.declared.code.Callee.{Callee}
-use Rattle.mv_linker.specs.Links.{function_named, function_fits, function_is_there}
-use Rattle.mv_linker.specs.Linked.{Entered, linked_module}
-use Rattle.mv_linker.specs.Widths.{width_of_tokens}
-use Rattle.mv_linker.specs.Resolved.{callee_of}
+use Rattle.mv_linker.proofs.LinkedCode.Common.{ℕ, ◌∙◌, ◌≡◌, Bool, List, None, Option, Some, ap₂, false, refl, slice_get, true, list_all, option_map_or, option_and_then, FunctionDefinition, Module}
+use Rattle.mv_linker.proofs.LinkedCode.Common.{module_name, function_place, module_named, module_place, ModuleName, ◌>>=◌, Definition, FunctionHandle, Token, Entered, linked_module, function_fits}
+use Rattle.mv_linker.proofs.LinkedCode.Common.{function_is_there, function_named, callee_of, width_of_tokens, Callee}
 use Rattle.mv_linker.proofs.LinkedCode.CodeStays.{WidthsStay, HandlesStay, tokens-stay, module-stays}
 use Rattle.mv_linker.proofs.Found.{each}
 

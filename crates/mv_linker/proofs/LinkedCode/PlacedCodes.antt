@@ -2,24 +2,15 @@
 --   count-below                   the places that were taken
 --   placed-at, listed             the codes, by their places
 --   relinking                     what the codes are
-use Rattle.std.proofs.Common.{◌≡◌, ℕ, zero, suc, ◌+◌, ◌<◌, ◌++◌, [], ◌∷◌, cond, List, length, map, Option, Some, None, slice_get, Contains, refl, sym, ap, subst, ◌∙◌, arith, inl, inr}
-use Rattle.std.specs.Prelude.{◌==◌, position}
-use Rattle.std.specs.List.{zip}
-use Rattle.std.proofs.lemmas.Bool.{ne_eqb}
+use Rattle.mv_linker.proofs.LinkedCode.Common.{[], ℕ, ◌++◌, ◌+◌, ◌<◌, ◌∙◌, ◌∷◌, ◌≡◌, Contains, List, None, Option, Some, ap, arith, cond, inl, inr, length, map, refl, slice_get, subst, suc, sym, zero}
+use Rattle.mv_linker.proofs.LinkedCode.Common.{ne_eqb, none-some, same_Some, slice_get_within, zip, ◌==◌, position, Module, AreCodes, AreToLink, IsCode, offered, modules_in, Code, ToLink}
 use Rattle.std.proofs.lemmas.List.Elements.{Contains-append_left, Contains-append_right}
-use Rattle.std.proofs.lemmas.Option.{same_Some, none-some, slice_get_within}
-use Rattle.mv_move_types.specs.Module.{Module}
-use Rattle.mv_linker.specs.declared.code.Code.{Code}
 use Rattle.mv_linker.specs.declared.code.CodeAt.{CodeAt}
 use Rattle.mv_linker.specs.declared.dependants.Dependant.{Dependant}
 use Rattle.mv_linker.specs.declared.scope.Scope.{Scope}
-use Rattle.mv_linker.specs.declared.to_link.ToLink.{ToLink}
-use Rattle.mv_linker.specs.Coded.{IsCode, AreCodes, AreToLink}
 use Rattle.mv_linker.specs.Link.{tables_in}
 use Rattle.mv_linker.specs.Ordering.{count_after, ArePlaces}
 use Rattle.mv_linker.specs.Relinked.{Joins, IsDependant, AreDependants, AreLinkable}
-use Rattle.mv_linker.specs.Scope.{offered}
-use Rattle.mv_linker.specs.Targets.{modules_in}
 use Rattle.mv_linker.proofs.Cycles.DependantLemmas.{names-none}
 use Rattle.mv_linker.proofs.Joining.Joins.{joining, kept-at}
 use Rattle.mv_linker.proofs.Cycles.DependencyLemmas.{count-places, places-within}

@@ -1,14 +1,8 @@
-use Rattle.std.proofs.Common.{◌≡◌, ℕ, List, length, sym, ap, ap₂, ◌∙◌, subst, arith}
-use Rattle.mv_move_types.specs.Published.{PublishedModule, with_modules}
-use Rattle.mv_linker.specs.declared.code.Code.{Code}
+use Rattle.mv_linker.proofs.Common.{ℕ, ◌∙◌, ◌≡◌, List, ap, ap₂, arith, length, subst, sym, PublishedModule, with_modules, AreKeyed, published_under, IsStore, tables_in, AreNamed, AreNamers}
+use Rattle.mv_linker.proofs.Common.{AreCodesOf, AreDependenciesOf, with_codes, with_dependencies, Code}
 use Rattle.mv_linker.specs.declared.dependencies.Dependencies.{Dependencies}
 use Rattle.mv_linker.specs.declared.entry.Name.{Name}
 use Rattle.mv_linker.specs.declared.entry.Texts.{Texts}
-use Rattle.mv_linker.specs.Kept.{AreKeyed, published_under}
-use Rattle.mv_linker.specs.Link.{IsStore, tables_in}
-use Rattle.mv_linker.specs.Namers.{AreNamers}
-use Rattle.mv_linker.specs.NamerSteps.{AreNamed}
-use Rattle.mv_linker.specs.Stored.{AreCodesOf, AreDependenciesOf, with_codes, with_dependencies}
 use Rattle.mv_linker.proofs.Cycles.NamerLemmas.{namers-grow, namers-join}
 use Rattle.mv_linker.proofs.add.Goals as goal
 

@@ -1,8 +1,4 @@
-use Rattle.std.proofs.Common.{◌*◌, ◌≤◌, [], ◌∷◌, Some, length, ap, ◌∙◌, subst, arith}
-use Rattle.mv_machine.specs.Lines.{Refused as ToldRefused, Told as ToldLines}
-use Rattle.mv_machine.specs.Ledger.{AsText, AsJson}
-use Rattle.mv_ledger.specs.Answering.{Replies}
-use Rattle.mv_ledger.specs.View.{LedgerView, view_of, all_of}
+use Rattle.mv_ledger.proofs.Common.{[], ◌*◌, ◌∙◌, ◌∷◌, ◌≤◌, Some, ap, arith, length, subst, AsJson, AsText, ToldLines, ToldRefused, Replies, LedgerView, all_of, view_of}
 use Rattle.mv_ledger.proofs.Shows.Reports.{unasked_replies, audit_replies, audit-lines, audit-json, few_tallies}
 use Rattle.mv_ledger.proofs.Ledger.audit.Goals as goal
 

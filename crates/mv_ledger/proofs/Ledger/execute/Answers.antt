@@ -1,12 +1,8 @@
-use Rattle.std.proofs.Common.{Some, Err, inl, inr, sym, ap, ◌∙◌, subst}
+use Rattle.mv_ledger.proofs.Common.{◌∙◌, Err, Some, ap, inl, inr, subst, sym, ToldRejected, Replies, told, request_of, LedgerView, all_of, view_of}
 use Rattle.mv_ledger.specs.declared.executing.Barred.{Barred}
-use Rattle.mv_machine.specs.Lines.{Rejected as ToldRejected}
-use Rattle.mv_ledger.specs.Answering.{told, Replies}
-use Rattle.mv_ledger.specs.Asking.{request_of}
 use Rattle.mv_ledger.specs.Changes.{IsKept}
 use Rattle.mv_ledger.specs.RecordText.{IsShapeless}
 use Rattle.mv_ledger.specs.Running.{IsAdmitted}
-use Rattle.mv_ledger.specs.View.{LedgerView, view_of, all_of}
 use Rattle.mv_ledger.proofs.Phases.{phase-no-memory}
 use Rattle.mv_ledger.proofs.Ledgers.{ledger-run, ledger-kept}
 use Rattle.mv_ledger.proofs.Replying.{bad_run_replies, rejected_replies, had_sound, had_replies, unchanged, untold_replies}

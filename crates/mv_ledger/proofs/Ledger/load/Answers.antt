@@ -1,7 +1,5 @@
-use Rattle.std.proofs.Common.{Err, arith, sym, ap, ◌∙◌}
-use Rattle.mv_certificate.proofs.Marks.{all-bytes}
+use Rattle.mv_ledger.proofs.Common.{◌∙◌, Err, ap, arith, sym, all-bytes, BeginsWith, head_from, head_of}
 use Rattle.mv_ledger.specs.declared.loading.LoadError.TheVariants.{Head}
-use Rattle.mv_ledger.specs.Parts.LoadedParts.{head_from, head_of, BeginsWith}
 use Rattle.mv_ledger.proofs.Loads.LoadedHead.{head-none}
 use Rattle.mv_ledger.proofs.Loads.Loaded.{refused-as}
 use Rattle.mv_ledger.proofs.Ledger.load.Goals as goal

@@ -1,8 +1,5 @@
-use Rattle.std.proofs.Common.{ap, subst}
-use Rattle.mv_move_types.specs.declared.refusal.Refusal.{Refusal}
-use Rattle.mv_ledger.specs.Answering.{told, Replies}
+use Rattle.mv_ledger.proofs.Common.{ap, subst, Refusal, Replies, told, LedgerView, all_of, view_of}
 use Rattle.mv_ledger.specs.Judging.{IsRefusedBy}
-use Rattle.mv_ledger.specs.View.{LedgerView, view_of, all_of}
 use Rattle.mv_ledger.proofs.Ledgers.{ledger-published, sound-published}
 use Rattle.mv_ledger.proofs.Bundles.Sized.{sized_published}
 use Rattle.mv_ledger.proofs.Bundles.Staying.{stays-fine, stored-stays}

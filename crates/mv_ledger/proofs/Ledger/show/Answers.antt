@@ -1,8 +1,4 @@
-use Rattle.std.proofs.Common.{[], ◌∷◌, Some, ap, ◌∙◌, subst, arith}
-use Rattle.mv_machine.specs.Lines.{Refused as ToldRefused, Told as ToldLines}
-use Rattle.mv_machine.specs.Ledger.{AsText, AsJson}
-use Rattle.mv_ledger.specs.Answering.{Replies}
-use Rattle.mv_ledger.specs.View.{LedgerView, view_of, all_of}
+use Rattle.mv_ledger.proofs.Common.{[], ◌∙◌, ◌∷◌, Some, ap, arith, subst, AsJson, AsText, ToldLines, ToldRefused, Replies, LedgerView, all_of, view_of}
 use Rattle.mv_ledger.proofs.Shows.Reports.{unasked_replies, show_replies}
 use Rattle.mv_ledger.proofs.Ledger.show.Goals as goal
 

@@ -1,19 +1,12 @@
-use Rattle.std.proofs.Common.{◌≡◌, ℕ, ◌<◌, ◌≤◌, true, Bor, List, Option, length, Some, None, Err, option_map, map, slice_get, refl, sym, ap, subst, ◌∙◌, arith}
-use Rattle.std.specs.Prelude.{IfSome}
-use Rattle.std.proofs.lemmas.Result.{err_from_is_err_and}
+use Rattle.mv_ledger.proofs.Common.{ℕ, ◌<◌, ◌∙◌, ◌≡◌, ◌≤◌, Bor, Err, List, None, Option, Some, ap, arith, length, map, option_map, refl, slice_get, subst, sym, true, err_from_is_err_and, IfSome}
+use Rattle.mv_ledger.proofs.Common.{FunctionDefinition, Module, parameter_tokens, PublishedModule, RunRequest, are_arguments, with_sender, tables_in, arg_value, request_of}
 use Rattle.mv_move_types.specs.declared.token.Token.{Token}
-use Rattle.mv_move_types.specs.Module.{Module, FunctionDefinition, parameter_tokens}
 use Rattle.mv_move_types.specs.Named.{is_module, module_place, function_place}
-use Rattle.mv_move_types.specs.Published.{PublishedModule}
 use Rattle.mv_machine.specs.Value.{Value}
 use Rattle.mv_machine.specs.Run.{FunctionCall}
-use Rattle.mv_machine.specs.Ledger.{RunRequest, are_arguments, with_signer as with_sender}
 use Rattle.mv_linker.specs.declared.interfaces.Interface.{Interface}
 use Rattle.mv_linker.specs.Interfaces.{IsInterfaceAt}
-use Rattle.mv_linker.specs.Link.{tables_in}
 use Rattle.mv_linker.proofs.Found.{found_at}
-use Rattle.mv_interpreter.specs.Runs.{arg_value}
-use Rattle.mv_ledger.specs.Asking.{request_of}
 use Rattle.mv_ledger.specs.declared.executing.Barred.TheVariants.{Rejected}
 use Rattle.mv_ledger.proofs.Runs.Calls.{place-below}
 use Rattle.mv_ledger.proofs.Runs.Admissions.{FindsModule, FindsFunction, FindsTypes, hit, miss, rejected-as, no_budget, no_module, no_function, no_entry, no_arguments, no_runs, admits}

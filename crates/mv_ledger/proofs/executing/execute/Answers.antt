@@ -1,14 +1,8 @@
-use Rattle.std.proofs.Common.{◌≡◌, ◌+◌, ◌-◌, ◌^◌, List, map, rules, sym, ap, ◌∙◌, subst}
-use Rattle.std.specs.Prelude.{All}
+use Rattle.mv_ledger.proofs.Common.{◌+◌, ◌-◌, ◌^◌, ◌∙◌, ◌≡◌, List, ap, map, rules, subst, sym, All, FlatEntry, tables_in, Agrees, AtMost, IsFineWords, tally_after, AreCountable, AreScarce, IsNamed}
+use Rattle.mv_ledger.proofs.Common.{IsSmall, all_of, Tally}
 use Rattle.mv_machine.specs.declared.Ending.TheVariants.{Returned}
-use Rattle.mv_machine.specs.Flat.{FlatEntry}
 use Rattle.mv_machine.specs.Run.{RunOutcome}
-use Rattle.mv_linker.specs.Link.{tables_in}
 use Rattle.mv_frames.specs.declared.counters.StructTally.{StructTally}
-use Rattle.mv_interpreter.specs.Runs.{IsFineWords, Agrees, AtMost}
-use Rattle.mv_ledger.specs.declared.tallies.Tally.{Tally}
-use Rattle.mv_ledger.specs.Tallying.{tally_after}
-use Rattle.mv_ledger.specs.View.{all_of, IsNamed, IsSmall, AreScarce, AreCountable}
 use Rattle.mv_ledger.proofs.Runs.Countable.{all-countable-kept, run-countable}
 use Rattle.mv_ledger.proofs.Runs.StoredRuns.{run-same, tallied-after, settled-returned, settled-kept, small-kept}
 use Rattle.mv_ledger.proofs.Runs.ScarceTallies.{all-scarce, scarce-ordered}

@@ -1,7 +1,4 @@
-use Rattle.std.proofs.Common.{List, ℕ, ap, map, codes, refl}
-use Rattle.mv_linker.specs.Link.{tables_in}
-use Rattle.mv_machine.specs.Flat.{FlatEntry, storage_of}
-use Rattle.mv_machine.specs.Lines.{entry_object}
+use Rattle.mv_ledger.proofs.Common.{ℕ, List, ap, codes, map, refl, FlatEntry, storage_of, entry_object, tables_in}
 use Rattle.mv_ledger.proofs.Shows.Objects.{none_put, more_put, all_put}
 use Rattle.mv_ledger.proofs.json_lines.json_of_storage.Goals as goal
 

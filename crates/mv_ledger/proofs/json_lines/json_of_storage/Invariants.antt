@@ -1,7 +1,4 @@
-use Rattle.std.proofs.Common.{length, map, codes}
-use Rattle.mv_linker.specs.Link.{tables_in}
-use Rattle.mv_machine.specs.Flat.{storage_of}
-use Rattle.mv_machine.specs.Lines.{entry_object}
+use Rattle.mv_ledger.proofs.Common.{codes, length, map, storage_of, entry_object, tables_in}
 use Rattle.mv_ledger.proofs.Shows.Objects.{IsPut}
 use Rattle.mv_ledger.proofs.json_lines.json_of_storage.Given as goal
 

@@ -1,8 +1,4 @@
-use Rattle.std.proofs.Common.{List, ℕ, ap, map, codes, refl}
-use Rattle.mv_linker.specs.Link.{tables_in}
-use Rattle.mv_machine.specs.Lines.{Tallied}
-use Rattle.mv_ledger.specs.Auditing.{count_object, stored_of}
-use Rattle.mv_ledger.specs.View.{all_of, tallied}
+use Rattle.mv_ledger.proofs.Common.{ℕ, List, ap, codes, map, refl, Tallied, tables_in, count_object, stored_of, all_of, tallied}
 use Rattle.mv_ledger.proofs.Shows.Objects.{none_put, more_put, all_put}
 use Rattle.mv_ledger.proofs.json_lines.json_of_tallies.Goals as goal
 

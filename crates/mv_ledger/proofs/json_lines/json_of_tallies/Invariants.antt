@@ -1,7 +1,4 @@
-use Rattle.std.proofs.Common.{length, map, codes}
-use Rattle.mv_linker.specs.Link.{tables_in}
-use Rattle.mv_ledger.specs.Auditing.{count_object, stored_of}
-use Rattle.mv_ledger.specs.View.{all_of, tallied}
+use Rattle.mv_ledger.proofs.Common.{codes, length, map, tables_in, count_object, stored_of, all_of, tallied}
 use Rattle.mv_ledger.proofs.Shows.Objects.{IsPut}
 use Rattle.mv_ledger.proofs.json_lines.json_of_tallies.Given as goal
 

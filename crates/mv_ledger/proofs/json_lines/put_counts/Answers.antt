@@ -1,6 +1,4 @@
-use Rattle.std.proofs.Common.{◌++◌, refl, ap, ◌∙◌, codes, decimal}
-use Rattle.std.proofs.lemmas.Result.{IfOk-weaker}
-use Rattle.mv_ledger.specs.Auditing.{counted_in, stored_of}
+use Rattle.mv_ledger.proofs.Common.{◌++◌, ◌∙◌, ap, codes, decimal, refl, IfOk-weaker, counted_in, stored_of}
 use Rattle.mv_ledger.proofs.Shows.Digits.{put_after}
 use Rattle.mv_ledger.proofs.Shows.Objects.{counts_put}
 use Rattle.mv_ledger.proofs.json_lines.put_counts.Goals as goal

@@ -1,11 +1,5 @@
-use Rattle.std.proofs.Common.{◌++◌, refl, ap, ◌∙◌, codes}
-use Rattle.std.proofs.lemmas.Result.{IfOk-weaker}
-use Rattle.mv_move_types.specs.declared.tables.Definition.{Definition}
-use Rattle.mv_move_types.specs.Module.{name_at}
-use Rattle.mv_machine.specs.Flat.{value_under}
+use Rattle.mv_ledger.proofs.Common.{◌++◌, ◌∙◌, ap, codes, refl, IfOk-weaker, name_at, Definition, value_under, tables_in, key_name_text, key_value_text}
 use Rattle.mv_machine.specs.Lines.{address_text, key_text, value_text}
-use Rattle.mv_linker.specs.Link.{tables_in}
-use Rattle.mv_ledger.specs.Showing.{key_name_text, key_value_text}
 use Rattle.mv_ledger.proofs.Shows.Digits.{put_after}
 use Rattle.mv_ledger.proofs.Shows.Objects.{entry_put}
 use Rattle.mv_ledger.proofs.json_lines.put_entry.Goals as goal

@@ -1,6 +1,4 @@
-use Rattle.std.proofs.Common.{◌≡◌, ◌++◌, Some, slice_get}
-use Rattle.mv_move_types.specs.Module.{Module}
-use Rattle.mv_linker.specs.Link.{tables_in}
+use Rattle.mv_ledger.proofs.Common.{◌++◌, ◌≡◌, Some, slice_get, Module, tables_in}
 use Rattle.mv_ledger.proofs.Saves.KeyedIndices.{keyed_before}
 use Rattle.mv_ledger.proofs.layouts.put_keyed.Given as goal
 

@@ -1,10 +1,5 @@
-use Rattle.std.proofs.Common.{◌≡◌, ℕ, List, [], ◌++◌, ap, ◌∙◌, append_assoc, codes}
-use Rattle.mv_move_types.specs.declared.tables.Definition.{Definition}
-use Rattle.mv_move_types.specs.Module.{name_at}
-use Rattle.mv_machine.specs.Flat.{value_under}
+use Rattle.mv_ledger.proofs.Common.{[], ℕ, ◌++◌, ◌∙◌, ◌≡◌, List, ap, append_assoc, codes, name_at, Definition, value_under, tables_in, key_name_text, key_value_text}
 use Rattle.mv_machine.specs.Lines.{address_text, key_text, value_text}
-use Rattle.mv_linker.specs.Link.{tables_in}
-use Rattle.mv_ledger.specs.Showing.{key_name_text, key_value_text}
 use Rattle.mv_ledger.proofs.lines.entry_text.Goals as goal
 
 -- the pieces of a line

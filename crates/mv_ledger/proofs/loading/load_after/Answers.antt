@@ -1,9 +1,5 @@
-use Rattle.std.proofs.Common.{◌≤◌, List, length, arith, ap, subst}
-use Rattle.std.proofs.lemmas.List.{length-map}
-use Rattle.std.proofs.lemmas.Result.{err_from_is_err_and}
+use Rattle.mv_ledger.proofs.Common.{◌≤◌, List, ap, arith, length, subst, length-map, err_from_is_err_and, offer_of, offers_of, AreJoined, AreNotJoined, head_of}
 use Rattle.mv_ledger.specs.declared.payload.Offered.{Offered}
-use Rattle.mv_ledger.specs.Asking.{offer_of, offers_of}
-use Rattle.mv_ledger.specs.Parts.LoadedParts.{head_of, AreJoined, AreNotJoined}
 use Rattle.mv_ledger.proofs.Loads.Loaded.{fails-joined, head-few}
 use Rattle.mv_ledger.proofs.loading.load_after.Goals as goal
 

@@ -1,8 +1,5 @@
-use Rattle.std.proofs.Common.{◌≤◌, length, Err, arith, sym, ap, ◌∙◌}
-use Rattle.std.proofs.lemmas.Bool.{true≢false}
-use Rattle.mv_linker.specs.Link.{tables_in}
+use Rattle.mv_ledger.proofs.Common.{◌∙◌, ◌≤◌, Err, ap, arith, length, sym, true≢false, tables_in, head_of}
 use Rattle.mv_ledger.specs.declared.loading.LoadError.TheVariants.{Body}
-use Rattle.mv_ledger.specs.Parts.LoadedParts.{head_of}
 use Rattle.mv_ledger.proofs.Loads.BodyLaws.{each_body_is_read, each_read_is_body}
 use Rattle.mv_ledger.proofs.Loads.LoadedTallies.{still-scarce, still-named}
 use Rattle.mv_ledger.proofs.Loads.Loaded.{refused-as, few-joined, fails-body, stored-fine, fails-tallied, is-loaded, is-ledger}

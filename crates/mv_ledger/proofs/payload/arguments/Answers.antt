@@ -1,7 +1,4 @@
-use Rattle.std.proofs.Common.{◌≡◌, ◌+◌, ◌++◌, ◌∷◌, [], Err, ap, arith, subst, sym}
-use Rattle.std.proofs.lemmas.Grind.{common_steps}
-use Rattle.mv_module_text.proofs.Entries.{ReadsOn, ReadsOn-next, ReadsOn-stops}
-use Rattle.mv_ledger.specs.Payloads.{argument_from}
+use Rattle.mv_ledger.proofs.Common.{[], ◌++◌, ◌+◌, ◌∷◌, ◌≡◌, Err, ap, arith, subst, sym, common_steps, ReadsOn, ReadsOn-next, ReadsOn-stops, argument_from}
 use Rattle.mv_ledger.proofs.payload.arguments.Goals as goal
 
 pub returns-in_err-next-clause-refused : goal.returns-in_err-next-clause-refused

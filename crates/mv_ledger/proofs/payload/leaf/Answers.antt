@@ -1,18 +1,9 @@
-use Rattle.std.proofs.Common.{◌≡◌, ℕ, ◌<◌, ◌^◌, nat_lt, List, None, Some, Result, Ok, Err, sym, ap, ◌∙◌, subst}
-use Rattle.std.specs.Prelude.{IsTrue, IfOk, IfErr}
+use Rattle.mv_ledger.proofs.Common.{ℕ, ◌<◌, ◌^◌, ◌∙◌, ◌≡◌, Err, List, None, Ok, Result, Some, ap, nat_lt, subst, sym, lt-ltb, IfOk-weaker, IfErr, IfOk, IsTrue, ◌>>=◌, Refusal, Boolean, Read}
+use Rattle.mv_ledger.proofs.Common.{byte_from, Reads, number_fits, leaf_from}
 use Rattle.std.specs.Bool.{then_some}
-use Rattle.std.proofs.lemmas.Bool.{lt-ltb}
-use Rattle.std.proofs.lemmas.Result.{IfOk-weaker}
-use Rattle.mv_move_types.specs.Options.{◌>>=◌}
 use Rattle.mv_move_types.specs.Tokens.{width_bits}
-use Rattle.mv_move_types.specs.declared.refusal.Refusal.{Refusal}
 use Rattle.mv_move_types.specs.declared.refusal.Refusal.TheVariants.{Phase}
 use Rattle.mv_move_types.specs.declared.token.LeafKind.{LeafKind}
-use Rattle.mv_move_types.specs.declared.token.LeafKind.TheVariants.{Boolean}
-use Rattle.mv_module_text.specs.Parsing.{Read, byte_from}
-use Rattle.mv_module_text.specs.Reads.{Reads}
-use Rattle.mv_interpreter.specs.Runs.{number_fits}
-use Rattle.mv_ledger.specs.Payloads.{leaf_from}
 use Rattle.mv_ledger.proofs.payload.leaf.Goals as goal
 
 module _ (from : List ℕ → Read ℕ) (old new : List ℕ) where

@@ -1,9 +1,4 @@
-use Rattle.std.proofs.Common.{◌≡◌, ◌+◌, ◌++◌, ◌∷◌, [], Err, ap, arith, subst, sym, ◌∙◌}
-use Rattle.std.proofs.lemmas.Grind.{common_steps}
-use Rattle.std.proofs.lemmas.List.{map-append}
-use Rattle.mv_module_text.proofs.Entries.{ReadsOn, ReadsOn-next, ReadsOn-stops}
-use Rattle.mv_ledger.specs.Asking.{offer_of, offers_of}
-use Rattle.mv_ledger.specs.Payloads.{offer_from}
+use Rattle.mv_ledger.proofs.Common.{[], ◌++◌, ◌+◌, ◌∙◌, ◌∷◌, ◌≡◌, Err, ap, arith, subst, sym, common_steps, map-append, ReadsOn, ReadsOn-next, ReadsOn-stops, offer_of, offers_of, offer_from}
 use Rattle.mv_ledger.proofs.payload.offers.Goals as goal
 
 pub returns-in_err-next-clause-refused : goal.returns-in_err-next-clause-refused

@@ -1,6 +1,4 @@
-use Rattle.mv_module_text.proofs.Entries.{ReadsOn}
-use Rattle.mv_ledger.specs.Asking.{offers_of}
-use Rattle.mv_ledger.specs.Payloads.{offer_from}
+use Rattle.mv_ledger.proofs.Common.{ReadsOn, offers_of, offer_from}
 use Rattle.mv_ledger.proofs.payload.offers.Given as goal
 
 abbrev pub invariant-each : goal.invariant-each

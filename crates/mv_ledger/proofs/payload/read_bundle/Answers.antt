@@ -1,9 +1,4 @@
-use Rattle.std.proofs.Common.{◌≡◌, None, Some, [], Err, ap, sym, ◌∙◌, arith, inl, inr}
-use Rattle.std.proofs.lemmas.Bool.{true≢false}
-use Rattle.std.proofs.lemmas.Grind.{common_steps}
-use Rattle.mv_certificate.proofs.Marks.{all-bytes}
-use Rattle.mv_ledger.specs.Asking.{offers_of}
-use Rattle.mv_ledger.specs.Payloads.{bundle_from}
+use Rattle.mv_ledger.proofs.Common.{[], ◌∙◌, ◌≡◌, Err, None, Some, ap, arith, inl, inr, sym, true≢false, common_steps, all-bytes, offers_of, bundle_from}
 use Rattle.mv_ledger.proofs.Shapes.{bundle-shaped, bundle-none, bundle-more}
 use Rattle.mv_ledger.proofs.payload.read_bundle.Goals as goal
 

@@ -1,9 +1,4 @@
-use Rattle.std.proofs.Common.{◌≡◌, None, Some, [], Err, ap, sym, ◌∙◌, arith, inl, inr}
-use Rattle.std.proofs.lemmas.Bool.{true≢false}
-use Rattle.std.proofs.lemmas.Grind.{common_steps}
-use Rattle.mv_certificate.proofs.Marks.{all-bytes}
-use Rattle.mv_ledger.specs.Asking.{request_of}
-use Rattle.mv_ledger.specs.Payloads.{run_from}
+use Rattle.mv_ledger.proofs.Common.{[], ◌∙◌, ◌≡◌, Err, None, Some, ap, arith, inl, inr, sym, true≢false, common_steps, all-bytes, request_of, run_from}
 use Rattle.mv_ledger.proofs.Shapes.{run-shaped, run-none, run-more}
 use Rattle.mv_ledger.proofs.payload.read_run.Goals as goal
 

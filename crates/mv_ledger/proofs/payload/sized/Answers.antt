@@ -1,11 +1,5 @@
-use Rattle.std.proofs.Common.{◌≡◌, ℕ, List, Some, None, Result, Ok, Err, ap, ◌∙◌, Bor}
-use Rattle.std.specs.Prelude.{IfOk, IfErr}
-use Rattle.mv_move_types.specs.declared.refusal.Refusal.{Refusal}
+use Rattle.mv_ledger.proofs.Common.{ℕ, ◌∙◌, ◌≡◌, Bor, Err, List, None, Ok, Result, Some, ap, IfErr, IfOk, ◌>>=◌, Refusal, bytes_from, ReadsAs, sized_from}
 use Rattle.mv_move_types.specs.declared.refusal.Refusal.TheVariants.{Phase}
-use Rattle.mv_move_types.specs.Options.{◌>>=◌}
-use Rattle.mv_module_text.specs.Parsing.{bytes_from}
-use Rattle.mv_module_text.specs.Reads.{ReadsAs}
-use Rattle.mv_ledger.specs.Payloads.{sized_from}
 use Rattle.mv_ledger.proofs.payload.sized.Goals as goal
 
 -- what was read after the number

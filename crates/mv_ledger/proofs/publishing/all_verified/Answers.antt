@@ -1,6 +1,4 @@
-use Rattle.std.proofs.Common.{◌≡◌, ◌≤◌, ◌++◌, ◌∷◌, [], length, arith}
-use Rattle.std.proofs.lemmas.Grind.{common_steps}
-use Rattle.std.proofs.lemmas.Result.{err_from_is_err_and}
+use Rattle.mv_ledger.proofs.Common.{[], ◌++◌, ◌∷◌, ◌≡◌, ◌≤◌, arith, length, common_steps, err_from_is_err_and}
 use Rattle.mv_ledger.proofs.Bundles.Verifying.{verifying-none, verifying-more, verifying-fails, verified-all}
 use Rattle.mv_ledger.proofs.publishing.all_verified.Goals as goal
 

@@ -1,11 +1,7 @@
-use Rattle.std.proofs.Common.{Err, sym, ap, subst}
-use Rattle.std.proofs.lemmas.Result.{err_from_is_err_and}
-use Rattle.mv_move_types.specs.Module.{Module}
+use Rattle.mv_ledger.proofs.Common.{Err, ap, subst, sym, err_from_is_err_and, Module, Offer, Passes}
 use Rattle.mv_acquires.specs.Acquires.{AcquiresHold}
 use Rattle.mv_certificate.specs.Certificate.{Certificate}
 use Rattle.mv_certificate.specs.Verified.{IsCertifiedBy}
-use Rattle.mv_machine.specs.Ledger.{Offer}
-use Rattle.mv_ledger.specs.Publishing.{Passes}
 use Rattle.mv_ledger.proofs.Phases.{refused_stated, refused_check}
 use Rattle.mv_ledger.proofs.publishing.certified.Goals as goal
 

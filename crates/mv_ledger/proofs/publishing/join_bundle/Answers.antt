@@ -1,15 +1,6 @@
-use Rattle.std.proofs.Common.{◌≤◌, List, length, Some, arith, sym, ap, ◌∙◌, subst}
-use Rattle.std.proofs.lemmas.List.{length-map}
-use Rattle.std.proofs.lemmas.Result.{err_from_is_err_and}
-use Rattle.mv_move_types.specs.Published.{PublishedModule, with_modules}
-use Rattle.mv_linker.specs.declared.New.{New}
-use Rattle.mv_linker.specs.Link.{IsStore, tables_in}
-use Rattle.mv_linker.specs.News.{published_of, published_one}
+use Rattle.mv_ledger.proofs.Common.{◌∙◌, ◌≤◌, List, Some, ap, arith, length, subst, sym, length-map, err_from_is_err_and, PublishedModule, with_modules, IsStore, tables_in, published_of}
+use Rattle.mv_ledger.proofs.Common.{published_one, New, offers_of, AllPass, IsRefusedAmong, ArePlacedFor, AreCountable}
 use Rattle.mv_ledger.specs.declared.payload.Offered.{Offered}
-use Rattle.mv_ledger.specs.Asking.{offers_of}
-use Rattle.mv_ledger.specs.Publishing.{AllPass, IsRefusedAmong}
-use Rattle.mv_ledger.specs.Tallying.{ArePlacedFor}
-use Rattle.mv_ledger.specs.View.{AreCountable}
 use Rattle.mv_ledger.proofs.Runs.Countable.{all-countable-kept, with-placed-countable}
 use Rattle.mv_ledger.proofs.Bundles.Verifying.{as-many}
 use Rattle.mv_ledger.proofs.Phases.{refused_among, refused_link, refused_room, accepted}

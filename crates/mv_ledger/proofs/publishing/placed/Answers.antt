@@ -1,8 +1,5 @@
-use Rattle.std.proofs.Common.{◌≡◌, ℕ, ◌+◌, ◌<◌, List, [], ◌++◌, length, map, drop, slice_get, unwrap_or, cond, Bool, sym, ap, ◌∙◌, subst, arith}
-use Rattle.std.specs.Prelude.{is_none, All}
-use Rattle.mv_linker.specs.declared.New.{New}
+use Rattle.mv_ledger.proofs.Common.{[], ℕ, ◌++◌, ◌+◌, ◌<◌, ◌∙◌, ◌≡◌, Bool, List, ap, arith, cond, drop, length, map, slice_get, subst, sym, unwrap_or, All, is_none, New, fresh_tally}
 use Rattle.mv_frames.specs.Counters.{KeepsCounts}
-use Rattle.mv_ledger.specs.Tallying.{fresh_tally}
 use Rattle.mv_ledger.proofs.Runs.Countable.{IsCountable, countable-at, placed-countable, pushed-countable}
 use Rattle.mv_ledger.proofs.Bundles.Placing.{placing-more, placing-low, none-so}
 use Rattle.mv_ledger.proofs.publishing.placed.Goals as goal

@@ -1,9 +1,6 @@
-use Rattle.std.proofs.Common.{◌≡◌, ℕ, List, Some, Err, sym, ap, ◌∙◌, subst}
-use Rattle.std.proofs.lemmas.Result.{err_from_is_err_and, IfOk-weaker, IfErr-weaker}
-use Rattle.mv_move_types.specs.Module.{Module}
+use Rattle.mv_ledger.proofs.Common.{ℕ, ◌∙◌, ◌≡◌, Err, List, Some, ap, subst, sym, IfErr-weaker, IfOk-weaker, err_from_is_err_and, Module, IsRefusedOffer, Spells}
 use Rattle.mv_binary_format.specs.Parsing.{module_of}
 use Rattle.mv_type_states.specs.Sound.{IsRefusedByTypes}
-use Rattle.mv_ledger.specs.Publishing.{Spells, IsRefusedOffer}
 use Rattle.mv_ledger.proofs.Phases.{refused_text, refused_bounds, refused_types}
 use Rattle.mv_ledger.proofs.publishing.typed.Goals as goal
 

@@ -1,6 +1,4 @@
-use Rattle.std.proofs.Common.{◌≡◌, length}
-use Rattle.std.specs.Prelude.{All}
-use Rattle.mv_ledger.specs.Parts.Saving.{IsEmpty}
+use Rattle.mv_ledger.proofs.Common.{◌≡◌, length, All, IsEmpty}
 use Rattle.mv_ledger.proofs.saving.empty_row.Given as goal
 
 abbrev pub invariant-each : goal.invariant-each

@@ -1,9 +1,7 @@
-use Rattle.std.proofs.Common.{◌+◌, ◌≤◌, List, [], ◌∷◌, length, sym, ap, ◌∙◌, subst, arith}
+use Rattle.mv_ledger.proofs.Common.{[], ◌+◌, ◌∙◌, ◌∷◌, ◌≤◌, List, ap, arith, length, subst, sym, map-append, sections_of}
 use Rattle.std.specs.declared.vec.Vec.{Vec}
 use Rattle.std.specs.declared.alloc.Global.{Global}
-use Rattle.std.proofs.lemmas.List.{map-append}
 use Rattle.mv_ledger.specs.declared.saving.Section.{Section}
-use Rattle.mv_ledger.specs.Parts.Saving.{sections_of}
 use Rattle.mv_ledger.proofs.Saves.Sections.{AreEmptyRows, empty-more, empty-all}
 use Rattle.mv_ledger.proofs.saving.empty_rows.Goals as goal
 

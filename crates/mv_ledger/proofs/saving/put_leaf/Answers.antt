@@ -1,6 +1,4 @@
-use Rattle.std.proofs.Common.{◌≡◌, ℕ, ◌^◌, List, ◌++◌, Result, Ok, Err, arith}
-use Rattle.std.specs.Prelude.{OnOk}
-use Rattle.std.proofs.lemmas.Bool.{ltb-true}
+use Rattle.mv_ledger.proofs.Common.{ℕ, ◌++◌, ◌^◌, ◌≡◌, Err, List, Ok, Result, arith, ltb-true, OnOk}
 use Rattle.mv_move_types.specs.Tokens.{width_bits}
 use Rattle.mv_module_text.specs.Entries.{address_text}
 use Rattle.mv_module_text.specs.Writes.{Writes}

@@ -1,7 +1,5 @@
-use Rattle.std.proofs.Common.{◌≡◌, ◌++◌, map, take, length}
-use Rattle.std.specs.List.{flat_map}
+use Rattle.mv_ledger.proofs.Common.{◌++◌, ◌≡◌, length, map, take, flat_map, offered}
 use Rattle.mv_uleb.specs.Uleb.{uleb}
-use Rattle.mv_ledger.specs.Publishing.{offered}
 use Rattle.mv_ledger.specs.RecordText.{offer_text}
 use Rattle.mv_ledger.proofs.saving.put_modules.Given as goal
 

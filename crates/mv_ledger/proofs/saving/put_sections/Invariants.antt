@@ -1,8 +1,5 @@
-use Rattle.std.proofs.Common.{◌≡◌, ◌++◌, List, take}
-use Rattle.std.specs.List.{flat_map}
-use Rattle.mv_machine.specs.Flat.{FlatEntry, storage_of}
+use Rattle.mv_ledger.proofs.Common.{◌++◌, ◌≡◌, List, take, flat_map, FlatEntry, storage_of, AreSections, sections_of}
 use Rattle.mv_ledger.specs.SavedText.{keyed_from, struct_text}
-use Rattle.mv_ledger.specs.Parts.Saving.{sections_of, AreSections}
 use Rattle.mv_ledger.proofs.saving.put_sections.Given as goal
 
 abbrev pub invariant-each : goal.invariant-each

@@ -1,6 +1,4 @@
-use Rattle.std.proofs.Common.{◌≡◌, ◌++◌, take}
-use Rattle.mv_ledger.specs.Parts.Saving.{counts_text}
-use Rattle.mv_ledger.specs.View.{all_of}
+use Rattle.mv_ledger.proofs.Common.{◌++◌, ◌≡◌, take, counts_text, all_of}
 use Rattle.mv_ledger.proofs.saving.put_tallies.Given as goal
 
 abbrev pub invariant-each : goal.invariant-each

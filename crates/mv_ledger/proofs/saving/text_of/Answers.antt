@@ -1,8 +1,4 @@
-use Rattle.std.proofs.Common.{List, sym, subst}
-use Rattle.std.specs.Prelude.{All}
-use Rattle.mv_move_types.specs.Module.{Module}
-use Rattle.mv_interpreter.specs.Runs.{IsFineWords}
-use Rattle.mv_ledger.specs.View.{all_of}
+use Rattle.mv_ledger.proofs.Common.{List, subst, sym, All, Module, IsFineWords, all_of}
 use Rattle.mv_ledger.proofs.Saves.Written.{written-from}
 use Rattle.mv_ledger.proofs.saving.text_of.Goals as goal
 

@@ -1,8 +1,5 @@
-use Rattle.std.proofs.Common.{◌≡◌, ◌≢◌, ℕ, Bool, true, false, cond, ◌⊎◌, inl, inr, List, Bor, ◌++◌, ◌==◌, refl, sym, ap, ◌∙◌, codes}
-use Rattle.std.proofs.lemmas.Bool.{eqb-true}
-use Rattle.std.proofs.lemmas.Result.{IfOk-equal}
+use Rattle.mv_ledger.proofs.Common.{ℕ, ◌++◌, ◌==◌, ◌∙◌, ◌≡◌, ◌≢◌, ◌⊎◌, Bool, Bor, List, ap, codes, cond, false, inl, inr, refl, sym, true, eqb-true, IfOk-equal, Address, Boolean, Signer}
 use Rattle.mv_move_types.specs.declared.token.LeafKind.{LeafKind}
-use Rattle.mv_move_types.specs.declared.token.LeafKind.TheVariants.{Boolean, Address, Signer}
 use Rattle.mv_machine.specs.Lines.{address_text, leaf_text}
 use Rattle.mv_ledger.proofs.Shows.Digits.{put_after}
 use Rattle.mv_ledger.proofs.texts.put_leaf.Goals as goal

@@ -1,11 +1,6 @@
+use Rattle.mv_ledger.proofs.Common.{Boolean, value_text, tables_in, Part, Leaf, PutsText}
 use Rattle.std.proofs.Common.{◌≡◌, ℕ, ◌+◌, ◌<◌, List, ◌∷◌, ◌++◌, length, drop, Some, sym, ap, ◌∙◌, subst, arith, codes, Vec, Global, get_or, add-one}
 use Rattle.std.proofs.Math.Seq.{drop-cons}
-use Rattle.mv_linker.specs.declared.shapes.Part.{Part}
-use Rattle.mv_linker.specs.declared.shapes.Part.TheVariants.{Leaf}
-use Rattle.mv_move_types.specs.declared.token.LeafKind.TheVariants.{Boolean}
-use Rattle.mv_linker.specs.Link.{tables_in}
-use Rattle.mv_machine.specs.Lines.{value_text}
-use Rattle.mv_ledger.specs.Showing.{PutsText}
 use Rattle.mv_ledger.specs.ValueParts.{part_from}
 use Rattle.mv_ledger.proofs.Shows.Fields.{HasPut-first, HasPut-later, extends-same, extends-more}
 use Rattle.mv_ledger.proofs.Shows.Structs.{puts_no_depth, puts_missing, puts_fields}

@@ -1,7 +1,4 @@
-use Rattle.std.proofs.Common.{map, ap, ◌∙◌}
-use Rattle.mv_linker.specs.Code.{operations}
-use Rattle.mv_linker.specs.Kept.{published_under}
-use Rattle.mv_linker.specs.Link.{tables_in}
+use Rattle.mv_linker.proofs.Common.{◌∙◌, ap, map, operations, published_under, tables_in}
 use Rattle.mv_linker.specs.Linked.{program_of}
 use Rattle.mv_linker.proofs.LinkedCode.StoredCodes.{program-is}
 use Rattle.mv_linker.proofs.Store.codes.Goals as goal

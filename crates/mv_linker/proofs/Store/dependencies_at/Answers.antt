@@ -1,10 +1,4 @@
-use Rattle.std.proofs.Common.{◌≡◌, ◌<◌, ℕ, List, Some, length, slice_get, refl, sym, subst, arith}
-use Rattle.std.proofs.lemmas.List.{length-map}
-use Rattle.std.proofs.lemmas.Option.{slice_get_read}
-use Rattle.mv_move_types.specs.Published.{PublishedModule}
-use Rattle.mv_linker.specs.Link.{tables_in}
-use Rattle.mv_linker.specs.Order.{AreDependencies}
-use Rattle.mv_linker.specs.Stored.{AreDependenciesOf}
+use Rattle.mv_linker.proofs.Common.{ℕ, ◌<◌, ◌≡◌, List, Some, arith, length, refl, slice_get, subst, sym, length-map, slice_get_read, PublishedModule, tables_in, AreDependencies, AreDependenciesOf}
 use Rattle.mv_linker.proofs.Store.dependencies_at.Goals as goal
 
 pub returns : goal.returns

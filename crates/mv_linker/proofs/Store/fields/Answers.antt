@@ -1,10 +1,4 @@
-use Rattle.std.proofs.Common.{◌≡◌, List, Option, None, Some, option_map, slice_get, sym, ap, ap₂, ◌∙◌, subst}
-use Rattle.std.specs.Borrow.{Bor}
-use Rattle.mv_move_types.specs.Published.{PublishedModule}
-use Rattle.mv_linker.specs.declared.shapes.Part.{Part}
-use Rattle.mv_linker.specs.Link.{tables_in}
-use Rattle.mv_linker.specs.Shapes.{AreFieldsAt}
-use Rattle.mv_linker.specs.Stored.{AreCodesOf}
+use Rattle.mv_linker.proofs.Common.{◌∙◌, ◌≡◌, Bor, List, None, Option, Some, ap, ap₂, option_map, slice_get, subst, sym, PublishedModule, tables_in, AreFieldsAt, AreCodesOf, Part}
 use Rattle.mv_linker.proofs.LinkedCode.StoredCodes.{got}
 use Rattle.mv_linker.proofs.Kept.StoredShapes.{fields-known, no_fields}
 use Rattle.mv_linker.proofs.Store.fields.Goals as goal

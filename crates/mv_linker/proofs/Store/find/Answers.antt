@@ -1,7 +1,4 @@
-use Rattle.std.proofs.Common.{refl, ap, ◌∙◌}
-use Rattle.mv_move_types.specs.Names.{ModuleName}
-use Rattle.mv_move_types.specs.Named.{module_place}
-use Rattle.mv_linker.specs.Link.{tables_in}
+use Rattle.mv_linker.proofs.Common.{◌∙◌, ap, refl, module_place, ModuleName, tables_in}
 use Rattle.mv_linker.proofs.Kept.Keyed.{place-keyed}
 use Rattle.mv_linker.proofs.Store.find.Goals as goal
 

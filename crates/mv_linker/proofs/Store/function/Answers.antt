@@ -1,17 +1,5 @@
-use Rattle.std.proofs.Common.{◌≡◌, ℕ, ◌<◌, ◌≤◌, List, Option, Some, None, Bor, length, option_map, slice_get, refl, sym, ap, ◌∙◌, subst, arith}
-use Rattle.std.specs.Prelude.{nat_le, position, IfSome, IsTrue}
-use Rattle.std.specs.Str.{bytes_eq}
-use Rattle.std.proofs.lemmas.Bool.{leb-true}
-use Rattle.std.proofs.lemmas.List.{length-map}
-use Rattle.std.proofs.lemmas.Option.{slice_get_read}
-use Rattle.mv_move_types.specs.Module.{Module}
-use Rattle.mv_move_types.specs.Named.{function_place}
-use Rattle.mv_move_types.specs.Published.{PublishedModule}
-use Rattle.mv_linker.specs.declared.code.Code.{Code}
-use Rattle.mv_linker.specs.declared.interfaces.Interface.{Interface}
-use Rattle.mv_linker.specs.Interfaces.{AreInterfacesOf}
-use Rattle.mv_linker.specs.Link.{IsStore, tables_in}
-use Rattle.mv_linker.specs.Stored.{AreCodesOf}
+use Rattle.mv_linker.proofs.Common.{ℕ, ◌<◌, ◌∙◌, ◌≡◌, ◌≤◌, Bor, List, None, Option, Some, ap, arith, length, option_map, refl, slice_get, subst, sym, leb-true, length-map, slice_get_read, IfSome}
+use Rattle.mv_linker.proofs.Common.{IsTrue, nat_le, position, bytes_eq, Module, function_place, PublishedModule, AreInterfacesOf, IsStore, tables_in, AreCodesOf, Code, Interface}
 use Rattle.mv_linker.proofs.Joining.Assembling.{passed-among}
 use Rattle.mv_linker.proofs.Found.{there_at, place_below}
 use Rattle.mv_linker.proofs.Kept.InterfaceLemmas.{function-found, interface-at}

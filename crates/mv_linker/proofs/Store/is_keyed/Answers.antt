@@ -1,7 +1,4 @@
-use Rattle.std.proofs.Common.{◌≡◌, List, None, Some, false, slice_get, unwrap_or, sym, ap, ap₂, ◌∙◌, subst}
-use Rattle.mv_move_types.specs.Published.{PublishedModule}
-use Rattle.mv_linker.specs.Link.{tables_in}
-use Rattle.mv_linker.specs.Stored.{AreCodesOf}
+use Rattle.mv_linker.proofs.Common.{◌∙◌, ◌≡◌, List, None, Some, ap, ap₂, false, slice_get, subst, sym, unwrap_or, PublishedModule, tables_in, AreCodesOf}
 use Rattle.mv_linker.proofs.LinkedCode.StoredCodes.{got}
 use Rattle.mv_linker.proofs.Kept.StoredShapes.{key-known, no_key}
 use Rattle.mv_linker.proofs.Store.is_keyed.Goals as goal

@@ -1,8 +1,6 @@
-use Rattle.std.proofs.Common.{◌≡◌, ℕ, List, None, Err, inl, inr, sym, ap, ◌∙◌, subst}
-use Rattle.std.specs.Prelude.{IfSome, slice_get}
+use Rattle.mv_linker.proofs.Common.{ℕ, ◌∙◌, ◌≡◌, Err, List, None, ap, inl, inr, slice_get, subst, sym, IfSome, PublishedModule}
 use Rattle.mv_move_types.specs.declared.refusal.Refusal.{Refusal}
 use Rattle.mv_move_types.specs.declared.refusal.Refusal.TheVariants.{Phase, Memory}
-use Rattle.mv_move_types.specs.Published.{PublishedModule}
 use Rattle.mv_binary_format.specs.Parsing.{module_of}
 use Rattle.mv_linker.proofs.Kept.Keyed.{module-at, spelled-at}
 use Rattle.mv_linker.proofs.Joining.Scopes.{tables-there}

@@ -1,9 +1,5 @@
-use Rattle.std.proofs.Common.{◌≡◌, List, Option, None, Some, slice_get, sym, ap, ap₂, ◌∙◌, subst}
+use Rattle.mv_linker.proofs.Common.{◌∙◌, ◌≡◌, List, None, Option, Some, ap, ap₂, slice_get, subst, sym, PublishedModule, tables_in, AreCodesOf, Code}
 use Rattle.mv_move_types.specs.Options.{◌>>=◌}
-use Rattle.mv_move_types.specs.Published.{PublishedModule}
-use Rattle.mv_linker.specs.declared.code.Code.{Code}
-use Rattle.mv_linker.specs.Link.{tables_in}
-use Rattle.mv_linker.specs.Stored.{AreCodesOf}
 use Rattle.mv_linker.proofs.LinkedCode.StoredCodes.{got, others-known}
 use Rattle.mv_linker.proofs.Store.others.Goals as goal
 

@@ -1,9 +1,4 @@
-use Rattle.std.proofs.Common.{◌≤◌, List, length, subst, arith}
-use Rattle.std.proofs.lemmas.List.{length-map}
-use Rattle.std.proofs.lemmas.Result.{on_ok_weaker}
-use Rattle.mv_move_types.specs.Published.{PublishedModule}
-use Rattle.mv_linker.specs.Link.{tables_in}
-use Rattle.mv_linker.specs.Stored.{AreDependenciesOf}
+use Rattle.mv_linker.proofs.Common.{◌≤◌, List, arith, length, subst, length-map, on_ok_weaker, PublishedModule, tables_in, AreDependenciesOf}
 use Rattle.mv_linker.proofs.Cycles.NamerLemmas.{namers-of}
 use Rattle.mv_linker.proofs.Store.put_namers.Goals as goal
 

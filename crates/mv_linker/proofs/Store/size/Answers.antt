@@ -1,8 +1,4 @@
-use Rattle.std.proofs.Common.{◌≡◌, List, Some, length, get_or, slice_get, refl, ap, ◌∙◌, subst, arith}
-use Rattle.std.proofs.lemmas.Option.{slice_get_read}
-use Rattle.mv_move_types.specs.Published.{PublishedModule}
-use Rattle.mv_linker.specs.Link.{tables_in}
-use Rattle.mv_linker.specs.Stored.{AreCodesOf}
+use Rattle.mv_linker.proofs.Common.{◌∙◌, ◌≡◌, List, Some, ap, arith, get_or, length, refl, slice_get, subst, slice_get_read, PublishedModule, tables_in, AreCodesOf}
 use Rattle.mv_linker.proofs.LinkedCode.StoredCodes.{code-below, size-below, size-is}
 use Rattle.mv_linker.proofs.Store.size.Goals as goal
 use Rattle.mv_linker.proofs.Store.size.Goals.{After-index}

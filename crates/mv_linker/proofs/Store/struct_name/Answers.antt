@@ -1,8 +1,4 @@
-use Rattle.std.proofs.Common.{◌≡◌, ℕ, List, Option, Some, None, slice_get, sym, ap, ap₂, ◌∙◌}
-use Rattle.mv_move_types.specs.Module.{name_at}
-use Rattle.mv_move_types.specs.Names.{ModuleName, StructName}
-use Rattle.mv_linker.specs.Kept.{name_in, published_under}
-use Rattle.mv_linker.specs.Link.{tables_in}
+use Rattle.mv_linker.proofs.Common.{ℕ, ◌∙◌, ◌≡◌, List, None, Option, Some, ap, ap₂, slice_get, sym, name_at, ModuleName, StructName, name_in, published_under, tables_in}
 use Rattle.mv_linker.proofs.LinkedCode.StoredCodes.{got}
 use Rattle.mv_linker.proofs.Kept.StructNames.{named-there, unnamed-there}
 use Rattle.mv_linker.proofs.Store.struct_name.Goals as goal

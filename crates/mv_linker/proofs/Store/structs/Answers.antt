@@ -1,7 +1,4 @@
-use Rattle.std.proofs.Common.{◌≡◌, List, None, Some, slice_get, sym, ap, ◌∙◌, subst, arith}
-use Rattle.mv_move_types.specs.Published.{PublishedModule}
-use Rattle.mv_linker.specs.Link.{IsStore, tables_in}
-use Rattle.mv_linker.specs.Stored.{AreCodesOf}
+use Rattle.mv_linker.proofs.Common.{◌∙◌, ◌≡◌, List, None, Some, ap, arith, slice_get, subst, sym, PublishedModule, IsStore, tables_in, AreCodesOf}
 use Rattle.mv_linker.proofs.LinkedCode.StoredCodes.{got}
 use Rattle.mv_linker.proofs.Kept.StoredShapes.{few-structs, no_structs, structs-known}
 use Rattle.mv_linker.proofs.Store.structs.Goals as goal

@@ -1,11 +1,7 @@
-use Rattle.std.proofs.Common.{◌≡◌, ℕ, List, [], ◌∷◌, map, Option, Some, option_map, refl, sym, ap, ◌∙◌, subst}
-use Rattle.std.specs.Prelude.{IfSome, slice_get}
-use Rattle.std.specs.Map.{values_of}
-use Rattle.std.proofs.lemmas.Option.{slice_get-map}
-use Rattle.mv_move_types.specs.Published.{PublishedModule}
+use Rattle.mv_linker.proofs.Common.{[], ℕ, ◌∙◌, ◌∷◌, ◌≡◌, List, Option, Some, ap, map, option_map, refl, slice_get, subst, sym, slice_get-map, values_of, IfSome, PublishedModule, published_as}
+use Rattle.mv_linker.proofs.Common.{published_under}
 use Rattle.mv_linker.specs.declared.entry.Name.{Name}
 use Rattle.mv_linker.specs.declared.entry.Texts.{Texts}
-use Rattle.mv_linker.specs.Kept.{published_as, published_under}
 use Rattle.mv_linker.proofs.Store.texts.Goals as goal
 
 published-values : (es : List (Name × Texts)) → published_under es ≡ map published_as (values_of es)

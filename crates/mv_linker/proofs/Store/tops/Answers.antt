@@ -1,10 +1,7 @@
-use Rattle.std.proofs.Common.{◌≡◌, ℕ, List, Some, slice_get, subst, sym}
+use Rattle.mv_linker.proofs.Common.{ℕ, ◌≡◌, List, Some, slice_get, subst, sym, Module, PublishedModule, IsStore, tables_in}
 use Rattle.mv_move_types.specs.declared.refusal.Refusal.{Refusal}
-use Rattle.mv_move_types.specs.Module.{Module}
-use Rattle.mv_move_types.specs.Published.{PublishedModule}
 use Rattle.mv_bounds.specs.Answers.{IsRefusedByBounds, FailsBounds, out_of_bounds, ill_defined}
 use Rattle.mv_type_states.specs.Sound.{IsSound, IsRefusedByTypes, FailsTypes, ill_signed, unable, endless, ill_typed}
-use Rattle.mv_linker.specs.Link.{IsStore, tables_in}
 use Rattle.mv_linker.proofs.Joining.Assembling.{passed-among}
 use Rattle.mv_linker.proofs.Members.{among-at}
 use Rattle.mv_linker.proofs.Store.tops.Goals as goal

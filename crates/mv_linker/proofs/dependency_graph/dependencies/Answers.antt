@@ -1,9 +1,4 @@
-use Rattle.std.proofs.Common.{◌≡◌, sym, List, ℕ, Vec, Global, true, subst, slice_get, Some}
-use Rattle.std.proofs.lemmas.Result.{IfOk-weaker}
-use Rattle.mv_move_types.specs.Module.{Module}
-use Rattle.mv_move_types.specs.Named.{have_one_name}
-use Rattle.mv_bounds.specs.Definitions.{all_differ}
-use Rattle.mv_linker.specs.Order.{AreHandlePlaces, AreDependencies, others}
+use Rattle.mv_linker.proofs.Common.{ℕ, ◌≡◌, Global, List, Some, Vec, slice_get, subst, sym, true, IfOk-weaker, Module, all_differ, have_one_name, AreDependencies, AreHandlePlaces, others}
 use Rattle.mv_linker.proofs.Cycles.Depends.{dependencies_from}
 use Rattle.mv_linker.proofs.dependency_graph.dependencies.Goals as goal
 

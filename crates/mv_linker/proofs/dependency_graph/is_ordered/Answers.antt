@@ -1,8 +1,5 @@
-use Rattle.std.proofs.Common.{◌≡◌, ◌↔◌, ◌∙◌, ap, map, ℕ, List, Vec, Global, true, subst}
-use Rattle.std.proofs.lemmas.Result.{IfOk-weaker}
-use Rattle.mv_move_types.specs.Module.{Module}
+use Rattle.mv_linker.proofs.Common.{ℕ, ◌↔◌, ◌∙◌, ◌≡◌, Global, List, Vec, ap, map, subst, true, IfOk-weaker, Module, IsDependencyGraph, IsOrdered, shifted}
 use Rattle.mv_bounds.specs.Cycles.{IsAcyclic}
-use Rattle.mv_linker.specs.Order.{IsDependencyGraph, IsOrdered, shifted}
 use Rattle.mv_linker.proofs.Cycles.Depends.{ordered-acyclic}
 use Rattle.mv_linker.proofs.Cycles.DependencyLemmas.{map-items}
 use Rattle.mv_linker.proofs.dependency_graph.is_ordered.Goals as goal

@@ -1,10 +1,5 @@
-use Rattle.std.proofs.Common.{◌≡◌, ◌+◌, ◌++◌, ◌∷◌, [], take, ap, sym, ◌∙◌, subst}
-use Rattle.std.specs.Prelude.{All}
-use Rattle.std.proofs.lemmas.List.{take_more, map-append}
+use Rattle.mv_linker.proofs.Common.{[], ◌++◌, ◌+◌, ◌∙◌, ◌∷◌, ◌≡◌, ap, subst, sym, take, map-append, take_more, All, Kept, published_in, IsPublishable, published_of, published_one}
 use Rattle.std.proofs.lemmas.List.Elements.{All-push}
-use Rattle.mv_linker.specs.Kept.{Kept, published_in}
-use Rattle.mv_linker.specs.Link.{IsPublishable}
-use Rattle.mv_linker.specs.News.{published_of, published_one}
 use Rattle.mv_linker.proofs.entry.entries_of.Goals as goal
 
 pub loop-n-preserved : goal.loop-n-preserved

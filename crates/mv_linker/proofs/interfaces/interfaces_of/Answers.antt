@@ -1,8 +1,5 @@
-use Rattle.std.proofs.Common.{◌≡◌, ◌+◌, ◌++◌, [], ◌∷◌, length, Some, slice_get, refl, sym, ap, ◌∙◌, subst, arith, inl, inr, length-append}
-use Rattle.std.proofs.lemmas.Option.{same_Some, slice_get_read}
-use Rattle.mv_move_types.specs.Module.{FunctionDefinition}
-use Rattle.mv_linker.specs.declared.interfaces.Interface.{Interface}
-use Rattle.mv_linker.specs.Interfaces.{IsInterfaceOf}
+use Rattle.mv_linker.proofs.Common.{[], ◌++◌, ◌+◌, ◌∙◌, ◌∷◌, ◌≡◌, Some, ap, arith, inl, inr, length, length-append, refl, slice_get, subst, sym, same_Some, slice_get_read, FunctionDefinition}
+use Rattle.mv_linker.proofs.Common.{IsInterfaceOf, Interface}
 use Rattle.mv_linker.proofs.LinkedCode.Calls.{last_or_before}
 use Rattle.mv_linker.proofs.Kept.InterfaceLemmas.{interface-made}
 use Rattle.mv_linker.proofs.interfaces.interfaces_of.Goals as goal

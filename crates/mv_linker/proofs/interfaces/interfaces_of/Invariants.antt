@@ -1,8 +1,5 @@
-use Rattle.std.proofs.Common.{◌≡◌, ℕ, length, Some, slice_get}
-use Rattle.mv_move_types.specs.Module.{FunctionDefinition}
+use Rattle.mv_linker.proofs.Common.{ℕ, ◌≡◌, Some, length, slice_get, FunctionDefinition, IsInterfaceOf, Interface}
 use Rattle.mv_bounds.specs.Bounds.{InBounds}
-use Rattle.mv_linker.specs.declared.interfaces.Interface.{Interface}
-use Rattle.mv_linker.specs.Interfaces.{IsInterfaceOf}
 use Rattle.mv_linker.proofs.interfaces.interfaces_of.Given as goal
 
 -- those of the functions so far

@@ -1,7 +1,4 @@
-use Rattle.std.proofs.Common.{false, ◌∙◌}
-use Rattle.std.specs.Option.{option_map_or}
-use Rattle.std.specs.Str.{bytes_eq}
-use Rattle.mv_move_types.specs.Module.{FunctionDefinition, name_of_function}
+use Rattle.mv_linker.proofs.Common.{◌∙◌, false, option_map_or, bytes_eq, FunctionDefinition, name_of_function}
 use Rattle.mv_linker.proofs.Kept.Keyed.{position-find_index}
 use Rattle.mv_linker.proofs.names.function_place.Goals as goal
 

@@ -1,7 +1,4 @@
-use Rattle.std.proofs.Common.{sym, ◌∙◌}
-use Rattle.mv_move_types.specs.Published.{PublishedModule}
-use Rattle.mv_linker.specs.Kept.{Kept}
-use Rattle.mv_linker.specs.Link.{is_sent_by}
+use Rattle.mv_linker.proofs.Common.{◌∙◌, sym, PublishedModule, Kept, is_sent_by}
 use Rattle.mv_linker.proofs.ListTests.{list_all-maps}
 use Rattle.mv_linker.proofs.rules.all_sent.Goals as goal
 

@@ -1,7 +1,4 @@
-use Rattle.std.proofs.Common.{false, sym, ap, ◌∙◌, Option}
-use Rattle.std.specs.Prelude.{◌==◌}
-use Rattle.std.specs.Option.{option_map_or}
-use Rattle.mv_move_types.specs.Names.{ModuleName}
+use Rattle.mv_linker.proofs.Common.{◌∙◌, Option, ap, false, sym, option_map_or, ◌==◌, ModuleName}
 use Rattle.mv_linker.proofs.rules.is_sent.Goals as goal
 
 pub returns : goal.returns

@@ -1,15 +1,5 @@
-use Rattle.std.proofs.Common.{◌≡◌, true, false, List, length, IfOk, refl, sym, ap, subst, ◌∙◌, arith}
-use Rattle.std.specs.Prelude.{All}
-use Rattle.std.proofs.lemmas.List.{length-map}
-use Rattle.mv_move_types.specs.Module.{Module}
-use Rattle.mv_move_types.specs.Published.{PublishedModule, with_modules}
-use Rattle.mv_bounds.specs.Definitions.{all_differ}
-use Rattle.mv_linker.specs.declared.New.{New}
-use Rattle.mv_linker.specs.Link.{MayJoin, AreSentBy, IsPublishable, IsStore, tables_in, have_one_name, are_compatible, all_follow}
-use Rattle.mv_linker.specs.Links.{Links}
-use Rattle.mv_linker.specs.News.{published_of}
-use Rattle.mv_linker.specs.Scope.{offered, with_tables}
-use Rattle.mv_linker.specs.Stored.{Relinks, KeepsDependencies}
+use Rattle.mv_linker.proofs.Common.{◌∙◌, ◌≡◌, IfOk, List, ap, arith, false, length, refl, subst, sym, true, length-map, All, Module, PublishedModule, with_modules, all_differ, AreSentBy}
+use Rattle.mv_linker.proofs.Common.{IsPublishable, IsStore, MayJoin, all_follow, are_compatible, have_one_name, tables_in, Links, published_of, offered, with_tables, KeepsDependencies, Relinks, New}
 use Rattle.mv_linker.proofs.Joining.Compatible.{follow-compatible, compatible-follow}
 use Rattle.mv_linker.proofs.Joining.Scopes.{offered-tables, scope-tables, with_tables-short}
 use Rattle.mv_linker.proofs.Outcomes.{on_ok, if_err}

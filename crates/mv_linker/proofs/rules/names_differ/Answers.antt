@@ -1,8 +1,4 @@
-use Rattle.std.proofs.Common.{◌≡◌, List, [], ◌∷◌, length, true, IfOk, refl, subst, sym, arith}
-use Rattle.mv_move_types.specs.Published.{PublishedModule}
-use Rattle.mv_bounds.specs.Definitions.{all_differ}
-use Rattle.mv_linker.specs.Kept.{Kept, published_in}
-use Rattle.mv_linker.specs.Link.{tables_in, have_one_name}
+use Rattle.mv_linker.proofs.Common.{[], ◌∷◌, ◌≡◌, IfOk, List, arith, length, refl, subst, sym, true, PublishedModule, all_differ, Kept, published_in, have_one_name, tables_in}
 use Rattle.mv_linker.proofs.ListTests.{all_differ-maps}
 use Rattle.mv_linker.proofs.rules.names_differ.Goals as goal
 

@@ -1,15 +1,5 @@
-use Rattle.std.proofs.Common.{◌≡◌, ◌+◌, ◌++◌, ◌∷◌, [], Option, take, cond, length, ap, sym, subst, ◌∙◌, arith}
-use Rattle.std.specs.Prelude.{unwrap_or, is_some}
-use Rattle.std.specs.Map.{lookup}
-use Rattle.std.specs.Option.{option_or}
-use Rattle.std.proofs.lemmas.Bool.{eq-eqb, ne_eqb}
-use Rattle.std.proofs.lemmas.List.{take_more, length-map, take_all}
-use Rattle.mv_move_types.specs.Named.{module_place}
-use Rattle.mv_move_types.specs.Published.{PublishedModule}
-use Rattle.mv_linker.specs.Indexed.{ArePlacesOf, has_name_of}
-use Rattle.mv_linker.specs.Kept.{name_in}
-use Rattle.mv_linker.specs.Link.{tables_in}
-use Rattle.mv_linker.specs.Scope.{offered, places_in, all_named, with_tables, found_among, place_for}
+use Rattle.mv_linker.proofs.Common.{[], ◌++◌, ◌+◌, ◌∙◌, ◌∷◌, ◌≡◌, Option, ap, arith, cond, length, subst, sym, take, unwrap_or, eq-eqb, ne_eqb, length-map, take_all, take_more, lookup, option_or}
+use Rattle.mv_linker.proofs.Common.{is_some, module_place, PublishedModule, ArePlacesOf, has_name_of, name_in, tables_in, all_named, found_among, offered, place_for, places_in, with_tables}
 use Rattle.mv_linker.proofs.Cycles.DependencyLemmas.{length-places}
 use Rattle.mv_linker.proofs.Kept.IndexLemmas.{found-before, places-put}
 use Rattle.mv_linker.proofs.Joining.Scopes.{no-places, more-places, find-with_tables, place-for, offered-push}

@@ -1,7 +1,4 @@
-use Rattle.std.proofs.Common.{take}
-use Rattle.mv_linker.specs.Indexed.{ArePlacesOf}
-use Rattle.mv_linker.specs.Link.{tables_in}
-use Rattle.mv_linker.specs.Scope.{offered}
+use Rattle.mv_linker.proofs.Common.{take, ArePlacesOf, tables_in, offered}
 use Rattle.mv_linker.proofs.Joining.Scopes.{PlacesSoFar}
 use Rattle.mv_linker.proofs.scope.places_of.Given as goal
 

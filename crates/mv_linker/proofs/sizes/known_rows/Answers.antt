@@ -1,10 +1,6 @@
-use Rattle.std.proofs.Common.{◌≡◌, ℕ, ◌<◌, ◌++◌, [], ◌∷◌, ◌∙◌, sym, ap, refl, map, take, length, get_or, false, Option, Vec, Global, List, Some, slice_get, arith}
-use Rattle.std.specs.Prelude.{option_map, is_some}
-use Rattle.std.specs.List.{list_all}
-use Rattle.std.proofs.lemmas.List.{length-map, map-append, take_more}
-use Rattle.std.proofs.lemmas.Option.{slice_get-map, slice_get_read, get_or_from_slice_get, MatchOption-at_some, MatchOption-at_none}
+use Rattle.mv_linker.proofs.Common.{[], ℕ, ◌++◌, ◌<◌, ◌∙◌, ◌∷◌, ◌≡◌, Global, List, Option, Some, Vec, ap, arith, false, get_or, length, map, option_map, refl, slice_get, sym, take, length-map}
+use Rattle.mv_linker.proofs.Common.{map-append, take_more, MatchOption-at_none, MatchOption-at_some, get_or_from_slice_get, slice_get-map, slice_get_read, list_all, is_some, Size}
 use Rattle.mv_bounds.proofs.Entries.{all_pass_not}
-use Rattle.mv_linker.specs.declared.sizes.Size.{Size}
 use Rattle.mv_linker.proofs.sizes.known_rows.Goals as goal
 
 abbrev items : List (Vec (Option Size) Global) → List (List (Option Size))

@@ -1,13 +1,5 @@
-use Rattle.std.proofs.Common.{◌≡◌, ◌≤◌, ◌<◌, ◌++◌, [], ◌∷◌, ◌∙◌, sym, ap, refl, map, take, length, Option, Vec, Global, List, Some, slice_get, arith}
-use Rattle.std.specs.Prelude.{option_map}
-use Rattle.std.proofs.lemmas.List.{length-map, map-append}
-use Rattle.std.proofs.lemmas.Option.{slice_get-map, slice_get_read}
-use Rattle.mv_move_types.specs.Module.{Module}
-use Rattle.mv_linker.specs.declared.sizes.Size.{Size}
-use Rattle.mv_linker.specs.declared.sizes.Defined.{Defined}
-use Rattle.mv_linker.specs.declared.New.{New}
-use Rattle.mv_linker.specs.Scope.{offered}
-use Rattle.mv_linker.specs.Sizes.{next_rows}
+use Rattle.mv_linker.proofs.Common.{[], ◌++◌, ◌<◌, ◌∙◌, ◌∷◌, ◌≡◌, ◌≤◌, Global, List, Option, Some, Vec, ap, arith, length, map, option_map, refl, slice_get, sym, take, length-map, map-append}
+use Rattle.mv_linker.proofs.Common.{slice_get-map, slice_get_read, Module, offered, next_rows, New, Defined, Size}
 use Rattle.mv_linker.proofs.Joining.Assembling.{offered-at}
 use Rattle.mv_linker.proofs.StructSizes.Rounds.{rows_more, rows_all}
 use Rattle.mv_linker.proofs.sizes.next_rows.Goals as goal

@@ -1,8 +1,4 @@
-use Rattle.std.proofs.Common.{◌≡◌, map, take, Option, Vec, Global}
-use Rattle.mv_linker.specs.declared.sizes.Size.{Size}
-use Rattle.mv_linker.specs.declared.sizes.Defined.{Defined}
-use Rattle.mv_linker.specs.Scope.{offered}
-use Rattle.mv_linker.specs.Sizes.{next_rows}
+use Rattle.mv_linker.proofs.Common.{◌≡◌, Global, Option, Vec, map, take, offered, next_rows, Defined, Size}
 use Rattle.mv_linker.proofs.sizes.next_rows.Given as goal
 
 abbrev pub invariant-loop-i : goal.invariant-loop-i

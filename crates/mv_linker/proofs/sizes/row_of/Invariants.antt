@@ -1,7 +1,4 @@
-use Rattle.std.proofs.Common.{◌≡◌, map, take, Option, Vec, Global}
-use Rattle.mv_move_types.specs.Module.{StructDefinition}
-use Rattle.mv_linker.specs.declared.sizes.Size.{Size}
-use Rattle.mv_linker.specs.Sizes.{size_of_struct}
+use Rattle.mv_linker.proofs.Common.{◌≡◌, Global, Option, Vec, map, take, StructDefinition, size_of_struct, Size}
 use Rattle.mv_linker.proofs.sizes.row_of.Given as goal
 
 abbrev pub invariant-loop-d : goal.invariant-loop-d

@@ -1,8 +1,4 @@
-use Rattle.std.proofs.Common.{◌≡◌, map, Option, Vec, Global}
-use Rattle.mv_linker.specs.declared.sizes.Size.{Size}
-use Rattle.mv_linker.specs.declared.sizes.Defined.{Defined}
-use Rattle.mv_linker.specs.Scope.{offered}
-use Rattle.mv_linker.specs.Sizes.{rows_after}
+use Rattle.mv_linker.proofs.Common.{◌≡◌, Global, Option, Vec, map, offered, rows_after, Defined, Size}
 use Rattle.mv_linker.proofs.sizes.rows_of.Given as goal
 
 abbrev pub invariant-loop-round : goal.invariant-loop-round

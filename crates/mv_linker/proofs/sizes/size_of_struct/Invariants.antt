@@ -1,6 +1,4 @@
-use Rattle.std.proofs.Common.{◌≡◌, ◌≤◌, map, drop, Option, Vec, Global}
-use Rattle.mv_linker.specs.declared.sizes.Size.{Size}
-use Rattle.mv_linker.specs.Sizes.{size_of_token, total_of}
+use Rattle.mv_linker.proofs.Common.{◌≡◌, ◌≤◌, Global, Option, Vec, drop, map, size_of_token, total_of, Size}
 use Rattle.mv_linker.proofs.StructSizes.Totals.{plus}
 use Rattle.mv_linker.proofs.sizes.size_of_struct.Given as goal
 

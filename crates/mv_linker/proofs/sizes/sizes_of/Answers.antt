@@ -1,8 +1,4 @@
-use Rattle.std.proofs.Common.{◌≡◌, [], ◌∷◌, ◌∙◌, sym, ap, refl, map, false, Option, Vec, Global, List, Some}
-use Rattle.std.specs.Prelude.{is_some}
-use Rattle.std.specs.List.{list_all}
-use Rattle.std.proofs.lemmas.Option.{MatchOption-at_some, MatchOption-at_none}
-use Rattle.mv_linker.specs.declared.sizes.Size.{Size}
+use Rattle.mv_linker.proofs.Common.{[], ◌∙◌, ◌∷◌, ◌≡◌, Global, List, Option, Some, Vec, ap, false, map, refl, sym, MatchOption-at_none, MatchOption-at_some, list_all, is_some, Size}
 use Rattle.mv_linker.proofs.StructSizes.Rounds.{sizes_known, not_known}
 use Rattle.mv_linker.proofs.sizes.sizes_of.Goals as goal
 

@@ -1,7 +1,4 @@
-use Rattle.std.proofs.Common.{◌++◌, ◌-◌, length, map}
-use Rattle.mv_linker.specs.Link.{tables_in}
-use Rattle.mv_ledger.specs.Auditing.{counts_from}
-use Rattle.mv_ledger.specs.View.{tallied}
+use Rattle.mv_ledger.proofs.Common.{◌++◌, ◌-◌, length, map, tables_in, counts_from, tallied}
 use Rattle.mv_ledger.proofs.Shows.Audits.{IsReading}
 use Rattle.mv_ledger.proofs.audit.Counts.next.Given as goal
 

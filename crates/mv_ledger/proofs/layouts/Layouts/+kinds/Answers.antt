@@ -1,6 +1,4 @@
-use Rattle.mv_move_types.specs.declared.token.LeafKind.TheVariants.{Boolean}
-use Rattle.mv_linker.specs.declared.shapes.Part.{Part}
-use Rattle.mv_linker.specs.declared.shapes.Part.TheVariants.{Leaf}
+use Rattle.mv_ledger.proofs.Common.{Boolean, Part, Leaf}
 use Rattle.mv_ledger.proofs.Saves.LayoutParts.{puts-struct}
 use Rattle.mv_ledger.proofs.Saves.PartKinds.{put-more}
 use Rattle.mv_ledger.proofs.layouts.Layouts.+kinds.Goals as goal

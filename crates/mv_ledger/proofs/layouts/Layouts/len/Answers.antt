@@ -1,6 +1,4 @@
-use Rattle.std.proofs.Common.{length, ap, arith}
-use Rattle.std.proofs.lemmas.List.{length-map}
-use Rattle.mv_move_types.specs.Published.{PublishedModule}
+use Rattle.mv_ledger.proofs.Common.{ap, arith, length, length-map, PublishedModule}
 use Rattle.mv_ledger.proofs.layouts.Layouts.len.Goals as goal
 
 pub returns : goal.returns

@@ -1,7 +1,4 @@
-use Rattle.std.proofs.Common.{◌<◌, length, arith}
-use Rattle.std.proofs.lemmas.List.{length-map}
-use Rattle.mv_move_types.specs.Published.{PublishedModule}
-use Rattle.mv_linker.specs.Link.{tables_in}
+use Rattle.mv_ledger.proofs.Common.{◌<◌, arith, length, length-map, PublishedModule, tables_in}
 use Rattle.mv_linker.proofs.Found.{there_at}
 use Rattle.mv_ledger.proofs.Saves.LayoutParts.{keyed-more}
 use Rattle.mv_ledger.proofs.layouts.Layouts.new.Goals as goal

@@ -1,6 +1,4 @@
-use Rattle.std.proofs.Common.{◌≡◌, ℕ, ◌+◌, List, [], ◌∷◌, ◌++◌, map, length, refl, sym, ap, ap₂, ◌∙◌, arith}
-use Rattle.mv_machine.specs.Lines.{Tallied, end_line}
-use Rattle.mv_ledger.specs.Auditing.{stored_of, count_line, counted_in, audit_from}
+use Rattle.mv_ledger.proofs.Common.{[], ℕ, ◌++◌, ◌+◌, ◌∙◌, ◌∷◌, ◌≡◌, List, ap, ap₂, arith, length, map, refl, sym, Tallied, end_line, audit_from, count_line, counted_in, stored_of}
 use Rattle.mv_ledger.proofs.lines.Counting.next.Goals as goal
 
 -- the first line, and those after it

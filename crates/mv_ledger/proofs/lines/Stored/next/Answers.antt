@@ -1,9 +1,5 @@
-use Rattle.std.proofs.Common.{◌≡◌, ℕ, ◌+◌, List, [], ◌∷◌, ◌++◌, map, length, refl, sym, ap, ap₂, ◌∙◌, arith}
-use Rattle.mv_move_types.specs.Module.{Module}
-use Rattle.mv_machine.specs.Flat.{FlatEntry, storage_of, value_under}
-use Rattle.mv_machine.specs.Lines.{entry_line, end_line}
-use Rattle.mv_linker.specs.Link.{tables_in}
-use Rattle.mv_ledger.specs.Showing.{show_from}
+use Rattle.mv_ledger.proofs.Common.{[], ℕ, ◌++◌, ◌+◌, ◌∙◌, ◌∷◌, ◌≡◌, List, ap, ap₂, arith, length, map, refl, sym, Module, FlatEntry, storage_of, value_under, end_line, entry_line, tables_in}
+use Rattle.mv_ledger.proofs.Common.{show_from}
 use Rattle.mv_ledger.proofs.lines.Stored.next.Goals as goal
 
 -- the first line, and those after it

@@ -1,7 +1,4 @@
-use Rattle.std.proofs.Common.{arith}
-use Rattle.mv_move_types.specs.declared.token.LeafKind.TheVariants.{Boolean}
-use Rattle.mv_linker.specs.declared.shapes.Part.{Part}
-use Rattle.mv_linker.specs.declared.shapes.Part.TheVariants.{Leaf}
+use Rattle.mv_ledger.proofs.Common.{arith, Boolean, Part, Leaf}
 use Rattle.mv_ledger.proofs.Loads.Adding.{adds-struct, adds-more, adds-all}
 use Rattle.mv_ledger.proofs.loading.counts.+inside.Goals as goal
 

@@ -1,8 +1,4 @@
-use Rattle.std.proofs.Common.{◌<◌, ◌≤◌, length, refl, sym, ◌∙◌, subst, arith}
-use Rattle.std.specs.List.{AllByRecursion}
-use Rattle.std.proofs.lemmas.Bool.{true≢false}
-use Rattle.mv_ledger.specs.declared.tallies.Tally.{Tally}
-use Rattle.mv_ledger.specs.Parts.CountRows.{IsTallied}
+use Rattle.mv_ledger.proofs.Common.{◌<◌, ◌∙◌, ◌≤◌, arith, length, refl, subst, sym, true≢false, AllByRecursion, IsTallied, Tally}
 use Rattle.mv_ledger.proofs.Loads.TalliesCounted.{modules-more, modules-each, modules-all}
 use Rattle.mv_ledger.proofs.loading.counts.are_all_counted.Goals as goal
 

@@ -1,7 +1,4 @@
-use Rattle.std.proofs.Common.{take}
-use Rattle.std.specs.List.{AllByRecursion}
-use Rattle.mv_ledger.specs.Parts.CountRows.{IsTallied}
-use Rattle.mv_ledger.specs.View.{all_of}
+use Rattle.mv_ledger.proofs.Common.{take, AllByRecursion, IsTallied, all_of}
 use Rattle.mv_ledger.proofs.loading.counts.are_all_counted.Given as goal
 
 abbrev pub invariant-each : goal.invariant-each

@@ -1,6 +1,4 @@
-use Rattle.std.proofs.Common.{take}
-use Rattle.std.specs.List.{AllByRecursion}
-use Rattle.mv_ledger.specs.Parts.CountRows.{IsTallied}
+use Rattle.mv_ledger.proofs.Common.{take, AllByRecursion, IsTallied}
 use Rattle.mv_ledger.proofs.loading.counts.are_counted.Given as goal
 
 abbrev pub invariant-each : goal.invariant-each

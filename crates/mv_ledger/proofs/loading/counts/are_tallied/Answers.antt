@@ -1,10 +1,4 @@
-use Rattle.std.proofs.Common.{◌^◌, ◌<◌, List, sym, subst, arith}
-use Rattle.std.specs.Prelude.{All}
-use Rattle.mv_move_types.specs.Module.{Module}
-use Rattle.mv_linker.specs.Link.{tables_in}
-use Rattle.mv_interpreter.specs.Runs.{IsFineWords}
-use Rattle.mv_ledger.specs.Parts.CountRows.{AreAll}
-use Rattle.mv_ledger.specs.View.{all_of}
+use Rattle.mv_ledger.proofs.Common.{◌<◌, ◌^◌, List, arith, subst, sym, All, Module, tables_in, IsFineWords, AreAll, all_of}
 use Rattle.mv_ledger.proofs.Loads.TalliesCounted.{tallies-so, tallies-back}
 use Rattle.mv_ledger.proofs.loading.counts.are_tallied.Goals as goal
 

@@ -1,6 +1,4 @@
-use Rattle.std.proofs.Common.{◌+◌, Some, None, sym, ap, ◌∙◌, add-one}
-use Rattle.std.specs.Prelude.{is_some}
-use Rattle.mv_linker.specs.News.{published_of}
+use Rattle.mv_ledger.proofs.Common.{◌+◌, ◌∙◌, None, Some, add-one, ap, sym, is_some, published_of}
 use Rattle.mv_ledger.proofs.Loads.Grouping.{published-named, next-needed}
 use Rattle.mv_ledger.proofs.loading.groups.needed_for.Goals as goal
 

@@ -1,10 +1,4 @@
-use Rattle.std.proofs.Common.{◌≡◌, List, ℕ, Option, Result, Ok, Err, ap, ◌∙◌}
-use Rattle.std.proofs.lemmas.Result.{err_from_is_err_and}
-use Rattle.mv_move_types.specs.declared.refusal.Refusal.{Refusal}
-use Rattle.mv_move_types.specs.Options.{◌>>=◌}
-use Rattle.mv_module_text.specs.Parsing.{mark_from}
-use Rattle.mv_module_text.specs.Reads.{Marks}
-use Rattle.mv_ledger.specs.Parts.LoadedParts.{marks_from}
+use Rattle.mv_ledger.proofs.Common.{ℕ, ◌∙◌, ◌≡◌, Err, List, Ok, Option, Result, ap, err_from_is_err_and, ◌>>=◌, Refusal, mark_from, Marks, marks_from}
 use Rattle.mv_ledger.proofs.loading.head.marks.Goals as goal
 
 -- the third byte, after the first two

@@ -1,8 +1,5 @@
-use Rattle.std.proofs.Common.{sym, subst}
-use Rattle.std.proofs.lemmas.Result.{err_from_is_err_and}
-use Rattle.mv_module_text.specs.Reads.{Reads}
+use Rattle.mv_ledger.proofs.Common.{subst, sym, err_from_is_err_and, Reads, count_from, form_of}
 use Rattle.mv_ledger.specs.declared.loading.head.SavedForm.{SavedForm}
-use Rattle.mv_ledger.specs.Parts.BodyParts.{form_of, count_from}
 use Rattle.mv_ledger.proofs.loading.tallies.count.Goals as goal
 
 pub returns-in-First : goal.returns-in-First

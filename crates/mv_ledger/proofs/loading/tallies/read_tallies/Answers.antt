@@ -1,6 +1,4 @@
-use Rattle.std.proofs.Common.{◌+◌, ◌<◌, length, map, take, sym, subst, arith}
-use Rattle.mv_module_text.proofs.Entries.{ReadsOn, ReadsOn-next}
-use Rattle.mv_ledger.specs.Parts.BodyParts.{form_of, counts_of, tally_from}
+use Rattle.mv_ledger.proofs.Common.{◌+◌, ◌<◌, arith, length, map, subst, sym, take, ReadsOn, ReadsOn-next, counts_of, form_of, tally_from}
 use Rattle.mv_ledger.proofs.Loads.BodyReading.{OnErr-any, entries-stop, structs-kept, counts-more}
 use Rattle.mv_ledger.proofs.loading.tallies.read_tallies.Goals as goal
 

@@ -1,6 +1,4 @@
-use Rattle.std.proofs.Common.{◌≡◌, None, Err, ap, sym, ◌∙◌, arith, inl, inr}
-use Rattle.std.proofs.lemmas.Grind.{common_steps}
-use Rattle.mv_ledger.specs.Parts.BodyParts.{entry_from}
+use Rattle.mv_ledger.proofs.Common.{◌∙◌, ◌≡◌, Err, None, ap, arith, inl, inr, sym, common_steps, entry_from}
 use Rattle.mv_ledger.proofs.Loads.BodyReading.{RisingOn-next, RisingOn-stops, RisingOn-falls}
 use Rattle.mv_ledger.proofs.loading.values.group.Goals as goal
 

@@ -1,9 +1,5 @@
-use Rattle.std.proofs.Common.{◌≡◌, List, take, get_or, refl, sym, ap, ◌∙◌, subst}
-use Rattle.std.specs.Prelude.{All}
+use Rattle.mv_ledger.proofs.Common.{◌∙◌, ◌≡◌, List, ap, get_or, refl, subst, sym, take, All, AreInOrder, HasRoomLeft, IsRoomFor, ArePlaced, all_of, Tally}
 use Rattle.mv_frames.specs.declared.counters.StructTally.{StructTally}
-use Rattle.mv_ledger.specs.declared.tallies.Tally.{Tally}
-use Rattle.mv_ledger.specs.Tallying.{AreInOrder, HasRoomLeft, IsRoomFor}
-use Rattle.mv_ledger.specs.View.{all_of, ArePlaced}
 use Rattle.mv_ledger.proofs.Runs.TalliesByModule.{lists, all-first, placed-after, step-after, step-at, placed-at, ordered-at, room-at, written}
 use Rattle.mv_ledger.proofs.tallies.Tallies.add_run.Goals as goal
 use Rattle.mv_ledger.proofs.tallies.Tallies.add_run.Goals.{in-Some, in_default}

@@ -1,8 +1,5 @@
-use Rattle.std.proofs.Common.{◌≡◌, List, length, sym, ap, ◌∙◌, subst, arith}
-use Rattle.mv_ledger.specs.declared.tallies.Tally.{Tally}
+use Rattle.mv_ledger.proofs.Common.{◌∙◌, ◌≡◌, List, ap, arith, length, subst, sym, AreWithin, with_placed, ArePlaced, Tally}
 use Rattle.mv_ledger.specs.declared.tallies.Placed.{Placed}
-use Rattle.mv_ledger.specs.View.{ArePlaced}
-use Rattle.mv_ledger.specs.Tallying.{with_placed, AreWithin}
 use Rattle.mv_ledger.proofs.Runs.TalliesByModule.{lists}
 use Rattle.mv_ledger.proofs.Bundles.Placing.{joining-room, joining-next, joining-done}
 use Rattle.mv_ledger.proofs.tallies.Tallies.join.Goals as goal

@@ -1,8 +1,4 @@
-use Rattle.std.proofs.Common.{◌≡◌, ◌∙◌, List, length, sym, ap, subst, arith}
-use Rattle.std.proofs.lemmas.List.{length-set}
-use Rattle.mv_ledger.specs.declared.tallies.Tally.{Tally}
-use Rattle.mv_ledger.specs.Parts.BodyParts.{form_of, tally_from}
-use Rattle.mv_ledger.specs.View.{all_of, ArePlaced}
+use Rattle.mv_ledger.proofs.Common.{◌∙◌, ◌≡◌, List, ap, arith, length, subst, sym, length-set, form_of, tally_from, ArePlaced, all_of, Tally}
 use Rattle.mv_ledger.proofs.Loads.BodyReading.{OnErr-any}
 use Rattle.mv_ledger.proofs.Loads.BodyTallies.{TalliesOn, TalliesOn-start, lists, structs_in, whole-placed, whole-kept, structs-set, reads-next, reads-stop}
 use Rattle.mv_ledger.proofs.tallies.Tallies.read.Goals as goal

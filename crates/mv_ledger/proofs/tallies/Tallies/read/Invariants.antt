@@ -1,6 +1,4 @@
-use Rattle.std.proofs.Common.{◌≡◌, length}
-use Rattle.mv_ledger.specs.Parts.BodyParts.{form_of, tally_from}
-use Rattle.mv_ledger.specs.View.{all_of}
+use Rattle.mv_ledger.proofs.Common.{◌≡◌, length, form_of, tally_from, all_of}
 use Rattle.mv_ledger.proofs.Loads.BodyTallies.{TalliesOn, lists, structs_in}
 use Rattle.mv_ledger.proofs.tallies.Tallies.read.Given as goal
 

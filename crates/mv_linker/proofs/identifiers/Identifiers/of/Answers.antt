@@ -1,7 +1,4 @@
-use Rattle.std.proofs.Common.{◌≡◌, ◌+◌, ◌++◌, [], ◌∷◌, map, take, Some, slice_get, length, refl, sym, ap, ◌∙◌, subst, arith}
-use Rattle.std.proofs.lemmas.List.{map-append}
-use Rattle.std.proofs.lemmas.Option.{slice_get_read}
-use Rattle.mv_move_types.specs.Module.{StructDefinition}
+use Rattle.mv_linker.proofs.Common.{[], ◌++◌, ◌+◌, ◌∙◌, ◌∷◌, ◌≡◌, Some, ap, arith, length, map, refl, slice_get, subst, sym, take, map-append, slice_get_read, StructDefinition}
 use Rattle.mv_linker.specs.Identifiers.{identifier_or_none}
 use Rattle.mv_linker.proofs.Kept.SpanLemmas.{AreSpanned, spanned-more}
 use Rattle.mv_linker.proofs.LinkedCode.Linkable.{taken-more}

@@ -1,6 +1,4 @@
-use Rattle.std.proofs.Common.{ℕ, List, length, refl, subst}
-use Rattle.std.proofs.lemmas.Option.{slice_get_read}
-use Rattle.mv_linker.specs.Namers.{AreNamedBy}
+use Rattle.mv_linker.proofs.Common.{ℕ, List, length, refl, subst, slice_get_read, AreNamedBy}
 use Rattle.mv_linker.proofs.Cycles.NamerLemmas.{PutOf, keeps-of, put-each, put-next}
 use Rattle.mv_linker.proofs.namers.Namers.put_all.Goals as goal
 

@@ -1,12 +1,5 @@
-use Rattle.std.proofs.Common.{◌≡◌, ◌+◌, ◌∙◌, ◌<◌, [], ◌∷◌, ◌++◌, refl, sym, ap, subst, map, take, length, slice_get, Some, List, Vec, Global, arith}
-use Rattle.std.specs.List.{AllZip}
-use Rattle.std.proofs.lemmas.List.{map-append}
-use Rattle.std.proofs.lemmas.Option.{slice_get_read}
-use Rattle.mv_linker.specs.declared.sizes.Defined.{Defined}
-use Rattle.mv_linker.specs.Link.{tables_in}
-use Rattle.mv_linker.specs.Scope.{offered}
-use Rattle.mv_linker.specs.Sizing.{AreFoundFor}
-use Rattle.mv_linker.specs.Targets.{modules_in}
+use Rattle.mv_linker.proofs.Common.{[], ◌++◌, ◌+◌, ◌<◌, ◌∙◌, ◌∷◌, ◌≡◌, Global, List, Some, Vec, ap, arith, length, map, refl, slice_get, subst, sym, take, map-append, slice_get_read, AllZip}
+use Rattle.mv_linker.proofs.Common.{tables_in, offered, AreFoundFor, modules_in, Defined}
 use Rattle.mv_linker.proofs.Kept.HandleDefinitions.{struct-there, zip-more}
 use Rattle.mv_linker.proofs.scope.Scope.all_defined.Goals as goal
 use Rattle.mv_linker.proofs.Found.{there_at}

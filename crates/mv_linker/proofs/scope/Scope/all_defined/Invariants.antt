@@ -1,8 +1,4 @@
-use Rattle.std.proofs.Common.{map, take, Vec, Global}
-use Rattle.std.specs.List.{AllZip}
-use Rattle.mv_linker.specs.declared.sizes.Defined.{Defined}
-use Rattle.mv_linker.specs.Link.{tables_in}
-use Rattle.mv_linker.specs.Sizing.{AreFoundFor}
+use Rattle.mv_linker.proofs.Common.{Global, Vec, map, take, AllZip, tables_in, AreFoundFor, Defined}
 use Rattle.mv_linker.proofs.scope.Scope.all_defined.Given as goal
 
 abbrev pub invariant-loop-n : goal.invariant-loop-n

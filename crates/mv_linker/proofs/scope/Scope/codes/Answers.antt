@@ -1,13 +1,5 @@
-use Rattle.std.proofs.Common.{◌≡◌, ◌++◌, ℕ, List, map, sym, ap, subst, ◌∙◌, Vec, Global}
-use Rattle.std.proofs.lemmas.Result.{IfOk-weaker}
+use Rattle.mv_linker.proofs.Common.{ℕ, ◌++◌, ◌∙◌, ◌≡◌, Global, List, Vec, ap, map, subst, sym, IfOk-weaker, AreCodes, AreToLink, tables_in, AreLinkable, Relinks, modules_in, Dependant, ToLink}
 use Rattle.mv_linker.specs.declared.code.CodeAt.{CodeAt}
-use Rattle.mv_linker.specs.declared.dependants.Dependant.{Dependant}
-use Rattle.mv_linker.specs.declared.to_link.ToLink.{ToLink}
-use Rattle.mv_linker.specs.Coded.{AreToLink, AreCodes}
-use Rattle.mv_linker.specs.Link.{tables_in}
-use Rattle.mv_linker.specs.Relinked.{AreLinkable}
-use Rattle.mv_linker.specs.Stored.{Relinks}
-use Rattle.mv_linker.specs.Targets.{modules_in}
 use Rattle.mv_linker.proofs.LinkedCode.Linkable.{are-to-link}
 use Rattle.mv_linker.proofs.LinkedCode.PlacedCodes.{placed, relinking}
 use Rattle.mv_linker.proofs.LinkedCode.RelinkingLemmas.{relinks}

@@ -1,7 +1,4 @@
-use Rattle.std.proofs.Common.{◌≡◌, sym, ap, ◌∙◌, ℕ, None}
-use Rattle.std.specs.Prelude.{position, ◌==◌}
-use Rattle.mv_linker.specs.Link.{tables_in}
-use Rattle.mv_linker.specs.Scope.{offered, places_in}
+use Rattle.mv_linker.proofs.Common.{ℕ, ◌∙◌, ◌≡◌, None, ap, sym, ◌==◌, position, tables_in, offered, places_in}
 use Rattle.mv_linker.proofs.Kept.HandleDefinitions.{old-there}
 use Rattle.mv_linker.proofs.scope.Scope.defined.Goals as goal
 

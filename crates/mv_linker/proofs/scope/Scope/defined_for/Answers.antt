@@ -1,10 +1,4 @@
-use Rattle.std.proofs.Common.{◌≡◌, ◌+◌, ◌∙◌, sym, ap, subst, get_or, slice_get, Some, take, List}
-use Rattle.std.specs.List.{AllZip}
-use Rattle.std.proofs.lemmas.Option.{slice_get-get_or}
-use Rattle.mv_move_types.specs.declared.tables.Definition.{Definition}
-use Rattle.mv_linker.specs.declared.sizes.Defined.{Defined}
-use Rattle.mv_linker.specs.Link.{tables_in}
-use Rattle.mv_linker.specs.Sizing.{IsFoundAt}
+use Rattle.mv_linker.proofs.Common.{◌+◌, ◌∙◌, ◌≡◌, List, Some, ap, get_or, slice_get, subst, sym, take, slice_get-get_or, AllZip, Definition, tables_in, IsFoundAt, Defined}
 use Rattle.mv_linker.proofs.Kept.HandleDefinitions.{zip-more}
 use Rattle.mv_linker.proofs.scope.Scope.defined_for.Goals as goal
 

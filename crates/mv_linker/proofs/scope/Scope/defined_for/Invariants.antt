@@ -1,7 +1,4 @@
-use Rattle.std.proofs.Common.{take}
-use Rattle.std.specs.List.{AllZip}
-use Rattle.mv_linker.specs.Link.{tables_in}
-use Rattle.mv_linker.specs.Sizing.{IsFoundAt}
+use Rattle.mv_linker.proofs.Common.{take, AllZip, tables_in, IsFoundAt}
 use Rattle.mv_linker.proofs.scope.Scope.defined_for.Given as goal
 
 abbrev pub invariant-loop-d : goal.invariant-loop-d

@@ -1,11 +1,5 @@
-use Rattle.std.proofs.Common.{◌≡◌, ◌↔◌, true, false, Some, None, slice_get, sym, ap, subst, ◌∙◌}
-use Rattle.std.specs.Prelude.{◌==◌, ⊤, is_some, position}
-use Rattle.std.proofs.lemmas.Option.{MatchOption-at_some}
-use Rattle.mv_move_types.specs.Module.{Module}
-use Rattle.mv_linker.specs.Links.{names_hold}
-use Rattle.mv_linker.specs.Relinked.{NamesBundle}
-use Rattle.mv_linker.specs.Stored.{AreNames}
-use Rattle.mv_linker.specs.Targets.{modules_in}
+use Rattle.mv_linker.proofs.Common.{◌↔◌, ◌∙◌, ◌≡◌, None, Some, ap, false, slice_get, subst, sym, true, MatchOption-at_some, ⊤, ◌==◌, is_some, position, Module, names_hold, NamesBundle, AreNames}
+use Rattle.mv_linker.proofs.Common.{modules_in}
 use Rattle.mv_linker.proofs.Joining.Joins.{kept-at, names-hold, none-of}
 use Rattle.mv_linker.proofs.scope.Scope.dependant_at.Goals as goal
 

@@ -1,10 +1,5 @@
-use Rattle.std.proofs.Common.{◌≡◌, ◌+◌, ℕ, List, Some, Vec, Global, get_or, slice_get, sym, ap, ◌∙◌, subst, arith}
-use Rattle.std.specs.Prelude.{⊤}
-use Rattle.std.proofs.lemmas.Option.{MatchOption-at_some, MatchOption-at_none, slice_get-get_or}
-use Rattle.mv_linker.specs.declared.dependants.Dependant.{Dependant}
-use Rattle.mv_linker.specs.Link.{tables_in}
-use Rattle.mv_linker.specs.Namers.{AreNamersOfAll}
-use Rattle.mv_linker.specs.Relinked.{IsApart, IsDependant}
+use Rattle.mv_linker.proofs.Common.{ℕ, ◌+◌, ◌∙◌, ◌≡◌, Global, List, Some, Vec, ap, arith, get_or, slice_get, subst, sym, MatchOption-at_none, MatchOption-at_some, slice_get-get_or, ⊤, tables_in}
+use Rattle.mv_linker.proofs.Common.{AreNamersOfAll, IsApart, IsDependant, Dependant}
 use Rattle.mv_linker.proofs.Cycles.DependantLemmas.{DependantsSoFar, no-fewer, no-dependants, next-apart, next-dependant, all-dependants, apart-far}
 use Rattle.mv_linker.proofs.scope.Scope.dependants.Goals as goal
 use Rattle.mv_linker.proofs.scope.Scope.dependants.Goals.{then-place-len+in_ok-d+in-Some+in_ok-push, then-place-len+in_ok-d+in_default, else-place-len}

@@ -1,13 +1,6 @@
-use Rattle.std.proofs.Common.{◌≡◌, ◌<◌, ℕ, List, Some, length, slice_get, refl, sym, ap, subst, ◌∙◌, arith}
-use Rattle.std.proofs.lemmas.List.{length-map}
-use Rattle.std.proofs.lemmas.Option.{slice_get_read}
-use Rattle.mv_move_types.specs.Module.{Module}
-use Rattle.mv_linker.specs.declared.New.{New}
+use Rattle.mv_linker.proofs.Common.{ℕ, ◌<◌, ◌∙◌, ◌≡◌, List, Some, ap, arith, length, refl, slice_get, subst, sym, length-map, slice_get_read, Module, tables_in, AreHandlePlaces, offered, places_in}
+use Rattle.mv_linker.proofs.Common.{modules_in, New}
 use Rattle.mv_linker.specs.declared.store_rules.Names.{Names}
-use Rattle.mv_linker.specs.Link.{tables_in}
-use Rattle.mv_linker.specs.Order.{AreHandlePlaces}
-use Rattle.mv_linker.specs.Scope.{offered, places_in}
-use Rattle.mv_linker.specs.Targets.{modules_in}
 use Rattle.mv_linker.proofs.Joining.Bundled.{bundle-at}
 use Rattle.mv_linker.proofs.Joining.Joins.{placed-length}
 use Rattle.mv_linker.proofs.Cycles.DependencyLemmas.{none-yet, one-more, all-found}

@@ -1,6 +1,4 @@
-use Rattle.std.proofs.Common.{map, ℕ, Vec, Global}
-use Rattle.mv_linker.specs.Scope.{offered}
-use Rattle.mv_linker.specs.Targets.{modules_in}
+use Rattle.mv_linker.proofs.Common.{ℕ, Global, Vec, map, offered, modules_in}
 use Rattle.mv_linker.proofs.Cycles.DependencyLemmas.{DependenciesSoFar}
 use Rattle.mv_linker.proofs.scope.Scope.dependencies.Given as goal
 

@@ -1,11 +1,4 @@
-use Rattle.std.proofs.Common.{Option, None, ap, sym, ◌∙◌}
-use Rattle.std.specs.Map.{lookup}
-use Rattle.std.specs.Option.{option_or}
-use Rattle.mv_move_types.specs.Names.{ModuleName}
-use Rattle.mv_move_types.specs.Named.{module_place}
-use Rattle.mv_linker.specs.Indexed.{has_name_of}
-use Rattle.mv_linker.specs.Link.{tables_in}
-use Rattle.mv_linker.specs.Scope.{offered, found_among}
+use Rattle.mv_linker.proofs.Common.{◌∙◌, None, Option, ap, sym, lookup, option_or, module_place, ModuleName, has_name_of, tables_in, found_among, offered}
 use Rattle.mv_linker.proofs.Kept.IndexLemmas.{found-before}
 use Rattle.mv_linker.proofs.Joining.Scopes.{find-with_tables}
 use Rattle.mv_linker.proofs.scope.Scope.find.Goals as goal

@@ -1,10 +1,5 @@
-use Rattle.std.proofs.Common.{◌≡◌, ◌<◌, true, false, length, refl, sym, ap, subst, ◌∙◌}
-use Rattle.std.specs.Option.{option_map_or}
-use Rattle.std.specs.Str.{bytes_eq}
-use Rattle.std.proofs.lemmas.Bool.{leb-true}
-use Rattle.mv_move_types.specs.Module.{Module, FunctionDefinition, name_of_function}
-use Rattle.mv_bounds.specs.Definitions.{WellDefined}
-use Rattle.mv_linker.specs.Targets.{modules_in, tables_of, function_matches, IsFunctionIn, IsFunctionAt}
+use Rattle.mv_linker.proofs.Common.{◌<◌, ◌∙◌, ◌≡◌, ap, false, length, refl, subst, sym, true, leb-true, option_map_or, bytes_eq, FunctionDefinition, Module, name_of_function, WellDefined}
+use Rattle.mv_linker.proofs.Common.{IsFunctionAt, IsFunctionIn, function_matches, modules_in, tables_of}
 use Rattle.mv_linker.proofs.Joining.Resolving.{function_nowhere, function_there_is, function_at, target_below}
 use Rattle.mv_linker.proofs.Orders.{below-most, below-few}
 use Rattle.mv_linker.proofs.scope.Scope.function.Goals as goal

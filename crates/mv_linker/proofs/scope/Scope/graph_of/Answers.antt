@@ -1,9 +1,6 @@
-use Rattle.std.proofs.Common.{◌≡◌, ◌<◌, ◌≤◌, ◌+◌, ℕ, List, Contains, Some, Vec, Global, length, map, slice_get, sym, ap, ◌∙◌, subst, arith}
-use Rattle.std.proofs.lemmas.List.{length-map, length_push}
-use Rattle.mv_linker.specs.Link.{tables_in}
+use Rattle.mv_linker.proofs.Common.{ℕ, ◌+◌, ◌<◌, ◌∙◌, ◌≡◌, ◌≤◌, Contains, Global, List, Some, Vec, ap, arith, length, map, slice_get, subst, sym, length-map, length_push, tables_in, offered}
+use Rattle.mv_linker.proofs.Common.{modules_in}
 use Rattle.mv_linker.specs.Reached.{AreNumbers, IsExtended}
-use Rattle.mv_linker.specs.Scope.{offered}
-use Rattle.mv_linker.specs.Targets.{modules_in}
 use Rattle.mv_linker.proofs.Cycles.DependenciesStay.{place-there, placed-there}
 use Rattle.mv_linker.proofs.Found.{Contains-at, at-Contains}
 use Rattle.mv_linker.proofs.Cycles.ReachedLemmas.{search-begins, search-below, search-goes-on, reached-graph}

@@ -1,12 +1,5 @@
-use Rattle.std.proofs.Common.{◌≡◌, ◌↔◌, ◌+◌, true, length, map, sym, subst, ◌∙◌, ℕ, List, Vec, Global, arith}
-use Rattle.std.proofs.lemmas.List.{length-map}
-use Rattle.std.proofs.lemmas.Result.{IfOk-weaker}
-use Rattle.mv_move_types.specs.Published.{PublishedModule}
-use Rattle.mv_linker.specs.declared.New.{New}
-use Rattle.mv_linker.specs.Link.{tables_in}
-use Rattle.mv_linker.specs.Order.{IsDependencyGraph, IsOrdered}
-use Rattle.mv_linker.specs.Scope.{offered}
-use Rattle.mv_linker.specs.Targets.{modules_in}
+use Rattle.mv_linker.proofs.Common.{ℕ, ◌+◌, ◌↔◌, ◌∙◌, ◌≡◌, Global, List, Vec, arith, length, map, subst, sym, true, length-map, IfOk-weaker, PublishedModule, tables_in, IsDependencyGraph, IsOrdered}
+use Rattle.mv_linker.proofs.Common.{offered, modules_in, New}
 use Rattle.mv_linker.proofs.Joining.Assembling.{joining-offered}
 use Rattle.mv_linker.proofs.Cycles.DependencyLemmas.{graph-appended}
 use Rattle.mv_linker.proofs.Cycles.ReachedLemmas.{ordered-reached}

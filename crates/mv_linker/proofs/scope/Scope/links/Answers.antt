@@ -1,10 +1,4 @@
-use Rattle.std.proofs.Common.{◌≡◌, ℕ, List, true, false, refl, sym, ap, subst, ◌∙◌}
-use Rattle.std.proofs.lemmas.Result.{err_from_is_err_and}
-use Rattle.mv_linker.specs.Link.{tables_in}
-use Rattle.mv_linker.specs.Links.{Links}
-use Rattle.mv_linker.specs.Scope.{offered}
-use Rattle.mv_linker.specs.Stored.{KeepsDependencies}
-use Rattle.mv_linker.specs.Targets.{modules_in}
+use Rattle.mv_linker.proofs.Common.{ℕ, ◌∙◌, ◌≡◌, List, ap, false, refl, subst, sym, true, err_from_is_err_and, tables_in, Links, offered, KeepsDependencies, modules_in}
 use Rattle.mv_linker.specs.declared.dependencies.DependenciesAt.{DependenciesAt}
 use Rattle.mv_linker.proofs.Joining.Assembling.{bundle-links, links-all, joining-offered}
 use Rattle.mv_linker.proofs.Cycles.DependenciesStay.{placed, keeps-dependencies}

@@ -1,11 +1,6 @@
-use Rattle.std.proofs.Common.{◌≡◌, ◌<◌, Some, None, length, slice_get, ap, sym, subst, ◌∙◌, refl, arith}
-use Rattle.std.specs.Prelude.{◌==◌, position}
-use Rattle.std.proofs.lemmas.Option.{slice_get_read, slice_get_within}
+use Rattle.mv_linker.proofs.Common.{◌<◌, ◌∙◌, ◌≡◌, None, Some, ap, arith, length, refl, slice_get, subst, sym, slice_get_read, slice_get_within, ◌==◌, position, Module, tables_in, offered, places_in}
+use Rattle.mv_linker.proofs.Common.{New}
 use Rattle.mv_type_states.specs.Sound.{IsSound}
-use Rattle.mv_move_types.specs.Module.{Module}
-use Rattle.mv_linker.specs.declared.New.{New}
-use Rattle.mv_linker.specs.Link.{tables_in}
-use Rattle.mv_linker.specs.Scope.{offered, places_in}
 use Rattle.mv_linker.proofs.Joining.Assembling.{offered-at, passed-among}
 use Rattle.mv_linker.proofs.Joining.Bundled.{bundle-at, no-newest, old-at, place-at}
 use Rattle.mv_linker.proofs.Joining.Joins.{placed-length}

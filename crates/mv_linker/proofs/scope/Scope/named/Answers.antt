@@ -1,15 +1,5 @@
-use Rattle.std.proofs.Common.{◌≡◌, ◌+◌, ◌++◌, ◌∷◌, [], length, take, Some, slice_get, refl, ap, sym, subst, ◌∙◌, arith}
-use Rattle.std.specs.Prelude.{IsTrue}
-use Rattle.std.specs.List.{list_all}
-use Rattle.std.proofs.lemmas.List.{take_more, take_all}
-use Rattle.std.proofs.lemmas.Option.{same_Some, slice_get_read}
-use Rattle.mv_move_types.specs.Module.{Module}
-use Rattle.mv_linker.specs.declared.New.{New}
-use Rattle.mv_linker.specs.Links.{Links, names_hold}
-use Rattle.mv_linker.specs.Link.{tables_in}
-use Rattle.mv_linker.specs.Scope.{offered}
-use Rattle.mv_linker.specs.Stored.{AreNames}
-use Rattle.mv_linker.specs.Targets.{modules_in}
+use Rattle.mv_linker.proofs.Common.{[], ◌++◌, ◌+◌, ◌∙◌, ◌∷◌, ◌≡◌, Some, ap, arith, length, refl, slice_get, subst, sym, take, take_all, take_more, same_Some, slice_get_read, list_all, IsTrue, Module}
+use Rattle.mv_linker.proofs.Common.{tables_in, Links, names_hold, offered, AreNames, modules_in, New}
 use Rattle.mv_linker.proofs.Joining.Assembling.{bundle-links, named-more, offered-among, offered-at, no-names, more-names, all-names}
 use Rattle.mv_linker.proofs.Members.{all-among}
 use Rattle.mv_linker.proofs.Joining.Resolving.{refused_by}

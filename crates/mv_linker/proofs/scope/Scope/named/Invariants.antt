@@ -1,8 +1,4 @@
-use Rattle.std.proofs.Common.{◌≡◌, take, true}
-use Rattle.std.specs.List.{list_all}
-use Rattle.mv_linker.specs.Links.{names_hold}
-use Rattle.mv_linker.specs.Scope.{offered}
-use Rattle.mv_linker.specs.Targets.{modules_in}
+use Rattle.mv_linker.proofs.Common.{◌≡◌, take, true, list_all, names_hold, offered, modules_in}
 use Rattle.mv_linker.proofs.Joining.Assembling.{NamesSoFar}
 use Rattle.mv_linker.proofs.scope.Scope.named.Given as goal
 

@@ -1,8 +1,5 @@
-use Rattle.std.proofs.Common.{◌≡◌, ◌+◌, ℕ, List, [], Some, BuildHasherDefault, FoldHasher, HashSet, get_or, slice_get, sym, ap, ◌∙◌, subst, arith}
-use Rattle.std.proofs.lemmas.Option.{slice_get-get_or}
-use Rattle.mv_linker.specs.Link.{tables_in}
-use Rattle.mv_linker.specs.Namers.{AreNamersOf}
-use Rattle.mv_linker.specs.NamerSteps.{HasAll}
+use Rattle.mv_linker.proofs.Common.{[], ℕ, ◌+◌, ◌∙◌, ◌≡◌, BuildHasherDefault, FoldHasher, HashSet, List, Some, ap, arith, get_or, slice_get, subst, sym, slice_get-get_or, tables_in, HasAll}
+use Rattle.mv_linker.proofs.Common.{AreNamersOf}
 use Rattle.mv_linker.proofs.Cycles.NamerLemmas.{FoundFor, PutSoFar, keeps-found, put-next}
 use Rattle.mv_linker.proofs.Joining.Scopes.{within_tables}
 use Rattle.mv_linker.proofs.scope.Scope.namers.Goals as goal

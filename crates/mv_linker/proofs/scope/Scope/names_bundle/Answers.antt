@@ -1,10 +1,4 @@
-use Rattle.std.proofs.Common.{◌≡◌, ◌↔◌, true, Option, sym, subst, ◌∙◌, arith}
-use Rattle.std.specs.Prelude.{IfSome}
-use Rattle.std.proofs.lemmas.List.{length-map}
-use Rattle.mv_move_types.specs.Module.{Module}
-use Rattle.mv_move_types.specs.Published.{PublishedModule}
-use Rattle.mv_linker.specs.Link.{tables_in}
-use Rattle.mv_linker.specs.Relinked.{NamesBundle}
+use Rattle.mv_linker.proofs.Common.{◌↔◌, ◌∙◌, ◌≡◌, Option, arith, subst, sym, true, length-map, IfSome, Module, PublishedModule, tables_in, NamesBundle}
 use Rattle.mv_linker.proofs.Cycles.DependantLemmas.{depends-names}
 use Rattle.mv_linker.proofs.Found.{there_at}
 use Rattle.mv_linker.proofs.scope.Scope.names_bundle.Goals as goal

@@ -1,10 +1,5 @@
-use Rattle.std.proofs.Common.{◌≡◌, ◌<◌, ℕ, List, Some, None, Vec, Global, length, map, option_map, slice_get, refl, sym, ap, ◌∙◌, arith}
-use Rattle.std.specs.Prelude.{◌==◌, position}
-use Rattle.std.proofs.lemmas.List.{length-map}
-use Rattle.std.proofs.lemmas.Option.{slice_get-map, slice_get_read, slice_get_within}
-use Rattle.mv_linker.specs.declared.New.{New}
-use Rattle.mv_linker.specs.Link.{tables_in}
-use Rattle.mv_linker.specs.Scope.{offered, places_in}
+use Rattle.mv_linker.proofs.Common.{ℕ, ◌<◌, ◌∙◌, ◌≡◌, Global, List, None, Some, Vec, ap, arith, length, map, option_map, refl, slice_get, sym, length-map, slice_get-map, slice_get_read}
+use Rattle.mv_linker.proofs.Common.{slice_get_within, ◌==◌, position, tables_in, offered, places_in, New}
 use Rattle.mv_linker.proofs.Joining.Bundled.{no-newest, place-at}
 use Rattle.mv_linker.proofs.Cycles.DependenciesStay.{bundled-dependencies, kept-dependencies}
 use Rattle.mv_linker.proofs.Joining.Joins.{placed-length}

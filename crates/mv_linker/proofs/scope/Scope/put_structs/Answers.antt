@@ -1,7 +1,4 @@
-use Rattle.std.proofs.Common.{length, ap, sym, ◌∙◌, arith}
-use Rattle.std.proofs.lemmas.Option.{none-some}
-use Rattle.std.proofs.lemmas.Result.{err_from_is_err_and}
-use Rattle.mv_linker.specs.Targets.{modules_in}
+use Rattle.mv_linker.proofs.Common.{◌∙◌, ap, arith, length, sym, none-some, err_from_is_err_and, modules_in}
 use Rattle.mv_linker.proofs.Found.{there_at}
 use Rattle.mv_linker.proofs.Joining.Resolving.{refused_by, no-structs, more-structs, all-structs, struct-of-all}
 use Rattle.mv_linker.proofs.Orders.{within-same, past-same, within-as}

@@ -1,14 +1,5 @@
-use Rattle.std.proofs.Common.{◌≡◌, length, map, sym, ap, subst, ℕ, List, Vec, Global, arith}
-use Rattle.std.specs.List.{AllZip}
-use Rattle.std.proofs.lemmas.List.{length-map}
-use Rattle.std.proofs.lemmas.Result.{IfOk-weaker, IfErr-weaker}
-use Rattle.mv_linker.specs.declared.sizes.Defined.{Defined}
-use Rattle.mv_linker.specs.declared.New.{New}
-use Rattle.mv_linker.specs.Link.{tables_in}
-use Rattle.mv_linker.specs.Scope.{offered}
-use Rattle.mv_linker.specs.Sizes.{AreDefined}
-use Rattle.mv_linker.specs.Sizing.{AreFoundFor}
-use Rattle.mv_linker.specs.Targets.{modules_in}
+use Rattle.mv_linker.proofs.Common.{ℕ, ◌≡◌, Global, List, Vec, ap, arith, length, map, subst, sym, length-map, IfErr-weaker, IfOk-weaker, AllZip, tables_in, offered, AreDefined, AreFoundFor}
+use Rattle.mv_linker.proofs.Common.{modules_in, New, Defined}
 use Rattle.mv_linker.proofs.Joining.Assembling.{joining-offered}
 use Rattle.mv_linker.proofs.Kept.HandleDefinitions.{all-defined, zip-length}
 use Rattle.mv_linker.proofs.scope.Scope.sizes.Goals as goal

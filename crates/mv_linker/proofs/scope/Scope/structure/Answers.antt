@@ -1,8 +1,4 @@
-use Rattle.std.proofs.Common.{◌≡◌, ◌<◌, true, false, length, refl, sym, ap, subst, ◌∙◌}
-use Rattle.mv_move_types.specs.Module.{Module}
-use Rattle.mv_move_types.specs.Named.{is_struct}
-use Rattle.mv_bounds.specs.Definitions.{WellDefined}
-use Rattle.mv_linker.specs.Targets.{modules_in, tables_of, struct_matches, IsStructIn, IsStructAt}
+use Rattle.mv_linker.proofs.Common.{◌<◌, ◌∙◌, ◌≡◌, ap, false, length, refl, subst, sym, true, Module, is_struct, WellDefined, IsStructAt, IsStructIn, modules_in, struct_matches, tables_of}
 use Rattle.mv_linker.proofs.Joining.Resolving.{struct_nowhere, struct_there_is, struct_at, target_below}
 use Rattle.mv_linker.proofs.Orders.{below-most}
 use Rattle.mv_linker.proofs.scope.Scope.structure.Goals as goal

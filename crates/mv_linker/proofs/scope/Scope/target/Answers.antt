@@ -1,7 +1,4 @@
-use Rattle.std.proofs.Common.{refl, sym}
-use Rattle.mv_move_types.specs.Names.{ModuleName}
-use Rattle.mv_move_types.specs.Named.{is_module}
-use Rattle.mv_linker.specs.Targets.{modules_in}
+use Rattle.mv_linker.proofs.Common.{refl, sym, is_module, ModuleName, modules_in}
 use Rattle.mv_linker.proofs.Joining.Resolving.{nowhere}
 use Rattle.mv_linker.proofs.scope.Scope.target.Goals as goal
 use Rattle.mv_linker.proofs.Found.{place_below}

@@ -1,6 +1,4 @@
-use Rattle.std.proofs.Common.{◌≡◌, length, true, ap, subst, arith}
-use Rattle.mv_linker.specs.Links.{modules_are_there}
-use Rattle.mv_linker.specs.Targets.{modules_in}
+use Rattle.mv_linker.proofs.Common.{◌≡◌, ap, arith, length, subst, true, modules_are_there, modules_in}
 use Rattle.mv_linker.proofs.Joining.Resolving.{refused_by, no-targets, more-targets, modules_there_at}
 use Rattle.mv_linker.proofs.scope.Scope.targets.Goals as goal
 

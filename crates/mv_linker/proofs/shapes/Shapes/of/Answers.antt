@@ -1,10 +1,6 @@
-use Rattle.std.proofs.Common.{◌≡◌, ◌+◌, ◌≤◌, ◌++◌, [], ◌∷◌, List, map, take, Some, slice_get, length, refl, sym, ap, ◌∙◌, subst, arith}
-use Rattle.std.proofs.lemmas.List.{map-append}
-use Rattle.std.proofs.lemmas.Option.{slice_get_read}
+use Rattle.mv_linker.proofs.Common.{[], ◌++◌, ◌+◌, ◌∙◌, ◌∷◌, ◌≡◌, ◌≤◌, List, Some, ap, arith, length, map, refl, slice_get, subst, sym, take, map-append, slice_get_read, StructDefinition, parts_by}
+use Rattle.mv_linker.proofs.Common.{Part}
 use Rattle.mv_move_types.specs.declared.tables.Field.{Field}
-use Rattle.mv_move_types.specs.Module.{StructDefinition}
-use Rattle.mv_linker.specs.declared.shapes.Part.{Part}
-use Rattle.mv_linker.specs.Shapes.{parts_by}
 use Rattle.mv_linker.proofs.LinkedCode.Linkable.{taken-more}
 use Rattle.mv_linker.proofs.Kept.ShapeLemmas.{few-fields}
 use Rattle.mv_linker.proofs.Kept.SpanLemmas.{AreSpanned, spanned-more}

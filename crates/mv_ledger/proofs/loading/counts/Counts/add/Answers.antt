@@ -1,7 +1,4 @@
-use Rattle.std.proofs.Common.{◌≡◌, ℕ, ◌+◌, ◌≤◌, List, length, sym, ap, ap₂, ◌∙◌, subst}
-use Rattle.std.specs.Prelude.{slice_set}
-use Rattle.mv_move_types.specs.declared.tables.Definition.{Definition}
-use Rattle.mv_ledger.specs.Parts.CountRows.{row_at, capped, count_at, with_count}
+use Rattle.mv_ledger.proofs.Common.{ℕ, ◌+◌, ◌∙◌, ◌≡◌, ◌≤◌, List, ap, ap₂, length, subst, sym, slice_set, Definition, capped, count_at, row_at, with_count}
 use Rattle.mv_ledger.proofs.Loads.Counted.{rows_in, rows-put, rows-past}
 use Rattle.mv_ledger.proofs.loading.counts.Counts.add.Goals as goal
 use Rattle.mv_ledger.proofs.loading.counts.Counts.add.Goals.{in-Some, in_default}

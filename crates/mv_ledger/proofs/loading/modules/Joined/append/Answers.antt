@@ -1,11 +1,5 @@
-use Rattle.std.proofs.Common.{List, length, arith, sym, ap, ◌∙◌, subst, refl}
-use Rattle.std.proofs.lemmas.Result.{err_from_is_err_and}
-use Rattle.mv_move_types.specs.Published.{PublishedModule, with_modules}
-use Rattle.mv_linker.specs.declared.New.{New}
-use Rattle.mv_linker.specs.Link.{IsStore, tables_in}
-use Rattle.mv_linker.specs.News.{published_of}
-use Rattle.mv_ledger.specs.Tallying.{ArePlacedFor}
-use Rattle.mv_ledger.specs.View.{AreCountable}
+use Rattle.mv_ledger.proofs.Common.{◌∙◌, List, ap, arith, length, refl, subst, sym, err_from_is_err_and, PublishedModule, with_modules, IsStore, tables_in, published_of, New, ArePlacedFor}
+use Rattle.mv_ledger.proofs.Common.{AreCountable}
 use Rattle.mv_ledger.proofs.Runs.Countable.{all-countable-kept, with-placed-countable}
 use Rattle.mv_ledger.proofs.Loads.LoadedModules.{follow-refused, all-behind, not-behind, more-joined, more-within}
 use Rattle.mv_ledger.proofs.loading.modules.Joined.append.Goals as goal

@@ -1,8 +1,4 @@
-use Rattle.std.proofs.Common.{◌++◌, arith, sym, subst}
-use Rattle.std.proofs.lemmas.List.{length-map}
-use Rattle.mv_linker.specs.News.{published_of, published_one}
-use Rattle.mv_ledger.specs.Asking.{offer_of, offers_of}
-use Rattle.mv_ledger.specs.Parts.LoadedParts.{AreNotJoined}
+use Rattle.mv_ledger.proofs.Common.{◌++◌, arith, subst, sym, length-map, published_of, published_one, offer_of, offers_of, AreNotJoined}
 use Rattle.mv_ledger.proofs.Loads.LoadedModules.{not-passed, not-linked}
 use Rattle.mv_ledger.proofs.Bundles.Verifying.{as-many}
 use Rattle.mv_ledger.proofs.loading.modules.Joined.join.Goals as goal

@@ -1,10 +1,5 @@
-use Rattle.std.proofs.Common.{◌++◌, List, take, arith, sym, subst}
+use Rattle.mv_ledger.proofs.Common.{◌++◌, List, arith, subst, sym, take, Offer, AreTexts, HasItsTexts, offers_of, AreNotJoined, IsRefusedAmong}
 use Rattle.std.proofs.lemmas.List.Elements.{All-take}
-use Rattle.mv_linker.specs.News.{AreTexts, HasItsTexts}
-use Rattle.mv_machine.specs.Ledger.{Offer}
-use Rattle.mv_ledger.specs.Asking.{offers_of}
-use Rattle.mv_ledger.specs.Parts.LoadedParts.{AreNotJoined}
-use Rattle.mv_ledger.specs.Publishing.{IsRefusedAmong}
 use Rattle.mv_ledger.proofs.Loads.LoadedModules.{group-not-passed, group-count, group-within, group-passed, group-long, first-offers}
 use Rattle.mv_ledger.proofs.loading.modules.Joined.join_group.Goals as goal
 

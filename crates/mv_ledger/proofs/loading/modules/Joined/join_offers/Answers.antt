@@ -1,9 +1,4 @@
-use Rattle.std.proofs.Common.{◌≤◌, ◌++◌, List, take, length, arith, subst}
-use Rattle.std.proofs.lemmas.Result.{err_from_is_err_and}
-use Rattle.std.specs.Prelude.{IfErr, OnOk}
-use Rattle.mv_machine.specs.Ledger.{Offer}
-use Rattle.mv_ledger.specs.Asking.{offers_of}
-use Rattle.mv_ledger.specs.Parts.LoadedParts.{AreJoined, AreNotJoined}
+use Rattle.mv_ledger.proofs.Common.{◌++◌, ◌≤◌, List, arith, length, subst, take, err_from_is_err_and, IfErr, OnOk, Offer, offers_of, AreJoined, AreNotJoined}
 use Rattle.mv_ledger.proofs.Loads.LoadedModules.{left-few, left-all, left-more, left-same, left-none}
 use Rattle.mv_ledger.proofs.loading.modules.Joined.join_offers.Goals as goal
 

@@ -1,6 +1,4 @@
-use Rattle.std.proofs.Common.{◌-◌, ◌≤◌, length, take}
-use Rattle.mv_ledger.specs.Asking.{offers_of}
-use Rattle.mv_ledger.specs.Parts.LoadedParts.{AreJoined}
+use Rattle.mv_ledger.proofs.Common.{◌-◌, ◌≤◌, length, take, offers_of, AreJoined}
 use Rattle.mv_ledger.proofs.loading.modules.Joined.join_offers.Given as goal
 
 abbrev pub invariant-loop-done : goal.invariant-loop-done
