@@ -1,5 +1,6 @@
 -- Where the length of a record ends.
-use Rattle.std.proofs.Common.{◌≡◌, ℕ, ◌+◌, ◌*◌, ◌≤◌, ◌<◌, List, [], ◌∷◌, ◌++◌, length, take, drop, arith, sym, ap, ◌∙◌, subst, zero, suc, append-nil, take-append-drop, take_all, le_refl, length-append}
+use Rattle.std.proofs.Common.{◌≡◌, ℕ, ◌+◌, ◌*◌, ◌≤◌, ◌<◌, List, [], ◌∷◌, ◌++◌, length, take, drop, arith, sym, ap, ◌∙◌, subst, zero, suc, append-nil}
+use Rattle.std.proofs.Common.{take-append-drop, take_all, le_refl, length-append}
 use Rattle.mv_uleb.specs.Uleb.{IsUleb}
 use Rattle.std.specs.Prelude.{Some, None}
 use Rattle.mv_uleb.specs.Parsing.{number_from}

@@ -18,7 +18,9 @@ use Rattle.mv_certificate.specs.Certificate.{Certificate, all_locals_hold, all_e
 use Rattle.mv_certificate.specs.CertificateText.{IsCertificateText}
 use Rattle.mv_certificate.proofs.OneCertificate.{one-certificate}
 use Rattle.mv_machine.specs.Ledger.{Offer, LedgerState}
-use Rattle.mv_ledger.specs.Publishing.{Spells, Passes, FailsAt, no_text, no_bounds, not_defined, not_signed, not_able, no_flow, not_typed, no_certificate, no_locals, no_edges, no_acquires, AllPass, FailsAmong, IsLinked, HasRoom, IsPublished, IsRefusedAt, in_offer, in_linking, in_room}
+use Rattle.mv_ledger.specs.Publishing.{Spells, Passes, FailsAt, no_text, no_bounds, not_defined, not_signed, not_able, no_flow, not_typed}
+use Rattle.mv_ledger.specs.Publishing.{no_certificate, no_locals, no_edges, no_acquires, AllPass, FailsAmong, IsLinked, HasRoom, IsPublished}
+use Rattle.mv_ledger.specs.Publishing.{IsRefusedAt, in_offer, in_linking, in_room}
 use Rattle.mv_ledger.proofs.Spelling.{OffersAreBytes, module-one}
 use Rattle.mv_ledger.proofs.SavedFails.{never-fails, passed-one}
 

@@ -1,5 +1,7 @@
 -- What is stated of a function, with the least edges, fits it, and holds.
-use Rattle.std.proofs.Common.{◌≡◌, ◌==◌, ℕ, zero, suc, Bool, true, false, not, ◌&&◌, List, [], ◌∷◌, ◌++◌, length, map, take, drop, get_or, ◌<◌, ◌+◌, Option, Some, None, IsSome, is_some, option_map, slice_get, nat_le, IsTrue, refl, sym, ap, ◌∙◌, subst, arith, true≢false}
+use Rattle.std.proofs.Common.{◌≡◌, ◌==◌, ℕ, zero, suc, Bool, true, false, not, ◌&&◌, List, [], ◌∷◌, ◌++◌, length, map, take, drop, get_or, ◌<◌, ◌+◌}
+use Rattle.std.proofs.Common.{Option, Some, None, IsSome, is_some, option_map, slice_get, nat_le, IsTrue, refl, sym, ap, ◌∙◌, subst, arith}
+use Rattle.std.proofs.Common.{true≢false}
 use Rattle.std.specs.List.{list_all}
 use Rattle.std.specs.Option.{option_map_or}
 use Rattle.std.specs.Prelude.{⊤, nat_lt}

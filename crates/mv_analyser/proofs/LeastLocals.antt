@@ -1,5 +1,6 @@
 -- The least availabilities of a function fit it, and hold.
-use Rattle.std.proofs.Common.{◌≡◌, ◌==◌, ℕ, zero, suc, true, false, ◌&&◌, List, [], ◌∷◌, ◌++◌, length, map, take, get_or, ◌<◌, ◌≤◌, ◌+◌, Option, Some, None, is_some, option_map, slice_get, nat_le, IsTrue, Err, IsErrOf, refl, sym, ap, ◌∙◌, subst, arith, eq-eqb}
+use Rattle.std.proofs.Common.{◌≡◌, ◌==◌, ℕ, zero, suc, true, false, ◌&&◌, List, [], ◌∷◌, ◌++◌, length, map, take, get_or, ◌<◌, ◌≤◌, ◌+◌, Option, Some}
+use Rattle.std.proofs.Common.{None, is_some, option_map, slice_get, nat_le, IsTrue, Err, IsErrOf, refl, sym, ap, ◌∙◌, subst, arith, eq-eqb}
 use Rattle.std.specs.List.{list_all}
 use Rattle.std.specs.Option.{option_map_or}
 use Rattle.std.proofs.lemmas.Bool.{and_from}

@@ -1,5 +1,6 @@
 -- The entries of a module's tables are read again, and so is the whole module.
-use Rattle.std.proofs.Common.{get_or, ◌≡◌, ℕ, suc, ◌+◌, ◌<◌, ◌≤◌, ◌==◌, nat_lt, Bool, true, false, not, cond, ◌&&◌, ◌||◌, IsTrue, List, [], ◌∷◌, ◌++◌, length, Option, Some, None, refl, sym, ap, subst, ◌∙◌, arith, inl, inr, append_assoc, length-append, sum_by, lit<}
+use Rattle.std.proofs.Common.{get_or, ◌≡◌, ℕ, suc, ◌+◌, ◌<◌, ◌≤◌, ◌==◌, nat_lt, Bool, true, false, not, cond, ◌&&◌, ◌||◌, IsTrue, List, [], ◌∷◌, ◌++◌}
+use Rattle.std.proofs.Common.{length, Option, Some, None, refl, sym, ap, subst, ◌∙◌, arith, inl, inr, append_assoc, length-append, sum_by, lit<}
 use Rattle.std.specs.List.{find, list_all, list_any, flat_map, filter}
 use Rattle.std.specs.Str.{bytes_eq}
 use Rattle.std.proofs.lemmas.List.Sorted.{sum_by-IsPermutation}
@@ -11,9 +12,13 @@ use Rattle.std.proofs.lemmas.Option.{none-some}
 use Rattle.mv_uleb.specs.Uleb.{uleb}
 use Rattle.mv_uleb.specs.Laws.{StandsByForm}
 use Rattle.mv_move_types.specs.Module.{Module}
-use Rattle.mv_module_text.specs.Parsing.{Read, index_from, counted_from, all_from, module_handle_from, struct_handle_from, function_handle_from, signature_from, constant_from, identifier_from, address_from, struct_definition_from, function_definition_from, field_handle_from}
-use Rattle.mv_module_text.specs.Entries.{counted, module_handle_text, struct_handle_text, function_handle_text, signature_text, constant_text, identifier_text, address_text, struct_definition_text, function_definition_text, field_handle_text}
-use Rattle.mv_module_text.specs.Fits.{is_index, module_handle_fits, struct_handle_fits, function_handle_fits, signature_fits, constant_fits, identifier_fits, address_fits, struct_definition_fits, function_definition_fits, field_handle_fits}
+use Rattle.mv_module_text.specs.Parsing.{Read, index_from, counted_from, all_from, module_handle_from, struct_handle_from, function_handle_from}
+use Rattle.mv_module_text.specs.Parsing.{signature_from, constant_from, identifier_from, address_from, struct_definition_from}
+use Rattle.mv_module_text.specs.Parsing.{function_definition_from, field_handle_from}
+use Rattle.mv_module_text.specs.Entries.{counted, module_handle_text, struct_handle_text, function_handle_text, signature_text, constant_text}
+use Rattle.mv_module_text.specs.Entries.{identifier_text, address_text, struct_definition_text, function_definition_text, field_handle_text}
+use Rattle.mv_module_text.specs.Fits.{is_index, module_handle_fits, struct_handle_fits, function_handle_fits, signature_fits, constant_fits}
+use Rattle.mv_module_text.specs.Fits.{identifier_fits, address_fits, struct_definition_fits, function_definition_fits, field_handle_fits}
 use Rattle.mv_module_text.specs.Laws.{AreBytes, StandsByText, StandAsTexts}
 use Rattle.mv_binary_format.specs.ModuleText.{Table, Header, table, tables, header_text, headers_from, HasText, IsModuleText}
 use Rattle.mv_binary_format.specs.Parsing.{kinds, header_from, contents_from, without, is_of, content_of, entries_of, module_from, module_of, marks_from, magic, version_from}
@@ -82,7 +87,8 @@ pub record Kept (kind : ℕ) (content : List ℕ) (ts rest : List Table) : Type 
   pub content_is : content_of kind ts ≡ content
   pub others : SameSums (without (is_of kind) ts) (filter has_bytes rest)
 
-pub kept : (kind : ℕ) (content : List ℕ) (ts rest : List Table) → SameSums ts (filter has_bytes (record { kind = kind; content = content } ∷ rest)) → list_all (λ t. not (is_of kind t)) rest ≡ true → Kept kind content ts rest
+pub kept : (kind : ℕ) (content : List ℕ) (ts rest : List Table) → SameSums ts (filter has_bytes (record { kind = kind; content = content } ∷ rest))
+    → list_all (λ t. not (is_of kind t)) rest ≡ true → Kept kind content ts rest
 kept kind content ts rest s apart =
     let t : Table = record { kind = kind; content = content } in
     let apart' = all-filter (λ t. not (is_of kind t)) has_bytes rest apart in
@@ -105,7 +111,9 @@ pub record ReadBack {A : Type 0} (kind : ℕ) (each : List ℕ → Read A) (ts :
   pub bytes : list_all has_only_bytes (without (is_of kind) ts) ≡ true
 
 pub read-back : {A : Type 0} (kind : ℕ) (each : List ℕ → Read A) (text : A → List ℕ) (fits : A → Bool) → StandAsTexts each text fits → (ts : List Table) (xs : List A) (rest : List Table)
-    → SameSums ts (filter has_bytes (table kind text xs ∷ rest)) → list_all (λ t. not (is_of kind t)) rest ≡ true → list_all fits xs ≡ true → list_all has_only_bytes ts ≡ true → ReadBack kind each ts xs rest
+    → SameSums ts (filter has_bytes (table kind text xs ∷ rest)) → list_all (λ t. not (is_of kind t)) rest ≡ true → list_all fits xs ≡ true
+    → list_all has_only_bytes ts ≡ true
+    → ReadBack kind each ts xs rest
 unfolding entries_of
 read-back kind each text fits law ts xs rest s apart fit bytes =
     let k = kept kind (flat_map text xs) ts rest s apart in
@@ -173,7 +181,8 @@ parts : (v c f u : List ℕ) → ((v ++ c) ++ f) ++ u ≡ v ++ (c ++ (f ++ u))
 parts v c f u = simp append_assoc
 
 -- what is read as a module is a text of it
-pub whole-sound : StandsByForm → StandsByText index_from uleb is_index → ((version : ℕ) → TableLaws version) → (bytes : List ℕ) (m : Module) → AreBytes bytes → module_of bytes ≡ Some m → IsModuleText bytes m
+pub whole-sound : StandsByForm → StandsByText index_from uleb is_index → ((version : ℕ) → TableLaws version)
+    → (bytes : List ℕ) (m : Module) → AreBytes bytes → module_of bytes ≡ Some m → IsModuleText bytes m
 unfolding module_of
 whole-sound numbers indices laws bytes m are e =
     bind_some (marks_from magic bytes) _ m e (λ rest rest_is e1.
@@ -233,7 +242,8 @@ abbrev is_known : Table → Bool
 is_known t = list_any (λ k. k == t.kind) kinds
 
 -- the headers of such contents may be written
-headers-ok : (offset : ℕ) (ts : List Table) → list_all has_bytes ts ≡ true → list_all is_known ts ≡ true → offset + length (all_contents ts) ≤ 65536 → list_all header_ok (headers_from offset ts) ≡ true
+headers-ok : (offset : ℕ) (ts : List Table) → list_all has_bytes ts ≡ true → list_all is_known ts ≡ true → offset + length (all_contents ts) ≤ 65536
+    → list_all header_ok (headers_from offset ts) ≡ true
 headers-ok offset [] full known small = refl
 headers-ok offset (t ∷ ts) full known small =
     let p = and_parts (has_bytes t) (list_all has_bytes ts) full in
@@ -256,7 +266,8 @@ unfolding module_of
 whole-read version rest after behind last hs ts own m a b c d e = rw (a, b, c, d) e
 
 -- a text of a module is read as it
-pub whole-complete : StandsByForm → StandsByText index_from uleb is_index → ((version : ℕ) → TableLaws version) → (bytes : List ℕ) (m : Module) → AreBytes bytes → IsModuleText bytes m → module_of bytes ≡ Some m
+pub whole-complete : StandsByForm → StandsByText index_from uleb is_index → ((version : ℕ) → TableLaws version)
+    → (bytes : List ℕ) (m : Module) → AreBytes bytes → IsModuleText bytes m → module_of bytes ≡ Some m
 unfolding module_of
 whole-complete numbers indices laws bytes m are t =
     let ts = t.contents in

@@ -39,7 +39,8 @@ header-complete numbers h rest ok are =
     rw (first, second) (ap (λ b. then_some b (h, rest)) p.0)
 
 -- so many texts
-pub entries-complete : {A : Type 0} (each : List ℕ → Read A) (text : A → List ℕ) (ok : A → Bool) → IsReadBack each text ok → (xs : List A) (rest : List ℕ) → list_all ok xs ≡ true → AreBytes (flat_map text xs ++ rest)
+pub entries-complete : {A : Type 0} (each : List ℕ → Read A) (text : A → List ℕ) (ok : A → Bool) → IsReadBack each text ok
+    → (xs : List A) (rest : List ℕ) → list_all ok xs ≡ true → AreBytes (flat_map text xs ++ rest)
     → entries_from each (length xs) (flat_map text xs ++ rest) ≡ Some (xs, rest)
 entries-complete each text ok back [] rest fit are = refl
 entries-complete each text ok back (x ∷ xs) rest fit are =
@@ -50,7 +51,9 @@ entries-complete each text ok back (x ∷ xs) rest fit are =
     ap (entries_from each (suc (length xs))) split ∙ rw (first, others) refl
 
 -- the same after their number
-pub counted-complete : {A : Type 0} → StandsByForm → (most : ℕ) → most < 2 ^ 64 → (each : List ℕ → Read A) (text : A → List ℕ) (ok : A → Bool) → IsReadBack each text ok → (xs : List A) (rest : List ℕ) → length xs ≤ most → list_all ok xs ≡ true
+pub counted-complete : {A : Type 0} → StandsByForm → (most : ℕ) → most < 2 ^ 64
+    → (each : List ℕ → Read A) (text : A → List ℕ) (ok : A → Bool) → IsReadBack each text ok → (xs : List A) (rest : List ℕ) → length xs ≤ most
+    → list_all ok xs ≡ true
     → AreBytes (counted text xs ++ rest) → counted_from most each (counted text xs ++ rest) ≡ Some (xs, rest)
 counted-complete numbers most small each text ok back xs rest le fit are =
     let split : (uleb (length xs) ++ flat_map text xs) ++ rest ≡ uleb (length xs) ++ (flat_map text xs ++ rest) = append_assoc (uleb (length xs)) (flat_map text xs) rest in
@@ -91,7 +94,8 @@ later-begin o p (t ∷ ts) lt =
     and_from _ _ (ap not (ne_eqb p o ne)) (later-begin o (p + length t.content) ts (omega arith))
 
 -- the contents of a module's tables
-pub contents-complete : (ts : List Table) (hs : List Header) (offset : ℕ) (rest : List ℕ) → SameSums hs (headers_from offset ts) → list_all has_bytes ts ≡ true → offset + length (flat_map (λ t. t.content) ts) ≤ 65536
+pub contents-complete : (ts : List Table) (hs : List Header) (offset : ℕ) (rest : List ℕ) → SameSums hs (headers_from offset ts)
+    → list_all has_bytes ts ≡ true → offset + length (flat_map (λ t. t.content) ts) ≤ 65536
     → contents_from (length hs) offset hs (flat_map (λ t. t.content) ts ++ rest) ≡ Some (ts, rest)
 unfolding contents_from
 contents-complete [] hs offset rest s full small = rw (empty-SameSums hs s) refl

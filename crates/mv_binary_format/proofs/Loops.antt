@@ -75,7 +75,8 @@ AllReads-next each n i start items (b ∷ bytes) x next lt some e g =
     record { goes = sym one ∙ g.goes }
 
 -- the next can't be read
-pub AllReads-stops : {A : Type 0} (each : List ℕ → Read A) (n i : ℕ) (start : List ℕ) (items : List A) (cur : List ℕ) → i < n → (cur ≡ [] → ⊥) → each cur ≡ None → AllReads each n i start items cur → all_from each n start ≡ None
+pub AllReads-stops : {A : Type 0} (each : List ℕ → Read A) (n i : ℕ) (start : List ℕ) (items : List A) (cur : List ℕ) → i < n → (cur ≡ [] → ⊥)
+    → each cur ≡ None → AllReads each n i start items cur → all_from each n start ≡ None
 AllReads-stops each n i start items [] lt some e g = absurd (some refl)
 AllReads-stops each n i start items (b ∷ bytes) lt some e g =
     let k : n - i ≡ suc (n - (i + 1)) = omega arith in
@@ -83,7 +84,8 @@ AllReads-stops each n i start items (b ∷ bytes) lt some e g =
     sym g.goes ∙ one
 
 -- no turns are left, and bytes are
-pub AllReads-over : {A : Type 0} (each : List ℕ → Read A) (n i : ℕ) (start : List ℕ) (items : List A) (cur : List ℕ) → n ≤ i → (cur ≡ [] → ⊥) → AllReads each n i start items cur → all_from each n start ≡ None
+pub AllReads-over : {A : Type 0} (each : List ℕ → Read A) (n i : ℕ) (start : List ℕ) (items : List A) (cur : List ℕ) → n ≤ i → (cur ≡ [] → ⊥)
+    → AllReads each n i start items cur → all_from each n start ≡ None
 AllReads-over each n i start items [] le some g = absurd (some refl)
 AllReads-over each n i start items (b ∷ bytes) le some g =
     let k : n - i ≡ 0 = omega arith in

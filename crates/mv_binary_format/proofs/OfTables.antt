@@ -6,9 +6,12 @@ use Rattle.std.proofs.lemmas.List.Sorted.{IsPermutation-refl}
 use Rattle.std.proofs.lemmas.Bool.{and_parts, and_from, eqb-true}
 use Rattle.std.proofs.lemmas.Option.{none-some, some_pair_parts}
 use Rattle.mv_move_types.specs.Module.{Module}
-use Rattle.mv_module_text.specs.Parsing.{Read, all_from, module_handle_from, struct_handle_from, function_handle_from, signature_from, constant_from, identifier_from, address_from, struct_definition_from, function_definition_from, field_handle_from}
-use Rattle.mv_module_text.specs.Entries.{module_handle_text, struct_handle_text, function_handle_text, signature_text, constant_text, identifier_text, address_text, struct_definition_text, function_definition_text, field_handle_text}
-use Rattle.mv_module_text.specs.Fits.{is_byte, module_handle_fits, struct_handle_fits, function_handle_fits, signature_fits, constant_fits, identifier_fits, address_fits, struct_definition_fits, function_definition_fits, field_handle_fits}
+use Rattle.mv_module_text.specs.Parsing.{Read, all_from, module_handle_from, struct_handle_from, function_handle_from, signature_from, constant_from}
+use Rattle.mv_module_text.specs.Parsing.{identifier_from, address_from, struct_definition_from, function_definition_from, field_handle_from}
+use Rattle.mv_module_text.specs.Entries.{module_handle_text, struct_handle_text, function_handle_text, signature_text, constant_text, identifier_text}
+use Rattle.mv_module_text.specs.Entries.{address_text, struct_definition_text, function_definition_text, field_handle_text}
+use Rattle.mv_module_text.specs.Fits.{is_byte, module_handle_fits, struct_handle_fits, function_handle_fits, signature_fits, constant_fits}
+use Rattle.mv_module_text.specs.Fits.{identifier_fits, address_fits, struct_definition_fits, function_definition_fits, field_handle_fits}
 use Rattle.mv_module_text.specs.Laws.{AreBytes, StandAsTexts}
 use Rattle.mv_binary_format.specs.ModuleText.{Table, table, tables}
 use Rattle.mv_binary_format.specs.Parsing.{without, is_of, content_of, entries_of, module_from}
@@ -59,7 +62,8 @@ taken-out {A} kind each text fits law ts xs others full bytes e =
     let c = content_of kind ts in
     by_read (all_from each (length c) c) refl (λ ys ys_is. (law (length c) c ys (omega arith) (content_of-is_bytes kind ts bytes)).0 ys_is) where
       by_read : (o : Option (List A)) → all_from each (length (content_of kind ts)) (content_of kind ts) ≡ o
-          → ((ys : List A) → all_from each (length (content_of kind ts)) (content_of kind ts) ≡ Some ys → (content_of kind ts ≡ flat_map text ys) × IsTrue (list_all fits ys)) → TakenOut kind text fits ts xs others
+          → ((ys : List A) → all_from each (length (content_of kind ts)) (content_of kind ts) ≡ Some ys → (content_of kind ts ≡ flat_map text ys) × IsTrue (list_all fits ys))
+          → TakenOut kind text fits ts xs others
       by_read None o_is law' = absurd (none-some (xs, others) (let z : ◌≡◌ {A = Option (List A × List Table)} None (Some (xs, others)) = rw o_is at e in z))
       by_read (Some ys) o_is law' =
           let z : ◌≡◌ {A = Option (List A × List Table)} (Some (ys, without (is_of kind) ts)) (Some (xs, others)) = rw o_is at e in
@@ -101,7 +105,8 @@ pub no_elements : {A : Type 0} (xs : List A) → (length xs == 0) ≡ true → x
 no_elements [] e = refl
 no_elements (x ∷ xs) e = let z : suc (length xs) ≡ 0 = eqb-true (length (x ∷ xs)) 0 e in absurd (omega arith)
 
-pub module-sound : (version : ℕ) → TableLaws version → (own : ℕ) (ts : List Table) (m : Module) → list_all has_bytes ts ≡ true → list_all has_only_bytes ts ≡ true → module_from version own ts ≡ Some m → IsOfTables version own ts m
+pub module-sound : (version : ℕ) → TableLaws version → (own : ℕ) (ts : List Table) (m : Module) → list_all has_bytes ts ≡ true
+    → list_all has_only_bytes ts ≡ true → module_from version own ts ≡ Some m → IsOfTables version own ts m
 unfolding module_from
 module-sound version laws own ts m full bytes z0 =
     bind_some (entries_of 0x01 module_handle_from ts) _ m z0 (λ a a_is z1.

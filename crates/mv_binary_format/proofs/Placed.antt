@@ -47,7 +47,8 @@ placed-gap front (h ∷ hs) offset bytes total some f so_far =
     sym so_far ∙ one
 
 -- it ends too late
-pub placed-beyond : (front : List Table) (hs : List Header) (offset : ℕ) (bytes : List ℕ) (first : Header) (total : Read (List Table)) → find (begins_at offset) hs ≡ Some first → 65536 < offset + first.length
+pub placed-beyond : (front : List Table) (hs : List Header) (offset : ℕ) (bytes : List ℕ) (first : Header) (total : Read (List Table))
+    → find (begins_at offset) hs ≡ Some first → 65536 < offset + first.length
     → with_front front (placed_from offset hs bytes) ≡ total → total ≡ None
 unfolding contents_from
 placed-beyond front [] offset bytes first total f lt so_far = absurd (none-some first f)
@@ -56,7 +57,8 @@ placed-beyond front (h ∷ hs) offset bytes first total f lt so_far =
     sym so_far ∙ one
 
 -- the bytes end before it does
-pub placed-cut : (front : List Table) (hs : List Header) (offset : ℕ) (bytes : List ℕ) (first : Header) (total : Read (List Table)) → find (begins_at offset) hs ≡ Some first → offset + first.length ≤ 65536
+pub placed-cut : (front : List Table) (hs : List Header) (offset : ℕ) (bytes : List ℕ) (first : Header) (total : Read (List Table))
+    → find (begins_at offset) hs ≡ Some first → offset + first.length ≤ 65536
     → bytes_from first.length bytes ≡ None → with_front front (placed_from offset hs bytes) ≡ total → total ≡ None
 unfolding contents_from
 placed-cut front [] offset bytes first total f le b so_far = absurd (none-some first f)
@@ -65,7 +67,8 @@ placed-cut front (h ∷ hs) offset bytes first total f le b so_far =
     sym so_far ∙ one
 
 -- no header is left
-pub placed-done : (front : List Table) (hs : List Header) (offset : ℕ) (bytes : List ℕ) (total : Read (List Table)) → hs ≡ [] → with_front front (placed_from offset hs bytes) ≡ total → total ≡ Some (front, bytes)
+pub placed-done : (front : List Table) (hs : List Header) (offset : ℕ) (bytes : List ℕ) (total : Read (List Table)) → hs ≡ []
+    → with_front front (placed_from offset hs bytes) ≡ total → total ≡ Some (front, bytes)
 unfolding contents_from
 placed-done front hs offset bytes total none so_far =
     let one : with_front front (placed_from offset hs bytes) ≡ Some (front, bytes) = rw none (ap (λ (ts : List Table). Some (ts, bytes)) (append-nil front)) in

@@ -1,5 +1,7 @@
 -- What is read is a text of the module.
-use Rattle.std.proofs.Common.{◌^◌, ◌≡◌, ℕ, zero, suc, ◌+◌, ◌<◌, ◌≤◌, ◌==◌, nat_lt, nat_le, Bool, true, cond, ◌&&◌, List, [], ◌∷◌, ◌++◌, length, take, drop, Option, Some, None, refl, sym, ap, subst, ◌∙◌, arith, inl, inr, append_assoc, take-append-drop, length-append, lit<}
+use Rattle.std.proofs.Common.{◌^◌, ◌≡◌, ℕ, zero, suc, ◌+◌, ◌<◌, ◌≤◌, ◌==◌, nat_lt, nat_le, Bool, true, cond, ◌&&◌, List, [], ◌∷◌, ◌++◌, length, take}
+use Rattle.std.proofs.Common.{drop, Option, Some, None, refl, sym, ap, subst, ◌∙◌, arith, inl, inr, append_assoc, take-append-drop, length-append}
+use Rattle.std.proofs.Common.{lit<}
 use Rattle.std.specs.Bool.{then_some}
 use Rattle.std.proofs.lemmas.List.{length-take-le}
 use Rattle.std.specs.List.{find, list_all, list_any, flat_map}
@@ -52,7 +54,8 @@ abbrev pub Stands : {A : Type 0} → (List ℕ → Read A) → (A → List ℕ) 
 Stands {A} each text ok = (bytes : List ℕ) (x : A) (rest : List ℕ) → AreBytes bytes → each bytes ≡ Some (x, rest) → (bytes ≡ text x ++ rest) × (ok x ≡ true)
 
 -- so many are their texts
-pub entries-sound : {A : Type 0} (each : List ℕ → Read A) (text : A → List ℕ) (ok : A → Bool) → Stands each text ok → (n : ℕ) (bytes : List ℕ) (xs : List A) (rest : List ℕ) → AreBytes bytes → entries_from each n bytes ≡ Some (xs, rest)
+pub entries-sound : {A : Type 0} (each : List ℕ → Read A) (text : A → List ℕ) (ok : A → Bool) → Stands each text ok
+    → (n : ℕ) (bytes : List ℕ) (xs : List A) (rest : List ℕ) → AreBytes bytes → entries_from each n bytes ≡ Some (xs, rest)
     → (bytes ≡ flat_map text xs ++ rest) × (list_all ok xs ≡ true) × (length xs ≡ n)
 entries-sound each text ok stands zero bytes xs rest are e =
     let p = some_pair_parts [] xs bytes rest e in
@@ -73,7 +76,9 @@ entries-sound {A} each text ok stands (suc n) bytes xs rest are e =
     (subst (λ (zs : List A). bytes ≡ flat_map text zs ++ rest) p.0 t, h, sym l ∙ ap suc others.2)))
 
 -- the same after their number
-pub counted-sound : {A : Type 0} → StandsByForm → (most : ℕ) → most < 2 ^ 64 → (each : List ℕ → Read A) (text : A → List ℕ) (ok : A → Bool) → Stands each text ok → (bytes : List ℕ) (xs : List A) (rest : List ℕ) → AreBytes bytes
+pub counted-sound : {A : Type 0} → StandsByForm → (most : ℕ) → most < 2 ^ 64
+    → (each : List ℕ → Read A) (text : A → List ℕ) (ok : A → Bool) → Stands each text ok
+    → (bytes : List ℕ) (xs : List A) (rest : List ℕ) → AreBytes bytes
     → counted_from most each bytes ≡ Some (xs, rest) → (bytes ≡ counted text xs ++ rest) × (list_all ok xs ≡ true) × (length xs ≤ most)
 counted-sound numbers most small each text ok stands bytes xs rest are e =
     bind_some (number_from most bytes) _ (xs, rest) e (λ n n_is e1.
@@ -165,7 +170,8 @@ one_more offset end hs first left bytes content behind others last ts rest perm 
       full = and_from _ _ full below.full;
     })
 
-pub contents-sound : (turns offset : ℕ) (hs : List Header) (bytes : List ℕ) (ts : List Table) (rest : List ℕ) → list_all tells_bytes hs ≡ true → contents_from turns offset hs bytes ≡ Some (ts, rest) → Placed offset hs bytes ts rest
+pub contents-sound : (turns offset : ℕ) (hs : List Header) (bytes : List ℕ) (ts : List Table) (rest : List ℕ) → list_all tells_bytes hs ≡ true
+    → contents_from turns offset hs bytes ≡ Some (ts, rest) → Placed offset hs bytes ts rest
 unfolding contents_from made
 contents-sound zero offset [] bytes ts rest full e = none_left offset bytes ts rest (some_pair_parts [] ts bytes rest e)
 contents-sound (suc turns) offset [] bytes ts rest full e = none_left offset bytes ts rest (some_pair_parts [] ts bytes rest e)

@@ -27,7 +27,8 @@ pub Decides-none : {A : Type 0} (spelled : Option A) (r : Result A Refusal) → 
 Decides-none {A} spelled r is d = let z : Decides spelled (Err (Phase 2)) = subst (λ y. Decides spelled y) is d in z.1
 
 -- a table whose entries can't be read up to its end
-pub entries-none : {A : Type 0} (kind : ℕ) (each : List ℕ → Read A) (tables : List Table) (content : List ℕ) → content ≡ content_of kind tables → all_from each (length content) content ≡ None → entries_of kind each tables ≡ None
+pub entries-none : {A : Type 0} (kind : ℕ) (each : List ℕ → Read A) (tables : List Table) (content : List ℕ) → content ≡ content_of kind tables
+    → all_from each (length content) content ≡ None → entries_of kind each tables ≡ None
 unfolding entries_of
 entries-none {A} kind each tables content is none =
     ap (λ (o : Option (List A)). option_map {U = List A × List Table} (λ xs. (xs, without (is_of kind) tables)) o)

@@ -1,7 +1,8 @@
 -- The kinds of tables by their bytes, and headers and tables of the code as those of the format.
 use Rattle.std.specs.Prelude.{ℕ, List, map}
 use Rattle.mv_binary_format.specs.declared.headers.TableKind.{TableKind}
-use Rattle.mv_binary_format.specs.declared.headers.TableKind.TheVariants.{ModuleHandles, StructHandles, FunctionHandles, Signatures, Constants, Identifiers, Addresses, Structs, Functions, FieldHandles}
+use Rattle.mv_binary_format.specs.declared.headers.TableKind.TheVariants.{ModuleHandles, StructHandles, FunctionHandles, Signatures, Constants}
+use Rattle.mv_binary_format.specs.declared.headers.TableKind.TheVariants.{Identifiers, Addresses, Structs, Functions, FieldHandles}
 use Rattle.mv_binary_format.specs.declared.headers.Header.{Header as ReadHeader}
 use Rattle.mv_binary_format.specs.ModuleText.{Header}
 

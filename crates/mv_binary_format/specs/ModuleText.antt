@@ -4,9 +4,11 @@ use Rattle.std.specs.List.{list_all}
 use Rattle.std.specs.Int.{w32, to_le_bytes}
 use Rattle.mv_move_types.specs.Limits.{most_functions}
 use Rattle.mv_move_types.specs.Module.{Module}
-use Rattle.mv_module_text.specs.Entries.{module_handle_text, struct_definition_text, address_text, function_handle_text, struct_handle_text, identifier_text, signature_text, function_definition_text, constant_text, field_handle_text, counted}
+use Rattle.mv_module_text.specs.Entries.{module_handle_text, struct_definition_text, address_text, function_handle_text, struct_handle_text}
+use Rattle.mv_module_text.specs.Entries.{identifier_text, signature_text, function_definition_text, constant_text, field_handle_text, counted}
 use Rattle.mv_uleb.specs.Uleb.{uleb}
-use Rattle.mv_module_text.specs.Fits.{function_handle_fits, module_handle_fits, address_fits, identifier_fits, is_index, signature_fits, struct_handle_fits, struct_definition_fits, function_definition_fits, constant_fits, field_handle_fits}
+use Rattle.mv_module_text.specs.Fits.{function_handle_fits, module_handle_fits, address_fits, identifier_fits, is_index, signature_fits}
+use Rattle.mv_module_text.specs.Fits.{struct_handle_fits, struct_definition_fits, function_definition_fits, constant_fits, field_handle_fits}
 
 -- a table: its kind and the bytes of its entries
 pub record Table : Type 0 where

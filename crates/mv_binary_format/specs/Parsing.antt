@@ -7,7 +7,9 @@ use Rattle.mv_uleb.specs.Parsing.{number_from}
 use Rattle.mv_move_types.specs.Limits.{most_functions}
 use Rattle.mv_move_types.specs.Options.{◌>>=◌}
 use Rattle.mv_move_types.specs.Module.{Module}
-use Rattle.mv_module_text.specs.Parsing.{Read, byte_from, mark_from, bytes_from, index_from, counted_from, all_from, module_handle_from, struct_handle_from, function_handle_from, signature_from, identifier_from, address_from, struct_definition_from, function_definition_from, constant_from, field_handle_from, number_of_from}
+use Rattle.mv_module_text.specs.Parsing.{Read, byte_from, mark_from, bytes_from, index_from, counted_from, all_from, module_handle_from}
+use Rattle.mv_module_text.specs.Parsing.{struct_handle_from, function_handle_from, signature_from, identifier_from, address_from}
+use Rattle.mv_module_text.specs.Parsing.{struct_definition_from, function_definition_from, constant_from, field_handle_from, number_of_from}
 use Rattle.mv_move_types.specs.declared.token.Width.TheVariants.{U32}
 use Rattle.mv_binary_format.specs.ModuleText.{Table, Header}
 

@@ -4,7 +4,8 @@ use Rattle.mv_binary_format.specs.declared.layout.WrittenHeader.{WrittenHeader}
 use Rattle.mv_binary_format.specs.Kinds.{table_code}
 use Rattle.mv_binary_format.specs.ModuleText.{Table, Header, headers_from, table}
 use Rattle.mv_move_types.specs.Module.{Module}
-use Rattle.mv_module_text.specs.Entries.{module_handle_text, struct_handle_text, function_handle_text, signature_text, constant_text, identifier_text, address_text, struct_definition_text, function_definition_text, field_handle_text}
+use Rattle.mv_module_text.specs.Entries.{module_handle_text, struct_handle_text, function_handle_text, signature_text, constant_text, identifier_text}
+use Rattle.mv_module_text.specs.Entries.{address_text, struct_definition_text, function_definition_text, field_handle_text}
 
 -- a header to write
 abbrev pub written_header : WrittenHeader → Header

@@ -81,7 +81,8 @@ result_taken mutable all shared place i results d s from_mutable from_all done n
     is ∙ taken mutable all shared (place + i) (get_or results i d) s from_mutable from_all done (λ e. hm (list_any_at is_mutable_token results i d h e)) (λ e. ha (list_any_at is_immutable_token results i d h e))
 
 -- a value takes nothing over
-pub nothing_taken : (from_mutable from_all : List Edge) (shared : Node) (k : ℕ) (token : Token) (t : ValueType) (edges : List Edge) → token ≡ Plain t → are_ascending edges ≡ true → edges ≡ sorted (edges ++ taken_over from_mutable from_all shared k token)
+pub nothing_taken : (from_mutable from_all : List Edge) (shared : Node) (k : ℕ) (token : Token) (t : ValueType) (edges : List Edge) → token ≡ Plain t
+    → are_ascending edges ≡ true → edges ≡ sorted (edges ++ taken_over from_mutable from_all shared k token)
 nothing_taken from_mutable from_all shared k token t edges is_token ascend = added_none edges ascend ∙ ap (λ x. sorted (edges ++ taken_over from_mutable from_all shared k x)) (sym is_token)
 
 -- what is inherited may be put in its order before it is added

@@ -1,5 +1,6 @@
 -- What the rows of the rules make of edges.
-use Rattle.std.proofs.Common.{◌≡◌, ℕ, Bool, true, false, not, List, [], ◌∷◌, ◌++◌, length, take, drop, get_or, slice_get, ◌+◌, ◌-◌, ◌<◌, ◌≤◌, Option, Some, None, Result, refl, sym, ap, ◌∙◌, subst, arith, append_assoc, append-nil, true≢false}
+use Rattle.std.proofs.Common.{◌≡◌, ℕ, Bool, true, false, not, List, [], ◌∷◌, ◌++◌, length, take, drop, get_or, slice_get, ◌+◌, ◌-◌, ◌<◌, ◌≤◌, Option}
+use Rattle.std.proofs.Common.{Some, None, Result, refl, sym, ap, ◌∙◌, subst, arith, append_assoc, append-nil, true≢false}
 use Rattle.std.specs.Bool.{then_some}
 use Rattle.std.specs.List.{list_all, list_any, flat_map}
 use Rattle.std.proofs.Common.{◌&&◌, ◌||◌}
@@ -22,7 +23,8 @@ use Rattle.mv_edges.specs.Ascending.{are_ascending}
 use Rattle.mv_edges.specs.Sorted.{sorted}
 use Rattle.mv_edges.proofs.Passed.{without-swap}
 use Rattle.mv_edges.proofs.Sorting.{sorted-ascending, ascending-sorted, sorted-append_swap, sorted-append_sorted}
-use Rattle.mv_borrow_graph.specs.BorrowRules.{next_temp, top_temp, no_edge_out, copy_edges, field_edges, position_of, opened_edges, result_edges, reference_nodes, without_all, call_edges, is_mutable_token, is_reference_token}
+use Rattle.mv_borrow_graph.specs.BorrowRules.{next_temp, top_temp, no_edge_out, copy_edges, field_edges, position_of, opened_edges, result_edges}
+use Rattle.mv_borrow_graph.specs.BorrowRules.{reference_nodes, without_all, call_edges, is_mutable_token, is_reference_token}
 use Rattle.mv_borrow_graph.specs.Domain.{ordered, Follows}
 
 -- edges that ascend are in their order
@@ -57,7 +59,8 @@ copied_mutably p l token t s both after next free r is_token tested is_both is_n
     subst (λ (o : Option (List Edge)). Follows r after o) same f
 
 -- the reference to a field stands where its operand stood
-pub field_made : (p : Point) (f : ℕ) (s new removed all : List Edge) (top : Node) → top ≡ top_temp p → new ≡ sorted (inherited (changed (Extended f)) top top s) → removed ≡ without top s → all ≡ sorted (removed ++ new)
+pub field_made : (p : Point) (f : ℕ) (s new removed all : List Edge) (top : Node) → top ≡ top_temp p
+    → new ≡ sorted (inherited (changed (Extended f)) top top s) → removed ≡ without top s → all ≡ sorted (removed ++ new)
     → ordered (Some (field_edges p f s)) ≡ Some all
 field_made p f s new removed all top is_top is_new is_removed is =
     ap Some (sym (is ∙ (λ i. sorted (is_removed i ++ is_new i)) ∙ sorted-append_sorted (without top s) (inherited (changed (Extended f)) top top s) ∙ ap (λ n. sorted (without n s ++ inherited (changed (Extended f)) n n s)) is_top))
@@ -83,7 +86,9 @@ added_none s h = sym (ap sorted (append-nil s) ∙ sorted-ascending s h)
 
 -- the edges of one more node
 pub opened_more : (first all given new : List Edge) (nodes : List Node) (k : ℕ) (d to : Node) (s : List Edge) → k < length nodes
-    → all ≡ sorted (first ++ opened_edges (take k nodes) to s) → given ≡ sorted (inherited (changed Opened) (get_or nodes k d) to s) → new ≡ sorted (all ++ given) → new ≡ sorted (first ++ opened_edges (take (k + 1) nodes) to s)
+    → all ≡ sorted (first ++ opened_edges (take k nodes) to s) → given ≡ sorted (inherited (changed Opened) (get_or nodes k d) to s)
+    → new ≡ sorted (all ++ given)
+    → new ≡ sorted (first ++ opened_edges (take (k + 1) nodes) to s)
 opened_more first all given new nodes k d to s h is_all is_given is =
     let f : Node → List Edge = λ m. inherited (changed Opened) m to s in
     let before : List Edge = first ++ flat_map f (take k nodes) in
@@ -92,7 +97,8 @@ opened_more first all given new nodes k d to s h is_all is_given is =
     ∙ ap sorted (flat_map_more f first (take k nodes) (get_or nodes k d)) ∙ ap (λ ns. sorted (first ++ flat_map f ns)) (sym (take_more nodes k d h))
 
 -- a value has no edges
-pub plain_result : (m a : List Node) (k : ℕ) (token : Token) (t : ValueType) (s edges : List Edge) → token ≡ Plain t → are_ascending edges ≡ true → edges ≡ sorted (edges ++ result_edges m a k (token ∷ []) s)
+pub plain_result : (m a : List Node) (k : ℕ) (token : Token) (t : ValueType) (s edges : List Edge) → token ≡ Plain t → are_ascending edges ≡ true
+    → edges ≡ sorted (edges ++ result_edges m a k (token ∷ []) s)
 plain_result m a k token t s edges is_token ascend = added_none edges ascend ∙ ap (λ x. sorted (edges ++ result_edges m a k (x ∷ []) s)) (sym is_token)
 
 -- the edges of the first result, and of the others
@@ -129,9 +135,12 @@ tied left removed new all more is_removed is_new is = is ∙ (λ i. sorted (is_r
 
 -- a call, by what its handle names
 pub called : (p : Point) (i : ℕ) (s : List Edge) (found : Option FunctionHandle) (h : FunctionHandle) (ps rs : List Token) (base : ℕ) (holds : Bool)
-    → found ≡ slice_get p.home.function_handles i → found ≡ Some h → Some ps ≡ slice_get p.home.signatures h.parameters → Some rs ≡ slice_get p.home.signatures h.results → base ≡ length p.types - length ps
+    → found ≡ slice_get p.home.function_handles i → found ≡ Some h → Some ps ≡ slice_get p.home.signatures h.parameters
+    → Some rs ≡ slice_get p.home.signatures h.results → base ≡ length p.types - length ps
     → holds ≡ (list_all (λ n. no_edge_out n s) (reference_nodes is_mutable_token base ps) && list_all (λ t. no_edge_out (Glob t) s) (own_acquires p.home i))
-    → ordered (then_some holds (without_all (reference_nodes is_reference_token base ps) s ++ result_edges (reference_nodes is_mutable_token base ps) (reference_nodes is_reference_token base ps) base rs s)) ≡ ordered (call_edges p i s)
+    → ordered (then_some holds (without_all (reference_nodes is_reference_token base ps) s
+    ++ result_edges (reference_nodes is_mutable_token base ps) (reference_nodes is_reference_token base ps) base rs s))
+    ≡ ordered (call_edges p i s)
 called p i s found h ps rs base holds is_found some is_ps is_rs is_base is_holds =
     let handle : slice_get p.home.function_handles i ≡ Some h = sym is_found ∙ some in
     let parameters : slice_get p.home.signatures h.parameters ≡ Some ps = sym is_ps in
@@ -203,7 +212,8 @@ without_all-push [] n s = refl
 without_all-push (m ∷ ns) n s = without_all-push ns n (without m s)
 
 -- the edges at the last of the nodes go first
-pub without_last : (nodes : List Node) (count : ℕ) (d : Node) (s after : List Edge) → 0 < count → count ≤ length nodes → after ≡ without (get_or nodes (count - 1) d) s → without_all (take (count - 1) nodes) after ≡ without_all (take count nodes) s
+pub without_last : (nodes : List Node) (count : ℕ) (d : Node) (s after : List Edge) → 0 < count → count ≤ length nodes
+    → after ≡ without (get_or nodes (count - 1) d) s → without_all (take (count - 1) nodes) after ≡ without_all (take count nodes) s
 without_last nodes count d s after some within is =
     let k = count - 1 in
     let next : count ≡ k + 1 = omega (arith, some) in

@@ -1,6 +1,7 @@
 -- How high a function's stack gets, and the step at a place.
 use Rattle.std.specs.Prelude.{◌==◌, IsSome, IsTrue, OnOk, is_some}
-use Rattle.std.proofs.Common.{◌≡◌, ◌≤◌, reverse, arith, ℕ, Bool, true, false, cond, List, [], ◌∷◌, length, slice_range, ◌+◌, nat_le, Option, Some, None, slice_get, Result, Ok, Err, IsErrOf, option_map, refl, sym, ap, ◌∙◌, subst}
+use Rattle.std.proofs.Common.{◌≡◌, ◌≤◌, reverse, arith, ℕ, Bool, true, false, cond, List, [], ◌∷◌, length, slice_range, ◌+◌, nat_le, Option, Some}
+use Rattle.std.proofs.Common.{None, slice_get, Result, Ok, Err, IsErrOf, option_map, refl, sym, ap, ◌∙◌, subst}
 use Rattle.std.specs.List.{list_all, flat_map}
 use Rattle.std.specs.Option.{option_map_or}
 use Rattle.std.proofs.lemmas.Bool.{and_parts, and_from, leb-true}
@@ -44,7 +45,9 @@ module _ (m : Module) (d : FunctionDefinition) where
   block_low : (b : BasicBlock) → block_is_typed m d b ≡ true → list_all is_low (types_each m d (slice_range d.code b.first (b.last + 1)) []) ≡ true
   block_low b typed = by_end (types_through m d (slice_range d.code b.first (b.last + 1)) []) refl typed
     where
-      by_end : (o : Option Types) → types_through m d (slice_range d.code b.first (b.last + 1)) [] ≡ o → option_map_or (λ stack. length stack == 0) o false ≡ true → list_all is_low (types_each m d (slice_range d.code b.first (b.last + 1)) []) ≡ true
+      by_end : (o : Option Types) → types_through m d (slice_range d.code b.first (b.last + 1)) [] ≡ o
+          → option_map_or (λ stack. length stack == 0) o false ≡ true
+          → list_all is_low (types_each m d (slice_range d.code b.first (b.last + 1)) []) ≡ true
       by_end None e h = cc
       by_end (Some end) e h = each_low (slice_range d.code b.first (b.last + 1)) [] end refl e
 
@@ -80,17 +83,23 @@ module _ (m : Module) (d : FunctionDefinition) (at : ℕ) (s : List Edge) (i : I
   step_is : (p : Point) (found : Option Point) → found ≡ Some p → found ≡ option_map (point_at m d) (slice_get (types_before m d) at) → edges_step m d at s ≡ ordered (edges_after p i s)
   step_is p found was e = rw code (known p (slice_get (types_before m d) at) (sym was ∙ e))
 
-  pub step_ok : (p : Point) (found : Option Point) (r : Result (Unit {0}) StepError) (t : List Edge) → found ≡ Some p → found ≡ option_map (point_at m d) (slice_get (types_before m d) at) → Follows r t (ordered (edges_after p i s)) → OnOk r (edges_step m d at s ≡ Some t)
+  pub step_ok : (p : Point) (found : Option Point) (r : Result (Unit {0}) StepError) (t : List Edge) → found ≡ Some p
+      → found ≡ option_map (point_at m d) (slice_get (types_before m d) at) → Follows r t (ordered (edges_after p i s))
+      → OnOk r (edges_step m d at s ≡ Some t)
   step_ok p found (Ok done) t was e f = step_is p found was e ∙ f
   step_ok p found (Err Need) t was e f = tt
   step_ok p found (Err Memory) t was e f = tt
 
-  pub step_need : (p : Point) (found : Option Point) (r : Result (Unit {0}) StepError) (t : List Edge) → found ≡ Some p → found ≡ option_map (point_at m d) (slice_get (types_before m d) at) → Follows r t (ordered (edges_after p i s)) → IsErrOf r Need → edges_step m d at s ≡ None
+  pub step_need : (p : Point) (found : Option Point) (r : Result (Unit {0}) StepError) (t : List Edge) → found ≡ Some p
+      → found ≡ option_map (point_at m d) (slice_get (types_before m d) at) → Follows r t (ordered (edges_after p i s)) → IsErrOf r Need
+      → edges_step m d at s ≡ None
   step_need p found (Ok done) t was e f h = cc (h)
   step_need p found (Err Need) t was e f h = step_is p found was e ∙ f
   step_need p found (Err Memory) t was e f h = cc (h)
 
-  pub step_meets : (p : Point) (found : Option Point) (r : Result (Unit {0}) StepError) (t : List Edge) → found ≡ Some p → found ≡ option_map (point_at m d) (slice_get (types_before m d) at) → Follows r t (ordered (edges_after p i s)) → IsErrOf r Memory → IsSome (edges_step m d at s)
+  pub step_meets : (p : Point) (found : Option Point) (r : Result (Unit {0}) StepError) (t : List Edge) → found ≡ Some p
+      → found ≡ option_map (point_at m d) (slice_get (types_before m d) at) → Follows r t (ordered (edges_after p i s)) → IsErrOf r Memory
+      → IsSome (edges_step m d at s)
   step_meets p found (Ok done) t was e f h = cc (h)
   step_meets p found (Err Need) t was e f h = cc (h)
   step_meets p found (Err Memory) t was e f h = subst (λ (o : Option (List Edge)). IsSome o) (sym (step_is p found was e)) f

@@ -34,7 +34,8 @@ small_position p m n i found h home same bounds fits at some =
         omega (arith, few, low)
 
 -- a signature has at most 64 types
-pub short_signature : {R : Type 0} (now : R → List Token) (found : Option R) (version : ℕ) (all : List (List Token)) (i : ℕ) → option_map now found ≡ slice_get all i → list_all (signature_fits version) all ≡ true → IfSome found (λ r. length (now r) ≤ 64)
+pub short_signature : {R : Type 0} (now : R → List Token) (found : Option R) (version : ℕ) (all : List (List Token)) (i : ℕ)
+    → option_map now found ≡ slice_get all i → list_all (signature_fits version) all ≡ true → IfSome found (λ r. length (now r) ≤ 64)
 short_signature now None version all i at fits = tt
 short_signature now (Some r) version all i at fits =
     leb-true (length (now r)) 64 (and_parts (nat_le (length (now r)) 64) (list_all (token_fits version) (now r)) (all_at (signature_fits version) all i (now r) fits (sym at))).0

@@ -8,7 +8,9 @@ use Rattle.mv_move_types.specs.declared.borrow.Node.TheVariants.{Slot, Own, Glob
 use Rattle.mv_move_types.specs.declared.token.Token.{Token}
 use Rattle.mv_move_types.specs.declared.token.Token.TheVariants.{Plain, Reference, MutableReference}
 use Rattle.mv_move_types.specs.declared.instruction.Instruction.{Instruction}
-use Rattle.mv_move_types.specs.declared.instruction.Instruction.TheVariants.{Pop, Ret, CopyLoc, MoveLoc, StLoc, MutBorrowLoc, ImmBorrowLoc, MutBorrowField, ImmBorrowField, Call, ReadRef, WriteRef, MutBorrowGlobal, ImmBorrowGlobal, MoveFrom, MoveTo, FreezeRef}
+use Rattle.mv_move_types.specs.declared.instruction.Instruction.TheVariants.{Pop, Ret, CopyLoc, MoveLoc, StLoc, MutBorrowLoc, ImmBorrowLoc}
+use Rattle.mv_move_types.specs.declared.instruction.Instruction.TheVariants.{MutBorrowField, ImmBorrowField, Call, ReadRef, WriteRef, MutBorrowGlobal}
+use Rattle.mv_move_types.specs.declared.instruction.Instruction.TheVariants.{ImmBorrowGlobal, MoveFrom, MoveTo, FreezeRef}
 use Rattle.mv_move_types.specs.Options.{◌>>=◌}
 use Rattle.mv_move_types.specs.Module.{local_type, own_acquires}
 use Rattle.mv_type_states.specs.TypesHold.{Point}

@@ -194,7 +194,8 @@ impl<'t, 'm> Domain for BorrowDomain<'t, 'm> {
         ensures left { IfOk result (λ c. IsTrue (edges_leq a.now c)) }
         ensures right { IfOk result (λ c. IsTrue (edges_leq b.now c)) }
         ensures least { IfOk result (λ c. (u : List EdgeRecord) → IsTrue (are_ascending u) → IsTrue (edges_leq a.now u) → IsTrue (edges_leq b.now u) → IsTrue (edges_leq c u)) }
-        ensures begins { IfOk result (λ c. IsTrue (may_begin_with self.now.home self.now.function a.now) → IsTrue (may_begin_with self.now.home self.now.function b.now) → IsTrue (may_begin_with self.now.home self.now.function c)) }
+        ensures begins { IfOk result (λ c. IsTrue (may_begin_with self.now.home self.now.function a.now)
+            → IsTrue (may_begin_with self.now.home self.now.function b.now) → IsTrue (may_begin_with self.now.home self.now.function c)) }
     {
         Edges::join(alloc, a, b)
     }

@@ -32,7 +32,8 @@ module _ (m : Module) (bounds : InBounds m) (places : List (Option ℕ)) (p : Ar
       let parts = and_parts (field_in m f) (list_all (field_in m) fields) inside in
       ap₂ (λ o xs. cons_option o xs) (place_same f.token (and_parts _ _ parts.0).1) (held_same fields parts.1)
 
-  all_held : (structs : List StructDefinition) → list_all (struct_in m) structs ≡ true → map (λ (d : StructDefinition). places_of places d.fields) structs ≡ map (λ (d : StructDefinition). held_by m d.fields) structs
+  all_held : (structs : List StructDefinition) → list_all (struct_in m) structs ≡ true
+      → map (λ (d : StructDefinition). places_of places d.fields) structs ≡ map (λ (d : StructDefinition). held_by m d.fields) structs
   all_held [] inside = refl
   all_held (d ∷ structs) inside =
       let parts = and_parts (struct_in m d) (list_all (struct_in m) structs) inside in

@@ -1,5 +1,6 @@
 -- Counts of a graph's edges by the node that they lead to, and the nodes that no edge leads to.
-use Rattle.std.proofs.Common.{◌≡◌, ℕ, ◌+◌, ◌<◌, ◌≤◌, true, cond, List, [], ◌∷◌, ◌++◌, length, get_or, set, take, map, refl, sym, ap, ◌∙◌, subst, arith, inl, inr, nat_lt, Vec, Global, get_or-set_same, get_or-set_other}
+use Rattle.std.proofs.Common.{◌≡◌, ℕ, ◌+◌, ◌<◌, ◌≤◌, true, cond, List, [], ◌∷◌, ◌++◌, length, get_or, set, take, map, refl, sym, ap, ◌∙◌, subst}
+use Rattle.std.proofs.Common.{arith, inl, inr, nat_lt, Vec, Global, get_or-set_same, get_or-set_other}
 use Rattle.std.proofs.lemmas.Bool.{cases_eq, cases_lt, and_from, lt-ltb, le-ltb}
 use Rattle.std.proofs.lemmas.List.{map_more}
 use Rattle.std.proofs.lemmas.List.Folds.{list_all-append}
@@ -8,7 +9,10 @@ use Rattle.mv_bounds.proofs.TimesLemmas.{times_push, times_more, is_one, is_none
 use Rattle.mv_bounds.proofs.EdgeLemmas.{edges_more}
 
 -- one target more, which is a node
-pub count_hit : (old counts after targets : List ℕ) (k x : ℕ) → ((j : ℕ) → j < length counts → get_or counts j 0 ≡ get_or old j 0 + times j (take k targets)) → k < length targets → x ≡ get_or targets k 0 → x < length counts → after ≡ set counts x (get_or counts x 0 + 1) → (j : ℕ) → j < length counts → get_or after j 0 ≡ get_or old j 0 + times j (take (k + 1) targets)
+pub count_hit : (old counts after targets : List ℕ) (k x : ℕ)
+    → ((j : ℕ) → j < length counts → get_or counts j 0 ≡ get_or old j 0 + times j (take k targets)) → k < length targets → x ≡ get_or targets k 0
+    → x < length counts → after ≡ set counts x (get_or counts x 0 + 1) → (j : ℕ) → j < length counts
+    → get_or after j 0 ≡ get_or old j 0 + times j (take (k + 1) targets)
 count_hit old counts after targets k x held low is inside wrote j l =
     let more = times_more j targets k x low is in
     let here = held j l in
@@ -25,7 +29,10 @@ count_hit old counts after targets k x held low is inside wrote j l =
     ]
 
 -- one target more, which is none
-pub count_miss : (old counts after targets : List ℕ) (k x : ℕ) → ((j : ℕ) → j < length counts → get_or counts j 0 ≡ get_or old j 0 + times j (take k targets)) → k < length targets → x ≡ get_or targets k 0 → length counts ≤ x → after ≡ counts → (j : ℕ) → j < length counts → get_or after j 0 ≡ get_or old j 0 + times j (take (k + 1) targets)
+pub count_miss : (old counts after targets : List ℕ) (k x : ℕ)
+    → ((j : ℕ) → j < length counts → get_or counts j 0 ≡ get_or old j 0 + times j (take k targets)) → k < length targets → x ≡ get_or targets k 0
+    → length counts ≤ x → after ≡ counts → (j : ℕ) → j < length counts
+    → get_or after j 0 ≡ get_or old j 0 + times j (take (k + 1) targets)
 count_miss old counts after targets k x held low is past kept j l =
     let more = times_more j targets k x low is in
     let here = held j l in
@@ -34,7 +41,8 @@ count_miss old counts after targets k x held low is past kept j l =
     omega (arith, more, none, here, there)
 
 -- the edges of one node more
-pub incoming_more : (graph : List (Vec ℕ Global)) (k j : ℕ) (targets : Vec ℕ Global) → k < length graph → targets ≡ get_or graph k targets → edges_to (map (λ (s : Vec ℕ Global). s.items) (take (k + 1) graph)) [] j ≡ edges_to (map (λ (s : Vec ℕ Global). s.items) (take k graph)) [] j + times j targets.items
+pub incoming_more : (graph : List (Vec ℕ Global)) (k j : ℕ) (targets : Vec ℕ Global) → k < length graph → targets ≡ get_or graph k targets
+    → edges_to (map (λ (s : Vec ℕ Global). s.items) (take (k + 1) graph)) [] j ≡ edges_to (map (λ (s : Vec ℕ Global). s.items) (take k graph)) [] j + times j targets.items
 incoming_more graph k j targets low is =
     ap (λ g. edges_to g [] j) (map_more (λ (s : Vec ℕ Global). s.items) graph k targets low)
     ∙ edges_more (map (λ (s : Vec ℕ Global). s.items) (take k graph)) (get_or graph k targets).items j
@@ -48,7 +56,10 @@ module _ (waiting ready : List ℕ) (node : ℕ) (held : (j : ℕ) → times j r
   not_yet : (j n : ℕ) → n ≤ j → cond (nat_lt j n) (is_zero (get_or waiting j 0)) 0 ≡ 0
   not_yet j n l = ap (λ b. cond b (is_zero (get_or waiting j 0)) 0) (le-ltb j n l)
 
-  step : (ready' : List ℕ) (b : ℕ) → is_zero (get_or waiting node 0) ≡ b → ((j : ℕ) → (node ≡ j → times j ready' ≡ times j ready + b) × ((node ≡ j → ⊥) → times j ready' ≡ times j ready)) → (j : ℕ) → times j ready' ≡ cond (nat_lt j (node + 1)) (is_zero (get_or waiting j 0)) 0
+  step : (ready' : List ℕ) (b : ℕ) → is_zero (get_or waiting node 0) ≡ b
+      → ((j : ℕ) → (node ≡ j → times j ready' ≡ times j ready + b) × ((node ≡ j → ⊥) → times j ready' ≡ times j ready))
+      → (j : ℕ)
+      → times j ready' ≡ cond (nat_lt j (node + 1)) (is_zero (get_or waiting j 0)) 0
   step ready' b is grows j =
       let before = held j in
       elim (cases_eq node j) [

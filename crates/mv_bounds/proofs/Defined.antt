@@ -1,5 +1,7 @@
 -- Handles with one definition each.
-use Rattle.std.proofs.Common.{◌≡◌, ℕ, zero, suc, ◌+◌, ◌<◌, ◌≤◌, Bool, true, false, cond, ◌==◌, ◌&&◌, List, [], ◌∷◌, length, get_or, set, take, count_by, map, slice_get, Result, sym, refl, ap, subst, ◌∙◌, inl, inr, eq-eqb, ne_eqb, length-set, length-take-le, get_or-set_same, get_or-set_other, arith}
+use Rattle.std.proofs.Common.{◌≡◌, ℕ, zero, suc, ◌+◌, ◌<◌, ◌≤◌, Bool, true, false, cond, ◌==◌, ◌&&◌, List, [], ◌∷◌, length, get_or, set, take}
+use Rattle.std.proofs.Common.{count_by, map, slice_get, Result, sym, refl, ap, subst, ◌∙◌, inl, inr, eq-eqb, ne_eqb, length-set, length-take-le}
+use Rattle.std.proofs.Common.{get_or-set_same, get_or-set_other, arith}
 use mir.Val.{bool_byte}
 use Rattle.std.specs.Result.{IfOk}
 use Rattle.std.specs.Option.{option_map_or}
@@ -15,7 +17,8 @@ pub record Counted (counts items : List ℕ) (n i : ℕ) : Type 0 where
   pub each : (k : ℕ) → k < n → get_or counts k 0 ≡ count_by (λ x. x == k) (take i items)
 
 -- one item more, which is a number below n
-pub counted_hit : (counts items : List ℕ) (n i at count : ℕ) (after : List ℕ) → Counted counts items n i → i < length items → at ≡ get_or items i 0 → at < n → count ≡ get_or counts at count → after ≡ set counts at (count + 1) → Counted after items n (i + 1)
+pub counted_hit : (counts items : List ℕ) (n i at count : ℕ) (after : List ℕ) → Counted counts items n i → i < length items → at ≡ get_or items i 0
+    → at < n → count ≡ get_or counts at count → after ≡ set counts at (count + 1) → Counted after items n (i + 1)
 counted_hit counts items n i at count after c inside here low is wrote =
     let low' : at < length counts = omega (arith, c.len) in
     let at_here : get_or after at 0 ≡ count_by (λ x. x == at) (take (i + 1) items) =
@@ -78,7 +81,9 @@ home_at home (x ∷ xs) zero = refl
 home_at home (x ∷ xs) (suc h) = home_at home xs h
 
 -- what was answered of the homes, of the handles that have them
-pub answer_of_homes : {H E : Type 0} (home : H → ℕ) (handles : List H) (homes : List ℕ) (own' own : ℕ) (given defined : List ℕ) (r : Result Bool E) → homes ≡ map home handles → own' ≡ own → given ≡ defined → IfOk r (λ b. b ≡ defined_once (λ h. get_or homes h 0) own' (length homes) given) → IfOk r (λ b. b ≡ defined_once (λ h. option_map_or home (slice_get handles h) 0) own (length handles) defined)
+pub answer_of_homes : {H E : Type 0} (home : H → ℕ) (handles : List H) (homes : List ℕ) (own' own : ℕ) (given defined : List ℕ) (r : Result Bool E)
+    → homes ≡ map home handles → own' ≡ own → given ≡ defined → IfOk r (λ b. b ≡ defined_once (λ h. get_or homes h 0) own' (length homes) given)
+    → IfOk r (λ b. b ≡ defined_once (λ h. option_map_or home (slice_get handles h) 0) own (length handles) defined)
 answer_of_homes home handles homes own' own given defined r eh eo ed k =
     IfOk-weaker r (λ b. b ≡ defined_once (λ h. get_or homes h 0) own' (length homes) given)
     (λ b. b ≡ defined_once (λ h. option_map_or home (slice_get handles h) 0) own (length handles) defined)

@@ -44,12 +44,14 @@ all_differ_mapped f eq (x ∷ xs) =
     ∙ ap (λ r. not (list_any (λ y. eq (f x) (f y)) xs) && r) (all_differ_mapped f eq xs)
 
 -- what was answered of the keys, of the entries that have them
-pub answer_of_keys : {X K E : Type 0} (f : X → K) (eq : K → K → Bool) (xs : List X) (keys : List K) (r : Result Bool E) → keys ≡ map f xs → IfOk r (λ b. b ≡ all_differ eq keys) → IfOk r (λ b. b ≡ all_differ (λ a b. eq (f a) (f b)) xs)
+pub answer_of_keys : {X K E : Type 0} (f : X → K) (eq : K → K → Bool) (xs : List X) (keys : List K) (r : Result Bool E) → keys ≡ map f xs
+    → IfOk r (λ b. b ≡ all_differ eq keys) → IfOk r (λ b. b ≡ all_differ (λ a b. eq (f a) (f b)) xs)
 answer_of_keys f eq xs keys r e h =
     IfOk-weaker r (λ b. b ≡ all_differ eq keys) (λ b. b ≡ all_differ (λ a b. eq (f a) (f b)) xs) (λ b k. k ∙ ap (all_differ eq) e ∙ all_differ_mapped f eq xs) h
 
 -- what is left begins with an entry that does not
-pub first_differs : {X : Type 0} (same : X → X → Bool) (xs left : List X) (x : X) (others : List X) → all_differ same xs ≡ all_differ same left → left ≡ x ∷ others → list_any (same x) others ≡ false → all_differ same xs ≡ all_differ same others
+pub first_differs : {X : Type 0} (same : X → X → Bool) (xs left : List X) (x : X) (others : List X) → all_differ same xs ≡ all_differ same left
+    → left ≡ x ∷ others → list_any (same x) others ≡ false → all_differ same xs ≡ all_differ same others
 first_differs same xs left x others all begins here =
     all ∙ ap (all_differ same) begins ∙ ap (λ b. not b && all_differ same others) here
 
@@ -60,7 +62,9 @@ all_differ_alike same other (x ∷ xs) e =
     ap₂ (λ b c. not b && c) (any_alike (same x) (other x) xs (e x)) (all_differ_alike same other xs e)
 
 -- what was answered of keys, of the entries whose keys they are, where equal keys tell equal entries
-pub answer_by_keys : {X K V E : Type 0} (now : K → V) (key : X → V) (eq : V → V → Bool) (same : X → X → Bool) (keys : List K) (xs : List X) (r : Result Bool E) → map now keys ≡ map key xs → ((x y : X) → eq (key x) (key y) ≡ same x y) → IfOk r (λ b. b ≡ all_differ (λ k l. eq (now k) (now l)) keys) → IfOk r (λ b. b ≡ all_differ same xs)
+pub answer_by_keys : {X K V E : Type 0} (now : K → V) (key : X → V) (eq : V → V → Bool) (same : X → X → Bool) (keys : List K) (xs : List X) (r : Result Bool E)
+    → map now keys ≡ map key xs → ((x y : X) → eq (key x) (key y) ≡ same x y) → IfOk r (λ b. b ≡ all_differ (λ k l. eq (now k) (now l)) keys)
+    → IfOk r (λ b. b ≡ all_differ same xs)
 answer_by_keys now key eq same keys xs r are tell h =
     IfOk-weaker r (λ b. b ≡ all_differ (λ k l. eq (now k) (now l)) keys) (λ b. b ≡ all_differ same xs)
     (λ b e. e ∙ sym (all_differ_mapped now eq keys) ∙ ap (all_differ eq) are ∙ all_differ_mapped key eq xs ∙ all_differ_alike (λ x y. eq (key x) (key y)) same xs tell) h

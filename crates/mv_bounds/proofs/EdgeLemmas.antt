@@ -1,5 +1,6 @@
 -- Edges from nodes that are not removed, and chains of edges.
-use Rattle.std.proofs.Common.{◌≡◌, ℕ, zero, suc, ◌+◌, ◌<◌, Bool, true, false, cond, List, [], ◌∷◌, ◌++◌, length, get_or, set, slice_get, Some, refl, sym, ap, ◌∙◌, subst, arith, Contains, inl, inr, ◌⊎◌, replicate}
+use Rattle.std.proofs.Common.{◌≡◌, ℕ, zero, suc, ◌+◌, ◌<◌, Bool, true, false, cond, List, [], ◌∷◌, ◌++◌, length, get_or, set, slice_get, Some, refl}
+use Rattle.std.proofs.Common.{sym, ap, ◌∙◌, subst, arith, Contains, inl, inr, ◌⊎◌, replicate}
 use Rattle.std.proofs.lemmas.Bool.{false≢true, cases_eq, cases_lt}
 use Rattle.std.proofs.lemmas.Option.{none-some, same_Some, slice_get_within}
 use Rattle.mv_bounds.specs.Cycles.{LeadsTo, directly, further}
@@ -7,7 +8,9 @@ use Rattle.mv_bounds.specs.Removal.{times, edges_to}
 use Rattle.mv_bounds.proofs.TimesLemmas.{times_of, contains_from_times}
 
 -- a node that is removed takes its edges with it
-pub edges_removed : (graph : List (List ℕ)) (removed : List Bool) (i j : ℕ) (successors : List ℕ) → length removed ≡ length graph → get_or removed i false ≡ false → slice_get graph i ≡ Some successors → edges_to graph removed j ≡ edges_to graph (set removed i true) j + times j successors
+pub edges_removed : (graph : List (List ℕ)) (removed : List Bool) (i j : ℕ) (successors : List ℕ) → length removed ≡ length graph
+    → get_or removed i false ≡ false → slice_get graph i ≡ Some successors
+    → edges_to graph removed j ≡ edges_to graph (set removed i true) j + times j successors
 edges_removed [] removed i j s len unmarked at = absurd (none-some s at)
 edges_removed (s0 ∷ graph) [] i j s len unmarked at = absurd (omega (arith, len))
 edges_removed (s0 ∷ graph) (r ∷ removed) zero j s len unmarked at =
@@ -19,7 +22,8 @@ edges_removed (s0 ∷ graph) (r ∷ removed) (suc i) j s len unmarked at =
     omega (arith, rest)
 
 -- where no edge leads to a node, each that has one to it is removed
-pub removed_before : (graph : List (List ℕ)) (removed : List Bool) (i j : ℕ) (successors : List ℕ) → edges_to graph removed j ≡ 0 → slice_get graph i ≡ Some successors → Contains successors j → get_or removed i false ≡ true
+pub removed_before : (graph : List (List ℕ)) (removed : List Bool) (i j : ℕ) (successors : List ℕ) → edges_to graph removed j ≡ 0
+    → slice_get graph i ≡ Some successors → Contains successors j → get_or removed i false ≡ true
 removed_before [] removed i j s none at has = absurd (none-some s at)
 removed_before (s0 ∷ graph) [] zero j s none at has =
     let here = times_of j s has in

@@ -30,13 +30,15 @@ missing xs i e low =
     elim (slice_get_cases xs i).1 [ inl p ↦ none-some p.0 (e ∙ p.2) | inr p ↦ omega (arith, low, p.0) ]
 
 -- one entry more of those whose values were gathered
-pub gather_more : {A B X : Type 0} (f : A → B) (g : X → B) (read : List A) (xs : List X) (i : ℕ) (a : A) (x : X) → map f read ≡ map g (take i xs) → i < length xs → x ≡ get_or xs i x → f a ≡ g x → map f (read ++ a ∷ []) ≡ map g (take (i + 1) xs)
+pub gather_more : {A B X : Type 0} (f : A → B) (g : X → B) (read : List A) (xs : List X) (i : ℕ) (a : A) (x : X) → map f read ≡ map g (take i xs)
+    → i < length xs → x ≡ get_or xs i x → f a ≡ g x → map f (read ++ a ∷ []) ≡ map g (take (i + 1) xs)
 gather_more f g read xs i a x before low here same =
     map-append f read (a ∷ []) ∙ ap₂ (λ ys y. ys ++ y ∷ []) before (same ∙ ap g here)
     ∙ sym (map-append g (take i xs) (get_or xs i x ∷ [])) ∙ ap (map g) (sym (take_more xs i x low))
 
 -- the same, of an entry that was asked for
-pub gather_asked : {A B X : Type 0} (f : A → B) (g : X → B) (read : List A) (xs : List X) (i : ℕ) (a : A) (x : X) → map f read ≡ map g (take i xs) → Some x ≡ slice_get xs i → f a ≡ g x → map f (read ++ a ∷ []) ≡ map g (take (i + 1) xs)
+pub gather_asked : {A B X : Type 0} (f : A → B) (g : X → B) (read : List A) (xs : List X) (i : ℕ) (a : A) (x : X) → map f read ≡ map g (take i xs)
+    → Some x ≡ slice_get xs i → f a ≡ g x → map f (read ++ a ∷ []) ≡ map g (take (i + 1) xs)
 gather_asked f g read xs i a x before e same =
     gather_more f g read xs i a x before (slice_get_within xs i x (sym e)) (sym (get_or_from_slice_get xs i x x (sym e))) same
 

@@ -47,13 +47,16 @@ module _ (m : Module) (bounds : InBounds m) where
       let below = signatures_below d.handle h handle in
       record { definition = at; handle = handle; parameters = below.0; results = below.1; locals = (handle_below f d at).1 }
 
-pub parameters_are : (m : Module) (f : ℕ) (d : FunctionDefinition) (h : FunctionHandle) (ts : List Token) → IsDefined m f d h → slice_get m.signatures h.parameters ≡ Some ts → IfSome (slice_get m.functions f) (λ d. parameter_tokens m d ≡ Some ts)
+pub parameters_are : (m : Module) (f : ℕ) (d : FunctionDefinition) (h : FunctionHandle) (ts : List Token) → IsDefined m f d h
+    → slice_get m.signatures h.parameters ≡ Some ts → IfSome (slice_get m.functions f) (λ d. parameter_tokens m d ≡ Some ts)
 parameters_are m f d h ts is there = rw (is.definition, is.handle) there
 
-pub results_are : (m : Module) (f : ℕ) (d : FunctionDefinition) (h : FunctionHandle) (ts : List Token) → IsDefined m f d h → slice_get m.signatures h.results ≡ Some ts → IfSome (slice_get m.functions f) (λ d. result_tokens m d ≡ Some ts)
+pub results_are : (m : Module) (f : ℕ) (d : FunctionDefinition) (h : FunctionHandle) (ts : List Token) → IsDefined m f d h
+    → slice_get m.signatures h.results ≡ Some ts → IfSome (slice_get m.functions f) (λ d. result_tokens m d ≡ Some ts)
 results_are m f d h ts is there = rw (is.definition, is.handle) there
 
-pub others_are : (m : Module) (f : ℕ) (d : FunctionDefinition) (h : FunctionHandle) (ts : List Token) → IsDefined m f d h → slice_get m.signatures d.locals ≡ Some ts → IfSome (slice_get m.functions f) (λ d. slice_get m.signatures d.locals ≡ Some ts)
+pub others_are : (m : Module) (f : ℕ) (d : FunctionDefinition) (h : FunctionHandle) (ts : List Token) → IsDefined m f d h
+    → slice_get m.signatures d.locals ≡ Some ts → IfSome (slice_get m.functions f) (λ d. slice_get m.signatures d.locals ≡ Some ts)
 others_are m f d h ts is there = rw is.definition there
 
 -- parameters and other locals are all locals
@@ -65,16 +68,23 @@ tokens_are m d ps os parameters others = by_handle (slice_get m.function_handles
     by_handle None e = cc
     by_handle (Some h) e = rw (e, others) refl
 
-pub count_is : (m : Module) (f : ℕ) (ps os : List Token) → IfSome (slice_get m.functions f) (λ d. parameter_tokens m d ≡ Some ps) → IfSome (slice_get m.functions f) (λ d. slice_get m.signatures d.locals ≡ Some os) → IfSome (slice_get m.functions f) (λ d. length ps + length os ≡ local_count m d)
+pub count_is : (m : Module) (f : ℕ) (ps os : List Token) → IfSome (slice_get m.functions f) (λ d. parameter_tokens m d ≡ Some ps)
+    → IfSome (slice_get m.functions f) (λ d. slice_get m.signatures d.locals ≡ Some os)
+    → IfSome (slice_get m.functions f) (λ d. length ps + length os ≡ local_count m d)
 count_is m f ps os parameters others = by_function (slice_get m.functions f) parameters others
   where
-    by_function : (o : Option FunctionDefinition) → IfSome o (λ d. parameter_tokens m d ≡ Some ps) → IfSome o (λ d. slice_get m.signatures d.locals ≡ Some os) → IfSome o (λ d. length ps + length os ≡ local_count m d)
+    by_function : (o : Option FunctionDefinition) → IfSome o (λ d. parameter_tokens m d ≡ Some ps)
+        → IfSome o (λ d. slice_get m.signatures d.locals ≡ Some os) → IfSome o (λ d. length ps + length os ≡ local_count m d)
     by_function None p o = tt
     by_function (Some d) p o = rw (tokens_are m d ps os p o) (sym (length-append ps os))
 
-pub local_is : (m : Module) (f l : ℕ) (ps os : List Token) (found : Option Token) → IfSome (slice_get m.functions f) (λ d. parameter_tokens m d ≡ Some ps) → IfSome (slice_get m.functions f) (λ d. slice_get m.signatures d.locals ≡ Some os) → found ≡ slice_get (ps ++ os) l → IfSome (slice_get m.functions f) (λ d. found ≡ local_type m d l)
+pub local_is : (m : Module) (f l : ℕ) (ps os : List Token) (found : Option Token)
+    → IfSome (slice_get m.functions f) (λ d. parameter_tokens m d ≡ Some ps)
+    → IfSome (slice_get m.functions f) (λ d. slice_get m.signatures d.locals ≡ Some os) → found ≡ slice_get (ps ++ os) l
+    → IfSome (slice_get m.functions f) (λ d. found ≡ local_type m d l)
 local_is m f l ps os found parameters others is = by_function (slice_get m.functions f) parameters others
   where
-    by_function : (o : Option FunctionDefinition) → IfSome o (λ d. parameter_tokens m d ≡ Some ps) → IfSome o (λ d. slice_get m.signatures d.locals ≡ Some os) → IfSome o (λ d. found ≡ local_type m d l)
+    by_function : (o : Option FunctionDefinition) → IfSome o (λ d. parameter_tokens m d ≡ Some ps)
+        → IfSome o (λ d. slice_get m.signatures d.locals ≡ Some os) → IfSome o (λ d. found ≡ local_type m d l)
     by_function None p o = tt
     by_function (Some d) p o = rw (tokens_are m d ps os p o) is

@@ -1,5 +1,7 @@
 -- The first definition of each handle.
-use Rattle.std.proofs.Common.{◌≡◌, ℕ, suc, ◌+◌, ◌<◌, ◌≤◌, ◌==◌, Bool, true, false, cond, List, [], ◌∷◌, length, map, take, set, Option, Some, None, option_map, get_or, IfSome, refl, sym, ap, ◌∙◌, arith, inl, inr, length-set, get_or-set_same, get_or-set_other, eq-eqb, ne_eqb}
+use Rattle.std.proofs.Common.{◌≡◌, ℕ, suc, ◌+◌, ◌<◌, ◌≤◌, ◌==◌, Bool, true, false, cond, List, [], ◌∷◌, length, map, take, set, Option, Some, None}
+use Rattle.std.proofs.Common.{option_map, get_or, IfSome, refl, sym, ap, ◌∙◌, arith, inl, inr, length-set, get_or-set_same, get_or-set_other, eq-eqb}
+use Rattle.std.proofs.Common.{ne_eqb}
 use Rattle.std.specs.List.{list_all}
 use Rattle.std.proofs.lemmas.Bool.{and_parts, ltb-true, cases_eq, cases_lt}
 use Rattle.std.proofs.lemmas.List.{get_or_past}
@@ -23,7 +25,8 @@ find-other defined i d h low is ne = by_found (find_index (is_of h) (take i defi
     by_found (Some k) e = e ∙ sym (find-kept (is_of h) defined i k e)
 
 -- a definition that is the first of its handle
-pub places_new : (defined : List ℕ) (n i : ℕ) (places after : List (Option ℕ)) (at : ℕ) → ArePlaces (take i defined) n places → i < length defined → at ≡ get_or defined i at → at < n → get_or places at None ≡ None → after ≡ set places at (Some i) → ArePlaces (take (i + 1) defined) n after
+pub places_new : (defined : List ℕ) (n i : ℕ) (places after : List (Option ℕ)) (at : ℕ) → ArePlaces (take i defined) n places → i < length defined
+    → at ≡ get_or defined i at → at < n → get_or places at None ≡ None → after ≡ set places at (Some i) → ArePlaces (take (i + 1) defined) n after
 places_new defined n i places after at p low is inside free wrote =
     record {
       len = ap length wrote ∙ length-set places at (Some i) ∙ p.len;
@@ -37,7 +40,8 @@ places_new defined n i places after at p low is inside free wrote =
     }
 
 -- a definition whose handle has one before, or is none
-pub places_kept : (defined : List ℕ) (n i : ℕ) (places after : List (Option ℕ)) (at : ℕ) → ArePlaces (take i defined) n places → i < length defined → at ≡ get_or defined i at → (at < n → (k : ℕ) × (get_or places at None ≡ Some k)) → after ≡ places → ArePlaces (take (i + 1) defined) n after
+pub places_kept : (defined : List ℕ) (n i : ℕ) (places after : List (Option ℕ)) (at : ℕ) → ArePlaces (take i defined) n places → i < length defined
+    → at ≡ get_or defined i at → (at < n → (k : ℕ) × (get_or places at None ≡ Some k)) → after ≡ places → ArePlaces (take (i + 1) defined) n after
 places_kept defined n i places after at p low is taken kept =
     record {
       len = ap length kept ∙ p.len;
@@ -75,7 +79,8 @@ found-below p xs None e = tt
 found-below p xs (Some k) e = find-below p xs k (sym e)
 
 -- a handle past the table defines no function
-find-past : (m : Module) (h : ℕ) → length m.function_handles ≤ h → (ds : List FunctionDefinition) → list_all (function_in m) ds ≡ true → find_index (λ (d : FunctionDefinition). d.handle == h) ds ≡ None
+find-past : (m : Module) (h : ℕ) → length m.function_handles ≤ h → (ds : List FunctionDefinition) → list_all (function_in m) ds ≡ true
+    → find_index (λ (d : FunctionDefinition). d.handle == h) ds ≡ None
 find-past m h past [] inside = refl
 find-past m h past (d ∷ ds) inside =
     let all = and_parts (function_in m d) (list_all (function_in m) ds) inside in
@@ -87,7 +92,8 @@ find-past m h past (d ∷ ds) inside =
     ap (λ b. cond b (Some 0) (option_map suc (find_index (λ (d : FunctionDefinition). d.handle == h) ds))) other ∙ ap (option_map suc) (find-past m h past ds all.1)
 
 -- the table leads from each handle to the function that it defines
-pub function_at : (m : Module) → InBounds m → (places : List (Option ℕ)) → AreFunctionPlaces m places → (h : ℕ) → get_or places h None ≡ find_index (λ (d : FunctionDefinition). d.handle == h) m.functions
+pub function_at : (m : Module) → InBounds m → (places : List (Option ℕ)) → AreFunctionPlaces m places
+    → (h : ℕ) → get_or places h None ≡ find_index (λ (d : FunctionDefinition). d.handle == h) m.functions
 function_at m bounds places p h = elim (cases_lt h (length m.function_handles)) [
   | inl low ↦ p.each h low ∙ find-map (λ (d : FunctionDefinition). d.handle) (is_of h) m.functions
   | inr past ↦ get_or_past places h None (omega (arith, past, p.len)) ∙ sym (find-past m h past m.functions bounds.functions)

@@ -6,7 +6,8 @@ use Rattle.mv_bounds.specs.Removal.{times, is_zero, Released}
 use Rattle.mv_bounds.proofs.TimesLemmas.{times_push, times_more, times_take, is_one, is_none, zero_is_one, other_is_none}
 
 -- a target that is no node
-pub released_past : (n : ℕ) (before after ready ready' targets : List ℕ) (k x : ℕ) → Released n before after ready ready' (take k targets) → k < length targets → x ≡ get_or targets k 0 → n ≤ x → Released n before after ready ready' (take (k + 1) targets)
+pub released_past : (n : ℕ) (before after ready ready' targets : List ℕ) (k x : ℕ) → Released n before after ready ready' (take k targets)
+    → k < length targets → x ≡ get_or targets k 0 → n ≤ x → Released n before after ready ready' (take (k + 1) targets)
 released_past n before after ready ready' targets k x r low is past =
     record {
       len = r.len;
@@ -20,7 +21,8 @@ released_past n before after ready ready' targets k x r low is past =
     }
 
 -- what is left to be taken away is among the edges
-pub one_left : (n : ℕ) (before after ready ready' targets : List ℕ) (k x : ℕ) → Released n before after ready ready' (take k targets) → k < length targets → x ≡ get_or targets k 0 → x < n → times x targets ≤ get_or before x 0 → 1 ≤ get_or after x 0
+pub one_left : (n : ℕ) (before after ready ready' targets : List ℕ) (k x : ℕ) → Released n before after ready ready' (take k targets)
+    → k < length targets → x ≡ get_or targets k 0 → x < n → times x targets ≤ get_or before x 0 → 1 ≤ get_or after x 0
 one_left n before after ready ready' targets k x r low is inside enough =
     let more = times_more x targets k x low is in
     let one = is_one x x refl in
@@ -28,7 +30,8 @@ one_left n before after ready ready' targets k x r low is inside enough =
     let c = r.edges x inside in
     omega (arith, more, one, most, c, enough)
 
-module _ (n : ℕ) (before after ready ready' targets : List ℕ) (k x count : ℕ) (r : Released n before after ready ready' (take k targets)) (low : k < length targets) (is : x ≡ get_or targets k 0) (inside : x < n) (held : get_or after x 0 ≡ count + 1) where
+module _ (n : ℕ) (before after ready ready' targets : List ℕ) (k x count : ℕ) (r : Released n before after ready ready' (take k targets))
+    (low : k < length targets) (is : x ≡ get_or targets k 0) (inside : x < n) (held : get_or after x 0 ≡ count + 1) where
   new_here : get_or (set after x count) x 0 ≡ count
   new_here = get_or-set_same after x count 0 (omega (arith, inside, r.len))
 

@@ -1,5 +1,7 @@
 -- Nodes are removed from a graph one by one, and all of them where no node leads to itself.
-use Rattle.std.proofs.Common.{◌≡◌, ◌↔◌, ℕ, zero, suc, ◌+◌, ◌<◌, ◌≤◌, ◌==◌, Bool, true, false, cond, List, [], ◌∷◌, ◌++◌, length, get_or, set, slice_get, Some, replicate, refl, sym, ap, ◌∙◌, subst, arith, inl, inr, nat_lt, length-set, get_or-set_same, get_or-set_other}
+use Rattle.std.proofs.Common.{◌≡◌, ◌↔◌, ℕ, zero, suc, ◌+◌, ◌<◌, ◌≤◌, ◌==◌, Bool, true, false, cond, List, [], ◌∷◌, ◌++◌, length, get_or, set}
+use Rattle.std.proofs.Common.{slice_get, Some, replicate, refl, sym, ap, ◌∙◌, subst, arith, inl, inr, nat_lt, length-set, get_or-set_same}
+use Rattle.std.proofs.Common.{get_or-set_other}
 use Rattle.std.specs.List.{list_all}
 use Rattle.std.proofs.lemmas.Bool.{cases_eq, and_parts, and_from, ltb-true, true_from_ne_false, false≢true}
 use Rattle.std.proofs.lemmas.List.{length-replicate, get_or-replicate}
@@ -11,7 +13,10 @@ use Rattle.mv_bounds.proofs.TimesLemmas.{times_push, is_one, is_none, zero_is_on
 use Rattle.mv_bounds.proofs.EdgeLemmas.{edges_removed, removed_before, one_before, unmarked_edges, last_edge, begins_within, none_remains, HasBefore, EndsBy}
 
 -- nothing is removed yet
-pub removal_begins : (graph : List (List ℕ)) (counts ready : List ℕ) (n : ℕ) → length counts ≡ length graph → n ≡ length graph → ((j : ℕ) → j < length graph → get_or counts j 0 ≡ edges_to graph [] j) → ((j : ℕ) → j < length counts → times j ready ≡ is_zero (get_or counts j 0)) → are_nodes (length counts) ready ≡ true → Removal graph counts (replicate n false) ready
+pub removal_begins : (graph : List (List ℕ)) (counts ready : List ℕ) (n : ℕ) → length counts ≡ length graph → n ≡ length graph
+    → ((j : ℕ) → j < length graph → get_or counts j 0 ≡ edges_to graph [] j)
+    → ((j : ℕ) → j < length counts → times j ready ≡ is_zero (get_or counts j 0)) → are_nodes (length counts) ready ≡ true
+    → Removal graph counts (replicate n false) ready
 removal_begins graph counts ready n len same edges sources nodes =
     record {
       counts_len = len;
@@ -92,7 +97,8 @@ module _ (graph : List (List ℕ)) (counts : List ℕ) (removed : List Bool) (re
           ]
 
   -- the node is removed with its edges
-  pub removal_more : (counts' ready' targets : List ℕ) → slice_get graph node ≡ Some targets → Released (length counts) counts counts' others ready' targets → Removal graph counts' (set removed node true) ready'
+  pub removal_more : (counts' ready' targets : List ℕ) → slice_get graph node ≡ Some targets
+      → Released (length counts) counts counts' others ready' targets → Removal graph counts' (set removed node true) ready'
   removal_more counts' ready' targets at gone =
       record {
         counts_len = gone.len ∙ r.counts_len;

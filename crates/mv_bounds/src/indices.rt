@@ -2,7 +2,8 @@
 ghost use Rattle.std.specs.Prelude.{◌≡◌, ◌↔◌, length, IsTrue};
 ghost use Rattle.std.specs.List.{list_all};
 ghost use Rattle.mv_move_types.specs.Module.{Constant as ConstantEntry};
-ghost use Rattle.mv_bounds.specs.Bounds.{InBounds, below, value_type_in, token_in, module_handle_in, struct_handle_in, function_handle_in, field_in, struct_in, field_handle_in, immediate_in, instruction_in, local_count, function_in};
+ghost use Rattle.mv_bounds.specs.Bounds.{InBounds, below, value_type_in, token_in, module_handle_in, struct_handle_in, function_handle_in, field_in};
+ghost use Rattle.mv_bounds.specs.Bounds.{struct_in, field_handle_in, immediate_in, instruction_in, local_count, function_in};
 
 use mv_binary_format::{FunctionDefinition, Module, StructDefinition};
 use mv_move_types::{
@@ -70,7 +71,9 @@ fn function_handle_in(m: &Module, h: FunctionHandle) -> bool
 fn function_handles_in(m: &Module) -> bool
     ensures { result ≡ list_all (function_handle_in m.now) m.now.function_handles }
 {
-    m.function_handles().iter().all(|h| function_handle_in(m, *h))
+    m.function_handles()
+        .iter()
+        .all(|h| function_handle_in(m, *h))
 }
 
 /// Whether a type's struct handle is there.
@@ -202,7 +205,8 @@ fn code_in(m: &Module, locals: usize, code: &[Instruction]) -> bool
     ensures { result ≡ list_all (instruction_in m.now locals (length code.now)) code.now }
 {
     let size = code.len();
-    code.iter().all(|i| immediate_in(m, locals, size, i.immediate()))
+    code.iter()
+        .all(|i| immediate_in(m, locals, size, i.immediate()))
 }
 
 /// Whether the struct definitions that a function says it reaches are there.

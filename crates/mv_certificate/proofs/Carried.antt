@@ -47,7 +47,8 @@ module _ (S : Type 0) (rule : Rule S) (step : ℕ → S → Option S) (R : S →
     where
       by_step : (o1 o2 : Option S) (o3 : Option Types) → types_after m d i types ≡ o3 → Alike R o1 o2
           → is_some (o3 >>= λ after. cond (nat_le (length after) 128) (types_through m d is after) None) ≡ true
-          → ((after : Types) (u v : S) → Stands (types_each m d is after) (types_before m d) (suc at) → is_some (types_through m d is after) ≡ true → R u v → Alike (Ends R) (carried step (suc at) (length is) u) (through rule m d is (v, after)))
+          → ((after : Types) (u v : S) → Stands (types_each m d is after) (types_before m d) (suc at) → is_some (types_through m d is after) ≡ true
+          → R u v → Alike (Ends R) (carried step (suc at) (length is) u) (through rule m d is (v, after)))
           → Alike (Ends R) (option_and_then (carried step (suc at) (length is)) o1) (o2 >>= λ known. o3 >>= λ ts. through rule m d is (known, ts))
       by_step None None o3 e a h on = tt
       by_step None (Some v) o3 e a h on = absurd a

@@ -1,5 +1,6 @@
 -- What is read of a function, and of the functions one after another.
-use Rattle.std.proofs.Common.{◌≡◌, ℕ, zero, suc, add-one, ◌+◌, ◌<◌, ◌≤◌, List, [], ◌∷◌, ◌++◌, length, map, flat_map, take, drop, get_or, refl, ap, sym, ◌∙◌, subst, arith, Some, None, slice_get, append_assoc, append-nil}
+use Rattle.std.proofs.Common.{◌≡◌, ℕ, zero, suc, add-one, ◌+◌, ◌<◌, ◌≤◌, List, [], ◌∷◌, ◌++◌, length, map, flat_map, take, drop, get_or, refl, ap}
+use Rattle.std.proofs.Common.{sym, ◌∙◌, subst, arith, Some, None, slice_get, append_assoc, append-nil}
 use Rattle.std.proofs.lemmas.List.{take_all, take_more, drop_all}
 use Rattle.std.proofs.lemmas.Option.{none-some, same_Some, some_pair_parts, get_or_from_slice_get}
 use Rattle.std.proofs.lemmas.Grind.{flat_map-append}

@@ -1,5 +1,6 @@
 -- What is stated of a function holds exactly where the flow over its graph is closed.
-use Rattle.std.proofs.Common.{◌≡◌, ◌↔◌, ◌-◌, ◌&&◌, ℕ, zero, suc, Bool, true, false, List, [], ◌∷◌, ◌++◌, length, replicate, map, Option, Some, None, IsSome, IfSome, Err, IsErrOf, option_map, slice_get, slice_set, IsTrue, refl, ap, sym, ◌∙◌, subst, arith, ◌⊎◌, inl, inr}
+use Rattle.std.proofs.Common.{◌≡◌, ◌↔◌, ◌-◌, ◌&&◌, ℕ, zero, suc, Bool, true, false, List, [], ◌∷◌, ◌++◌, length, replicate, map, Option, Some, None}
+use Rattle.std.proofs.Common.{IsSome, IfSome, Err, IsErrOf, option_map, slice_get, slice_set, IsTrue, refl, ap, sym, ◌∙◌, subst, arith, ◌⊎◌, inl, inr}
 use Rattle.std.specs.Bool.{then_some}
 use Rattle.std.specs.Option.{option_map_or}
 use Rattle.std.proofs.lemmas.Bool.{and_parts, and_from, false≢true}
@@ -173,7 +174,8 @@ at_place : (m : Module) (f : ℕ) (d : FunctionDefinition) (P : FunctionDefiniti
     → P d ↔ ((x : FunctionDefinition) → slice_get m.functions f ≡ Some x → P x)
 at_place m f d P at = (λ p x e. subst P (same_Some d x (sym at ∙ e)) p, λ h. h d at)
 
-module _ (m m' : Module) (f : ℕ) (d d' : FunctionDefinition) (g : Cfg) (stated : Stated) (home : m' ≡ m) (at : slice_get m.functions f ≡ Some d) (at' : slice_get m.functions f ≡ Some d') (fg : IsFlowGraph d.code g) (typed : IsTrue (function_is_typed m d)) where
+module _ (m m' : Module) (f : ℕ) (d d' : FunctionDefinition) (g : Cfg) (stated : Stated) (home : m' ≡ m) (at : slice_get m.functions f ≡ Some d)
+    (at' : slice_get m.functions f ≡ Some d') (fg : IsFlowGraph d.code g) (typed : IsTrue (function_is_typed m d)) where
   same_function : d' ≡ d
   same_function = same_Some d' d (sym at' ∙ at)
 
@@ -224,6 +226,7 @@ refused_one n one all (Phase p) on h = (h.0, λ a. h.1 (on a))
 refused_one n one all Memory on h = tt
 
 -- a flow that is not accepted is refused in the phase
-pub refused_flow : (n : ℕ) (holds flow : Type 0) (e : StepError) (r : Refusal) → (holds → flow) → (IsErrOf {T = Unit {0}} (Err e) Need → flow → ⊥) → ((r ≡ Phase n) × (e ≡ Need)) ⊎ (r ≡ Memory) → IsRefusedIn n holds r
+pub refused_flow : (n : ℕ) (holds flow : Type 0) (e : StepError) (r : Refusal) → (holds → flow) → (IsErrOf {T = Unit {0}} (Err e) Need → flow → ⊥)
+    → ((r ≡ Phase n) × (e ≡ Need)) ⊎ (r ≡ Memory) → IsRefusedIn n holds r
 refused_flow n holds flow e r on never (inl p) = subst (IsRefusedIn n holds) (sym p.0) (refl, λ h. never (ap Err p.1) (on h))
 refused_flow n holds flow e r on never (inr q) = subst (IsRefusedIn n holds) (sym q) tt

@@ -1,5 +1,6 @@
 -- Reading the parts of a certificate one after another.
-use Rattle.std.proofs.Common.{◌≡◌, ℕ, ◌-◌, ◌+◌, ◌<◌, ◌≤◌, zero, List, [], ◌∷◌, ◌++◌, length, map, drop, get_or, drop-cons, Bool, true, false, true≢false, Option, Some, None, option_map, arith, refl, ap, suc, sym, subst, ◌∙◌, append_assoc, append-nil}
+use Rattle.std.proofs.Common.{◌≡◌, ℕ, ◌-◌, ◌+◌, ◌<◌, ◌≤◌, zero, List, [], ◌∷◌, ◌++◌, length, map, drop, get_or, drop-cons, Bool, true, false}
+use Rattle.std.proofs.Common.{true≢false, Option, Some, None, option_map, arith, refl, ap, suc, sym, subst, ◌∙◌, append_assoc, append-nil}
 use Rattle.std.specs.Prelude.{if◌then◌else◌}
 use Rattle.std.specs.Bool.{then_some}
 use Rattle.std.proofs.lemmas.Bool.{and_parts, and_from}

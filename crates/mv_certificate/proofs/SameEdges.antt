@@ -1,11 +1,14 @@
 -- The rules for borrows depend on which edges there are, and not on their order.
-use Rattle.std.proofs.Common.{◌≡◌, ℕ, ◌+◌, ◌-◌, flat_map, slice_get, ◌||◌, ◌&&◌, Bool, true, false, not, List, [], ◌∷◌, ◌++◌, length, map, filter, Option, Some, None, Contains, eqb, refl, ap, sym, ◌∙◌}
+use Rattle.std.proofs.Common.{◌≡◌, ℕ, ◌+◌, ◌-◌, flat_map, slice_get, ◌||◌, ◌&&◌, Bool, true, false, not, List, [], ◌∷◌, ◌++◌, length, map, filter}
+use Rattle.std.proofs.Common.{Option, Some, None, Contains, eqb, refl, ap, sym, ◌∙◌}
 use Rattle.std.specs.Bool.{then_some, Decides}
 use Rattle.std.specs.List.{list_any, list_all, Any}
 use Rattle.std.proofs.lemmas.Bool.Decides.{same_from_decides}
 use Rattle.std.proofs.lemmas.List.Folds.{fold_along, list_any-append, Any-from_list_any, list_any-from_Any}
 use Rattle.mv_move_types.specs.declared.instruction.Instruction.{Instruction}
-use Rattle.mv_move_types.specs.declared.instruction.Instruction.TheVariants.{Pop, Ret, CopyLoc, MoveLoc, StLoc, MutBorrowLoc, ImmBorrowLoc, MutBorrowField, ImmBorrowField, Call, ReadRef, WriteRef, MutBorrowGlobal, ImmBorrowGlobal, MoveFrom, MoveTo, FreezeRef}
+use Rattle.mv_move_types.specs.declared.instruction.Instruction.TheVariants.{Pop, Ret, CopyLoc, MoveLoc, StLoc, MutBorrowLoc, ImmBorrowLoc}
+use Rattle.mv_move_types.specs.declared.instruction.Instruction.TheVariants.{MutBorrowField, ImmBorrowField, Call, ReadRef, WriteRef, MutBorrowGlobal}
+use Rattle.mv_move_types.specs.declared.instruction.Instruction.TheVariants.{ImmBorrowGlobal, MoveFrom, MoveTo, FreezeRef}
 use Rattle.mv_move_types.specs.declared.token.Token.{Token}
 use Rattle.mv_move_types.specs.declared.token.Token.TheVariants.{Plain, Reference, MutableReference}
 use Rattle.mv_move_types.specs.declared.borrow.Node.{Node}
@@ -16,7 +19,10 @@ use Rattle.mv_edges.specs.Sorted.{sorted}
 use Rattle.mv_edges.proofs.Sorting.{any_filter, any_passes, contains-sorted}
 use Rattle.mv_type_states.specs.TypesHold.{Point}
 use Rattle.mv_move_types.specs.Module.{local_type, own_acquires}
-use Rattle.mv_borrow_graph.specs.BorrowRules.{edges_after, copy_edges, move_edges, store_edges, field_edges, mutable_field_edges, immutable_field_edges, position_of, call_edges, reference_nodes, without_all, opened_edges, result_edges, is_mutable_token, is_reference_token, no_edge_out, no_mutable_from, is_mutable, is_root_node, is_temp, next_temp, top_temp}
+use Rattle.mv_borrow_graph.specs.BorrowRules.{edges_after, copy_edges, move_edges, store_edges, field_edges, mutable_field_edges}
+use Rattle.mv_borrow_graph.specs.BorrowRules.{immutable_field_edges, position_of, call_edges, reference_nodes, without_all, opened_edges}
+use Rattle.mv_borrow_graph.specs.BorrowRules.{result_edges, is_mutable_token, is_reference_token, no_edge_out, no_mutable_from, is_mutable}
+use Rattle.mv_borrow_graph.specs.BorrowRules.{is_root_node, is_temp, next_temp, top_temp}
 use Rattle.mv_borrow_graph.specs.Domain.{ordered}
 use Rattle.mv_certificate.proofs.Carried.{Alike}
 
@@ -198,9 +204,11 @@ module _ (p : Point) (es fs : List Edge) (r : SameEdges es fs) where
 
   called : (base : ℕ) (parameters results : List Token) (acquired : List ℕ) → Alike SameEdges
       (then_some (list_all (λ n. no_edge_out n es) (reference_nodes is_mutable_token base parameters) && list_all (λ t. no_edge_out (Glob t) es) acquired)
-      (without_all (reference_nodes is_reference_token base parameters) es ++ result_edges (reference_nodes is_mutable_token base parameters) (reference_nodes is_reference_token base parameters) base results es))
+      (without_all (reference_nodes is_reference_token base parameters) es
+      ++ result_edges (reference_nodes is_mutable_token base parameters) (reference_nodes is_reference_token base parameters) base results es))
       (then_some (list_all (λ n. no_edge_out n fs) (reference_nodes is_mutable_token base parameters) && list_all (λ t. no_edge_out (Glob t) fs) acquired)
-      (without_all (reference_nodes is_reference_token base parameters) fs ++ result_edges (reference_nodes is_mutable_token base parameters) (reference_nodes is_reference_token base parameters) base results fs))
+      (without_all (reference_nodes is_reference_token base parameters) fs
+      ++ result_edges (reference_nodes is_mutable_token base parameters) (reference_nodes is_reference_token base parameters) base results fs))
   called base parameters results acquired =
       let mutable = reference_nodes is_mutable_token base parameters in
       let all = reference_nodes is_reference_token base parameters in

@@ -1,5 +1,6 @@
 -- What is read of a certificate is what was written: availabilities, nodes, labels, edges and states.
-use Rattle.std.proofs.Common.{◌≡◌, ℕ, suc, List, [], ◌∷◌, ◌++◌, length, map, flat_map, arith, refl, ap, sym, ◌∙◌, subst, append_assoc, Option, Some, None, IsTrue, is_some, Bool, true, false, cond, eqb, ◌==◌, ◌&&◌, nat_le, nat_lt, inl, inr, eq-eqb}
+use Rattle.std.proofs.Common.{◌≡◌, ℕ, suc, List, [], ◌∷◌, ◌++◌, length, map, flat_map, arith, refl, ap, sym, ◌∙◌, subst, append_assoc, Option, Some}
+use Rattle.std.proofs.Common.{None, IsTrue, is_some, Bool, true, false, cond, eqb, ◌==◌, ◌&&◌, nat_le, nat_lt, inl, inr, eq-eqb}
 use Rattle.std.specs.Option.{option_map_or}
 use Rattle.std.specs.List.{list_all}
 use Rattle.std.proofs.lemmas.List.Concat.{flat_map_single}

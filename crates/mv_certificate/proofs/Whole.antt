@@ -1,5 +1,6 @@
 -- The text of what fits is read: availabilities, nodes, labels, edges and states.
-use Rattle.std.proofs.Common.{◌≡◌, ℕ, suc, ◌≤◌, List, [], ◌∷◌, ◌++◌, length, map, flat_map, arith, refl, ap, sym, ◌∙◌, append_assoc, Option, Some, None, IsTrue, is_some, Bool, true, false, ◌==◌, ◌&&◌, not, nat_le, nat_lt, slice_get, option_map}
+use Rattle.std.proofs.Common.{◌≡◌, ℕ, suc, ◌≤◌, List, [], ◌∷◌, ◌++◌, length, map, flat_map, arith, refl, ap, sym, ◌∙◌, append_assoc, Option, Some}
+use Rattle.std.proofs.Common.{None, IsTrue, is_some, Bool, true, false, ◌==◌, ◌&&◌, not, nat_le, nat_lt, slice_get, option_map}
 use Rattle.std.specs.Bool.{then_some}
 use Rattle.std.specs.Option.{option_map_or}
 use Rattle.std.specs.List.{list_all}

@@ -67,7 +67,8 @@ contains_front i false true xs e = (0, omega arith, refl)
 contains_front i false false xs e = cc
 
 -- a block begins where a branch leads
-pub starts_from-target : (code : List Instruction) (i : ℕ) (begins : Bool) (rest : List Instruction) (n : ℕ) → i ≤ n → n < i + length rest → is_target code n ≡ true → Contains (starts_from code i begins rest) n
+pub starts_from-target : (code : List Instruction) (i : ℕ) (begins : Bool) (rest : List Instruction) (n : ℕ) → i ≤ n → n < i + length rest
+    → is_target code n ≡ true → Contains (starts_from code i begins rest) n
 starts_from-target code i begins [] n from before target = absurd (omega arith)
 starts_from-target code i begins (c ∷ cs) n from before target =
     ⊎_elim

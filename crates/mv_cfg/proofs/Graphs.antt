@@ -1,5 +1,6 @@
 -- The blocks of code as a flow graph.
-use Rattle.std.proofs.Common.{◌≡◌, ◌↔◌, ℕ, ◌+◌, ◌-◌, ◌<◌, ◌≤◌, true, List, [], ◌∷◌, length, map, get_or, slice_get, Some, IsTrue, All, Contains, refl, sym, ap, ◌∙◌, subst, arith, zero, suc, option_map}
+use Rattle.std.proofs.Common.{◌≡◌, ◌↔◌, ℕ, ◌+◌, ◌-◌, ◌<◌, ◌≤◌, true, List, [], ◌∷◌, length, map, get_or, slice_get, Some, IsTrue, All, Contains, refl}
+use Rattle.std.proofs.Common.{sym, ap, ◌∙◌, subst, arith, zero, suc, option_map}
 use Rattle.std.specs.Option.{option_map_or}
 use Rattle.std.proofs.lemmas.List.{length-map}
 use Rattle.std.proofs.lemmas.List.Elements.{All-map, All-weaker, All-same, All-contains}
@@ -48,7 +49,8 @@ pub reached_along : (g new : Cfg) → ((k n : ℕ) → HasEdge g k n → HasEdge
 reached_along g new edges _ at_entry = at_entry
 reached_along g new edges _ (along {k} {n} from edge) = along (reached_along g new edges k from) (edges k n edge)
 
-module _ (code : List Instruction) (places : List ℕ) (g : Cfg) (well : IsTrue (ends_well code)) (inside : BranchesInside code) (placed : IsPlaced (length code) (starts code) places) (split : IsSplit code (starts code) places g.blocks.items) where
+module _ (code : List Instruction) (places : List ℕ) (g : Cfg) (well : IsTrue (ends_well code)) (inside : BranchesInside code)
+    (placed : IsPlaced (length code) (starts code) places) (split : IsSplit code (starts code) places g.blocks.items) where
   within : (k : ℕ) (b : Block) → IsBlock g k b → k < length (starts code)
   within k b at = let h : k < length g.blocks.items = slice_get_within g.blocks.items k b at in omega (arith, split.count)
 

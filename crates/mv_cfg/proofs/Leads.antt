@@ -1,5 +1,6 @@
 -- Where blocks lead: to blocks.
-use Rattle.std.proofs.Common.{◌≡◌, ℕ, ◌+◌, ◌-◌, ◌<◌, ◌≤◌, Bool, true, not, nat_eq, List, [], ◌∷◌, length, get_or, slice_get, Some, All, Contains, IsTrue, refl, sym, ap, ◌∙◌, subst, arith, suc, ⊎_elim, eq-eqb}
+use Rattle.std.proofs.Common.{◌≡◌, ℕ, ◌+◌, ◌-◌, ◌<◌, ◌≤◌, Bool, true, not, nat_eq, List, [], ◌∷◌, length, get_or, slice_get, Some, All, Contains}
+use Rattle.std.proofs.Common.{IsTrue, refl, sym, ap, ◌∙◌, subst, arith, suc, ⊎_elim, eq-eqb}
 use Rattle.std.specs.List.{list_any}
 use Rattle.std.specs.Option.{option_map_or}
 use Rattle.std.proofs.lemmas.Bool.{cases_lt, false≢true}
@@ -89,7 +90,8 @@ block-ends code firsts k end same h is =
     let e : end ≡ get_or (starts code) (suc k) (length code) = end_at code firsts k end same is in (omega arith, omega arith)
 
 -- and leads to instructions
-pub leads-inside : (code : List Instruction) (firsts places : List ℕ) (k end : ℕ) → IsTrue (ends_well code) → BranchesInside code → firsts ≡ starts code → length places ≡ length code → k < length firsts → end ≡ get_or firsts (k + 1) (length code)
+pub leads-inside : (code : List Instruction) (firsts places : List ℕ) (k end : ℕ) → IsTrue (ends_well code) → BranchesInside code
+    → firsts ≡ starts code → length places ≡ length code → k < length firsts → end ≡ get_or firsts (k + 1) (length code)
     → All (λ n. n < length places) (leads_to code (end - 1))
 leads-inside code firsts places k end well inside same size h is =
     All-weaker (Contains (starts code)) (λ n. n < length places) (λ n there. let small : n < length code = start-within code n there in omega arith) (leads_to code (end - 1))

@@ -40,7 +40,8 @@ module _ (g new : Cfg) (marks : List Bool) (same : IsMarkedAs g.blocks.items mar
   }
 
   -- the marked blocks are the code's flow graph
-  pub IsFlowGraph-marked : (code : List Instruction) (places : List ℕ) → IsTrue (ends_well code) → BranchesInside code → IsPlaced (length code) (starts code) places → IsSplit code (starts code) places g.blocks.items → IsReachedMarks g marks → IsFlowGraph code new
+  pub IsFlowGraph-marked : (code : List Instruction) (places : List ℕ) → IsTrue (ends_well code) → BranchesInside code
+      → IsPlaced (length code) (starts code) places → IsSplit code (starts code) places g.blocks.items → IsReachedMarks g marks → IsFlowGraph code new
   IsFlowGraph-marked code places well inside placed split paths =
       IsFlowGraph-from_marks code places new well inside placed (split_on code (starts code) places split) (λ k c at.
       let b = before k c at in

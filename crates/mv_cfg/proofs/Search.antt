@@ -4,7 +4,8 @@
 --   IsSearch-found      a successor is marked and open
 --   IsSearch-closed     a block whose successors are all marked is no longer open
 --   IsSearch-end        where no block is open the marked ones are those that paths lead to
-use Rattle.std.proofs.Common.{◌≡◌, ℕ, ◌+◌, ◌<◌, ◌≤◌, Bool, true, false, List, [], ◌∷◌, ◌++◌, length, get_or, set, All, Contains, replicate, refl, sym, ap, ◌∙◌, subst, arith, zero, suc, inl, inr, ⊎_elim, ◌⊎◌, ◌≢◌}
+use Rattle.std.proofs.Common.{◌≡◌, ℕ, ◌+◌, ◌<◌, ◌≤◌, Bool, true, false, List, [], ◌∷◌, ◌++◌, length, get_or, set, All, Contains, replicate, refl, sym}
+use Rattle.std.proofs.Common.{ap, ◌∙◌, subst, arith, zero, suc, inl, inr, ⊎_elim, ◌⊎◌, ◌≢◌}
 use Rattle.std.proofs.lemmas.Bool.{cases_eq, cases_lt, false≢true}
 use Rattle.std.proofs.lemmas.List.{get_or-set_same, get_or-set_other, get_or-replicate, length-set, length-replicate, get_or_past, get_or_default}
 use Rattle.std.proofs.lemmas.List.Elements.{Contains-push, Contains-push_cases, Contains-append_left, Contains-get_or}
@@ -86,7 +87,8 @@ pub open-within : (g : Cfg) (marks : List Bool) (open_blocks : List ℕ) (k : �
 open-within g marks open_blocks k p = let within : k < length marks = marked_within marks k (p.marked k (0, omega arith, refl)) in omega (arith, p.size)
 
 -- its successors are blocks
-pub next-within : (g : Cfg) (marks : List Bool) (open_blocks : List ℕ) (k : ℕ) (b : Block) (next : List ℕ) (i : ℕ) → IsLinked g → IsSearch g marks open_blocks → IsBlock g k b → next ≡ b.successors.items → i < length next → get_or next i 0 < length marks
+pub next-within : (g : Cfg) (marks : List Bool) (open_blocks : List ℕ) (k : ℕ) (b : Block) (next : List ℕ) (i : ℕ) → IsLinked g
+    → IsSearch g marks open_blocks → IsBlock g k b → next ≡ b.successors.items → i < length next → get_or next i 0 < length marks
 next-within g marks open_blocks k b next i linked p is same h =
     let all : All (λ n. n < length g.blocks.items) next = subst (λ (xs : List ℕ). All (λ n. n < length g.blocks.items) xs) (sym same) (linked.inside k b is) in
     let small : get_or next i 0 < length g.blocks.items = all i 0 h in omega (arith, p.size)
@@ -94,7 +96,8 @@ next-within g marks open_blocks k b next i linked p is same h =
 pub next-edge : (g : Cfg) (k : ℕ) (b : Block) (next : List ℕ) (i : ℕ) → IsBlock g k b → next ≡ b.successors.items → i < length next → HasEdge g k (get_or next i 0)
 next-edge g k b next i is same h = (b, is, subst (λ (xs : List ℕ). Contains xs (get_or next i 0)) same (Contains-get_or next i 0 h))
 
-pub IsSearch-found : (g : Cfg) (marks : List Bool) (open_blocks : List ℕ) (k n : ℕ) → HasEdge g k n → n < length g.blocks.items → IsSearch g marks (k ∷ open_blocks) → IsSearch g (set marks n true) (k ∷ (open_blocks ++ n ∷ []))
+pub IsSearch-found : (g : Cfg) (marks : List Bool) (open_blocks : List ℕ) (k n : ℕ) → HasEdge g k n → n < length g.blocks.items
+    → IsSearch g marks (k ∷ open_blocks) → IsSearch g (set marks n true) (k ∷ (open_blocks ++ n ∷ []))
 IsSearch-found g marks open_blocks k n edge inside p =
     let within : n < length marks = omega (arith, p.size) in record {
       size = rw length-set p.size;
@@ -116,7 +119,8 @@ IsSearch-found g marks open_blocks k n edge inside p =
           (cases_eq j n);
     }
 
-pub IsSearch-closed : (g : Cfg) (marks : List Bool) (open_blocks : List ℕ) (k : ℕ) (b : Block) → IsBlock g k b → AreMarked marks b.successors.items (length b.successors.items) → IsSearch g marks (k ∷ open_blocks) → IsSearch g marks open_blocks
+pub IsSearch-closed : (g : Cfg) (marks : List Bool) (open_blocks : List ℕ) (k : ℕ) (b : Block) → IsBlock g k b
+    → AreMarked marks b.successors.items (length b.successors.items) → IsSearch g marks (k ∷ open_blocks) → IsSearch g marks open_blocks
 IsSearch-closed g marks open_blocks k b is all p = record {
   size = p.size;
   entry = p.entry;

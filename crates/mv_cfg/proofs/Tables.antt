@@ -1,5 +1,6 @@
 -- The tables by which blocks are found: branch targets, and the places of blocks.
-use Rattle.std.proofs.Common.{◌≡◌, ℕ, ◌<◌, ◌≤◌, Bool, false, List, [], ◌∷◌, ◌++◌, length, get_or, take, slice_get, Some, All, Contains, refl, sym, ap, ◌∙◌, subst, arith, zero, suc, inl, inr, ⊎_elim, ◌⊎◌}
+use Rattle.std.proofs.Common.{◌≡◌, ℕ, ◌<◌, ◌≤◌, Bool, false, List, [], ◌∷◌, ◌++◌, length, get_or, take, slice_get, Some, All, Contains, refl, sym, ap}
+use Rattle.std.proofs.Common.{◌∙◌, subst, arith, zero, suc, inl, inr, ⊎_elim, ◌⊎◌}
 use Rattle.std.proofs.lemmas.List.{get_or_default}
 use Rattle.mv_move_types.specs.declared.instruction.Instruction.{Instruction}
 use Rattle.mv_move_types.specs.declared.instruction.Instruction.TheVariants.{Pop}
@@ -44,7 +45,8 @@ pub record IsMarkedTo (n : ℕ) (bs : List Block) (marks : List Bool) (new : Lis
   pub left : (k : ℕ) → n ≤ k → slice_get new k ≡ slice_get bs k
 
 -- another block is made
-pub split_one : (code : List Instruction) (firsts places : List ℕ) (k : ℕ) (bs : List Block) (b : Block) → length bs ≡ k → ((j : ℕ) (x : Block) → slice_get bs j ≡ Some x → IsPart code firsts places j x) → IsPart code firsts places k b
+pub split_one : (code : List Instruction) (firsts places : List ℕ) (k : ℕ) (bs : List Block) (b : Block) → length bs ≡ k
+    → ((j : ℕ) (x : Block) → slice_get bs j ≡ Some x → IsPart code firsts places j x) → IsPart code firsts places k b
     → (j : ℕ) (x : Block) → slice_get (bs ++ b ∷ []) j ≡ Some x → IsPart code firsts places j x
 split_one code firsts places k bs b count each is j x at =
     ⊎_elim (λ (old : slice_get bs j ≡ Some x). each j x old)

@@ -3,7 +3,8 @@
 --   blocks-tile            so do the blocks of code
 --   inside-block           before its last instruction a block goes on
 --   next-from_inside       control goes on to the next instruction there
-use Rattle.std.proofs.Common.{◌≡◌, ℕ, ◌+◌, ◌-◌, ◌<◌, ◌≤◌, Bool, true, false, cond, ◌||◌, List, [], ◌∷◌, ◌++◌, length, get_or, slice_get, Some, Contains, refl, sym, ap, ◌∙◌, subst, arith, zero, suc, ⊎_elim, ◌≢◌}
+use Rattle.std.proofs.Common.{◌≡◌, ℕ, ◌+◌, ◌-◌, ◌<◌, ◌≤◌, Bool, true, false, cond, ◌||◌, List, [], ◌∷◌, ◌++◌, length, get_or, slice_get, Some}
+use Rattle.std.proofs.Common.{Contains, refl, sym, ap, ◌∙◌, subst, arith, zero, suc, ⊎_elim, ◌≢◌}
 use Rattle.std.proofs.lemmas.Bool.{cases_eq, cases_lt}
 use Rattle.std.proofs.lemmas.List.{get_or_default}
 use Rattle.std.proofs.lemmas.List.Elements.{Contains-append_right}
@@ -27,12 +28,14 @@ tiles_at : (n at size : ℕ) (ss : List BasicBlock) → n ≡ at → Tiles n ss 
 tiles_at n at size ss e t = subst (λ (k : ℕ). Tiles k ss size) e t
 
 -- where a block may begin at i, one block leads up to there, or the block goes on
-tile_split : (code : List Instruction) (first i : ℕ) (begins : List ℕ) (b : Bool) → first < i → Tiles i (blocks_at code (i ∷ begins)) (length code) → Tiles first (blocks_at code (first ∷ begins)) (length code)
+tile_split : (code : List Instruction) (first i : ℕ) (begins : List ℕ) (b : Bool) → first < i → Tiles i (blocks_at code (i ∷ begins)) (length code)
+    → Tiles first (blocks_at code (first ∷ begins)) (length code)
     → Tiles first (blocks_at code (first ∷ (cond b (i ∷ []) [] ++ begins))) (length code)
 tile_split code first i begins true before cut on = (refl, (omega arith, tiles_at i (i - 1 + 1) (length code) (blocks_at code (i ∷ begins)) (omega arith) cut))
 tile_split code first i begins false before cut on = on
 
-blocks_at-tile : (code : List Instruction) (first i : ℕ) (begins : Bool) (rest : List Instruction) → first < i → i + length rest ≡ length code → Tiles first (blocks_at code (first ∷ starts_from code i begins rest)) (length code)
+blocks_at-tile : (code : List Instruction) (first i : ℕ) (begins : Bool) (rest : List Instruction) → first < i → i + length rest ≡ length code
+    → Tiles first (blocks_at code (first ∷ starts_from code i begins rest)) (length code)
 blocks_at-tile code first i begins [] before size = (refl, (omega arith, omega arith))
 blocks_at-tile code first i begins (c ∷ cs) before size =
     tile_split code first i (starts_from code (i + 1) (ends_block c) cs) (begins || is_target code i) before
@@ -48,7 +51,8 @@ contains_first i true target xs e = (0, omega arith, refl)
 contains_first i false target xs e = cc
 
 -- a block begins after an instruction that ends one
-starts_from-after : (code : List Instruction) (i : ℕ) (begins : Bool) (rest : List Instruction) (j n : ℕ) (c : Instruction) → slice_get rest j ≡ Some c → ends_block c ≡ true → suc j < length rest → n ≡ i + suc j → Contains (starts_from code i begins rest) n
+starts_from-after : (code : List Instruction) (i : ℕ) (begins : Bool) (rest : List Instruction) (j n : ℕ) (c : Instruction)
+    → slice_get rest j ≡ Some c → ends_block c ≡ true → suc j < length rest → n ≡ i + suc j → Contains (starts_from code i begins rest) n
 starts_from-after code i begins [] j n c at e h is = absurd (none-some c at)
 starts_from-after code i begins (x ∷ []) j n c at e h is = absurd (omega arith)
 starts_from-after code i begins (x ∷ y ∷ ys) zero n c at e h is =
@@ -84,7 +88,8 @@ never_true true h = absurd (h refl)
 never_true false h = refl
 
 -- before its last instruction a block goes on: nothing ends it there, and no branch leads to the next instruction
-pub inside-block : (code : List Instruction) (k : ℕ) (s : BasicBlock) → slice_get (blocks code) k ≡ Some s → (i : ℕ) (c : Instruction) → s.first ≤ i → i < s.last → slice_get code i ≡ Some c → (ends_block c ≡ false) × (is_target code (i + 1) ≡ false)
+pub inside-block : (code : List Instruction) (k : ℕ) (s : BasicBlock) → slice_get (blocks code) k ≡ Some s → (i : ℕ) (c : Instruction) → s.first ≤ i
+    → i < s.last → slice_get code i ≡ Some c → (ends_block c ≡ false) × (is_target code (i + 1) ≡ false)
 inside-block code k s at i c from before read =
     let within : k < length (blocks code) = slice_get_within (blocks code) k s at in
     let h : k < length (starts code) = omega (arith, length-blocks_at code (starts code)) in

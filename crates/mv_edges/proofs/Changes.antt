@@ -3,7 +3,8 @@
 --   IsRising p       an edge above one that passes p passes it, too
 --   IsKeeping h      h keeps the order of edges
 --   IsLabelRising p, IsLabelKeeping h      the same of labels
-use Rattle.std.proofs.Common.{◌≡◌, ℕ, inl, inr, Bool, true, false, not, ◌&&◌, ◌||◌, List, [], ◌∷◌, ◌++◌, length, map, filter, flat_map, Contains, eqb, refl, sym, ap, ◌∙◌, subst, true≢false, eqb-true, eq-eqb}
+use Rattle.std.proofs.Common.{◌≡◌, ℕ, inl, inr, Bool, true, false, not, ◌&&◌, ◌||◌, List, [], ◌∷◌, ◌++◌, length, map, filter, flat_map, Contains, eqb}
+use Rattle.std.proofs.Common.{refl, sym, ap, ◌∙◌, subst, true≢false, eqb-true, eq-eqb}
 use Rattle.std.specs.List.{list_any}
 use Rattle.std.proofs.lemmas.Bool.{and_parts, and_from, cond_both, cond-true, false_from_ne_true}
 use Rattle.std.proofs.lemmas.List.Elements.{Contains-append_cases, Contains-append_left, Contains-append_right}
@@ -16,7 +17,8 @@ use Rattle.mv_edges.specs.Sorted.{sorted}
 use Rattle.mv_edges.proofs.Comparisons.{agrees_first}
 use Rattle.mv_edges.proofs.Insertion.{contains_cases, contains_here, contains_there, contains_none}
 use Rattle.mv_edges.proofs.Sorting.{contains-sorted, any_passes}
-use Rattle.mv_edges.proofs.Order.{LabelBelow, same, prefix, label_below, label_leq_same, label_leq_prefix, begins-transitive, begins-append, edge_below, edge_leq_from, passing, list_any_from, above, edges_leq_from}
+use Rattle.mv_edges.proofs.Order.{LabelBelow, same, prefix, label_below, label_leq_same, label_leq_prefix, begins-transitive, begins-append}
+use Rattle.mv_edges.proofs.Order.{edge_below, edge_leq_from, passing, list_any_from, above, edges_leq_from}
 
 abbrev pub IsRising : (Edge → Bool) → Type 0
 IsRising p = (a b : Edge) → edge_leq a b ≡ true → p a ≡ true → p b ≡ true

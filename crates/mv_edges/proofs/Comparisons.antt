@@ -1,5 +1,6 @@
 -- Comparisons of lists of numbers and of edges, by the words of the definitions.
-use Rattle.std.proofs.Common.{◌≡◌, ℕ, Bool, true, false, cond, not, ne_eqb, ◌&&◌, ◌||◌, eqb, ltb, List, [], ◌∷◌, Ordering, Less, Equal, Greater, nat_cmp, is_lt, bytes_eq, slice_get, refl, sym, ap, ◌∙◌, arith, true≢false}
+use Rattle.std.proofs.Common.{◌≡◌, ℕ, Bool, true, false, cond, not, ne_eqb, ◌&&◌, ◌||◌, eqb, ltb, List, [], ◌∷◌, Ordering, Less, Equal, Greater}
+use Rattle.std.proofs.Common.{nat_cmp, is_lt, bytes_eq, slice_get, refl, sym, ap, ◌∙◌, arith, true≢false}
 use Rattle.std.specs.Bool.{beq}
 use Rattle.std.specs.Ordering.{ordering_then, bool_cmp, is_eq}
 use Rattle.std.specs.Option.{option_map_or}

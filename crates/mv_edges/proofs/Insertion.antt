@@ -1,5 +1,6 @@
 -- Insertion into ascending lists, for any strict order.
-use Rattle.std.proofs.Common.{◌≡◌, ℕ, zero, suc, ◌+◌, ◌-◌, ◌<◌, ◌⊎◌, inl, inr, Bool, true, false, cond, ◌&&◌, List, [], ◌∷◌, ◌++◌, length, get_or, take, drop, slice_get, Contains, filter, None, Some, refl, sym, ap, ◌∙◌, subst, arith, true≢false}
+use Rattle.std.proofs.Common.{◌≡◌, ℕ, zero, suc, ◌+◌, ◌-◌, ◌<◌, ◌⊎◌, inl, inr, Bool, true, false, cond, ◌&&◌, List, [], ◌∷◌, ◌++◌, length, get_or}
+use Rattle.std.proofs.Common.{take, drop, slice_get, Contains, filter, None, Some, refl, sym, ap, ◌∙◌, subst, arith, true≢false}
 use Rattle.std.specs.List.{list_all}
 use Rattle.std.proofs.lemmas.Bool.{and_parts, and_from, cond_both, cond-true, cond-false, false_from_ne_true}
 use Rattle.std.proofs.lemmas.List.{get_or_default}
@@ -237,7 +238,8 @@ module _ {X : Type 0} where
           inserted_later e x (xs ++ ys) parts.0 ∙ ap (λ zs. x ∷ zs) (inserted_between e xs ys parts.1 g)
 
       -- what comes before all the others is the head
-      pub sorted_cons : (whole : List X) (x : X) (rest : List X) → list_all (lt x) rest ≡ true → ((z : X) → Contains whole z → Contains (x ∷ rest) z) → ((z : X) → Contains (x ∷ rest) z → Contains whole z) → sorted_by whole ≡ x ∷ sorted_by rest
+      pub sorted_cons : (whole : List X) (x : X) (rest : List X) → list_all (lt x) rest ≡ true → ((z : X) → Contains whole z → Contains (x ∷ rest) z)
+          → ((z : X) → Contains (x ∷ rest) z → Contains whole z) → sorted_by whole ≡ x ∷ sorted_by rest
       sorted_cons whole x rest a f g =
           let above : list_all (lt x) (sorted_by rest) ≡ true = all_from_contains (lt x) (sorted_by rest) (λ z c. all_contains (lt x) rest z a (contains_from_sorted rest z c)) in
           same_lists_from_elements (sorted_by whole) (x ∷ sorted_by rest) (ascend-sorted whole) (ascend_cons x (sorted_by rest) above (ascend-sorted rest))

@@ -84,18 +84,29 @@ high_node (Temp k) h = (refl, refl)
 
 -- ---- edges out of a node
 
-out_first_numbers : (hx a b c d he a' b' c' d' h hn k i : ℕ) → a ≡ k → b ≡ i → hn ≤ hx → h ≡ max he hn → Late (hx ∷ a ∷ b ∷ c ∷ d ∷ []) (he ∷ a' ∷ b' ∷ c' ∷ d' ∷ []) → Early (hx ∷ a ∷ b ∷ c ∷ d ∷ []) (h ∷ k ∷ i ∷ 0 ∷ 0 ∷ []) → ⊥
+out_first_numbers : (hx a b c d he a' b' c' d' h hn k i : ℕ) → a ≡ k → b ≡ i → hn ≤ hx → h ≡ max he hn
+    → Late (hx ∷ a ∷ b ∷ c ∷ d ∷ []) (he ∷ a' ∷ b' ∷ c' ∷ d' ∷ []) → Early (hx ∷ a ∷ b ∷ c ∷ d ∷ []) (h ∷ k ∷ i ∷ 0 ∷ 0 ∷ []) → ⊥
 out_first_numbers hx a b c d he a' b' c' d' h hn k i ak bi high top from before = grind arith
 
-out_end_numbers : (hx a b c d he a' b' c' d' h hn k i : ℕ) → a ≡ k → b ≡ i → hn ≤ hx → h ≡ max he hn → Late (hx ∷ a ∷ b ∷ c ∷ d ∷ []) (he ∷ a' ∷ b' ∷ c' ∷ d' ∷ []) → Late (he ∷ a' ∷ b' ∷ c' ∷ d' ∷ []) (h ∷ k ∷ i ∷ 0 ∷ 0 ∷ []) → Early (hx ∷ a ∷ b ∷ c ∷ d ∷ []) (h ∷ 4 ∷ 0 ∷ 0 ∷ 0 ∷ []) → (a' ≡ k) × (b' ≡ i)
+out_end_numbers : (hx a b c d he a' b' c' d' h hn k i : ℕ) → a ≡ k → b ≡ i → hn ≤ hx → h ≡ max he hn
+    → Late (hx ∷ a ∷ b ∷ c ∷ d ∷ []) (he ∷ a' ∷ b' ∷ c' ∷ d' ∷ []) → Late (he ∷ a' ∷ b' ∷ c' ∷ d' ∷ []) (h ∷ k ∷ i ∷ 0 ∷ 0 ∷ [])
+    → Early (hx ∷ a ∷ b ∷ c ∷ d ∷ []) (h ∷ 4 ∷ 0 ∷ 0 ∷ 0 ∷ [])
+    → (a' ≡ k) × (b' ≡ i)
 out_end_numbers hx a b c d he a' b' c' d' h hn k i ak bi high top from behind before = (grind arith, grind arith)
 
 -- ---- edges into a node
 
-into_first_numbers : (hx a b c d he a' b' c' d' h hn k i f g : ℕ) → c ≡ k → d ≡ i → hn ≤ hx → (hn < hx → (a ≡ 3) × (b + 1 ≡ hx)) → h ≡ max he hn → (he < hn → (f ≡ 0) × (g ≡ 0)) → (he ≡ hn → (f ≡ a') × (g ≡ b')) → (hn < he → (f ≡ 3) × (g ≡ he - 1)) → Late (hx ∷ a ∷ b ∷ c ∷ d ∷ []) (he ∷ a' ∷ b' ∷ c' ∷ d' ∷ []) → Early (hx ∷ a ∷ b ∷ c ∷ d ∷ []) (h ∷ f ∷ g ∷ k ∷ i ∷ []) → ⊥
+into_first_numbers : (hx a b c d he a' b' c' d' h hn k i f g : ℕ) → c ≡ k → d ≡ i → hn ≤ hx → (hn < hx → (a ≡ 3) × (b + 1 ≡ hx)) → h ≡ max he hn
+    → (he < hn → (f ≡ 0) × (g ≡ 0)) → (he ≡ hn → (f ≡ a') × (g ≡ b')) → (hn < he → (f ≡ 3) × (g ≡ he - 1))
+    → Late (hx ∷ a ∷ b ∷ c ∷ d ∷ []) (he ∷ a' ∷ b' ∷ c' ∷ d' ∷ []) → Early (hx ∷ a ∷ b ∷ c ∷ d ∷ []) (h ∷ f ∷ g ∷ k ∷ i ∷ [])
+    → ⊥
 into_first_numbers hx a b c d he a' b' c' d' h hn k i f g ck di high up top lower same higher from before = grind arith
 
-into_end_numbers : (hx a b c d he a' b' c' d' h hn k i f g : ℕ) → c ≡ k → d ≡ i → k ≤ 3 → hn ≤ hx → (hn < hx → (a ≡ 3) × (b + 1 ≡ hx)) → h ≡ max he hn → (he < hn → (f ≡ 0) × (g ≡ 0)) → (he ≡ hn → (f ≡ a') × (g ≡ b')) → (hn < he → (f ≡ 3) × (g ≡ he - 1)) → Late (hx ∷ a ∷ b ∷ c ∷ d ∷ []) (he ∷ a' ∷ b' ∷ c' ∷ d' ∷ []) → Late (he ∷ a' ∷ b' ∷ c' ∷ d' ∷ []) (h ∷ f ∷ g ∷ k ∷ i ∷ []) → Early (hx ∷ a ∷ b ∷ c ∷ d ∷ []) (h ∷ f ∷ g ∷ 4 ∷ 0 ∷ []) → (c' ≡ k) × (d' ≡ i)
+into_end_numbers : (hx a b c d he a' b' c' d' h hn k i f g : ℕ) → c ≡ k → d ≡ i → k ≤ 3 → hn ≤ hx → (hn < hx → (a ≡ 3) × (b + 1 ≡ hx)) → h ≡ max he hn
+    → (he < hn → (f ≡ 0) × (g ≡ 0)) → (he ≡ hn → (f ≡ a') × (g ≡ b')) → (hn < he → (f ≡ 3) × (g ≡ he - 1))
+    → Late (hx ∷ a ∷ b ∷ c ∷ d ∷ []) (he ∷ a' ∷ b' ∷ c' ∷ d' ∷ []) → Late (he ∷ a' ∷ b' ∷ c' ∷ d' ∷ []) (h ∷ f ∷ g ∷ k ∷ i ∷ [])
+    → Early (hx ∷ a ∷ b ∷ c ∷ d ∷ []) (h ∷ f ∷ g ∷ 4 ∷ 0 ∷ [])
+    → (c' ≡ k) × (d' ≡ i)
 into_end_numbers hx a b c d he a' b' c' d' h hn k i f g ck di low high up top lower same higher from behind before = (grind arith, grind arith)
 
 -- ---- the same of edges
@@ -142,7 +153,8 @@ none_out_first e n h top x from before =
     out_first_numbers (edge_height x) (kind x.from) (index x.from) (kind x.to) (index x.to) (edge_height e) (kind e.from) (index e.from) (kind e.to) (index e.to) h (height n) (kind n) (index n)
     (ap kind at) (ap index at) (high_from x n at) top (late_edges x e from) (early_edge x (h ∷ kind n ∷ index n ∷ 0 ∷ 0 ∷ []) (ap (list_before (nodes_code x)) (sym (out_first_is h n)) ∙ before)))
 
-pub none_out_end : (e : Edge) (n : Node) (h : ℕ) → h ≡ max (edge_height e) (height n) → same_node e.from n ≡ false → list_before (nodes_code e) (out_first h n) ≡ false → FailUpTo (λ x. same_node x.from n) e (h ∷ 4 ∷ 0 ∷ 0 ∷ 0 ∷ [])
+pub none_out_end : (e : Edge) (n : Node) (h : ℕ) → h ≡ max (edge_height e) (height n) → same_node e.from n ≡ false
+    → list_before (nodes_code e) (out_first h n) ≡ false → FailUpTo (λ x. same_node x.from n) e (h ∷ 4 ∷ 0 ∷ 0 ∷ 0 ∷ [])
 none_out_end e n h top other behind x from before =
     false_from_ne_true (same_node x.from n)
     (λ same.
@@ -157,7 +169,9 @@ none_out_end e n h top other behind x from before =
 abbrev pub into_first : ℕ → List ℕ → Node → List ℕ
 into_first h source n = h ∷ source ++ node_code n
 
-module _ (e : Edge) (n : Node) (h f g : ℕ) (top : h ≡ max (edge_height e) (height n)) (lower : edge_height e < height n → f ∷ g ∷ [] ≡ 0 ∷ 0 ∷ []) (same : edge_height e ≡ height n → f ∷ g ∷ [] ≡ node_code e.from) (higher : height n < edge_height e → f ∷ g ∷ [] ≡ 3 ∷ (edge_height e - 1) ∷ []) where
+module _ (e : Edge) (n : Node) (h f g : ℕ) (top : h ≡ max (edge_height e) (height n)) (lower : edge_height e < height n → f ∷ g ∷ [] ≡ 0 ∷ 0 ∷ [])
+    (same : edge_height e ≡ height n → f ∷ g ∷ [] ≡ node_code e.from)
+    (higher : height n < edge_height e → f ∷ g ∷ [] ≡ 3 ∷ (edge_height e - 1) ∷ []) where
   into_first_is : h ∷ f ∷ g ∷ node_code n ≡ h ∷ f ∷ g ∷ kind n ∷ index n ∷ []
   into_first_is = ap (λ xs. h ∷ f ∷ g ∷ xs) (node_numbers n)
 
@@ -191,7 +205,9 @@ module _ (e : Edge) (n : Node) (h f g : ℕ) (top : h ≡ max (edge_height e) (h
       true≢false (sym ((same_node_decides e.to n).1 (node_from_numbers e.to n both.0 both.1)) ∙ other))
 
 -- the source as two numbers, one way or another
-two_numbers : (e : Edge) (n : Node) (source : List ℕ) → (edge_height e < height n → source ≡ 0 ∷ 0 ∷ []) → (edge_height e ≡ height n → source ≡ node_code e.from) → (height n < edge_height e → source ≡ 3 ∷ (edge_height e - 1) ∷ []) → (f : ℕ) × ((g : ℕ) × (source ≡ f ∷ g ∷ []))
+two_numbers : (e : Edge) (n : Node) (source : List ℕ) → (edge_height e < height n → source ≡ 0 ∷ 0 ∷ [])
+    → (edge_height e ≡ height n → source ≡ node_code e.from) → (height n < edge_height e → source ≡ 3 ∷ (edge_height e - 1) ∷ [])
+    → (f : ℕ) × ((g : ℕ) × (source ≡ f ∷ g ∷ []))
 two_numbers e n source lower same higher =
     elim (cases_lt (edge_height e) (height n)) [
       | inl a ↦ (0, (0, lower a))
@@ -201,13 +217,20 @@ two_numbers e n source lower same higher =
       ]
     ]
 
-pub none_into_first_of : (e : Edge) (n : Node) (h : ℕ) (source : List ℕ) → h ≡ max (edge_height e) (height n) → (edge_height e < height n → source ≡ 0 ∷ 0 ∷ []) → (edge_height e ≡ height n → source ≡ node_code e.from) → (height n < edge_height e → source ≡ 3 ∷ (edge_height e - 1) ∷ []) → FailUpTo (λ x. same_node x.to n) e (h ∷ source ++ node_code n)
+pub none_into_first_of : (e : Edge) (n : Node) (h : ℕ) (source : List ℕ) → h ≡ max (edge_height e) (height n)
+    → (edge_height e < height n → source ≡ 0 ∷ 0 ∷ []) → (edge_height e ≡ height n → source ≡ node_code e.from)
+    → (height n < edge_height e → source ≡ 3 ∷ (edge_height e - 1) ∷ [])
+    → FailUpTo (λ x. same_node x.to n) e (h ∷ source ++ node_code n)
 none_into_first_of e n h source top lower same higher =
     let two = two_numbers e n source lower same higher in
     let is = two.1.1 in
     subst (λ s. FailUpTo (λ x. same_node x.to n) e (h ∷ s ++ node_code n)) (sym is) (none_into_first e n h two.0 two.1.0 top (λ k. sym is ∙ lower k) (λ k. sym is ∙ same k) (λ k. sym is ∙ higher k))
 
-pub none_into_end_of : (e : Edge) (n : Node) (h : ℕ) (source : List ℕ) → h ≡ max (edge_height e) (height n) → (edge_height e < height n → source ≡ 0 ∷ 0 ∷ []) → (edge_height e ≡ height n → source ≡ node_code e.from) → (height n < edge_height e → source ≡ 3 ∷ (edge_height e - 1) ∷ []) → same_node e.to n ≡ false → list_before (nodes_code e) (h ∷ source ++ node_code n) ≡ false → FailUpTo (λ x. same_node x.to n) e (h ∷ source ++ 4 ∷ 0 ∷ [])
+pub none_into_end_of : (e : Edge) (n : Node) (h : ℕ) (source : List ℕ) → h ≡ max (edge_height e) (height n)
+    → (edge_height e < height n → source ≡ 0 ∷ 0 ∷ []) → (edge_height e ≡ height n → source ≡ node_code e.from)
+    → (height n < edge_height e → source ≡ 3 ∷ (edge_height e - 1) ∷ []) → same_node e.to n ≡ false
+    → list_before (nodes_code e) (h ∷ source ++ node_code n) ≡ false
+    → FailUpTo (λ x. same_node x.to n) e (h ∷ source ++ 4 ∷ 0 ∷ [])
 none_into_end_of e n h source top lower same higher other behind =
     let two = two_numbers e n source lower same higher in
     let is = two.1.1 in
@@ -240,7 +263,8 @@ other_kind (Temp k) h e = omega (arith, e)
 global_first_numbers : (hx a b c d he a' b' c' d' : ℕ) → a ≡ 2 → Late (hx ∷ a ∷ b ∷ c ∷ d ∷ []) (he ∷ a' ∷ b' ∷ c' ∷ d' ∷ []) → Early (hx ∷ a ∷ b ∷ c ∷ d ∷ []) (he ∷ 2 ∷ 0 ∷ 0 ∷ 0 ∷ []) → ⊥
 global_first_numbers hx a b c d he a' b' c' d' two from before = grind arith
 
-global_end_numbers : (hx a b c d he a' b' c' d' : ℕ) → a ≡ 2 → Late (hx ∷ a ∷ b ∷ c ∷ d ∷ []) (he ∷ a' ∷ b' ∷ c' ∷ d' ∷ []) → Late (he ∷ a' ∷ b' ∷ c' ∷ d' ∷ []) (he ∷ 2 ∷ 0 ∷ 0 ∷ 0 ∷ []) → Early (hx ∷ a ∷ b ∷ c ∷ d ∷ []) (he ∷ 4 ∷ 0 ∷ 0 ∷ 0 ∷ []) → a' ≡ 2
+global_end_numbers : (hx a b c d he a' b' c' d' : ℕ) → a ≡ 2 → Late (hx ∷ a ∷ b ∷ c ∷ d ∷ []) (he ∷ a' ∷ b' ∷ c' ∷ d' ∷ [])
+    → Late (he ∷ a' ∷ b' ∷ c' ∷ d' ∷ []) (he ∷ 2 ∷ 0 ∷ 0 ∷ 0 ∷ []) → Early (hx ∷ a ∷ b ∷ c ∷ d ∷ []) (he ∷ 4 ∷ 0 ∷ 0 ∷ 0 ∷ []) → a' ≡ 2
 global_end_numbers hx a b c d he a' b' c' d' two from behind before = grind arith
 
 pub none_global_first : (e : Edge) (h : ℕ) → h ≡ edge_height e → FailUpTo (λ x. is_global_node x.from) e (h ∷ 2 ∷ 0 ∷ 0 ∷ 0 ∷ [])
@@ -250,7 +274,8 @@ none_global_first e h is x from before =
     global_first_numbers (edge_height x) (kind x.from) (index x.from) (kind x.to) (index x.to) (edge_height e) (kind e.from) (index e.from) (kind e.to) (index e.to)
     (global_kind x.from global) (late_edges x e from) (early_edge x (edge_height e ∷ 2 ∷ 0 ∷ 0 ∷ 0 ∷ []) (ap (λ k. list_before (nodes_code x) (k ∷ 2 ∷ 0 ∷ 0 ∷ 0 ∷ [])) (sym is) ∙ before)))
 
-pub none_global_end : (e : Edge) (h : ℕ) → h ≡ edge_height e → is_global_node e.from ≡ false → list_before (nodes_code e) (h ∷ 2 ∷ 0 ∷ 0 ∷ 0 ∷ []) ≡ false → FailUpTo (λ x. is_global_node x.from) e (h ∷ 4 ∷ 0 ∷ 0 ∷ 0 ∷ [])
+pub none_global_end : (e : Edge) (h : ℕ) → h ≡ edge_height e → is_global_node e.from ≡ false
+    → list_before (nodes_code e) (h ∷ 2 ∷ 0 ∷ 0 ∷ 0 ∷ []) ≡ false → FailUpTo (λ x. is_global_node x.from) e (h ∷ 4 ∷ 0 ∷ 0 ∷ 0 ∷ [])
 none_global_end e h is other behind x from before =
     false_from_ne_true (is_global_node x.from)
     (λ global.

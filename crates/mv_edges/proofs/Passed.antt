@@ -1,5 +1,7 @@
 -- What is found by leaps.
-use Rattle.std.proofs.Common.{◌≡◌, ℕ, zero, suc, ◌+◌, ◌-◌, ◌<◌, ◌≤◌, ◌&&◌, ◌||◌, inl, inr, Bool, true, false, cond, not, List, [], ◌∷◌, ◌++◌, length, get_or, take, drop, filter, Contains, None, Some, slice_get, map, eqb, ltb, refl, sym, ap, ◌∙◌, subst, arith, true≢false, append-nil, ne_eqb, take-append-drop}
+use Rattle.std.proofs.Common.{◌≡◌, ℕ, zero, suc, ◌+◌, ◌-◌, ◌<◌, ◌≤◌, ◌&&◌, ◌||◌, inl, inr, Bool, true, false, cond, not, List, [], ◌∷◌, ◌++◌, length}
+use Rattle.std.proofs.Common.{get_or, take, drop, filter, Contains, None, Some, slice_get, map, eqb, ltb, refl, sym, ap, ◌∙◌, subst, arith}
+use Rattle.std.proofs.Common.{true≢false, append-nil, ne_eqb, take-append-drop}
 use Rattle.std.specs.List.{list_all, list_any}
 use Rattle.std.proofs.lemmas.Bool.{cases_lt, cases_Bool, false_from_ne_true, lt-ltb, le-ltb, or_left, and_from, and_parts}
 use Rattle.std.proofs.lemmas.List.{get_or_default, map-append, take_all, take_more, get_or-take, length-take-le}
@@ -47,7 +49,8 @@ before_through xs ys zs h g =
     ]
 
 -- all edges up to one that comes before nodes do
-pub all_before : (nodes : List ℕ) (es : List Edge) (start i : ℕ) → are_ascending es ≡ true → i < length es → ((d : Edge) → list_before (nodes_code (get_or es i d)) nodes ≡ true) → ComeBefore nodes es start (i + 1)
+pub all_before : (nodes : List ℕ) (es : List Edge) (start i : ℕ) → are_ascending es ≡ true → i < length es
+    → ((d : Edge) → list_before (nodes_code (get_or es i d)) nodes ≡ true) → ComeBefore nodes es start (i + 1)
 all_before nodes es start i h inside before k d lo hi =
     elim (cases_lt k i) [
       | inl g ↦ before_through (nodes_code (get_or es k d)) (nodes_code (get_or es i d)) nodes (not_later (get_or es k d) (get_or es i d) (ascending_at es k i d h g inside)) (before d)
@@ -56,7 +59,8 @@ all_before nodes es start i h inside before k d lo hi =
 
 -- ---- what is passed over
 
-filter_skipped : (p : Edge → Bool) (es : List Edge) (i n j : ℕ) (d : Edge) → i + n ≡ j → j ≤ length es → ((k : ℕ) → i ≤ k → k < j → p (get_or es k d) ≡ false) → filter p (take j es) ≡ filter p (take i es)
+filter_skipped : (p : Edge → Bool) (es : List Edge) (i n j : ℕ) (d : Edge) → i + n ≡ j → j ≤ length es
+    → ((k : ℕ) → i ≤ k → k < j → p (get_or es k d) ≡ false) → filter p (take j es) ≡ filter p (take i es)
 filter_skipped p es i zero j d is h f = let same : j ≡ i = omega (arith, is) in ap (λ k. filter p (take k es)) same
 filter_skipped p es i (suc n) j d is h f =
     let k = i + n in
@@ -66,7 +70,9 @@ filter_skipped p es i (suc n) j d is h f =
     ∙ filter_skipped p es i n k d refl (omega (arith, h, next)) (λ m lo hi. f m lo (omega (arith, hi, next)))
 
 -- a leap passes over edges that fail
-pub leapt : (p : Edge → Bool) (es : List Edge) (place next : ℕ) (e : Edge) (nodes : List ℕ) → are_ascending es ≡ true → place < next → next ≤ length es → e ≡ get_or es place e → p e ≡ false → FailUpTo p e nodes → ComeBefore nodes es place next → filter p (take next es) ≡ filter p (take place es)
+pub leapt : (p : Edge → Bool) (es : List Edge) (place next : ℕ) (e : Edge) (nodes : List ℕ) → are_ascending es ≡ true → place < next
+    → next ≤ length es → e ≡ get_or es place e → p e ≡ false → FailUpTo p e nodes → ComeBefore nodes es place next
+    → filter p (take next es) ≡ filter p (take place es)
 leapt p es place next e nodes h lo hi at fails up_to before =
     filter_skipped p es place (next - place) next e (omega (arith, lo)) hi
     (λ k from to. elim (cases_lt place k) [
@@ -100,7 +106,8 @@ any_found p (e ∷ es) found next =
 -- ---- a loop over those that pass
 
 -- none of those so far passes another test
-pub none_so_far : (p q : Edge → Bool) (es : List Edge) (place next : ℕ) (e : Edge) → list_any q (filter p (take place es)) ≡ false → place < length es → e ≡ get_or es place e → q e ≡ false → IsNext p es (place + 1) next → list_any q (filter p (take next es)) ≡ false
+pub none_so_far : (p q : Edge → Bool) (es : List Edge) (place next : ℕ) (e : Edge) → list_any q (filter p (take place es)) ≡ false → place < length es
+    → e ≡ get_or es place e → q e ≡ false → IsNext p es (place + 1) next → list_any q (filter p (take next es)) ≡ false
 none_so_far p q es place next e none inside at fails is =
     ap (list_any q) (is.skipped ∙ filter_more p es place e inside) ∙ list_any-append q (filter p (take place es)) (cond (p (get_or es place e)) (get_or es place e ∷ []) [])
     ∙ ap (λ b. b || list_any q (cond (p (get_or es place e)) (get_or es place e ∷ []) [])) none ∙ last (p (get_or es place e))
@@ -121,7 +128,10 @@ pub one_of_all : (p q : Edge → Bool) (es : List Edge) (place : ℕ) (e : Edge)
 one_of_all p q es place e inside at h g = sym (any_filter p q es ∙ list_any_from (λ x. p x && q x) es e (place, inside, sym at) (and_from (p e) (q e) h g))
 
 -- what is made of those so far
-pub mapped_more : (p : Edge → Bool) (h : Edge → Edge) (es items after : List Edge) (place next : ℕ) (e y : Edge) → items ≡ map h (filter p (take place es)) → place < length es → e ≡ get_or es place e → p e ≡ true → after ≡ items ++ y ∷ [] → y ≡ h e → IsNext p es (place + 1) next → after ≡ map h (filter p (take next es))
+pub mapped_more : (p : Edge → Bool) (h : Edge → Edge) (es items after : List Edge) (place next : ℕ) (e y : Edge)
+    → items ≡ map h (filter p (take place es)) → place < length es → e ≡ get_or es place e → p e ≡ true → after ≡ items ++ y ∷ [] → y ≡ h e
+    → IsNext p es (place + 1) next
+    → after ≡ map h (filter p (take next es))
 mapped_more p h es items after place next e y was inside at passes new is found =
     let there = filter_more p es place e inside ∙ ap (λ b. filter p (take place es) ++ cond b (get_or es place e ∷ []) []) (subst (λ x. p x ≡ true) at passes) in
     let whole = ap (map h) (found.skipped ∙ there) ∙ map-append h (filter p (take place es)) (get_or es place e ∷ []) in
@@ -134,7 +144,8 @@ mapped_all p h es items place was within end = was ∙ ap (λ xs. map h (filter 
 -- ---- what is taken away at the end
 
 -- an edge that fails, at the end of those that are left
-pub dropped : (p : Edge → Bool) (es : List Edge) (count : ℕ) (e : Edge) → 0 < count → count ≤ length es → e ≡ get_or es (count - 1) e → p e ≡ false → filter p (take count es) ≡ filter p es → filter p (take (count - 1) es) ≡ filter p es
+pub dropped : (p : Edge → Bool) (es : List Edge) (count : ℕ) (e : Edge) → 0 < count → count ≤ length es → e ≡ get_or es (count - 1) e → p e ≡ false
+    → filter p (take count es) ≡ filter p es → filter p (take (count - 1) es) ≡ filter p es
 dropped p es count e some within at fails was =
     let k = count - 1 in
     let next : count ≡ k + 1 = omega (arith, some) in
@@ -148,7 +159,8 @@ filter_all p (x ∷ es) h =
     ap (λ b. cond b (x ∷ filter p es) (filter p es)) parts.0 ∙ ap (λ ys. x ∷ ys) (filter_all p es parts.1)
 
 -- what is no lower than the last edge has all before it
-all_lower : (es : List Edge) (n : Node) (last : Edge) → slice_get es (length es - 1) ≡ Some last → are_ascending es ≡ true → edge_height last < height n → (z : Edge) → Contains es z → (same_node z.from n ≡ false) × (same_node z.to n ≡ false)
+all_lower : (es : List Edge) (n : Node) (last : Edge) → slice_get es (length es - 1) ≡ Some last → are_ascending es ≡ true
+    → edge_height last < height n → (z : Edge) → Contains es z → (same_node z.from n ≡ false) × (same_node z.to n ≡ false)
 all_lower es n last at h low z c =
     let k = c.0 in
     let inside = c.1 in
@@ -173,7 +185,8 @@ lower_none [] n h = refl
 lower_none (x ∷ es) n h = let some = slice_get-get_or (x ∷ es) (length (x ∷ es) - 1) x (omega arith) in cc (some, h)
 
 -- neither out of a node nor into it
-none_either : (x : Edge) (rest : List Edge) (a b : Bool) (outs ins kept : List Edge) → (outs ≡ [] → ins ≡ [] → kept ≡ rest) → cond a (x ∷ outs) outs ≡ [] → cond b (x ∷ ins) ins ≡ [] → cond (not a && not b) (x ∷ kept) kept ≡ x ∷ rest
+none_either : (x : Edge) (rest : List Edge) (a b : Bool) (outs ins kept : List Edge) → (outs ≡ [] → ins ≡ [] → kept ≡ rest)
+    → cond a (x ∷ outs) outs ≡ [] → cond b (x ∷ ins) ins ≡ [] → cond (not a && not b) (x ∷ kept) kept ≡ x ∷ rest
 none_either x rest true b outs ins kept f k l = cc k
 none_either x rest false true outs ins kept f k l = cc l
 none_either x rest false false outs ins kept f k l = ap (λ ys. x ∷ ys) (f k l)
@@ -207,7 +220,8 @@ ascending_take k es front is h =
     subst (λ xs. are_ascending xs ≡ true) (sym is) (ascending_front (take k es) (drop k es) (subst (λ xs. are_ascending xs ≡ true) (sym (take-append-drop k es)) h))
 
 -- a front goes on by an edge that the last of it comes before
-pub ascending_take_more : (es : List Edge) (place : ℕ) (l e : Edge) → 0 < place → place < length es → l ≡ get_or es (place - 1) l → e ≡ get_or es place e → edge_before l e ≡ true → are_ascending (take place es) ≡ true → are_ascending (take (place + 1) es) ≡ true
+pub ascending_take_more : (es : List Edge) (place : ℕ) (l e : Edge) → 0 < place → place < length es → l ≡ get_or es (place - 1) l
+    → e ≡ get_or es place e → edge_before l e ≡ true → are_ascending (take place es) ≡ true → are_ascending (take (place + 1) es) ≡ true
 ascending_take_more es place l e some inside at_l at_e before h =
     let long : length (take place es) ≡ place = length-take-le place es (omega (arith, inside)) in
     let last : slice_get (take place es) (length (take place es) - 1) ≡ Some l =

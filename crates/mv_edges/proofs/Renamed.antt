@@ -63,7 +63,8 @@ module _ (old new : Node) where
             ]
           ])
 
-  pub renamed_whole : (es kept moved pieces whole : List Edge) → pieces ≡ renamed old new (into old es ++ out_of old es) → moved ≡ sorted pieces → kept ≡ without old es → whole ≡ sorted (kept ++ moved) → whole ≡ sorted (renamed old new es)
+  pub renamed_whole : (es kept moved pieces whole : List Edge) → pieces ≡ renamed old new (into old es ++ out_of old es) → moved ≡ sorted pieces
+      → kept ≡ without old es → whole ≡ sorted (kept ++ moved) → whole ≡ sorted (renamed old new es)
   renamed_whole es kept moved pieces whole p m k w =
       w ∙ ap (λ xs. sorted (xs ++ moved)) k ∙ ap (λ xs. sorted (without old es ++ xs)) (m ∙ ap sorted p) ∙ sorted-append_sorted (without old es) (renamed old new (into old es ++ out_of old es))
       ∙ sorted_alike (without old es ++ renamed old new (into old es ++ out_of old es)) (renamed old new es) (split es)

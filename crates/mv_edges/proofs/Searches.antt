@@ -1,5 +1,6 @@
 -- What a search finds.
-use Rattle.std.proofs.Common.{◌≡◌, ℕ, zero, suc, ◌<◌, ◌≤◌, min, inl, inr, Bool, true, false, List, [], ◌∷◌, ◌++◌, length, take, drop, Contains, eqb, Some, Result, Ok, Err, IfOk, IfErr, slice_get, refl, sym, ap, ◌∙◌, subst, arith, true≢false, eqb-true, take-append-drop}
+use Rattle.std.proofs.Common.{◌≡◌, ℕ, zero, suc, ◌<◌, ◌≤◌, min, inl, inr, Bool, true, false, List, [], ◌∷◌, ◌++◌, length, take, drop, Contains, eqb}
+use Rattle.std.proofs.Common.{Some, Result, Ok, Err, IfOk, IfErr, slice_get, refl, sym, ap, ◌∙◌, subst, arith, true≢false, eqb-true, take-append-drop}
 use Rattle.std.specs.List.{list_all, list_any}
 use Rattle.std.specs.Result.{is_ok}
 use Rattle.std.proofs.lemmas.Bool.{and_parts, cases_lt, false_from_ne_true}
@@ -36,7 +37,9 @@ missing_any es i e h g =
     ]) ∙ edge_strict.irreflexive e))
 
 -- the answer of a search says whether the edge is there
-pub searched : (es : List Edge) (e : Edge) (r : Result ℕ ℕ) → IfOk r (λ i. slice_get es i ≡ Some e) → IfErr r (λ i. list_all (λ x. edge_before x e) (take i es) ≡ true) → IfErr r (λ i. list_all (edge_before e) (drop i es) ≡ true) → is_ok r ≡ list_any (same_edge e) es
+pub searched : (es : List Edge) (e : Edge) (r : Result ℕ ℕ) → IfOk r (λ i. slice_get es i ≡ Some e)
+    → IfErr r (λ i. list_all (λ x. edge_before x e) (take i es) ≡ true) → IfErr r (λ i. list_all (edge_before e) (drop i es) ≡ true)
+    → is_ok r ≡ list_any (same_edge e) es
 searched es e (Ok i) f h g = sym (found_any es i e f)
 searched es e (Err i) f h g = sym (missing_any es i e h g)
 
@@ -69,7 +72,8 @@ begins_take (x ∷ xs) (y ∷ ys) h =
     ap (λ z. z ∷ take (length xs) ys) (sym (eqb-true x y parts.0)) ∙ ap (λ zs. x ∷ zs) (begins_take xs ys parts.1)
 
 -- where neither the edge is there nor the open one of any prefix that is not too long, none is above it
-pub not_reached : (es : List Edge) (e : Edge) → list_any (same_edge e) es ≡ false → ((k : ℕ) → k ≤ length e.label.path → k ≤ longest es → list_any (same_edge (opened_at k e)) es ≡ false) → list_any (edge_leq e) es ≡ false
+pub not_reached : (es : List Edge) (e : Edge) → list_any (same_edge e) es ≡ false
+    → ((k : ℕ) → k ≤ length e.label.path → k ≤ longest es → list_any (same_edge (opened_at k e)) es ≡ false) → list_any (edge_leq e) es ≡ false
 not_reached es e h f = false_from_ne_true (list_any (edge_leq e) es) (λ some. refuted (passing (edge_leq e) es some))
   where
     refuted : Passing (edge_leq e) es → ⊥
@@ -91,7 +95,10 @@ not_reached es e h f = false_from_ne_true (list_any (edge_leq e) es) (λ some. r
         ]
 
 -- where no shorter prefix is there, the longest one decides
-pub reached_last : (es : List Edge) (e : Edge) (most : ℕ) (b : Bool) → list_any (same_edge e) es ≡ false → ((k : ℕ) → k < most → list_any (same_edge (opened_at k e)) es ≡ false) → most ≡ min (length e.label.path) (longest es) → b ≡ list_any (same_edge (opened_at most e)) es → b ≡ list_any (edge_leq e) es
+pub reached_last : (es : List Edge) (e : Edge) (most : ℕ) (b : Bool) → list_any (same_edge e) es ≡ false
+    → ((k : ℕ) → k < most → list_any (same_edge (opened_at k e)) es ≡ false) → most ≡ min (length e.label.path) (longest es)
+    → b ≡ list_any (same_edge (opened_at most e)) es
+    → b ≡ list_any (edge_leq e) es
 reached_last es e most true h f is last = sym (reached_prefix es e most (sym last))
 reached_last es e most false h f is last =
     sym (not_reached es e h

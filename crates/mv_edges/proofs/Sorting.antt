@@ -1,5 +1,7 @@
 -- Edges in their order.
-use Rattle.std.proofs.Common.{◌≡◌, ℕ, ◌+◌, ◌-◌, ◌<◌, ◌≤◌, ◌↔◌, ◌⊎◌, inl, inr, zero, suc, Bool, true, false, cond, ◌&&◌, ◌||◌, List, [], ◌∷◌, ◌++◌, length, get_or, take, drop, slice_get, Contains, filter, None, Some, eqb, not, insert, refl, sym, arith, take-append-drop, append_assoc, append-nil, ap, ◌∙◌, subst, ne_eqb}
+use Rattle.std.proofs.Common.{◌≡◌, ℕ, ◌+◌, ◌-◌, ◌<◌, ◌≤◌, ◌↔◌, ◌⊎◌, inl, inr, zero, suc, Bool, true, false, cond, ◌&&◌, ◌||◌, List, [], ◌∷◌, ◌++◌}
+use Rattle.std.proofs.Common.{length, get_or, take, drop, slice_get, Contains, filter, None, Some, eqb, not, insert, refl, sym, arith}
+use Rattle.std.proofs.Common.{take-append-drop, append_assoc, append-nil, ap, ◌∙◌, subst, ne_eqb}
 use Rattle.std.specs.List.{list_all, list_any}
 use Rattle.std.proofs.lemmas.Bool.{and_parts, and_from}
 use Rattle.std.proofs.lemmas.List.{drop_more, drop_all}
@@ -103,7 +105,8 @@ sorted-all edges [] total h none was = sym (sorted-ascending edges h) ∙ ap sor
 sorted-all edges (x ∷ rest) total h none was = absurd (omega (arith, none))
 
 -- of two ascending lists, the head of the left one comes first
-pub sorted_left_first : (a b : Edge) (es fs : List Edge) → are_ascending (a ∷ es) ≡ true → are_ascending (b ∷ fs) ≡ true → edge_before a b ≡ true → sorted ((a ∷ es) ++ b ∷ fs) ≡ a ∷ sorted (es ++ b ∷ fs)
+pub sorted_left_first : (a b : Edge) (es fs : List Edge) → are_ascending (a ∷ es) ≡ true → are_ascending (b ∷ fs) ≡ true → edge_before a b ≡ true
+    → sorted ((a ∷ es) ++ b ∷ fs) ≡ a ∷ sorted (es ++ b ∷ fs)
 sorted_left_first a b es fs h g k =
     let left = insertion.all_above edge_before edge_strict a es (to_by (a ∷ es) h) in
     let right = insertion.all_above edge_before edge_strict a (b ∷ fs) (to_by (a ∷ b ∷ fs) (and_from (edge_before a b) (are_ascending (b ∷ fs)) k g)) in
@@ -111,7 +114,8 @@ sorted_left_first a b es fs h g k =
     sorted_cons (a ∷ es ++ b ∷ fs) a (es ++ b ∷ fs) all (λ z. (λ c. c, λ c. c))
 
 -- the head of the right one is
-pub sorted_right_first : (a b : Edge) (es fs : List Edge) → are_ascending (a ∷ es) ≡ true → are_ascending (b ∷ fs) ≡ true → edge_before b a ≡ true → sorted ((a ∷ es) ++ b ∷ fs) ≡ b ∷ sorted ((a ∷ es) ++ fs)
+pub sorted_right_first : (a b : Edge) (es fs : List Edge) → are_ascending (a ∷ es) ≡ true → are_ascending (b ∷ fs) ≡ true → edge_before b a ≡ true
+    → sorted ((a ∷ es) ++ b ∷ fs) ≡ b ∷ sorted ((a ∷ es) ++ fs)
 sorted_right_first a b es fs h g k =
     sorted-append_swap (a ∷ es) (b ∷ fs) ∙ sorted_left_first b a fs es g h k ∙ ap (λ xs. b ∷ xs) (sorted-append_swap fs (a ∷ es))
 
@@ -173,7 +177,8 @@ ascending_joined (a ∷ b ∷ es) e fs h g =
     let parts = and_parts (edge_before a b) (are_ascending (b ∷ es ++ e ∷ [])) h in
     and_from (edge_before a b) (are_ascending (b ∷ es ++ e ∷ fs)) parts.0 (ascending_joined (b ∷ es) e fs parts.1 g)
 
-pub ascending_behind : (es fs : List Edge) (last first : Edge) → Some last ≡ slice_get es (length es - 1) → Some first ≡ slice_get fs 0 → edge_before last first ≡ true → are_ascending es ≡ true → are_ascending fs ≡ true → are_ascending (es ++ fs) ≡ true
+pub ascending_behind : (es fs : List Edge) (last first : Edge) → Some last ≡ slice_get es (length es - 1) → Some first ≡ slice_get fs 0
+    → edge_before last first ≡ true → are_ascending es ≡ true → are_ascending fs ≡ true → are_ascending (es ++ fs) ≡ true
 ascending_behind es [] last first at_last at_first before h g = cc
 ascending_behind es (e ∷ fs) last first at_last at_first before h g =
     let same : first ≡ e = cc in
@@ -222,7 +227,10 @@ inserted_again e es a c =
     (λ z. (λ d. elim (contains-inserted_cases e es z d) [ inl h ↦ subst (λ y. Contains es y) h c | inr k ↦ k ], λ d. contains-inserted_rest e es z d))
 
 -- what a vector holds after an insertion at that place, found by an equal edge
-pub inserted_missing : (es : List Edge) (e v : Edge) (place : ℕ) (after before : List Edge) → v ≡ e → list_all (λ x. edge_before x v) (take place es) ≡ true → list_all (edge_before v) (drop place es) ≡ true → after ≡ insert before place e → before ≡ es → after ≡ inserted e es
+pub inserted_missing : (es : List Edge) (e v : Edge) (place : ℕ) (after before : List Edge) → v ≡ e
+    → list_all (λ x. edge_before x v) (take place es) ≡ true → list_all (edge_before v) (drop place es) ≡ true → after ≡ insert before place e
+    → before ≡ es
+    → after ≡ inserted e es
 inserted_missing es e v place after before same h g new old =
     new ∙ ap (λ xs. insert xs place e) old
     ∙ sym (inserted_between e es place (subst (λ y. list_all (λ x. edge_before x y) (take place es) ≡ true) same h) (subst (λ y. list_all (edge_before y) (drop place es) ≡ true) same g))
@@ -268,7 +276,8 @@ module _ (a b : List Edge) (ascend_a : are_ascending a ≡ true) (ascend_b : are
           ap (λ es. sorted (drop i a ++ es)) none ∙ ap sorted (append-nil (drop i a)) ∙ sorted-ascending (drop i a) (ascending_drop i a ascend_a) ∙ sym (append-nil (drop i a)) ∙ ap (λ es. drop i a ++ es) (sym none)
 
 -- one more of the merged edges
-pub merged_more : (items after whole rest total : List Edge) (z x : Edge) → after ≡ items ++ z ∷ [] → z ≡ x → sorted whole ≡ x ∷ sorted rest → items ++ sorted whole ≡ total → after ++ sorted rest ≡ total
+pub merged_more : (items after whole rest total : List Edge) (z x : Edge) → after ≡ items ++ z ∷ [] → z ≡ x → sorted whole ≡ x ∷ sorted rest
+    → items ++ sorted whole ≡ total → after ++ sorted rest ≡ total
 merged_more items after whole rest total z x new same step was =
     ap (λ xs. xs ++ sorted rest) new ∙ append_assoc items (z ∷ []) (sorted rest) ∙ ap (λ u. items ++ u ∷ sorted rest) same ∙ ap (λ ys. items ++ ys) (sym step) ∙ was
 

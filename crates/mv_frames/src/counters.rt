@@ -1,7 +1,9 @@
 // What a run counts.
 ghost use Rattle.std.specs.Prelude.{◌≡◌, ◌+◌, ◌^◌, ◌-◌, ◌<◌, ◌≤◌, [], not, true, length, slice_set, IsOk, IfOk, OnOk, OnErr};
 ghost use Rattle.std.specs.Vec.{vec_len, vec_capacity};
-ghost use Rattle.mv_frames.specs.Counters.{no_count, count_of, one_more, one_again, is_none_yet, tables_of, table_at, entry_at, with_count, free_in, free_counts, IsBelow, IsSameTable, AreSameTables, HasCounts, KeepsCounts, AreNoted, IsClear, AreSameCounts, IsCounted, AreBelow, AreTallied};
+ghost use Rattle.mv_frames.specs.Counters.{no_count, count_of, one_more, one_again, is_none_yet, tables_of, table_at, entry_at, with_count, free_in};
+ghost use Rattle.mv_frames.specs.Counters.{free_counts, IsBelow, IsSameTable, AreSameTables, HasCounts, KeepsCounts, AreNoted, IsClear};
+ghost use Rattle.mv_frames.specs.Counters.{AreSameCounts, IsCounted, AreBelow, AreTallied};
 
 use crate::Halt;
 use mv_move_types::Definition;

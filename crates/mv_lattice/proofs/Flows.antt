@@ -30,7 +30,8 @@ module _ {K S : Type 0} (inner : K → S) (entries : List (Option K)) (k : ℕ) 
   unstated_entry is = stated_at ∙ ap (λ o. Some (option_map inner o)) is
 
 module _ {S : Type 0} (below : S → S → Type 0) (flow : List (Option S)) (blocks : List ℕ) (t : S) where
-  pub below_each_some : (i n : ℕ) (v : S) → i < length blocks → n ≡ get_or blocks i 0 → IsStated flow n v → below t v → IsBelowEach below flow (take i blocks) t → IsBelowEach below flow (take (i + 1) blocks) t
+  pub below_each_some : (i n : ℕ) (v : S) → i < length blocks → n ≡ get_or blocks i 0 → IsStated flow n v → below t v
+      → IsBelowEach below flow (take i blocks) t → IsBelowEach below flow (take (i + 1) blocks) t
   below_each_some i n v h at is b before =
       All-more (λ m. (u : S) → IsStated flow m u → below t u) blocks i 0 h before
       (λ u st.

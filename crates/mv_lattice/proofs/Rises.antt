@@ -1,5 +1,6 @@
 -- What the laws give over whole blocks, and how states rise.
-use Rattle.std.proofs.Common.{◌≡◌, ◌≢◌, ℕ, zero, suc, ◌+◌, ◌-◌, ◌<◌, ◌≤◌, Bool, true, false, List, [], ◌∷◌, ◌++◌, length, get_or, set, Option, Some, None, All, ⊎_elim, inl, inr, refl, sym, ap, ◌∙◌, subst, arith, slice_get}
+use Rattle.std.proofs.Common.{◌≡◌, ◌≢◌, ℕ, zero, suc, ◌+◌, ◌-◌, ◌<◌, ◌≤◌, Bool, true, false, List, [], ◌∷◌, ◌++◌, length, get_or, set, Option, Some}
+use Rattle.std.proofs.Common.{None, All, ⊎_elim, inl, inr, refl, sym, ap, ◌∙◌, subst, arith, slice_get}
 use Rattle.std.proofs.lemmas.Bool.{cases_eq}
 use Rattle.std.proofs.lemmas.List.{length-set, get_or_append_left, get_or-append-add, length-append}
 use Rattle.std.proofs.lemmas.List.Elements.{All-nil, All-cons, All-head, All-append, All-weaker, Contains-append_left, Contains-append_right}
@@ -23,14 +24,16 @@ set_other (y ∷ ys) zero (suc k) x ne = refl
 set_other (y ∷ ys) (suc n) zero x ne = refl
 set_other (y ∷ ys) (suc n) (suc k) x ne = set_other ys n k x (λ e. ne (ap suc e))
 
-module _ {S : Type 0} {size : ℕ} {IsState MayBegin : S → Type 0} {below : S → S → Type 0} {step : ℕ → S → Option S} {IsGraphOf : Cfg → Type 0} (laws : IsLawful size IsState MayBegin below step IsGraphOf) where
+module _ {S : Type 0} {size : ℕ} {IsState MayBegin : S → Type 0} {below : S → S → Type 0} {step : ℕ → S → Option S} {IsGraphOf : Cfg → Type 0}
+    (laws : IsLawful size IsState MayBegin below step IsGraphOf) where
   pub carried_keeps : (count at : ℕ) (s t : S) → at + count ≤ size → IsState s → carried step at count s ≡ Some t → IsState t
   carried_keeps zero at s t h v e = let same : s ≡ t = cc in subst IsState same v
   carried_keeps (suc count) at s t h v e =
       option_and_then_some (carried step (suc at) count) (step at s) t e
       (λ r er et. carried_keeps count (suc at) r t (omega arith) (laws.keeps at s r (omega arith) v er) et)
 
-  pub carried_monotone : (count at : ℕ) (a b t : S) → at + count ≤ size → IsState a → IsState b → below a b → carried step at count b ≡ Some t → (u : S) × ((carried step at count a ≡ Some u) × below u t)
+  pub carried_monotone : (count at : ℕ) (a b t : S) → at + count ≤ size → IsState a → IsState b → below a b → carried step at count b ≡ Some t
+      → (u : S) × ((carried step at count a ≡ Some u) × below u t)
   carried_monotone zero at a b t h va vb le e = let same : b ≡ t = cc in (a, (refl, subst (below a) same le))
   carried_monotone (suc count) at a b t h va vb le e =
       option_and_then_some (carried step (suc at) count) (step at b) t e
@@ -42,7 +45,8 @@ module _ {S : Type 0} {size : ℕ} {IsState MayBegin : S → Type 0} {below : S 
   pub through_keeps : (b : Block) (s t : S) → b.first ≤ b.last → b.last < size → IsState s → through step b s ≡ Some t → IsState t
   through_keeps b s t h h' v e = carried_keeps (b.last + 1 - b.first) b.first s t (omega arith) v e
 
-  pub through_monotone : (b : Block) (a c t : S) → b.first ≤ b.last → b.last < size → IsState a → IsState c → below a c → through step b c ≡ Some t → (u : S) × ((through step b a ≡ Some u) × below u t)
+  pub through_monotone : (b : Block) (a c t : S) → b.first ≤ b.last → b.last < size → IsState a → IsState c → below a c → through step b c ≡ Some t
+      → (u : S) × ((through step b a ≡ Some u) × below u t)
   through_monotone b a c t h h' va vc le e = carried_monotone (b.last + 1 - b.first) b.first a c t (omega arith) va vc le e
 
 module _ {S : Type 0} (P : S → Type 0) (below : S → S → Type 0) where
@@ -71,7 +75,8 @@ All-front P xs ys all = λ k d h. subst P (get_or_append_left xs ys d k h) (all 
 All-back : {X : Type 0} (P : X → Type 0) (xs ys : List X) → All P (xs ++ ys) → All P ys
 All-back P xs ys all = λ k d h. subst P (get_or-append-add xs ys k d) (all (length xs + k) d (omega (arith, length-append xs ys)))
 
-module _ {S : Type 0} {size : ℕ} {IsState MayBegin : S → Type 0} {below : S → S → Type 0} {step : ℕ → S → Option S} {IsGraphOf : Cfg → Type 0} (laws : IsLawful size IsState MayBegin below step IsGraphOf) (IsSmall : S → Type 0) (t : S) where
+module _ {S : Type 0} {size : ℕ} {IsState MayBegin : S → Type 0} {below : S → S → Type 0} {step : ℕ → S → Option S} {IsGraphOf : Cfg → Type 0}
+    (laws : IsLawful size IsState MayBegin below step IsGraphOf) (IsSmall : S → Type 0) (t : S) where
   -- nothing has flowed yet
   pub raised_nil : (states : List (Option S)) (waiting : List Bool) → AllStated IsState states → IsRaised IsState MayBegin IsSmall below [] t states states waiting waiting
   raised_nil states waiting valid = record {
@@ -87,7 +92,8 @@ module _ {S : Type 0} {size : ℕ} {IsState MayBegin : S → Type 0} {below : S 
   }
 
   -- the state of the block is above t already
-  pub raised_same : (states : List (Option S)) (waiting : List Bool) (n : ℕ) (s : S) → AllStated IsState states → IsStated states n s → below t s → IsRaised IsState MayBegin IsSmall below (n ∷ []) t states states waiting waiting
+  pub raised_same : (states : List (Option S)) (waiting : List Bool) (n : ℕ) (s : S) → AllStated IsState states → IsStated states n s → below t s
+      → IsRaised IsState MayBegin IsSmall below (n ∷ []) t states states waiting waiting
   raised_same states waiting n s valid e le = record {
     entries = refl;
     marks = refl;
@@ -226,7 +232,9 @@ module _ {S : Type 0} {size : ℕ} {IsState MayBegin : S → Type 0} {below : S 
     raised_keeps Q f q p k s e = ⊎_elim (λ h. q k s h) (λ h. f s h.1.0 h.1.1.0 h.1.1.1) (p.changed k s e)
 
     -- t has flowed into some blocks, and then into others
-    pub raised_trans : IsState t → AllStated IsState a → AllStated IsState b → AllStated IsState c → IsRaised IsState MayBegin IsSmall below xs t a b wa wb → IsRaised IsState MayBegin IsSmall below ys t b c wb wc → IsRaised IsState MayBegin IsSmall below (xs ++ ys) t a c wa wc
+    pub raised_trans : IsState t → AllStated IsState a → AllStated IsState b → AllStated IsState c
+        → IsRaised IsState MayBegin IsSmall below xs t a b wa wb → IsRaised IsState MayBegin IsSmall below ys t b c wb wc
+        → IsRaised IsState MayBegin IsSmall below (xs ++ ys) t a c wa wc
     raised_trans vt va vb vc p q = record {
       entries = q.entries ∙ p.entries;
       marks = q.marks ∙ p.marks;

@@ -1,5 +1,6 @@
 -- How the code's search follows the one of blocks, states and marks.
-use Rattle.std.proofs.Common.{◌≡◌, ℕ, ◌+◌, ◌-◌, ◌<◌, Bool, true, false, List, [], ◌∷◌, ◌++◌, length, set, replicate, Option, Some, None, Contains, ◌⊎◌, ⊎_elim, inl, inr, refl, sym, ap, ◌∙◌, subst, arith, slice_get}
+use Rattle.std.proofs.Common.{◌≡◌, ℕ, ◌+◌, ◌-◌, ◌<◌, Bool, true, false, List, [], ◌∷◌, ◌++◌, length, set, replicate, Option, Some, None, Contains}
+use Rattle.std.proofs.Common.{◌⊎◌, ⊎_elim, inl, inr, refl, sym, ap, ◌∙◌, subst, arith, slice_get}
 use Rattle.std.proofs.lemmas.Bool.{cases_eq}
 use Rattle.std.proofs.lemmas.List.Elements.{Contains-push, Contains-push_cases, Contains-append_left}
 use Rattle.std.proofs.lemmas.Option.{slice_get_within}
@@ -9,7 +10,8 @@ use Rattle.mv_cfg.specs.declared.Block.{Block}
 use Rattle.mv_cfg.specs.declared.Cfg.{Cfg}
 use Rattle.mv_cfg.specs.Graph.{IsBlock, HasEdge}
 use Rattle.mv_lattice.specs.Flow.{IsAt, IsStated, through}
-use Rattle.mv_lattice.specs.Search.{Search, IsSameAt, Raises, nothing, lower, FlowsInto, stays, rises, FlowsIntoEach, ExceedsAt, Makes, IsVisit, Exceeds, Reaches, begins, goes_on, IsTurn, EndsWith, MeetsLimit, too_often, too_large, MeetsNeed, need}
+use Rattle.mv_lattice.specs.Search.{Search, IsSameAt, Raises, nothing, lower, FlowsInto, stays, rises, FlowsIntoEach, ExceedsAt, Makes, IsVisit}
+use Rattle.mv_lattice.specs.Search.{Exceeds, Reaches, begins, goes_on, IsTurn, EndsWith, MeetsLimit, too_often, too_large, MeetsNeed, need}
 use Rattle.mv_lattice.specs.Work.{standing, IsSearch}
 use Rattle.mv_lattice.proofs.Rises.{set_same, set_other}
 use Rattle.mv_lattice.proofs.Visits.{replicate_at}
@@ -41,7 +43,8 @@ module _ {S : Type 0} (IsState IsSmall : S → Type 0) (below : S → S → Type
   pub nothing_raised : (t : S) (old : Option S) (u : S) → old ≡ None → u ≡ t → Raises IsState below t old u
   nothing_raised t old u none same = subst (λ o. Raises IsState below t o u) (sym none) (subst (λ z. Raises IsState below t None z) (sym same) nothing)
 
-  pub state_raised : (s t : S) (old : Option S) (u : S) → old ≡ Some s → (below t s → ⊥) → IsState u → below s u → below t u → ((v : S) → IsState v → below s v → below t v → below u v) → Raises IsState below t old u
+  pub state_raised : (s t : S) (old : Option S) (u : S) → old ≡ Some s → (below t s → ⊥) → IsState u → below s u → below t u
+      → ((v : S) → IsState v → below s v → below t v → below u v) → Raises IsState below t old u
   state_raised s t old u some above valid left right least =
       subst (λ o. Raises IsState below t o u) (sym some) (lower above (record { valid = valid; left = left; right = right; least = least }))
 
@@ -68,7 +71,8 @@ module _ {S : Type 0} (IsState IsSmall : S → Type 0) (below : S → S → Type
   }
 
   -- t has flowed into some blocks, and then into one more
-  pub flows_more : (t : S) (xs : List ℕ) (m : ℕ) (x y z : Search S) → below t t → FlowsIntoEach IsState IsSmall below (Contains xs) t x y → FlowsIntoEach IsState IsSmall below (Contains (m ∷ [])) t y z
+  pub flows_more : (t : S) (xs : List ℕ) (m : ℕ) (x y z : Search S) → below t t → FlowsIntoEach IsState IsSmall below (Contains xs) t x y
+      → FlowsIntoEach IsState IsSmall below (Contains (m ∷ [])) t y z
       → FlowsIntoEach IsState IsSmall below (Contains (xs ++ m ∷ [])) t x z
   flows_more t xs m x y z itself p q = record {
     inside = λ n h. ⊎_elim
@@ -89,7 +93,8 @@ module _ {S : Type 0} (IsState IsSmall : S → Type 0) (below : S → S → Type
   exceeds_at t n old flow at h = record { old = old; new = h.0; at = at; raises = h.1.0; large = h.1.1 }
 
   -- what t would raise too high was so before t flowed into other blocks
-  pub exceeds_before : (t : S) (xs : List ℕ) (n : ℕ) (x y : Search S) → below t t → FlowsIntoEach IsState IsSmall below (Contains xs) t x y → ExceedsAt IsState IsSmall below t n y.flow → ExceedsAt IsState IsSmall below t n x.flow
+  pub exceeds_before : (t : S) (xs : List ℕ) (n : ℕ) (x y : Search S) → below t t → FlowsIntoEach IsState IsSmall below (Contains xs) t x y
+      → ExceedsAt IsState IsSmall below t n y.flow → ExceedsAt IsState IsSmall below t n x.flow
   exceeds_before t xs n x y itself p e = ⊎_elim
       (λ old. by_flow (p.inside n old))
       (λ new. unchanged (p.outside n new))
@@ -113,7 +118,8 @@ module _ {S : Type 0} (IsState IsSmall : S → Type 0) (below : S → S → Type
     outside = λ k no. (refl, refl);
   }
 
-  pub flows_rises : (t : S) (n : ℕ) (old : Option S) (u : S) (states : List (Option S)) (waiting : List Bool) → n < length states → n < length waiting → IsAt states n old → Raises IsState below t old u → IsSmall u
+  pub flows_rises : (t : S) (n : ℕ) (old : Option S) (u : S) (states : List (Option S)) (waiting : List Bool) → n < length states → n < length waiting
+      → IsAt states n old → Raises IsState below t old u → IsSmall u
       → FlowsIntoEach IsState IsSmall below (Contains (n ∷ [])) t (standing states waiting) (standing (set states n (Some u)) (set waiting n true))
   flows_rises t n old u states waiting inside marked at raised small = record {
     inside = λ k h. subst (λ i. FlowsInto IsState IsSmall below t i (standing states waiting) (standing (set states n (Some u)) (set waiting n true))) (one_alone n k h)
@@ -137,7 +143,8 @@ module _ {S : Type 0} (IsState IsSmall : S → Type 0) (below : S → S → Type
         subst (λ (z : Block). Contains z.successors.items n) same h.2
 
     -- the block's visit, by its list of successors
-    pub visit_made : (t : S) (x y : Search S) → IsStated x.flow k s → through step b s ≡ Some t → FlowsIntoEach IsState IsSmall below (Contains b.successors.items) t x y → IsVisit IsState IsSmall below step g k x y
+    pub visit_made : (t : S) (x y : Search S) → IsStated x.flow k s → through step b s ≡ Some t
+        → FlowsIntoEach IsState IsSmall below (Contains b.successors.items) t x y → IsVisit IsState IsSmall below step g k x y
     visit_made t x y stated out flows = record {
       out = t;
       makes = makes x.flow stated (Some t) out;
@@ -147,7 +154,8 @@ module _ {S : Type 0} (IsState IsSmall : S → Type 0) (below : S → S → Type
       };
     }
 
-    pub visit_exceeds : (t : S) (flow : List (Option S)) → IsStated flow k s → through step b s ≡ Some t → (n : ℕ) → Contains b.successors.items n → ExceedsAt IsState IsSmall below t n flow → Exceeds IsState IsSmall below step g k flow
+    pub visit_exceeds : (t : S) (flow : List (Option S)) → IsStated flow k s → through step b s ≡ Some t → (n : ℕ) → Contains b.successors.items n
+        → ExceedsAt IsState IsSmall below t n flow → Exceeds IsState IsSmall below step g k flow
     visit_exceeds t flow stated out n h e = record { out = t; makes = makes flow stated (Some t) out; successor = n; edge = successor n h; exceeds = e }
 
     pub visit_fails : (flow : List (Option S)) → IsStated flow k s → through step b s ≡ None → Makes IsState IsSmall below step g k flow None
@@ -209,7 +217,9 @@ module _ {S : Type 0} (IsState IsSmall : S → Type 0) (below : S → S → Type
         }
 
     -- the code's search, when nothing waits
-    pub search_ends : (left : List ℕ) (states : List (Option S)) (waiting : List Bool) → IsSearch IsState IsSmall below step g start left states waiting → ((j : ℕ) → j < length waiting → IsAt waiting j false) → EndsWith IsState IsSmall below step g start states
+    pub search_ends : (left : List ℕ) (states : List (Option S)) (waiting : List Bool)
+        → IsSearch IsState IsSmall below step g start left states waiting → ((j : ℕ) → j < length waiting → IsAt waiting j false)
+        → EndsWith IsState IsSmall below step g start states
     search_ends left states waiting has rests = record {
       visited = has.visited;
       last = standing states waiting;

@@ -1,5 +1,6 @@
 -- What a visit of a block keeps, how the search begins, and what it ends with.
-use Rattle.std.proofs.Common.{◌≡◌, ℕ, zero, suc, ◌+◌, ◌-◌, ◌<◌, Bool, true, false, List, [], length, get_or, set, replicate, Option, Some, None, ⊎_elim, refl, sym, ap, ◌∙◌, subst, arith, slice_get, sum}
+use Rattle.std.proofs.Common.{◌≡◌, ℕ, zero, suc, ◌+◌, ◌-◌, ◌<◌, Bool, true, false, List, [], length, get_or, set, replicate, Option, Some, None}
+use Rattle.std.proofs.Common.{⊎_elim, refl, sym, ap, ◌∙◌, subst, arith, slice_get, sum}
 use Rattle.std.proofs.lemmas.Bool.{cases_eq}
 use Rattle.std.proofs.lemmas.List.{length-set, length-replicate}
 use Rattle.std.proofs.lemmas.List.Elements.{All-weaker}
@@ -29,7 +30,8 @@ sum_set xs k y within = sum_by-set (λ n. n) xs k y 0 within
 pub fewer_left : (left : List ℕ) (k : ℕ) → k < length left → 0 < get_or left k 0 → sum (set left k (get_or left k 0 - 1)) < sum left
 fewer_left left k within some = omega (arith, sum_set left k (get_or left k 0 - 1) within, some)
 
-module _ {S : Type 0} {size : ℕ} {IsState MayBegin : S → Type 0} {below : S → S → Type 0} {step : ℕ → S → Option S} {IsGraphOf : Cfg → Type 0} (laws : IsLawful size IsState MayBegin below step IsGraphOf)
+module _ {S : Type 0} {size : ℕ} {IsState MayBegin : S → Type 0} {below : S → S → Type 0} {step : ℕ → S → Option S} {IsGraphOf : Cfg → Type 0}
+    (laws : IsLawful size IsState MayBegin below step IsGraphOf)
     (IsSmall : S → Type 0) (g : Cfg) (graph : IsGraph g size) (k : ℕ) (states : List (Option S)) (waiting : List Bool)
     (work : IsWork IsState MayBegin IsSmall below step g k states waiting) where
   module _ (b : Block) (s : S) (block : IsBlock g k b) (stated : IsStated states k s) where
@@ -239,7 +241,8 @@ module _ {S : Type 0} (g : Cfg) (s : S) (has : 0 < length g.blocks.items) where
   first_mark : IsAt (first_waiting g s) 0 true
   first_mark = set_same (replicate (length g.blocks.items) false) 0 true (omega (arith, length-replicate (length g.blocks.items) false))
 
-  pub first_entry : {IsState : S → Type 0} (below : S → S → Type 0) → IsState s → (start : S) → start ≡ s → ((a : S) → IsState a → below a a) → (u : S) × (IsStated (first_states g s) 0 u × below start u)
+  pub first_entry : {IsState : S → Type 0} (below : S → S → Type 0) → IsState s → (start : S) → start ≡ s → ((a : S) → IsState a → below a a)
+      → (u : S) × (IsStated (first_states g s) 0 u × below start u)
   first_entry below valid start same reflexive = (s, (first_at, subst (λ x. below x s) (sym same) (reflexive s valid)))
 
   pub first_least : (below : S → S → Type 0) {step : ℕ → S → Option S} → (flow : List (Option S)) → IsClosed below step g s flow → IsFlowBelow below (first_states g s) flow
@@ -285,7 +288,8 @@ module _ {S : Type 0} (g : Cfg) (s : S) (has : 0 < length g.blocks.items) where
     }
 
 -- what the search begins with, by what its lists were made of
-module _ {S : Type 0} {size : ℕ} {IsState MayBegin : S → Type 0} {below : S → S → Type 0} {step : ℕ → S → Option S} {IsGraphOf : Cfg → Type 0} (laws : IsLawful size IsState MayBegin below step IsGraphOf)
+module _ {S : Type 0} {size : ℕ} {IsState MayBegin : S → Type 0} {below : S → S → Type 0} {step : ℕ → S → Option S} {IsGraphOf : Cfg → Type 0}
+    (laws : IsLawful size IsState MayBegin below step IsGraphOf)
     (IsSmall : S → Type 0) (g : Cfg) (start s : S) (n : ℕ) (states : List (Option S)) (has : 0 < length g.blocks.items) (n_is : n ≡ length g.blocks.items)
     (s_is : s ≡ start) (made : states ≡ set (replicate n None) 0 (Some s)) where
   states_are : states ≡ first_states g start
@@ -314,7 +318,8 @@ module _ {S : Type 0} {size : ℕ} {IsState MayBegin : S → Type 0} {below : S 
         (subst (λ xs. IsCounted (λ r. IsState r × MayBegin r) below (replicate (length g.blocks.items) 256) xs (first_waiting g start)) (sym states_are) (first_counts g start has below valid begins)))
 
 -- one rise after the other
-pub higher_trans : {S : Type 0} {size : ℕ} {IsState MayBegin : S → Type 0} {below : S → S → Type 0} {step : ℕ → S → Option S} {IsGraphOf : Cfg → Type 0} → IsLawful size IsState MayBegin below step IsGraphOf
+pub higher_trans : {S : Type 0} {size : ℕ} {IsState MayBegin : S → Type 0} {below : S → S → Type 0} {step : ℕ → S → Option S} {IsGraphOf : Cfg → Type 0}
+    → IsLawful size IsState MayBegin below step IsGraphOf
     → (a b c : List (Option S)) → AllStated IsState a → AllStated IsState b → AllStated IsState c → IsHigher below a b → IsHigher below b c → IsHigher below a c
 higher_trans laws a b c va vb vc p q k s e =
     let m = p k s e in

@@ -29,7 +29,8 @@ abbrev pub AllStated : {S : Type 0} → (S → Type 0) → List (Option S) → T
 AllStated {S} P states = (k : ℕ) (s : S) → IsStated states k s → P s
 
 -- each stated block but `skip` is settled or waits
-pub record IsWork {S : Type 0} (IsState MayBegin IsSmall : S → Type 0) (below : S → S → Type 0) (step : ℕ → S → Option S) (g : Cfg) (skip : ℕ) (states : List (Option S)) (waiting : List Bool) : Type 0 where
+pub record IsWork {S : Type 0} (IsState MayBegin IsSmall : S → Type 0) (below : S → S → Type 0) (step : ℕ → S → Option S) (g : Cfg) (skip : ℕ)
+    (states : List (Option S)) (waiting : List Bool) : Type 0 where
   pub entries : length states ≡ length g.blocks.items
   pub marks : length waiting ≡ length g.blocks.items
   pub valid : AllStated IsState states
@@ -63,7 +64,8 @@ IsNewState {S} IsState MayBegin IsSmall below old t None = (s : S) × ((old ≡ 
 IsNewState {S} IsState MayBegin IsSmall below old t (Some u) = IsJoin IsState MayBegin IsSmall below old t u
 
 -- the state t has flowed into these blocks, and nothing else has changed
-pub record IsRaised {S : Type 0} (IsState MayBegin IsSmall : S → Type 0) (below : S → S → Type 0) (blocks : List ℕ) (t : S) (old new : List (Option S)) (old_waiting new_waiting : List Bool) : Type 0 where
+pub record IsRaised {S : Type 0} (IsState MayBegin IsSmall : S → Type 0) (below : S → S → Type 0) (blocks : List ℕ) (t : S)
+    (old new : List (Option S)) (old_waiting new_waiting : List Bool) : Type 0 where
   pub entries : length new ≡ length old
   pub marks : length new_waiting ≡ length old_waiting
   pub higher : (k : ℕ) (s : S) → IsStated old k s → (u : S) × (IsStated new k u × below s u)
@@ -87,7 +89,8 @@ abbrev pub standing : {S : Type 0} → List (Option S) → List Bool → Search 
 standing states waiting = record { flow = states; waiting = waiting }
 
 -- a search from the start state has come to these states and marks, and each block has been visited as often as its visits left say
-pub record IsSearch {S : Type 0} (IsState IsSmall : S → Type 0) (below : S → S → Type 0) (step : ℕ → S → Option S) (g : Cfg) (start : S) (left : List ℕ) (states : List (Option S)) (waiting : List Bool) : Type 0 where
+pub record IsSearch {S : Type 0} (IsState IsSmall : S → Type 0) (below : S → S → Type 0) (step : ℕ → S → Option S) (g : Cfg) (start : S)
+    (left : List ℕ) (states : List (Option S)) (waiting : List Bool) : Type 0 where
   pub visited : List ℕ
   pub reached : Reaches IsState IsSmall below step g start visited (standing states waiting)
   pub count : (k l : ℕ) → IsAt left k l → times k visited + l ≡ 256

@@ -170,8 +170,11 @@ fn visit<D: Domain>(
     ensures work { OnOk result (IsWork (D.is_state d.now) (D.may_begin d.now) (D.is_small d.now) (D.below d.now) (D.steps d.now) g.now (length g.now.blocks.items) states.new waiting.new) }
     ensures higher { OnOk result (IsHigher (D.below d.now) states.old states.new) }
     ensures least { OnOk result (IsLeast (D.is_state d.now) (D.below d.now) (D.steps d.now) g.now states.old states.new) }
-    ensures counts { OnOk result ((left : List ℕ) → IsCounted (λ r. D.is_state d.now r × D.may_begin d.now r) (D.below d.now) left states.old waiting.old → IsCounted (λ r. D.is_state d.now r × D.may_begin d.now r) (D.below d.now) left states.new waiting.new) }
-    ensures need { IsErrOf result SolveError.Need → (start : D.State) (flow : List (Option D.State)) → IsFlow (D.is_state d.now) g.now flow → IsFlowBelow (D.below d.now) states.old flow → ¬ IsClosed (D.below d.now) (D.steps d.now) g.now start flow }
+    ensures counts { OnOk result ((left : List ℕ)
+        → IsCounted (λ r. D.is_state d.now r × D.may_begin d.now r) (D.below d.now) left states.old waiting.old
+        → IsCounted (λ r. D.is_state d.now r × D.may_begin d.now r) (D.below d.now) left states.new waiting.new) }
+    ensures need { IsErrOf result SolveError.Need → (start : D.State) (flow : List (Option D.State)) → IsFlow (D.is_state d.now) g.now flow
+        → IsFlowBelow (D.below d.now) states.old flow → ¬ IsClosed (D.below d.now) (D.steps d.now) g.now start flow }
     ensures large { IsErrOf result SolveError.TooComplex → HasLarge (D.is_state d.now) (D.may_begin d.now) (D.is_small d.now) }
     ensures visited { OnOk result (IsVisit (D.is_state d.now) (D.is_small d.now) (D.below d.now) (D.steps d.now) g.now k (standing states.old waiting.old) (standing states.new waiting.new)) }
     ensures fails { IsErrOf result SolveError.Need → Makes (D.is_state d.now) (D.is_small d.now) (D.below d.now) (D.steps d.now) g.now k states.old Option.None }
@@ -223,11 +226,18 @@ fn turn<D: Domain>(
     ensures higher { OnOk result (IsHigher (D.below d.now) states.old states.new) }
     ensures least { OnOk result (IsLeast (D.is_state d.now) (D.below d.now) (D.steps d.now) g.now states.old states.new) }
     ensures fewer { OnOk result (sum left.new < sum left.old) }
-    ensures need { IsErrOf result SolveError.Need → (start : D.State) (flow : List (Option D.State)) → IsFlow (D.is_state d.now) g.now flow → IsFlowBelow (D.below d.now) states.old flow → ¬ IsClosed (D.below d.now) (D.steps d.now) g.now start flow }
+    ensures need { IsErrOf result SolveError.Need → (start : D.State) (flow : List (Option D.State)) → IsFlow (D.is_state d.now) g.now flow
+        → IsFlowBelow (D.below d.now) states.old flow → ¬ IsClosed (D.below d.now) (D.steps d.now) g.now start flow }
     ensures complex { IsErrOf result SolveError.TooComplex → HasLarge (D.is_state d.now) (D.may_begin d.now) (D.is_small d.now) ⊎ HasChain (D.is_state d.now) (D.may_begin d.now) (D.below d.now) }
-    ensures search { OnOk result ((start : D.State) → IsSearch (D.is_state d.now) (D.is_small d.now) (D.below d.now) (D.steps d.now) g.now start left.old states.old waiting.old → IsSearch (D.is_state d.now) (D.is_small d.now) (D.below d.now) (D.steps d.now) g.now start left.new states.new waiting.new) }
-    ensures fails { IsErrOf result SolveError.Need → (start : D.State) → IsSearch (D.is_state d.now) (D.is_small d.now) (D.below d.now) (D.steps d.now) g.now start left.old states.old waiting.old → MeetsNeed (D.is_state d.now) (D.is_small d.now) (D.below d.now) (D.steps d.now) g.now start }
-    ensures limit { IsErrOf result SolveError.TooComplex → (start : D.State) → IsSearch (D.is_state d.now) (D.is_small d.now) (D.below d.now) (D.steps d.now) g.now start left.old states.old waiting.old → MeetsLimit (D.is_state d.now) (D.is_small d.now) (D.below d.now) (D.steps d.now) g.now start }
+    ensures search { OnOk result ((start : D.State)
+        → IsSearch (D.is_state d.now) (D.is_small d.now) (D.below d.now) (D.steps d.now) g.now start left.old states.old waiting.old
+        → IsSearch (D.is_state d.now) (D.is_small d.now) (D.below d.now) (D.steps d.now) g.now start left.new states.new waiting.new) }
+    ensures fails { IsErrOf result SolveError.Need → (start : D.State)
+        → IsSearch (D.is_state d.now) (D.is_small d.now) (D.below d.now) (D.steps d.now) g.now start left.old states.old waiting.old
+        → MeetsNeed (D.is_state d.now) (D.is_small d.now) (D.below d.now) (D.steps d.now) g.now start }
+    ensures limit { IsErrOf result SolveError.TooComplex → (start : D.State)
+        → IsSearch (D.is_state d.now) (D.is_small d.now) (D.below d.now) (D.steps d.now) g.now start left.old states.old waiting.old
+        → MeetsLimit (D.is_state d.now) (D.is_small d.now) (D.below d.now) (D.steps d.now) g.now start }
 {
     if left[k] == 0 {
         return Err(SolveError::TooComplex);
@@ -255,11 +265,18 @@ fn search_flow<D: Domain>(
     ensures rests { OnOk result ((j : ℕ) → j < length waiting.new → IsAt waiting.new j false) }
     ensures higher { OnOk result (IsHigher (D.below d.now) states.old states.new) }
     ensures least { OnOk result (IsLeast (D.is_state d.now) (D.below d.now) (D.steps d.now) g.now states.old states.new) }
-    ensures need { IsErrOf result SolveError.Need → (start : D.State) (flow : List (Option D.State)) → IsFlow (D.is_state d.now) g.now flow → IsFlowBelow (D.below d.now) states.old flow → ¬ IsClosed (D.below d.now) (D.steps d.now) g.now start flow }
+    ensures need { IsErrOf result SolveError.Need → (start : D.State) (flow : List (Option D.State)) → IsFlow (D.is_state d.now) g.now flow
+        → IsFlowBelow (D.below d.now) states.old flow → ¬ IsClosed (D.below d.now) (D.steps d.now) g.now start flow }
     ensures complex { IsErrOf result SolveError.TooComplex → HasLarge (D.is_state d.now) (D.may_begin d.now) (D.is_small d.now) ⊎ HasChain (D.is_state d.now) (D.may_begin d.now) (D.below d.now) }
-    ensures search { OnOk result ((start : D.State) → IsSearch (D.is_state d.now) (D.is_small d.now) (D.below d.now) (D.steps d.now) g.now start left.old states.old waiting.old → IsSearch (D.is_state d.now) (D.is_small d.now) (D.below d.now) (D.steps d.now) g.now start left.new states.new waiting.new) }
-    ensures fails { IsErrOf result SolveError.Need → (start : D.State) → IsSearch (D.is_state d.now) (D.is_small d.now) (D.below d.now) (D.steps d.now) g.now start left.old states.old waiting.old → MeetsNeed (D.is_state d.now) (D.is_small d.now) (D.below d.now) (D.steps d.now) g.now start }
-    ensures limit { IsErrOf result SolveError.TooComplex → (start : D.State) → IsSearch (D.is_state d.now) (D.is_small d.now) (D.below d.now) (D.steps d.now) g.now start left.old states.old waiting.old → MeetsLimit (D.is_state d.now) (D.is_small d.now) (D.below d.now) (D.steps d.now) g.now start }
+    ensures search { OnOk result ((start : D.State)
+        → IsSearch (D.is_state d.now) (D.is_small d.now) (D.below d.now) (D.steps d.now) g.now start left.old states.old waiting.old
+        → IsSearch (D.is_state d.now) (D.is_small d.now) (D.below d.now) (D.steps d.now) g.now start left.new states.new waiting.new) }
+    ensures fails { IsErrOf result SolveError.Need → (start : D.State)
+        → IsSearch (D.is_state d.now) (D.is_small d.now) (D.below d.now) (D.steps d.now) g.now start left.old states.old waiting.old
+        → MeetsNeed (D.is_state d.now) (D.is_small d.now) (D.below d.now) (D.steps d.now) g.now start }
+    ensures limit { IsErrOf result SolveError.TooComplex → (start : D.State)
+        → IsSearch (D.is_state d.now) (D.is_small d.now) (D.below d.now) (D.steps d.now) g.now start left.old states.old waiting.old
+        → MeetsLimit (D.is_state d.now) (D.is_small d.now) (D.below d.now) (D.steps d.now) g.now start }
 {
     while let Some(k) = first_waiting(waiting) {
         turn(alloc, d, g, k, states, waiting, left)?;
@@ -321,7 +338,8 @@ pub fn solve<D: Domain>(
     ensures closed { IfOk result (λ v. IsClosed (D.below d.now) (D.steps d.now) g.now start.now v.items) }
     ensures starts { IfOk result (λ v. AllStated (D.may_begin d.now) v.items) }
     ensures small { IfOk result (λ v. AllStated (D.is_small d.now) v.items) }
-    ensures least { IfOk result (λ v. (flow : List (Option D.State)) → IsFlow (D.is_state d.now) g.now flow → IsClosed (D.below d.now) (D.steps d.now) g.now start.now flow → IsFlowBelow (D.below d.now) v.items flow) }
+    ensures least { IfOk result (λ v. (flow : List (Option D.State)) → IsFlow (D.is_state d.now) g.now flow
+        → IsClosed (D.below d.now) (D.steps d.now) g.now start.now flow → IsFlowBelow (D.below d.now) v.items flow) }
     ensures need { IsErrOf result SolveError.Need → (flow : List (Option D.State)) → IsFlow (D.is_state d.now) g.now flow → ¬ IsClosed (D.below d.now) (D.steps d.now) g.now start.now flow }
     ensures complex { IsErrOf result SolveError.TooComplex → HasLarge (D.is_state d.now) (D.may_begin d.now) (D.is_small d.now) ⊎ HasChain (D.is_state d.now) (D.may_begin d.now) (D.below d.now) }
     ensures ends { IfOk result (λ v. EndsWith (D.is_state d.now) (D.is_small d.now) (D.below d.now) (D.steps d.now) g.now start.now v.items) }

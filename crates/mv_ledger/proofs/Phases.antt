@@ -15,7 +15,8 @@ use Rattle.mv_certificate.specs.Answers.{IsRefusedByCertificate, FailsCertificat
 use Rattle.mv_machine.specs.Ledger.{Offer, LedgerState, Publish}
 use Rattle.mv_linker.specs.Link.{MayJoin, tables_in}
 use Rattle.mv_ledger.specs.RecordText.{IsShaped}
-use Rattle.mv_ledger.specs.Publishing.{Spells, FailsAt, no_text, no_bounds, not_defined, not_signed, not_able, no_flow, not_typed, no_certificate, no_locals, no_edges, no_acquires, IsRefusedOffer, IsRefusedAmong, AllPass, in_offer, in_linking, in_room}
+use Rattle.mv_ledger.specs.Publishing.{Spells, FailsAt, no_text, no_bounds, not_defined, not_signed, not_able, no_flow, not_typed, no_certificate}
+use Rattle.mv_ledger.specs.Publishing.{no_locals, no_edges, no_acquires, IsRefusedOffer, IsRefusedAmong, AllPass, in_offer, in_linking, in_room}
 use Rattle.mv_ledger.specs.Exact.{IsRefused, failing}
 use Rattle.mv_ledger.specs.Judging.{IsAcceptedBy, IsRefusedBy}
 

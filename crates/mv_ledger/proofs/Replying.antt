@@ -5,7 +5,8 @@ use Rattle.mv_move_types.specs.declared.refusal.Refusal.TheVariants.{Phase}
 use Rattle.mv_move_types.specs.Published.{PublishedModule, with_modules}
 use Rattle.mv_machine.specs.State.{Storage}
 use Rattle.mv_machine.specs.Flat.{FlatEntry, storage_of}
-use Rattle.mv_machine.specs.Lines.{Tallied, Reply as Told, Published as ToldPublished, Refused as ToldRefused, Rejected as ToldRejected, Returned as ToldReturned, Aborted as ToldAborted, Exhausted as ToldExhausted, Told as ToldLines}
+use Rattle.mv_machine.specs.Lines.{Tallied, Reply as Told, Published as ToldPublished, Refused as ToldRefused, Rejected as ToldRejected}
+use Rattle.mv_machine.specs.Lines.{Returned as ToldReturned, Aborted as ToldAborted, Exhausted as ToldExhausted, Told as ToldLines}
 use Rattle.mv_machine.specs.Ledger.{Offer, LedgerState, RunRequest, Publish, Run, BadRun, Bad, AreRead, with_bundle, tally_of, scarce_structs}
 use Rattle.mv_linker.specs.Link.{IsStore, tables_in}
 use Rattle.mv_ledger.specs.declared.tallies.Tally.{Tally}

@@ -19,7 +19,8 @@ use Rattle.mv_certificate.specs.CertificateText.{IsCertificateText}
 use Rattle.mv_certificate.proofs.OneCertificate.{one-certificate}
 use Rattle.mv_machine.specs.Ledger.{Offer, LedgerState}
 use Rattle.mv_ledger.specs.RecordText.{offer_fits}
-use Rattle.mv_ledger.specs.Publishing.{Spells, Passes, FailsAt, no_text, no_bounds, not_defined, not_signed, not_able, no_flow, not_typed, no_certificate, no_locals, no_edges, no_acquires, offered, AllPass, FailsAmong}
+use Rattle.mv_ledger.specs.Publishing.{Spells, Passes, FailsAt, no_text, no_bounds, not_defined, not_signed, not_able, no_flow, not_typed}
+use Rattle.mv_ledger.specs.Publishing.{no_certificate, no_locals, no_edges, no_acquires, offered, AllPass, FailsAmong}
 use Rattle.mv_ledger.specs.SavedText.{Form, Second, body_text, saved_text, IsSavedText}
 use Rattle.mv_ledger.specs.Loading.{HasHead, AreLinked, AreTallied, IsLoaded, FailsLoad, no_head, no_module, no_links, no_body, no_tallies}
 use Rattle.mv_ledger.specs.SavedLaws.{EachLoadIsOne, EachSecondFormComesBack, NoLoadFails}

@@ -1,5 +1,6 @@
 -- A payload is read to its end exactly where it has the shape of its kind.
-use Rattle.std.proofs.Common.{◌≡◌, ℕ, ◌≤◌, ◌^◌, ◌<◌, List, [], ◌++◌, length, map, flat_map, append-nil, append_assoc, arith, refl, ap, sym, ◌∙◌, subst, Option, Some, None, IsTrue, Bool, ◌&&◌, nat_le, nat_lt, leb-true, le-leb, lt-ltb, ltb-true}
+use Rattle.std.proofs.Common.{◌≡◌, ℕ, ◌≤◌, ◌^◌, ◌<◌, List, [], ◌++◌, length, map, flat_map, append-nil, append_assoc, arith, refl, ap, sym, ◌∙◌}
+use Rattle.std.proofs.Common.{subst, Option, Some, None, IsTrue, Bool, ◌&&◌, nat_le, nat_lt, leb-true, le-leb, lt-ltb, ltb-true}
 use Rattle.std.specs.Bool.{then_some}
 use Rattle.std.specs.List.{list_all}
 use Rattle.std.proofs.lemmas.Bool.{and_parts, and_from}
@@ -13,7 +14,8 @@ use Rattle.mv_module_text.specs.Entries.{address_text, counted, identifier_text}
 use Rattle.mv_module_text.specs.Fits.{is_byte, address_fits, identifier_fits}
 use Rattle.mv_module_text.specs.Laws.{AreBytes}
 use Rattle.mv_module_text.specs.Parsing.{bytes_from, counted_from, identifier_from, address_from}
-use Rattle.mv_module_text.proofs.Texts.{Front, Parts, Whole, on_bind, then_some-parts, Front-join, Front-as, number-front, number-whole, bytes-front, bytes-whole, bytes_after, counted-parts, counted-whole}
+use Rattle.mv_module_text.proofs.Texts.{Front, Parts, Whole, on_bind, then_some-parts, Front-join, Front-as, number-front, number-whole, bytes-front}
+use Rattle.mv_module_text.proofs.Texts.{bytes-whole, bytes_after, counted-parts, counted-whole}
 use Rattle.mv_module_text.proofs.Handles.{identifier-parts, identifier-whole}
 use Rattle.mv_module_text.proofs.Addresses.{address-parts, address-whole}
 use Rattle.mv_machine.specs.Value.{Value}

@@ -4,7 +4,8 @@ use Rattle.mv_move_types.specs.declared.refusal.Refusal.{Refusal}
 use Rattle.mv_move_types.specs.declared.refusal.Refusal.TheVariants.{Phase, Memory as NoMemory}
 use Rattle.mv_machine.specs.declared.Ending.{Ending}
 use Rattle.mv_machine.specs.declared.Ending.TheVariants.{Returned as HasReturned, Aborted as HasAborted, Exhausted as HasExhausted}
-use Rattle.mv_machine.specs.Lines.{Reply as Told, Published as ToldPublished, Refused as ToldRefused, Rejected as ToldRejected, Returned as ToldReturned, Aborted as ToldAborted, Exhausted as ToldExhausted, Told as ToldLines}
+use Rattle.mv_machine.specs.Lines.{Reply as Told, Published as ToldPublished, Refused as ToldRefused, Rejected as ToldRejected}
+use Rattle.mv_machine.specs.Lines.{Returned as ToldReturned, Aborted as ToldAborted, Exhausted as ToldExhausted, Told as ToldLines}
 use Rattle.mv_machine.specs.Ledger.{LedgerState, Request, Answers}
 use Rattle.mv_ledger.specs.View.{LedgerView, state_of}
 use Rattle.mv_ledger.specs.RecordText.{Asks}

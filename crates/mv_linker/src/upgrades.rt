@@ -7,7 +7,8 @@ ghost use Rattle.mv_move_types.specs.Module.{struct_abilities, name_of_struct};
 ghost use Rattle.mv_linker.specs.TypesByName.{both_there};
 ghost use Rattle.mv_linker.specs.Link.{tables_in, replaced_in, follows, all_follow as each_follows};
 ghost use Rattle.mv_linker.specs.Scope.{offered};
-ghost use Rattle.mv_linker.specs.Upgrades.{same_field as is_one_field, same_fields as are_one, same_struct_definition as is_one_definition, structs_stay as all_stay, function_stays as this_stays, have_one_type, may_replace as may_stand_for};
+ghost use Rattle.mv_linker.specs.Upgrades.{same_field as is_one_field, same_fields as are_one, same_struct_definition as is_one_definition};
+ghost use Rattle.mv_linker.specs.Upgrades.{structs_stay as all_stay, function_stays as this_stays, have_one_type, may_replace as may_stand_for};
 
 use crate::handles::{function_handle, is_public};
 use crate::names::{function_name, function_place, name_of, struct_name};

@@ -1,5 +1,6 @@
 -- What the tables of a module say of a function's locals.
-use Rattle.std.proofs.Common.{◌≡◌, ℕ, zero, suc, ◌+◌, ◌-◌, ◌≤◌, ◌<◌, Bool, true, ◌&&◌, List, [], ◌∷◌, ◌++◌, length, length-append, replicate, slice_get, Option, Some, None, IsSome, refl, sym, ap, ◌∙◌, subst, arith, option_map, ⊎_elim}
+use Rattle.std.proofs.Common.{◌≡◌, ℕ, zero, suc, ◌+◌, ◌-◌, ◌≤◌, ◌<◌, Bool, true, ◌&&◌, List, [], ◌∷◌, ◌++◌, length, length-append, replicate}
+use Rattle.std.proofs.Common.{slice_get, Option, Some, None, IsSome, refl, sym, ap, ◌∙◌, subst, arith, option_map, ⊎_elim}
 use Rattle.std.specs.List.{list_all, zip}
 use Rattle.std.specs.Bool.{then_some}
 use Rattle.std.proofs.lemmas.Bool.{and_parts}
@@ -27,7 +28,9 @@ all_at p [] i x h e = cc
 all_at p (y ∷ xs) zero x h e = let same : y ≡ x = cc in subst (λ z. p z ≡ true) same (and_parts (p y) (list_all p xs) h).0
 all_at p (y ∷ xs) (suc i) x h e = all_at p xs i x (and_parts (p y) (list_all p xs) h).1 e
 
-local_tokens_some : (m : Module) (d : FunctionDefinition) (h : FunctionHandle) (ps others : List Token) → slice_get m.function_handles d.handle ≡ Some h → slice_get m.signatures h.parameters ≡ Some ps → slice_get m.signatures d.locals ≡ Some others → local_tokens m d ≡ Some (ps ++ others)
+local_tokens_some : (m : Module) (d : FunctionDefinition) (h : FunctionHandle) (ps others : List Token)
+    → slice_get m.function_handles d.handle ≡ Some h → slice_get m.signatures h.parameters ≡ Some ps → slice_get m.signatures d.locals ≡ Some others
+    → local_tokens m d ≡ Some (ps ++ others)
 local_tokens_some m d h ps others a b c = rw (a, b, c) refl
 
 -- a function's signatures are there
@@ -58,7 +61,10 @@ may_leave_zipped p (t ∷ ts) (Available ∷ s) = ap (λ r. may_stay p.home t Av
 may_leave_zipped p (t ∷ ts) (Maybe ∷ s) = ap (λ r. may_stay p.home t Maybe && r) (may_leave_zipped p ts s)
 
 -- what a return makes of the availabilities, by the test of the locals' types
-pub return_known : (d : Function) (m : Module) (e : FunctionDefinition) (ts ts' : List Token) (s s' : List Availability) (b r : Bool) → record { home = m; function = e } ≡ d → local_tokens m e ≡ Some ts → ts' ≡ ts → s' ≡ s → r ≡ list_all (λ q. may_stay m q.0 q.1) (zip ts' s') → r ≡ b → leave_known (point_in d.home d.function) s ≡ then_some b s
+pub return_known : (d : Function) (m : Module) (e : FunctionDefinition) (ts ts' : List Token) (s s' : List Availability) (b r : Bool)
+    → record { home = m; function = e } ≡ d → local_tokens m e ≡ Some ts → ts' ≡ ts → s' ≡ s → r ≡ list_all (λ q. may_stay m q.0 q.1) (zip ts' s')
+    → r ≡ b
+    → leave_known (point_in d.home d.function) s ≡ then_some b s
 return_known d m e ts ts' s s' b r view tokens same_ts same_s tested decided =
     let test = subst (λ x. list_all (λ q. may_stay m q.0 q.1) (zip x s) ≡ b) same_ts (subst (λ x. list_all (λ q. may_stay m q.0 q.1) (zip ts' x) ≡ b) same_s (sym tested ∙ decided)) in
     subst (λ (x : Function). leave_known (point_in x.home x.function) s ≡ then_some b s) view (known test)
@@ -70,7 +76,8 @@ module _ (m : Module) (d : FunctionDefinition) (ts : List Token) (parameters : �
   pub start_is : (s : List Availability) → s ≡ replicate parameters Available ++ replicate (length ts - parameters) Unavailable → start_locals m d ≡ Some s
   start_is s is = by_parameters (parameter_tokens m d) counted
     where
-      by_parameters : (o : Option (List Token)) → option_map length o ≡ Some parameters → (o >>= λ ps. local_tokens m d >>= λ locals. Some (replicate (length ps) Available ++ replicate (length locals - length ps) Unavailable)) ≡ Some s
+      by_parameters : (o : Option (List Token)) → option_map length o ≡ Some parameters
+          → (o >>= λ ps. local_tokens m d >>= λ locals. Some (replicate (length ps) Available ++ replicate (length locals - length ps) Unavailable)) ≡ Some s
       by_parameters None e = cc
       by_parameters (Some ps) e = let long : length ps ≡ parameters = cc in rw (tokens, long) (ap Some (sym is))
 

@@ -96,7 +96,8 @@ module _ (p : Point) (a b : List Availability) (below : locals_leq a b ≡ true)
       → locals_leq (f a) (f b) ≡ true → Below (slice_get a l >>= λ x. then_some (test x) (f a)) (slice_get b l >>= λ x. then_some (test x) (f b))
   one_below l test f tests h v e = by_local (slice_get b l) refl e
     where
-      by_local : (o : Option Availability) → slice_get b l ≡ o → (o >>= λ x. then_some (test x) (f b)) ≡ Some v → (u : List Availability) × (((slice_get a l >>= λ x. then_some (test x) (f a)) ≡ Some u) × (locals_leq u v ≡ true))
+      by_local : (o : Option Availability) → slice_get b l ≡ o → (o >>= λ x. then_some (test x) (f b)) ≡ Some v
+          → (u : List Availability) × (((slice_get a l >>= λ x. then_some (test x) (f a)) ≡ Some u) × (locals_leq u v ≡ true))
       by_local None at is = absurd (none-some v is)
       by_local (Some y) at is =
           let low = below_at a b l y below at in

@@ -7,7 +7,9 @@ use Rattle.mv_move_types.specs.declared.token.LeafKind.TheVariants.{Number, Addr
 use Rattle.mv_move_types.specs.declared.token.ValueType.TheVariants.{OfLeaf, OfStruct}
 use Rattle.mv_move_types.specs.declared.token.Token.TheVariants.{Plain, Reference, MutableReference}
 use Rattle.mv_move_types.specs.declared.instruction.Instruction.{Instruction}
-use Rattle.mv_move_types.specs.declared.instruction.Instruction.TheVariants.{Pop, Ret, LdU64, CopyLoc, MoveLoc, StLoc, ImmBorrowLoc, MutBorrowField, WriteRef, Call, Pack, Unpack, MoveTo, MoveFrom, ImmBorrowGlobal, MutBorrowGlobal, MutBorrowLoc}
+use Rattle.mv_move_types.specs.declared.instruction.Instruction.TheVariants.{Pop, Ret, LdU64, CopyLoc, MoveLoc, StLoc, ImmBorrowLoc, MutBorrowField}
+use Rattle.mv_move_types.specs.declared.instruction.Instruction.TheVariants.{WriteRef, Call, Pack, Unpack, MoveTo, MoveFrom, ImmBorrowGlobal}
+use Rattle.mv_move_types.specs.declared.instruction.Instruction.TheVariants.{MutBorrowGlobal, MutBorrowLoc}
 use Rattle.mv_move_types.specs.Module.{Module, FunctionDefinition}
 use Rattle.mv_machine.specs.declared.Kind.TheVariants.{Missing}
 use Rattle.mv_machine.specs.Value.{Leaf, Struct, NoMore, More}
@@ -51,11 +53,13 @@ let_go = third (0 ∷ []) 3 (CopyLoc 0 ∷ ImmBorrowGlobal 0 ∷ StLoc 1 ∷ Mov
 abbrev setting : Module
 setting = third (0 ∷ []) 0 (LdU64 9 ∷ MoveLoc 0 ∷ MutBorrowGlobal 0 ∷ MutBorrowField 0 ∷ WriteRef ∷ Ret ∷ [])
 
-let_go_returns : run (let_go ∷ []) one_coin (record { function = record { place = 0; index = 2 }; arguments = Leaf Address 1 ∷ [] }) 100 ≡ Returned 13 [] (record { is_pack = false; struct = coin; by = coin.home } ∷ [])
+let_go_returns : run (let_go ∷ []) one_coin (record { function = record { place = 0; index = 2 }; arguments = Leaf Address 1 ∷ [] }) 100
+    ≡ Returned 13 [] (record { is_pack = false; struct = coin; by = coin.home } ∷ [])
 unfolding computed
 let_go_returns = refl
 
-set_returns : run (setting ∷ []) one_coin (record { function = record { place = 0; index = 2 }; arguments = Leaf Address 1 ∷ [] }) 100 ≡ Returned 6 (record { key = record { address = 1; place = 0; index = 0 }; value = Struct coin (More (Leaf (Number U64) 9) NoMore) } ∷ []) []
+set_returns : run (setting ∷ []) one_coin (record { function = record { place = 0; index = 2 }; arguments = Leaf Address 1 ∷ [] }) 100
+    ≡ Returned 6 (record { key = record { address = 1; place = 0; index = 0 }; value = Struct coin (More (Leaf (Number U64) 9) NoMore) } ∷ []) []
 unfolding computed
 set_returns = refl
 
@@ -82,7 +86,9 @@ with_visibility v = record coin_module { functions = record { handle = 0; visibi
 abbrev go : FunctionCall
 go = record { function = record { place = 0; index = 0 }; arguments = Leaf Signer 1 ∷ [] }
 
-calls_other : run (caller ∷ coin_module ∷ []) [] go 100 ≡ Returned 9 (record { key = record { address = 1; place = 1; index = 0 }; value = Struct coin (More (Leaf (Number U64) 3) NoMore) } ∷ []) (record { is_pack = true; struct = coin; by = coin.home } ∷ [])
+calls_other : run (caller ∷ coin_module ∷ []) [] go 100
+    ≡ Returned 9 (record { key = record { address = 1; place = 1; index = 0 }; value = Struct coin (More (Leaf (Number U64) 3) NoMore) } ∷ [])
+    (record { is_pack = true; struct = coin; by = coin.home } ∷ [])
 unfolding computed
 calls_other = refl
 

@@ -1,7 +1,10 @@
 -- Worked rows of the operators, by computation: code that leaves a number, with which it is given up then.
 use Rattle.std.specs.Prelude.{◌≡◌, refl, ◌++◌, List, [], ◌∷◌}
 use Rattle.mv_move_types.specs.declared.instruction.Instruction.{Instruction}
-use Rattle.mv_move_types.specs.declared.instruction.Instruction.TheVariants.{BrTrue, BrFalse, LdU64, LdConst, LdTrue, LdFalse, Pop, Add, Sub, Mul, Mod, Div, BitOr, BitAnd, Xor, Or, And, Not, Eq, Neq, Lt, Gt, Le, Ge, Abort, Nop, Shl, Shr, LdU8, LdU128, CastU8, CastU64, CastU128, LdU16, LdU32, CastU16, CastU32}
+use Rattle.mv_move_types.specs.declared.instruction.Instruction.TheVariants.{BrTrue, BrFalse, LdU64, LdConst, LdTrue, LdFalse, Pop, Add, Sub, Mul}
+use Rattle.mv_move_types.specs.declared.instruction.Instruction.TheVariants.{Mod, Div, BitOr, BitAnd, Xor, Or, And, Not, Eq, Neq, Lt, Gt, Le, Ge}
+use Rattle.mv_move_types.specs.declared.instruction.Instruction.TheVariants.{Abort, Nop, Shl, Shr, LdU8, LdU128, CastU8, CastU64, CastU128, LdU16}
+use Rattle.mv_move_types.specs.declared.instruction.Instruction.TheVariants.{LdU32, CastU16, CastU32}
 use Rattle.mv_move_types.specs.declared.token.Width.TheVariants.{U64}
 use Rattle.mv_move_types.specs.declared.token.LeafKind.TheVariants.{Boolean, Number}
 use Rattle.mv_move_types.specs.declared.token.ValueType.TheVariants.{OfLeaf}

@@ -54,11 +54,13 @@ show_text : reply_text 4 (Told (shown minted AsText)) ≡ codes "4 at 0000000000
 unfolding computed
 show_text = refl
 
-audit_json : reply_text 5 (Told (audited minted AsJson)) ≡ codes "5 json {\"audit\":[{\"packed\":\"1\",\"stored\":\"1\",\"struct\":\"00000000000000000000000000000001::M::Coin\",\"unpacked\":\"0\"}]}\n"
+audit_json : reply_text 5 (Told (audited minted AsJson))
+    ≡ codes "5 json {\"audit\":[{\"packed\":\"1\",\"stored\":\"1\",\"struct\":\"00000000000000000000000000000001::M::Coin\",\"unpacked\":\"0\"}]}\n"
 unfolding computed
 audit_json = refl
 
-show_json : reply_text 6 (Told (shown minted AsJson)) ≡ codes "6 json {\"show\":[{\"address\":\"00000000000000000000000000000001\",\"struct\":\"00000000000000000000000000000001::M::Coin\",\"value\":\"{7}\"}]}\n"
+show_json : reply_text 6 (Told (shown minted AsJson))
+    ≡ codes "6 json {\"show\":[{\"address\":\"00000000000000000000000000000001\",\"struct\":\"00000000000000000000000000000001::M::Coin\",\"value\":\"{7}\"}]}\n"
 unfolding computed
 show_json = refl
 

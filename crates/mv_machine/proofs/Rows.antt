@@ -7,7 +7,10 @@ use Rattle.mv_move_types.specs.declared.token.Width.TheVariants.{U64}
 use Rattle.mv_move_types.specs.declared.token.LeafKind.TheVariants.{Number, Address, Signer}
 use Rattle.mv_move_types.specs.declared.token.ValueType.TheVariants.{OfLeaf, OfStruct}
 use Rattle.mv_move_types.specs.declared.token.Token.TheVariants.{Plain, Reference as ReferenceTo, MutableReference as MutableReferenceTo}
-use Rattle.mv_move_types.specs.declared.instruction.Instruction.TheVariants.{Pop, Ret, BrTrue, Branch, LdU64, CopyLoc, MoveLoc, StLoc, MutBorrowLoc, ImmBorrowLoc, MutBorrowField, ImmBorrowField, Pack, Unpack, ReadRef, WriteRef, Add, Sub, Mod, Eq, Abort, Exists, MutBorrowGlobal, ImmBorrowGlobal, MoveFrom, MoveTo, FreezeRef, Shl, LdU8, LdU128, CastU8}
+use Rattle.mv_move_types.specs.declared.instruction.Instruction.TheVariants.{Pop, Ret, BrTrue, Branch, LdU64, CopyLoc, MoveLoc, StLoc, MutBorrowLoc}
+use Rattle.mv_move_types.specs.declared.instruction.Instruction.TheVariants.{ImmBorrowLoc, MutBorrowField, ImmBorrowField, Pack, Unpack, ReadRef}
+use Rattle.mv_move_types.specs.declared.instruction.Instruction.TheVariants.{WriteRef, Add, Sub, Mod, Eq, Abort, Exists, MutBorrowGlobal}
+use Rattle.mv_move_types.specs.declared.instruction.Instruction.TheVariants.{ImmBorrowGlobal, MoveFrom, MoveTo, FreezeRef, Shl, LdU8, LdU128, CastU8}
 use Rattle.mv_move_types.specs.Module.{Module}
 use Rattle.mv_machine.specs.declared.Kind.TheVariants.{Code, Arith, Exists as AlreadyThere, Missing}
 use Rattle.mv_machine.specs.Value.{Stored, Value, Leaf, Struct, Ref, NoMore, More}
@@ -56,12 +59,16 @@ unfolding computed
 looping_0 = refl
 
 -- a write while an immutable reference to the same place is live
-frozen_write : of_f (one_function (u64 ∷ []) (MutableReferenceTo (OfLeaf (Number U64)) ∷ []) (MutBorrowLoc 0 ∷ StLoc 1 ∷ CopyLoc 1 ∷ FreezeRef ∷ LdU64 9 ∷ MoveLoc 1 ∷ WriteRef ∷ Pop ∷ Ret ∷ [])) (Leaf (Number U64) 1 ∷ []) 100 ≡ Faulted FrozenFault 7
+frozen_write : of_f (one_function (u64 ∷ []) (MutableReferenceTo (OfLeaf (Number U64)) ∷ [])
+    (MutBorrowLoc 0 ∷ StLoc 1 ∷ CopyLoc 1 ∷ FreezeRef ∷ LdU64 9 ∷ MoveLoc 1 ∷ WriteRef ∷ Pop ∷ Ret ∷ [])) (Leaf (Number U64) 1 ∷ []) 100
+    ≡ Faulted FrozenFault 7
 unfolding computed
 frozen_write = refl
 
 -- the same after that reference is gone
-thawed_write : of_f (one_function (u64 ∷ []) (MutableReferenceTo (OfLeaf (Number U64)) ∷ []) (MutBorrowLoc 0 ∷ StLoc 1 ∷ CopyLoc 1 ∷ FreezeRef ∷ Pop ∷ LdU64 9 ∷ MoveLoc 1 ∷ WriteRef ∷ Ret ∷ [])) (Leaf (Number U64) 1 ∷ []) 100 ≡ Returned 9 [] []
+thawed_write : of_f (one_function (u64 ∷ []) (MutableReferenceTo (OfLeaf (Number U64)) ∷ [])
+    (MutBorrowLoc 0 ∷ StLoc 1 ∷ CopyLoc 1 ∷ FreezeRef ∷ Pop ∷ LdU64 9 ∷ MoveLoc 1 ∷ WriteRef ∷ Ret ∷ [])) (Leaf (Number U64) 1 ∷ []) 100
+    ≡ Returned 9 [] []
 unfolding computed
 thawed_write = refl
 
@@ -82,7 +89,8 @@ unfolding computed
 same_field = refl
 
 -- a result that refers to the frame that ends
-frozen_end : of_f (record (one_function (u64 ∷ []) [] (ImmBorrowLoc 0 ∷ Ret ∷ [])) { signatures = (u64 ∷ []) ∷ [] ∷ (ReferenceTo (OfLeaf (Number U64)) ∷ []) ∷ [] }) (Leaf (Number U64) 1 ∷ []) 100 ≡ Faulted FrozenFault 2
+frozen_end : of_f (record (one_function (u64 ∷ []) [] (ImmBorrowLoc 0 ∷ Ret ∷ [])) { signatures = (u64 ∷ []) ∷ [] ∷ (ReferenceTo (OfLeaf (Number U64)) ∷ []) ∷ [] }) (Leaf (Number U64) 1 ∷ []) 100
+    ≡ Faulted FrozenFault 2
 unfolding computed
 frozen_end = refl
 

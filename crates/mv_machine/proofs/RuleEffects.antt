@@ -5,7 +5,13 @@ use Rattle.std.specs.List.{AllByRecursion}
 use Rattle.mv_move_types.specs.declared.token.Width.TheVariants.{U8, U16, U32, U64, U128}
 use Rattle.mv_move_types.specs.declared.token.LeafKind.TheVariants.{Boolean, Number}
 use Rattle.mv_move_types.specs.declared.instruction.Instruction.{Instruction}
-use Rattle.mv_move_types.specs.declared.instruction.Instruction.TheVariants.{Pop, Ret, BrTrue, BrFalse, Branch, LdU64, LdConst, LdTrue, LdFalse, CopyLoc, MoveLoc, StLoc, MutBorrowLoc, ImmBorrowLoc, MutBorrowField, ImmBorrowField, Call, Pack, Unpack, ReadRef, WriteRef, Add, Sub, Mul, Mod, Div, BitOr, BitAnd, Xor, Or, And, Not, Eq, Neq, Lt, Gt, Le, Ge, Abort, Nop, Exists, MutBorrowGlobal, ImmBorrowGlobal, MoveFrom, MoveTo, FreezeRef, Shl, Shr, LdU8, LdU128, CastU8, CastU64, CastU128, LdU16, LdU32, CastU16, CastU32}
+use Rattle.mv_move_types.specs.declared.instruction.Instruction.TheVariants.{Pop, Ret, BrTrue, BrFalse, Branch, LdU64, LdConst, LdTrue, LdFalse}
+use Rattle.mv_move_types.specs.declared.instruction.Instruction.TheVariants.{CopyLoc, MoveLoc, StLoc, MutBorrowLoc, ImmBorrowLoc, MutBorrowField}
+use Rattle.mv_move_types.specs.declared.instruction.Instruction.TheVariants.{ImmBorrowField, Call, Pack, Unpack, ReadRef, WriteRef, Add, Sub, Mul}
+use Rattle.mv_move_types.specs.declared.instruction.Instruction.TheVariants.{Mod, Div, BitOr, BitAnd, Xor, Or, And, Not, Eq, Neq, Lt, Gt, Le, Ge}
+use Rattle.mv_move_types.specs.declared.instruction.Instruction.TheVariants.{Abort, Nop, Exists, MutBorrowGlobal, ImmBorrowGlobal, MoveFrom, MoveTo}
+use Rattle.mv_move_types.specs.declared.instruction.Instruction.TheVariants.{FreezeRef, Shl, Shr, LdU8, LdU128, CastU8, CastU64, CastU128, LdU16}
+use Rattle.mv_move_types.specs.declared.instruction.Instruction.TheVariants.{LdU32, CastU16, CastU32}
 use Rattle.mv_move_types.specs.declared.tables.FunctionHandle.{FunctionHandle}
 use Rattle.mv_machine.specs.Value.{Value, Leaf}
 use Rattle.mv_machine.specs.State.{Frame, State}
@@ -21,7 +27,8 @@ use Rattle.mv_machine.specs.StepGlobals.{key_at, exists, borrow_global, move_fro
 use Rattle.mv_machine.specs.StepControl.{call, branch_if, return_results}
 use Rattle.mv_machine.proofs.Laws.{on_ok}
 use Rattle.mv_machine.proofs.Binds.{WhereOk}
-use Rattle.mv_machine.proofs.Effects.{Appears, a_leaf, a_reference, a_copy, in_local, at_place, Effect, Restacked, MovedLocal, StoredLocal, Packed, Unpacked, Written, MovedFrom, MovedTo, Called, Resumed, Ends, Went, Left}
+use Rattle.mv_machine.proofs.Effects.{Appears, a_leaf, a_reference, a_copy, in_local, at_place, Effect, Restacked, MovedLocal, StoredLocal, Packed}
+use Rattle.mv_machine.proofs.Effects.{Unpacked, Written, MovedFrom, MovedTo, Called, Resumed, Ends, Went, Left}
 use Rattle.mv_machine.proofs.Operations.{GivesLeaf, binary-gives, comparison-gives, shift-gives, cast-gives, logic-gives, negation-gives, equality-gives, constant-is}
 use Rattle.mv_machine.proofs.LocalRules.{pop-is, copy-is, move-is, store-is, borrow-is}
 use Rattle.mv_machine.proofs.StructRules.{pack-is, unpack-is}

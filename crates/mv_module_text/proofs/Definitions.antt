@@ -9,7 +9,8 @@ use Rattle.mv_move_types.specs.declared.tables.Visibility.{Visibility}
 use Rattle.mv_move_types.specs.declared.tables.Visibility.TheVariants.{Private, Public}
 use Rattle.mv_module_text.specs.Entries.{counted, field_text, struct_definition_text, visibility_code, instruction_text, function_definition_text}
 use Rattle.mv_module_text.specs.Fits.{is_index, field_fits, struct_definition_fits, instruction_fits, function_definition_fits}
-use Rattle.mv_module_text.specs.Parsing.{index_from, byte_from, mark_from, counted_from, field_from, struct_definition_from, visibility_of, visibility_from, entry_of, entry_from, instruction_from, function_definition_from}
+use Rattle.mv_module_text.specs.Parsing.{index_from, byte_from, mark_from, counted_from, field_from, struct_definition_from, visibility_of}
+use Rattle.mv_module_text.specs.Parsing.{visibility_from, entry_of, entry_from, instruction_from, function_definition_from}
 use Rattle.mv_module_text.specs.Laws.{AreBytes}
 use Rattle.mv_module_text.proofs.Texts.{Front, Parts, Whole, on_bind, Front-join, Front-as, index-parts, index-whole, byte-front, mark-front, counted-parts, counted-whole}
 use Rattle.mv_module_text.proofs.Tokens.{cond-parts, field-parts, field-whole}

@@ -5,8 +5,11 @@ use Rattle.mv_uleb.specs.Uleb.{uleb}
 use Rattle.mv_move_types.specs.declared.token.ValueType.TheVariants.{OfLeaf, OfStruct}
 use Rattle.mv_move_types.specs.declared.token.Token.{Token}
 use Rattle.mv_move_types.specs.declared.token.Token.TheVariants.{Plain, Reference, MutableReference}
-use Rattle.mv_module_text.specs.Entries.{module_handle_text, struct_handle_text, function_handle_text, signature_text, constant_text, identifier_text, address_text, struct_definition_text, function_definition_text, field_handle_text, counted, ability_bits, field_text, code_text, token_text}
-use Rattle.mv_module_text.specs.Fits.{module_handle_fits, struct_handle_fits, function_handle_fits, signature_fits, constant_fits, identifier_fits, address_fits, struct_definition_fits, function_definition_fits, field_handle_fits}
+use Rattle.mv_module_text.specs.Entries.{module_handle_text, struct_handle_text, function_handle_text, signature_text, constant_text, identifier_text}
+use Rattle.mv_module_text.specs.Entries.{address_text, struct_definition_text, function_definition_text, field_handle_text, counted, ability_bits}
+use Rattle.mv_module_text.specs.Entries.{field_text, code_text, token_text}
+use Rattle.mv_module_text.specs.Fits.{module_handle_fits, struct_handle_fits, function_handle_fits, signature_fits, constant_fits, identifier_fits}
+use Rattle.mv_module_text.specs.Fits.{address_fits, struct_definition_fits, function_definition_fits, field_handle_fits}
 use Rattle.mv_module_text.proofs.Texts.{Takes}
 
 -- a number has a byte

@@ -14,7 +14,8 @@ use Rattle.mv_move_types.specs.declared.token.Token.{Token}
 use Rattle.mv_move_types.specs.declared.token.Token.TheVariants.{Plain, Reference, MutableReference}
 use Rattle.mv_module_text.specs.Entries.{leaf_token, value_type_text, token_text, signature_text, field_text, constant_text}
 use Rattle.mv_module_text.specs.Fits.{is_index, is_byte, value_type_fits, token_fits, signature_fits, field_fits, constant_fits}
-use Rattle.mv_module_text.specs.Parsing.{index_from, byte_from, bytes_from, LeafRow, leaf_rows, is_leaf_row_of, kind_of, value_type_by, value_type_from, token_by, token_from, signature_from, field_from, constant_from}
+use Rattle.mv_module_text.specs.Parsing.{index_from, byte_from, bytes_from, LeafRow, leaf_rows, is_leaf_row_of, kind_of, value_type_by}
+use Rattle.mv_module_text.specs.Parsing.{value_type_from, token_by, token_from, signature_from, field_from, constant_from}
 use Rattle.mv_module_text.specs.Laws.{AreBytes}
 use Rattle.mv_module_text.proofs.Rows.{Each, find-some, on_map}
 use Rattle.mv_module_text.proofs.Texts.{Front, Parts, Whole, on_bind, Front-join, Front-as, index-parts, index-whole, byte-front, bytes-front, bytes-whole, bytes_after, counted-parts, counted-whole}

@@ -2,9 +2,15 @@
 
 ghost use Rattle.std.specs.Prelude.{ℕ};
 ghost use Rattle.mv_uleb.specs.Uleb.{uleb};
-ghost use Rattle.mv_module_text.specs.Entries.{token_text, field_text, instruction_text, module_handle_text, struct_handle_text, function_handle_text, field_handle_text, signature_text, constant_text, identifier_text, address_text, struct_definition_text, function_definition_text};
-ghost use Rattle.mv_module_text.specs.Fits.{is_index, token_fits, field_fits, instruction_fits, module_handle_fits, struct_handle_fits, function_handle_fits, field_handle_fits, signature_fits, constant_fits, identifier_fits, address_fits, struct_definition_fits, function_definition_fits};
-ghost use Rattle.mv_module_text.specs.Parsing.{index_from, token_from, field_from, instruction_from, module_handle_from, struct_handle_from, function_handle_from, field_handle_from, signature_from, constant_from, identifier_from, address_from, struct_definition_from, function_definition_from};
+ghost use Rattle.mv_module_text.specs.Entries.{token_text, field_text, instruction_text, module_handle_text, struct_handle_text};
+ghost use Rattle.mv_module_text.specs.Entries.{function_handle_text, field_handle_text, signature_text, constant_text, identifier_text, address_text};
+ghost use Rattle.mv_module_text.specs.Entries.{struct_definition_text, function_definition_text};
+ghost use Rattle.mv_module_text.specs.Fits.{is_index, token_fits, field_fits, instruction_fits, module_handle_fits, struct_handle_fits};
+ghost use Rattle.mv_module_text.specs.Fits.{function_handle_fits, field_handle_fits, signature_fits, constant_fits, identifier_fits, address_fits};
+ghost use Rattle.mv_module_text.specs.Fits.{struct_definition_fits, function_definition_fits};
+ghost use Rattle.mv_module_text.specs.Parsing.{index_from, token_from, field_from, instruction_from, module_handle_from, struct_handle_from};
+ghost use Rattle.mv_module_text.specs.Parsing.{function_handle_from, field_handle_from, signature_from, constant_from, identifier_from, address_from};
+ghost use Rattle.mv_module_text.specs.Parsing.{struct_definition_from, function_definition_from};
 ghost use Rattle.mv_module_text.specs.Laws.{StandsByText, StandAsTexts};
 
 /// An entry is read at the front of bytes, in each version, exactly where its text stands there and it may be written.

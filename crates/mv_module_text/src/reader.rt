@@ -5,7 +5,10 @@ ghost use Rattle.mv_move_types.specs.declared.token.Width.TheVariants.{U16, U32,
 ghost use Rattle.mv_move_types.specs.Tokens.{width_bits};
 ghost use Rattle.mv_move_types.specs.Versions.{version_number};
 ghost use Rattle.mv_uleb.specs.Parsing.{number_from};
-ghost use Rattle.mv_module_text.specs.Parsing.{Read, index_from, byte_from, mark_from, bytes_from, number_of_from, counted_from, kind_of, value_type_by, value_type_from, token_from, module_handle_from, struct_handle_from, function_handle_from, signature_from, constant_from, identifier_from, address_from, field_from, field_handle_from, visibility_from, entry_from, form_of, bare_of, instruction_by, instruction_from};
+ghost use Rattle.mv_module_text.specs.Parsing.{Read, index_from, byte_from, mark_from, bytes_from, number_of_from, counted_from, kind_of};
+ghost use Rattle.mv_module_text.specs.Parsing.{value_type_by, value_type_from, token_from, module_handle_from, struct_handle_from};
+ghost use Rattle.mv_module_text.specs.Parsing.{function_handle_from, signature_from, constant_from, identifier_from, address_from, field_from};
+ghost use Rattle.mv_module_text.specs.Parsing.{field_handle_from, visibility_from, entry_from, form_of, bare_of, instruction_by, instruction_from};
 ghost use Rattle.mv_module_text.specs.Reads.{Reads, ReadsAs, Marks, Collects};
 
 use crate::{Constant, codes};

@@ -6,7 +6,10 @@ ghost use Rattle.mv_move_types.specs.Tokens.{width_bits};
 ghost use Rattle.mv_module_text.specs.Fits.{immediate_fits};
 ghost use Rattle.mv_module_text.specs.Writes.{Writes};
 ghost use Rattle.mv_module_text.specs.Written.{definition};
-ghost use Rattle.mv_module_text.specs.Entries.{counted, leaf_token, value_type_text, token_text, module_handle_text, struct_handle_text, function_handle_text, signature_text, constant_text, identifier_text, address_text, field_text, struct_definition_text, number_text, immediate_text, instruction_text, function_definition_text, field_handle_text};
+ghost use Rattle.mv_module_text.specs.Entries.{counted, leaf_token, value_type_text, token_text, module_handle_text, struct_handle_text};
+ghost use Rattle.mv_module_text.specs.Entries.{function_handle_text, signature_text, constant_text, identifier_text, address_text, field_text};
+ghost use Rattle.mv_module_text.specs.Entries.{struct_definition_text, number_text, immediate_text, instruction_text, function_definition_text};
+ghost use Rattle.mv_module_text.specs.Entries.{field_handle_text};
 
 use mv_move_types::{
     Field, FieldHandle, FunctionHandle, Immediate, Instruction, LeafKind, ModuleHandle,

@@ -1,7 +1,8 @@
 -- Slots in a list, and keys that have places there.
 --   put-at      a slot stands at a key's place, or at a free one that the key gets
 --   removed-at  a key is gone, and its place is free
-use Rattle.std.proofs.Common.{◌≡◌, ◌<◌, ℕ, zero, suc, refl, sym, ap, ◌∙◌, true, false, cond, List, [], ◌∷◌, ◌++◌, length, Option, Some, None, ⊎_elim, ◌⊎◌, inl, inr, is_some, arith, subst, slice_get, slice_set, slice_index_or, ◌==◌}
+use Rattle.std.proofs.Common.{◌≡◌, ◌<◌, ℕ, zero, suc, refl, sym, ap, ◌∙◌, true, false, cond, List, [], ◌∷◌, ◌++◌, length, Option, Some, None, ⊎_elim}
+use Rattle.std.proofs.Common.{◌⊎◌, inl, inr, is_some, arith, subst, slice_get, slice_set, slice_index_or, ◌==◌}
 use Rattle.std.specs.Option.{option_and_then}
 use Rattle.std.specs.BTreeMap.{get, is_at, IsOrdered}
 use Rattle.std.specs.Map.{lookup}

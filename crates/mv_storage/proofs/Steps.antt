@@ -1,5 +1,6 @@
 -- What a step of the code on its slots does to what they show.
-use Rattle.std.proofs.Common.{◌≡◌, ℕ, refl, sym, ap, ◌∙◌, Bool, true, false, cond, List, [], ◌∷◌, ◌++◌, Option, Some, None, ⊎_elim, inl, inr, is_some, ◌||◌, ◌≤◌, arith, subst, slice_get, slice_set, slice_index_or, length, take, ◌-◌, length-append}
+use Rattle.std.proofs.Common.{◌≡◌, ℕ, refl, sym, ap, ◌∙◌, Bool, true, false, cond, List, [], ◌∷◌, ◌++◌, Option, Some, None, ⊎_elim, inl, inr, is_some}
+use Rattle.std.proofs.Common.{◌||◌, ◌≤◌, arith, subst, slice_get, slice_set, slice_index_or, length, take, ◌-◌, length-append}
 use Rattle.std.specs.Option.{option_and_then}
 use Rattle.std.specs.BTreeMap.{BTreeMap, get, is_at, IsOrdered}
 use Rattle.std.specs.Map.{lookup}
@@ -15,10 +16,12 @@ use Rattle.mv_storage.specs.declared.slot.Layer.TheVariants.{Committed, Current}
 use Rattle.mv_storage.specs.declared.places.Places.{Places}
 use Rattle.mv_storage.specs.FlatStorage.{words_under}
 use Rattle.mv_storage.specs.Map.{Layers}
-use Rattle.mv_storage.specs.Slots.{key_cmp, of_layer, layer_at, slot_at, is_change, is_vacant, value_at, is_changed, IsSound, AreNoted, ArePlaced, AreSettling, IsSettling, IsTracked, IsSettled, IsSettledAt, ShowsAt, ShowsSame, layers, seen}
+use Rattle.mv_storage.specs.Slots.{key_cmp, of_layer, layer_at, slot_at, is_change, is_vacant, value_at, is_changed, IsSound, AreNoted, ArePlaced}
+use Rattle.mv_storage.specs.Slots.{AreSettling, IsSettling, IsTracked, IsSettled, IsSettledAt, ShowsAt, ShowsSame, layers, seen}
 use Rattle.mv_storage.proofs.Keys.{same_key-is, same_key-refl, same_key-symm, same_key-to}
 use Rattle.mv_storage.proofs.Maps.{bool_cases}
-use Rattle.mv_storage.proofs.PlaceLemmas.{HasAt, HasPlace, Put, place-read, settling-used, wrote-at, removed-at, used-not_vacant, same-sound, same-slots, same-settling, wrote-settling, removed-settling, slice_set-again, slice_set-read}
+use Rattle.mv_storage.proofs.PlaceLemmas.{HasAt, HasPlace, Put, place-read, settling-used, wrote-at, removed-at, used-not_vacant, same-sound}
+use Rattle.mv_storage.proofs.PlaceLemmas.{same-slots, same-settling, wrote-settling, removed-settling, slice_set-again, slice_set-read}
 use Rattle.mv_storage.proofs.Shown.{shown_of, words_under-shown, shown-same, layers-same}
 
 -- the words under a key are those of the slot under it
@@ -182,7 +185,8 @@ tracked-same m n touched more had sound same grows placed = record {
 
 -- ---- a key that is new
 
-pub placed-added : (m n : Places) (k : Key) (p : ℕ) (touched : List (Key × ℕ)) → get key_cmp m.tree k ≡ None → HasPlace m n k (Some p) → ArePlaced m.tree touched → ArePlaced n.tree (touched ++ (k, p) ∷ [])
+pub placed-added : (m n : Places) (k : Key) (p : ℕ) (touched : List (Key × ℕ)) → get key_cmp m.tree k ≡ None → HasPlace m n k (Some p)
+    → ArePlaced m.tree touched → ArePlaced n.tree (touched ++ (k, p) ∷ [])
 placed-added m n k p touched none gets placed =
     placed-push n.tree touched (k, p) (gets k ∙ ap (λ b. cond b (Some p) (get key_cmp m.tree k)) (same_key-refl k))
     (placed-kept m.tree n.tree touched

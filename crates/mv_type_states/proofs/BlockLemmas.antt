@@ -1,6 +1,8 @@
 -- One turn of a walk over a block's instructions, and one of a walk over a function's blocks.
 --   types_in m d b   the types before each instruction of a block
-use Rattle.std.proofs.Common.{◌≡◌, ℕ, ◌+◌, ◌-◌, ◌<◌, ◌≤◌, Bool, true, false, ◌&&◌, cond, List, [], ◌∷◌, ◌++◌, append_assoc, length, reverse, map, flat_map, drop, get_or, Option, Some, None, Err, IsSome, IsTrue, nat_eq, nat_le, refl, ap, sym, ◌∙◌, subst, add-one, drop-cons, arith}
+use Rattle.std.proofs.Common.{◌≡◌, ℕ, ◌+◌, ◌-◌, ◌<◌, ◌≤◌, Bool, true, false, ◌&&◌, cond, List, [], ◌∷◌, ◌++◌, append_assoc, length, reverse, map}
+use Rattle.std.proofs.Common.{flat_map, drop, get_or, Option, Some, None, Err, IsSome, IsTrue, nat_eq, nat_le, refl, ap, sym, ◌∙◌, subst, add-one}
+use Rattle.std.proofs.Common.{drop-cons, arith}
 use Rattle.std.specs.Bool.{then_some}
 use Rattle.std.specs.List.{list_all, slice_range}
 use Rattle.std.specs.Option.{option_map_or}

@@ -1,5 +1,6 @@
 -- All functions of a module, one after another, and the phases.
-use Rattle.std.proofs.Common.{◌≡◌, ℕ, ◌+◌, ◌<◌, List, [], ◌∷◌, ◌++◌, length, get_or, slice_get, map, take, Option, Some, None, option_map, IsTrue, IfSome, refl, sym, ap, ◌∙◌, subst, inl, inr, ◌⊎◌, ⊎_elim, zero, suc, length-append, arith}
+use Rattle.std.proofs.Common.{◌≡◌, ℕ, ◌+◌, ◌<◌, List, [], ◌∷◌, ◌++◌, length, get_or, slice_get, map, take, Option, Some, None, option_map, IsTrue}
+use Rattle.std.proofs.Common.{IfSome, refl, sym, ap, ◌∙◌, subst, inl, inr, ◌⊎◌, ⊎_elim, zero, suc, length-append, arith}
 use Rattle.std.proofs.lemmas.Option.{MatchOption-at_some, slice_get_within, slice_get-map, slice_get-get_or, slice_get_read, get_or_from_slice_get, same_Some}
 use Rattle.std.proofs.lemmas.List.{take_more, map-append, length-map}
 use Rattle.mv_move_types.specs.declared.refusal.Refusal.{Refusal}

@@ -12,13 +12,21 @@ use Rattle.mv_move_types.specs.declared.token.Token.TheVariants.{Plain, Referenc
 use Rattle.mv_move_types.specs.declared.tables.Field.{Field}
 use Rattle.mv_move_types.specs.declared.tables.FunctionHandle.{FunctionHandle}
 use Rattle.mv_move_types.specs.declared.instruction.Instruction.{Instruction}
-use Rattle.mv_move_types.specs.declared.instruction.Instruction.TheVariants.{Pop, Ret, BrTrue, BrFalse, Branch, LdU64, LdConst, LdTrue, LdFalse, CopyLoc, MoveLoc, StLoc, MutBorrowLoc, ImmBorrowLoc, MutBorrowField, ImmBorrowField, Call, Pack, Unpack, ReadRef, WriteRef, Or, And, Not, Eq, Neq, Abort, Nop, Exists, MutBorrowGlobal, ImmBorrowGlobal, MoveFrom, MoveTo, FreezeRef, Shl, Shr, LdU8, LdU128, CastU8, CastU64, CastU128, LdU16, LdU32, CastU16, CastU32}
+use Rattle.mv_move_types.specs.declared.instruction.Instruction.TheVariants.{Pop, Ret, BrTrue, BrFalse, Branch, LdU64, LdConst, LdTrue, LdFalse}
+use Rattle.mv_move_types.specs.declared.instruction.Instruction.TheVariants.{CopyLoc, MoveLoc, StLoc, MutBorrowLoc, ImmBorrowLoc, MutBorrowField}
+use Rattle.mv_move_types.specs.declared.instruction.Instruction.TheVariants.{ImmBorrowField, Call, Pack, Unpack, ReadRef, WriteRef, Or, And, Not, Eq}
+use Rattle.mv_move_types.specs.declared.instruction.Instruction.TheVariants.{Neq, Abort, Nop, Exists, MutBorrowGlobal, ImmBorrowGlobal, MoveFrom}
+use Rattle.mv_move_types.specs.declared.instruction.Instruction.TheVariants.{MoveTo, FreezeRef, Shl, Shr, LdU8, LdU128, CastU8, CastU64, CastU128}
+use Rattle.mv_move_types.specs.declared.instruction.Instruction.TheVariants.{LdU16, LdU32, CastU16, CastU32}
 use Rattle.mv_move_types.specs.Tokens.{same_value_type, same_tokens}
 use Rattle.mv_move_types.specs.Options.{◌>>=◌}
 use Rattle.mv_move_types.specs.Module.{Module, StructDefinition, FunctionDefinition, local_type}
 use Rattle.mv_abilities.specs.Abilities.{value_type_abilities, token_abilities}
 use Rattle.mv_stack_use.specs.Heights.{StackEffect, effect, effect_of, return_effect, call_effect, pack_effect, unpack_effect}
-use Rattle.mv_type_states.specs.TypeRules.{Types, types_after, provided, top_type, taken, takes_gives, boolean, number, address, width_of, plain_of, target_of, mutable_target_of, top_width, of_two_numbers, of_shift, of_cast, of_equality, of_pop, of_copy, of_borrow_local, keyed_type, field_types, of_mutable_field, of_immutable_field, of_call, of_return, of_pack, of_unpack, of_read, of_write, of_freeze, of_constant, of_global, of_move_to}
+use Rattle.mv_type_states.specs.TypeRules.{Types, types_after, provided, top_type, taken, takes_gives, boolean, number, address, width_of, plain_of}
+use Rattle.mv_type_states.specs.TypeRules.{target_of, mutable_target_of, top_width, of_two_numbers, of_shift, of_cast, of_equality, of_pop, of_copy}
+use Rattle.mv_type_states.specs.TypeRules.{of_borrow_local, keyed_type, field_types, of_mutable_field, of_immutable_field, of_call, of_return}
+use Rattle.mv_type_states.specs.TypeRules.{of_pack, of_unpack, of_read, of_write, of_freeze, of_constant, of_global, of_move_to}
 use Rattle.mv_type_states.proofs.Tokens.{lists_equal}
 
 -- so many are taken, and so many given

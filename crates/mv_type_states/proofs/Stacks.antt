@@ -1,5 +1,7 @@
 -- Stacks with the topmost last, and what is taken from them.
-use Rattle.std.proofs.Common.{◌≡◌, ℕ, ◌+◌, ◌<◌, Bool, true, false, ◌&&◌, List, [], ◌∷◌, ◌++◌, length, reverse, append_assoc, get_or, set, take, drop, slice_get, Option, Some, None, refl, sym, ap, ◌∙◌, subst, zero, suc, add-one, length-append, length-take, map, arith, IsTrue, nat_eq, vec_len, Vec, Global, Result, Err}
+use Rattle.std.proofs.Common.{◌≡◌, ℕ, ◌+◌, ◌<◌, Bool, true, false, ◌&&◌, List, [], ◌∷◌, ◌++◌, length, reverse, append_assoc, get_or, set, take, drop}
+use Rattle.std.proofs.Common.{slice_get, Option, Some, None, refl, sym, ap, ◌∙◌, subst, zero, suc, add-one, length-append, length-take, map, arith}
+use Rattle.std.proofs.Common.{IsTrue, nat_eq, vec_len, Vec, Global, Result, Err}
 use Rattle.std.proofs.lemmas.List.{reverse-append, reverse-reverse, length-reverse, map-append, take_more, take_all}
 use Rattle.std.proofs.Math.Seq.{set-append_seam}
 use Rattle.std.proofs.lemmas.Bool.{ne_eqb, eqb-false}

@@ -1,5 +1,7 @@
 -- What the front of bytes gives, a byte at a time, and that it gives one thing.
-use Rattle.std.proofs.Common.{◌≡◌, ℕ, ◌+◌, ◌-◌, ◌*◌, ◌/◌, ◌^◌, ◌<◌, ◌≤◌, List, [], ◌∷◌, ◌++◌, take, drop, length, arith, refl, ap, suc, zero, sym, ◌∙◌, subst, take-append-drop, Option, Some, None, Result, Ok, Err, IfOk, IsErr, inl, inr, option_and_then, length-append, length-drop}
+use Rattle.std.proofs.Common.{◌≡◌, ℕ, ◌+◌, ◌-◌, ◌*◌, ◌/◌, ◌^◌, ◌<◌, ◌≤◌, List, [], ◌∷◌, ◌++◌, take, drop, length, arith, refl, ap, suc, zero, sym}
+use Rattle.std.proofs.Common.{◌∙◌, subst, take-append-drop, Option, Some, None, Result, Ok, Err, IfOk, IsErr, inl, inr, option_and_then}
+use Rattle.std.proofs.Common.{length-append, length-drop}
 use Rattle.std.proofs.lemmas.Option.{some_pair_parts, none-some}
 use Rattle.std.proofs.lemmas.Bool.{false≢true}
 use Rattle.mv_uleb.specs.declared.UlebError.{UlebError}

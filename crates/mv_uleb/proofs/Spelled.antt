@@ -1,5 +1,7 @@
 -- The forms of numbers, and what reading gives of bytes that begin with one.
-use Rattle.std.proofs.Common.{◌≡◌, Bool, subst, ℕ, ◌+◌, ◌*◌, ◌<◌, ◌≤◌, ◌^◌, ◌/◌, ◌%◌, List, [], ◌∷◌, ◌++◌, arith, refl, ap, suc, zero, sym, ◌∙◌, Option, Some, None, IsTrue, nat_lt, nat_le, lt-ltb, le-ltb, ltb-true, true, false, option_and_then, eq-eqb, ne_eqb, inl, inr, ◌-◌}
+use Rattle.std.proofs.Common.{◌≡◌, Bool, subst, ℕ, ◌+◌, ◌*◌, ◌<◌, ◌≤◌, ◌^◌, ◌/◌, ◌%◌, List, [], ◌∷◌, ◌++◌, arith, refl, ap, suc, zero, sym, ◌∙◌}
+use Rattle.std.proofs.Common.{Option, Some, None, IsTrue, nat_lt, nat_le, lt-ltb, le-ltb, ltb-true, true, false, option_and_then, eq-eqb, ne_eqb, inl}
+use Rattle.std.proofs.Common.{inr, ◌-◌}
 use Rattle.std.specs.List.{list_all}
 use Rattle.std.specs.Bool.{then_some}
 use Rattle.std.proofs.lemmas.Bool.{cases_lt, cases_eq, and_parts, leb-true, le-leb, lt-leb}

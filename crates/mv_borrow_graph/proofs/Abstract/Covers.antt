@@ -29,7 +29,8 @@ module _ (f : Frame) (e e' : Edges) (refs : Node → Option Ref) (came : Node �
         let v = from_own l u.0 n m w u.1 in
         (v.0, v.2, reach_above u.0 v.0 r.place.path v.1 u.2)
 
-    glob_pull : (n : Node) (r : Ref) (a : ℕ) (t : Defined) → Covers f e → (m : Node) × came m n × Live f m r → r.place.root ≡ Global a t → f.acquires t ≡ true → (x : Label) × e' (Glob t) x n × Reach x r.place.path
+    glob_pull : (n : Node) (r : Ref) (a : ℕ) (t : Defined) → Covers f e → (m : Node) × came m n × Live f m r → r.place.root ≡ Global a t
+        → f.acquires t ≡ true → (x : Label) × e' (Glob t) x n × Reach x r.place.path
     glob_pull n r a t c (m, w, h) k g =
         let u = c.glob m r a t h k g in
         let v = from_glob t u.0 n m w u.1 in
@@ -65,16 +66,19 @@ module _ (f : Frame) (e e' : Edges) (refs : Node → Option Ref) (k : ℕ) (new 
     (keep : (p : Node) (x : Label) (n : Node) → (p ≡ Temp k → ⊥) → (n ≡ Temp k → ⊥) → e p x n → e' p x n)
     (new_own : (l : ℕ) → new.place.root ≡ Local f.number l → (x : Label) × e' (Own l) x (Temp k) × Reach x new.place.path)
     (new_glob : (a : ℕ) (t : Defined) → new.place.root ≡ Global a t → f.acquires t ≡ true → (x : Label) × e' (Glob t) x (Temp k) × Reach x new.place.path)
-    (new_pairs : (n : Node) (r : Ref) → (n ≡ Temp k → ⊥) → Live f n r → refs n ≡ Some r → Overlap new.place r.place → (new.mutable ≡ true) ⊎ (r.mutable ≡ true) → Leads e' (Temp k) new n r ⊎ Leads e' n r (Temp k) new)
+    (new_pairs : (n : Node) (r : Ref) → (n ≡ Temp k → ⊥) → Live f n r → refs n ≡ Some r → Overlap new.place r.place
+    → (new.mutable ≡ true) ⊎ (r.mutable ≡ true) → Leads e' (Temp k) new n r ⊎ Leads e' n r (Temp k) new)
     (new_origin : Origin f new)
   where
-    own_put : (n : Node) (r : Ref) (l : ℕ) → Covers f e → ((n ≡ Temp k) × (r ≡ new)) ⊎ ((n ≡ Temp k → ⊥) × Live f n r) → r.place.root ≡ Local f.number l → (x : Label) × e' (Own l) x n × Reach x r.place.path
+    own_put : (n : Node) (r : Ref) (l : ℕ) → Covers f e → ((n ≡ Temp k) × (r ≡ new)) ⊎ ((n ≡ Temp k → ⊥) × Live f n r)
+        → r.place.root ≡ Local f.number l → (x : Label) × e' (Own l) x n × Reach x r.place.path
     own_put n r l c (inl (d, s)) h = rw (d, s) (new_own l (rw s at h))
     own_put n r l c (inr (d, s)) h =
         let u = c.own n r l s h in
         (u.0, keep (Own l) u.0 n (λ z. cc) d u.1, u.2)
 
-    glob_put : (n : Node) (r : Ref) (a : ℕ) (t : Defined) → Covers f e → ((n ≡ Temp k) × (r ≡ new)) ⊎ ((n ≡ Temp k → ⊥) × Live f n r) → r.place.root ≡ Global a t → f.acquires t ≡ true → (x : Label) × e' (Glob t) x n × Reach x r.place.path
+    glob_put : (n : Node) (r : Ref) (a : ℕ) (t : Defined) → Covers f e → ((n ≡ Temp k) × (r ≡ new)) ⊎ ((n ≡ Temp k → ⊥) × Live f n r)
+        → r.place.root ≡ Global a t → f.acquires t ≡ true → (x : Label) × e' (Glob t) x n × Reach x r.place.path
     glob_put n r a t c (inl (d, s)) h g = rw (d, s) (new_glob a t (rw s at h) g)
     glob_put n r a t c (inr (d, s)) h g =
         let u = c.glob n r a t s h g in

@@ -4,7 +4,9 @@ use Rattle.mv_borrow_graph.specs.Abstract.Places.{Defined, Local, Global, field_
 use Rattle.mv_borrow_graph.specs.Abstract.Covers.{Node, Slot, Temp, Ref, Live, Edges, Covers}
 use Rattle.mv_borrow_graph.specs.Abstract.Rows.{Row, CopyRef, CopyMut, MoveRef, StoreRef, BorrowLocal, BorrowField, BorrowGlobal, Freeze, Drop, Need, After, after_move, after_store}
 use Rattle.mv_borrow_graph.specs.Abstract.Lists.{Value, Plain, Reference, local_ref, set_local, refs_of, Activation, seen}
-use Rattle.mv_borrow_graph.proofs.Abstract.Rows.{row_copy_immutable, row_copy_mutable, row_field_mutable, row_field_immutable, row_freeze, row_borrow_mutable, row_borrow_immutable, row_borrow_global_mutable, row_borrow_global_immutable, row_drop, row_rename}
+use Rattle.mv_borrow_graph.proofs.Abstract.Rows.{row_copy_immutable, row_copy_mutable, row_field_mutable, row_field_immutable, row_freeze}
+use Rattle.mv_borrow_graph.proofs.Abstract.Rows.{row_borrow_mutable, row_borrow_immutable, row_borrow_global_mutable, row_borrow_global_immutable}
+use Rattle.mv_borrow_graph.proofs.Abstract.Rows.{row_drop, row_rename}
 use Rattle.mv_borrow_graph.proofs.Abstract.Lists.{pushed_at, replaced_at, operand_at, dropped_at, moved_at, stored_at}
 
 -- what each row does to a frame's lists, at place k

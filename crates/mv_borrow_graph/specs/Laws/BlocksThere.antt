@@ -1,5 +1,6 @@
 -- A block that goes on leads from edges between nodes that are there to such edges, and so past the operands.
-use Rattle.std.proofs.Common.{◌≡◌, ◌==◌, ℕ, ◌+◌, ◌-◌, ◌<◌, ◌≤◌, suc, Bool, true, false, cond, List, [], ◌∷◌, length, map, Option, Some, None, option_and_then, slice_get, nat_le, Contains, refl, ap, sym, ◌∙◌, subst, arith, get_or, ⊎_elim}
+use Rattle.std.proofs.Common.{◌≡◌, ◌==◌, ℕ, ◌+◌, ◌-◌, ◌<◌, ◌≤◌, suc, Bool, true, false, cond, List, [], ◌∷◌, length, map, Option, Some, None}
+use Rattle.std.proofs.Common.{option_and_then, slice_get, nat_le, Contains, refl, ap, sym, ◌∙◌, subst, arith, get_or, ⊎_elim}
 use Rattle.std.specs.List.{slice_range}
 use Rattle.std.specs.Option.{option_map_or}
 use Rattle.std.proofs.lemmas.Bool.{false≢true, true≢false, cases_lt, eqb-true}

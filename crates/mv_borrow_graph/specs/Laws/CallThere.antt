@@ -1,5 +1,6 @@
 -- A call: the arguments' edges go, and the results lead from where the arguments did.
-use Rattle.std.proofs.Common.{◌≡◌, ℕ, zero, suc, ◌+◌, ◌-◌, Bool, true, false, not, ◌&&◌, List, [], ◌∷◌, ◌++◌, length, filter, reverse, slice_get, refl, sym, ap, ◌∙◌, subst, arith, true≢false, ⊎_elim, inl, inr, Contains}
+use Rattle.std.proofs.Common.{◌≡◌, ℕ, zero, suc, ◌+◌, ◌-◌, Bool, true, false, not, ◌&&◌, List, [], ◌∷◌, ◌++◌, length, filter, reverse, slice_get}
+use Rattle.std.proofs.Common.{refl, sym, ap, ◌∙◌, subst, arith, true≢false, ⊎_elim, inl, inr, Contains}
 use Rattle.std.specs.Prelude.{if◌then◌else◌}
 use Rattle.std.specs.List.{list_all, list_any}
 use Rattle.std.specs.Option.{option_map_or}
@@ -181,7 +182,8 @@ module _ (m : Module) (d : FunctionDefinition) (params results rest : Types) whe
 pub call_row : (m : Module) (d : FunctionDefinition) (params results : List Token) (s t : Types) → Shift s t (reverse params) (reverse results) → (base : ℕ) → base ≡ length s - length params
     → (es : List Edge)
     → list_all (λ n. no_edge_out n es) (reference_nodes is_mutable_token base params) ≡ true → are_there (point_at m d s) es ≡ true
-    → are_there (point_at m d t) (without_all (reference_nodes is_reference_token base params) es ++ result_edges (reference_nodes is_mutable_token base params) (reference_nodes is_reference_token base params) base results es) ≡ true
+    → are_there (point_at m d t) (without_all (reference_nodes is_reference_token base params) es
+    ++ result_edges (reference_nodes is_mutable_token base params) (reference_nodes is_reference_token base params) base results es) ≡ true
 call_row m d params results s t h base is es needed there =
     let low : base ≡ length h.rest = below h.before in
     subst (λ x. are_there (point_at m d x) (without_all (reference_nodes is_reference_token base params) es ++ result_edges (reference_nodes is_mutable_token base params) (reference_nodes is_reference_token base params) base results es) ≡ true) (sym h.after)

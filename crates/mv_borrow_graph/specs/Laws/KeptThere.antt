@@ -12,7 +12,12 @@ use Rattle.mv_move_types.specs.declared.token.ValueType.{ValueType}
 use Rattle.mv_move_types.specs.declared.token.Token.{Token}
 use Rattle.mv_move_types.specs.declared.token.Token.TheVariants.{Plain, Reference, MutableReference}
 use Rattle.mv_move_types.specs.declared.instruction.Instruction.{Instruction}
-use Rattle.mv_move_types.specs.declared.instruction.Instruction.TheVariants.{Pop, Ret, BrTrue, BrFalse, Branch, LdU64, LdConst, LdTrue, LdFalse, CopyLoc, MoveLoc, StLoc, MutBorrowLoc, ImmBorrowLoc, MutBorrowField, ImmBorrowField, Call, Pack, Unpack, ReadRef, WriteRef, Or, And, Not, Eq, Neq, Abort, Nop, Exists, MutBorrowGlobal, ImmBorrowGlobal, MoveFrom, MoveTo, FreezeRef, Shl, Shr, LdU8, LdU128, CastU8, CastU64, CastU128, LdU16, LdU32, CastU16, CastU32}
+use Rattle.mv_move_types.specs.declared.instruction.Instruction.TheVariants.{Pop, Ret, BrTrue, BrFalse, Branch, LdU64, LdConst, LdTrue, LdFalse}
+use Rattle.mv_move_types.specs.declared.instruction.Instruction.TheVariants.{CopyLoc, MoveLoc, StLoc, MutBorrowLoc, ImmBorrowLoc, MutBorrowField}
+use Rattle.mv_move_types.specs.declared.instruction.Instruction.TheVariants.{ImmBorrowField, Call, Pack, Unpack, ReadRef, WriteRef, Or, And, Not, Eq}
+use Rattle.mv_move_types.specs.declared.instruction.Instruction.TheVariants.{Neq, Abort, Nop, Exists, MutBorrowGlobal, ImmBorrowGlobal, MoveFrom}
+use Rattle.mv_move_types.specs.declared.instruction.Instruction.TheVariants.{MoveTo, FreezeRef, Shl, Shr, LdU8, LdU128, CastU8, CastU64, CastU128}
+use Rattle.mv_move_types.specs.declared.instruction.Instruction.TheVariants.{LdU16, LdU32, CastU16, CastU32}
 use Rattle.mv_move_types.specs.declared.tables.FieldHandle.{FieldHandle}
 use Rattle.mv_move_types.specs.declared.tables.FunctionHandle.{FunctionHandle}
 use Rattle.mv_move_types.specs.Options.{◌>>=◌}
@@ -23,10 +28,15 @@ use Rattle.mv_type_states.specs.TypesHold.{Point}
 use Rattle.mv_edges.specs.Edges.{Edge, same_node, here, inherited, agrees, out_of, without, renamed, an_edge}
 use Rattle.mv_type_states.proofs.HeightLemmas.{bind_some}
 use Rattle.mv_bounds.proofs.FunctionLemmas.{all_at}
-use Rattle.mv_borrow_graph.specs.BorrowRules.{edges_after, is_mutable_token, is_reference_token, is_mutable, next_temp, top_temp, no_edge_out, no_mutable_from, copy_edges, move_edges, store_edges, field_edges, position_of, global_edges, reference_nodes, without_all, result_edges, call_edges}
+use Rattle.mv_borrow_graph.specs.BorrowRules.{edges_after, is_mutable_token, is_reference_token, is_mutable, next_temp, top_temp, no_edge_out}
+use Rattle.mv_borrow_graph.specs.BorrowRules.{no_mutable_from, copy_edges, move_edges, store_edges, field_edges, position_of, global_edges}
+use Rattle.mv_borrow_graph.specs.BorrowRules.{reference_nodes, without_all, result_edges, call_edges}
 use Rattle.mv_borrow_graph.specs.Domain.{point_at}
 use Rattle.mv_borrow_graph.specs.Nodes.{are_there}
-use Rattle.mv_borrow_graph.specs.Laws.Shifts.{Shift, PlainShift, is_plain, exchanged, plain_exchanged, plain_taken, plain_pushed, unchanged, constant_shift, two_numbers_shift, equality_shift, shift_shift, cast_shift, pack_shift, unpack_shift, global_shift, plain_global, move_to_shift, pop_shift, copy_shift, move_shift, store_shift, borrow_shift, mutable_field_shift, immutable_field_shift, read_shift, write_shift, freeze_shift}
+use Rattle.mv_borrow_graph.specs.Laws.Shifts.{Shift, PlainShift, is_plain, exchanged, plain_exchanged, plain_taken, plain_pushed, unchanged}
+use Rattle.mv_borrow_graph.specs.Laws.Shifts.{constant_shift, two_numbers_shift, equality_shift, shift_shift, cast_shift, pack_shift, unpack_shift}
+use Rattle.mv_borrow_graph.specs.Laws.Shifts.{global_shift, plain_global, move_to_shift, pop_shift, copy_shift, move_shift, store_shift, borrow_shift}
+use Rattle.mv_borrow_graph.specs.Laws.Shifts.{mutable_field_shift, immutable_field_shift, read_shift, write_shift, freeze_shift}
 use Rattle.mv_borrow_graph.specs.Laws.RowsThere.{plain_row, top_row, write_row, second_row, freeze_row, field_row, global_row, lent_at, copied_at, child_at, moved_at, stored_at, local_is}
 use Rattle.mv_borrow_graph.specs.Laws.CallThere.{call_row}
 
@@ -41,7 +51,8 @@ call_known : (p : Point) (i : ℕ) (es fs : List Edge) (handle : FunctionHandle)
     → slice_get p.home.signatures handle.results ≡ Some results → call_edges p i es ≡ Some fs
     → then_some (list_all (λ n. no_edge_out n es) (reference_nodes is_mutable_token (length p.types - length params) params) && list_all (λ g. no_edge_out (Glob g) es) (own_acquires p.home i))
     (without_all (reference_nodes is_reference_token (length p.types - length params) params) es
-    ++ result_edges (reference_nodes is_mutable_token (length p.types - length params) params) (reference_nodes is_reference_token (length p.types - length params) params) (length p.types - length params) results es) ≡ Some fs
+    ++ result_edges (reference_nodes is_mutable_token (length p.types - length params) params)
+    (reference_nodes is_reference_token (length p.types - length params) params) (length p.types - length params) results es) ≡ Some fs
 call_known p i es fs handle params results a b c e = rw (a, b, c) at e
 
 module _ (m : Module) (d : FunctionDefinition) (ok : HasPlainFields m) (s t : Types) (es fs : List Edge) (there : are_there (point_at m d s) es ≡ true) where

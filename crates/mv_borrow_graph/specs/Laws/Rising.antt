@@ -9,7 +9,9 @@ use Rattle.mv_move_types.specs.declared.borrow.Node.TheVariants.{Slot, Own, Glob
 use Rattle.mv_move_types.specs.declared.token.Token.{Token}
 use Rattle.mv_move_types.specs.declared.token.Token.TheVariants.{Plain, Reference, MutableReference}
 use Rattle.mv_move_types.specs.declared.instruction.Instruction.{Instruction}
-use Rattle.mv_move_types.specs.declared.instruction.Instruction.TheVariants.{Pop, Ret, CopyLoc, MoveLoc, StLoc, MutBorrowLoc, ImmBorrowLoc, MutBorrowField, ImmBorrowField, Call, ReadRef, WriteRef, MutBorrowGlobal, ImmBorrowGlobal, MoveFrom, MoveTo, FreezeRef}
+use Rattle.mv_move_types.specs.declared.instruction.Instruction.TheVariants.{Pop, Ret, CopyLoc, MoveLoc, StLoc, MutBorrowLoc, ImmBorrowLoc}
+use Rattle.mv_move_types.specs.declared.instruction.Instruction.TheVariants.{MutBorrowField, ImmBorrowField, Call, ReadRef, WriteRef, MutBorrowGlobal}
+use Rattle.mv_move_types.specs.declared.instruction.Instruction.TheVariants.{ImmBorrowGlobal, MoveFrom, MoveTo, FreezeRef}
 use Rattle.mv_move_types.specs.Options.{◌>>=◌}
 use Rattle.mv_move_types.specs.Module.{Module, FunctionDefinition, local_type, own_acquires}
 use Rattle.mv_type_states.specs.TypesHold.{Point}
@@ -18,8 +20,13 @@ use Rattle.mv_edges.specs.Edges.{Edge, here, extended, opened, agrees, out_of, b
 use Rattle.mv_edges.specs.Sorted.{sorted}
 use Rattle.mv_edges.proofs.Insertion.{all_weaker}
 use Rattle.mv_edges.proofs.Order.{edges_leq_itself}
-use Rattle.mv_edges.proofs.Changes.{IsRising, nodes_rise, label_rises, both_rise, agrees_rises, none_passes_below, none_out_below, none_out_passes_below, edges_leq-append, edges_leq-flat_map, edges_leq-sorted, edges_leq-without, edges_leq-but_out_of, edges_leq-renamed, edges_leq-inherited, extended_keeps, opened_keeps}
-use Rattle.mv_borrow_graph.specs.BorrowRules.{next_temp, top_temp, is_mutable, is_reference_token, is_mutable_token, is_root_node, is_temp, no_edge_out, no_mutable_from, copy_edges, move_edges, store_edges, field_edges, mutable_field_edges, immutable_field_edges, position_of, reference_nodes, without_all, opened_edges, result_edges, call_edges, return_edges, edges_after}
+use Rattle.mv_edges.proofs.Changes.{IsRising, nodes_rise, label_rises, both_rise, agrees_rises, none_passes_below, none_out_below}
+use Rattle.mv_edges.proofs.Changes.{none_out_passes_below, edges_leq-append, edges_leq-flat_map, edges_leq-sorted, edges_leq-without}
+use Rattle.mv_edges.proofs.Changes.{edges_leq-but_out_of, edges_leq-renamed, edges_leq-inherited, extended_keeps, opened_keeps}
+use Rattle.mv_borrow_graph.specs.BorrowRules.{next_temp, top_temp, is_mutable, is_reference_token, is_mutable_token, is_root_node, is_temp}
+use Rattle.mv_borrow_graph.specs.BorrowRules.{no_edge_out, no_mutable_from, copy_edges, move_edges, store_edges, field_edges, mutable_field_edges}
+use Rattle.mv_borrow_graph.specs.BorrowRules.{immutable_field_edges, position_of, reference_nodes, without_all, opened_edges, result_edges}
+use Rattle.mv_borrow_graph.specs.BorrowRules.{call_edges, return_edges, edges_after}
 use Rattle.mv_borrow_graph.specs.Domain.{ordered, point_at, edges_step}
 
 abbrev Below : Option (List Edge) → Option (List Edge) → Type 0

@@ -20,7 +20,8 @@ use Rattle.mv_borrow_graph.specs.Domain.{point_at}
 use Rattle.mv_borrow_graph.specs.Nodes.{has_place, has_local, leads_out, leads_in, edge_is_there, are_there}
 use Rattle.mv_borrow_graph.specs.Laws.Places.{is_under, plain_none, has_over, under_apart, out_stays, in_stays, out_under, in_under, out_free, in_free}
 use Rattle.mv_borrow_graph.specs.Laws.Shifts.{Shift, PlainShift, is_plain}
-use Rattle.mv_borrow_graph.specs.Laws.There.{IsThere, not_true, same_is, there_parts, there_from, is_small, each_filter, each_append, each_one, each_inherited, is_free_of, renamed_there, edge_stays, all_stay, others_stay}
+use Rattle.mv_borrow_graph.specs.Laws.There.{IsThere, not_true, same_is, there_parts, there_from, is_small, each_filter, each_append, each_one}
+use Rattle.mv_borrow_graph.specs.Laws.There.{each_inherited, is_free_of, renamed_there, edge_stays, all_stay, others_stay}
 
 -- a local whose type is known
 pub local_is : (test : Token → Bool) (p : Point) (l : ℕ) (t : Token) → local_type p.home p.function l ≡ Some t → test t ≡ true → has_local test p l ≡ true

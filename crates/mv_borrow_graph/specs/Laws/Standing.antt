@@ -1,5 +1,6 @@
 -- The types before the instructions of a block stand among those of the function.
-use Rattle.std.proofs.Common.{◌≡◌, ◌==◌, ℕ, ◌+◌, ◌-◌, ◌≤◌, zero, suc, Bool, true, false, cond, List, [], ◌∷◌, length, flat_map, take, drop, Option, Some, None, is_some, option_map, slice_get, nat_le, IsTrue, refl, ap, sym, ◌∙◌, subst, arith, length-drop, length-take}
+use Rattle.std.proofs.Common.{◌≡◌, ◌==◌, ℕ, ◌+◌, ◌-◌, ◌≤◌, zero, suc, Bool, true, false, cond, List, [], ◌∷◌, length, flat_map, take, drop, Option}
+use Rattle.std.proofs.Common.{Some, None, is_some, option_map, slice_get, nat_le, IsTrue, refl, ap, sym, ◌∙◌, subst, arith, length-drop, length-take}
 use Rattle.std.specs.List.{list_all, slice_range}
 use Rattle.std.specs.Option.{option_map_or}
 use Rattle.std.proofs.lemmas.Bool.{and_parts, false≢true}

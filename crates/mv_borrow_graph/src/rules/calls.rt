@@ -9,7 +9,8 @@ ghost use Rattle.mv_edges.specs.declared.label.Change.TheVariants.{Kept};
 ghost use Rattle.mv_move_types.specs.Module.{own_acquires};
 ghost use Rattle.mv_edges.specs.Ascending.{are_ascending};
 ghost use Rattle.mv_edges.specs.Sorted.{sorted};
-ghost use Rattle.mv_borrow_graph.specs.BorrowRules.{call_edges, is_mutable, is_mutable_token, is_reference_token, is_root_node, is_temp, no_edge_out, opened_edges, reference_nodes, result_edges, return_edges, without_all};
+ghost use Rattle.mv_borrow_graph.specs.BorrowRules.{call_edges, is_mutable, is_mutable_token, is_reference_token, is_root_node, is_temp, no_edge_out};
+ghost use Rattle.mv_borrow_graph.specs.BorrowRules.{opened_edges, reference_nodes, result_edges, return_edges, without_all};
 ghost use Rattle.mv_borrow_graph.specs.Results.{taken_over};
 ghost use Rattle.mv_borrow_graph.specs.Domain.{Follows, ordered};
 
@@ -166,7 +167,9 @@ fn tie_if(
 ) -> Result<(), StepError>
     requires taken { place + length parameters.now ≤ 2 ^ 16 }
     requires given { place + length results.now ≤ 2 ^ 16 }
-    ensures { let mutable = reference_nodes is_mutable_token place parameters.now in let all = reference_nodes is_reference_token place parameters.now in Follows result s.new (ordered (then_some holds (without_all all s.old ++ result_edges mutable all place results.now s.old))) }
+    ensures { let mutable = reference_nodes is_mutable_token place parameters.now in
+        let all = reference_nodes is_reference_token place parameters.now in
+        Follows result s.new (ordered (then_some holds (without_all all s.old ++ result_edges mutable all place results.now s.old))) }
 {
     if !holds {
         return Err(StepError::Need);
@@ -215,7 +218,8 @@ impl<'d, 'm> Site<'d, 'm> {
     /// Whether no edge leads out of a call's mutable arguments, or of the globals that the function acquires.
     fn may_call(&self, place: usize, parameters: &[Token], callee: u16, s: &Edges) -> bool
         requires { place + length parameters.now ≤ 2 ^ 16 }
-        ensures { result ≡ (list_all (λ n. no_edge_out n s.now) (reference_nodes is_mutable_token place parameters.now) && list_all (λ t. no_edge_out (Glob t) s.now) (own_acquires self.now.home callee)) }
+        ensures { result ≡ (list_all (λ n. no_edge_out n s.now) (reference_nodes is_mutable_token place parameters.now)
+            && list_all (λ t. no_edge_out (Glob t) s.now) (own_acquires self.now.home callee)) }
     {
         are_free(place, parameters, s) && self.are_acquired_free(callee, s)
     }

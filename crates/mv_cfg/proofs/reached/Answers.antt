@@ -2,7 +2,8 @@ use Rattle.std.proofs.Common.{◌≡◌, ◌<◌, ◌≤◌, ℕ, true, false, L
 use Rattle.std.proofs.lemmas.List.{length_push, nil_from_length, get_or_read}
 use Rattle.std.proofs.lemmas.Option.{slice_get_read}
 use Rattle.mv_cfg.specs.Graph.{IsBlock}
-use Rattle.mv_cfg.proofs.Search.{IsSearch, AreMarked, IsSearch-start, IsSearch-popped, IsSearch-found, IsSearch-closed, IsSearch-end, open-within, next-within, next-edge, unmarked-set, AreMarked-more, AreMarked-set}
+use Rattle.mv_cfg.proofs.Search.{IsSearch, AreMarked, IsSearch-start, IsSearch-popped, IsSearch-found, IsSearch-closed, IsSearch-end, open-within}
+use Rattle.mv_cfg.proofs.Search.{next-within, next-edge, unmarked-set, AreMarked-more, AreMarked-set}
 use Rattle.mv_cfg.proofs.reached.Goals as goal
 use Rattle.mv_cfg.proofs.reached.Goals.{then-not-index+in_ok-push-2, else-not-index}
 

@@ -1,5 +1,7 @@
 -- Availabilities: what is known of each local is as it is, and what that gives.
-use Rattle.mv_interpreter.proofs.Borrows.Common.{◌≡◌, ℕ, zero, suc, List, [], ◌∷◌, ◌++◌, map, length, true, refl, sym, subst, Option, Some, None, Ok, slice_get, slice_set, replicate, list_all, and_parts, and_from, same_Some, Token, Value, Point, Here, can_drop, local_of}
+use Rattle.mv_interpreter.proofs.Borrows.Common.{◌≡◌, ℕ, zero, suc, List, [], ◌∷◌, ◌++◌, map, length, true, refl, sym, subst, Option, Some, None, Ok}
+use Rattle.mv_interpreter.proofs.Borrows.Common.{slice_get, slice_set, replicate, list_all, and_parts, and_from, same_Some, Token, Value, Point, Here}
+use Rattle.mv_interpreter.proofs.Borrows.Common.{can_drop, local_of}
 use Rattle.std.proofs.lemmas.Bool.{true≢false}
 use Rattle.mv_move_types.specs.declared.borrow.Availability.{Availability}
 use Rattle.mv_move_types.specs.declared.borrow.Availability.TheVariants.{Unavailable, Available, Maybe}

@@ -1,5 +1,13 @@
 -- A Call and a Ret keep the chain of frames.
-use Rattle.mv_interpreter.proofs.Borrows.Common.{◌≡◌, ℕ, zero, suc, ◌≤◌, ◌+◌, ◌-◌, List, [], ◌∷◌, ◌++◌, map, length, reverse, Bool, true, false, not, cond, inl, inr, refl, sym, ◌∙◌, ap, ap₂, arith, subst, Option, Some, None, eqb, slice_get, ◌&&◌, ◌||◌, ◌==◌, replicate, list_any, list_all, reverse_onto, eq-eqb, and_parts, and_from, eqb-true, not-true, eqb_tells, length-map, same_Some, Node, Slot, Own, Glob, Temp, Token, Plain, ReferenceTo, MutableReferenceTo, ◌>>>◌, Module, FunctionDefinition, Reference, Value, Frame, reference_of, Edge, same_node, without, inherited, Point, no_edge_out, is_mutable, return_edges, Types, Seen, Defined, TheLabel, TheNode, AtOwn, AtGlob, AtTemp, TheRef, Live, TheValue, seen_frame, local_ref, Layer, Chain, home_of, defined, node_of, Member, edges_of, held_as, activation, acquires_of, layer_of, operands_of, kind_at, label_from, local_of, alone, token_kind, operand_kind, Fits, layer}
+use Rattle.mv_interpreter.proofs.Borrows.Common.{◌≡◌, ℕ, zero, suc, ◌≤◌, ◌+◌, ◌-◌, List, [], ◌∷◌, ◌++◌, map, length, reverse, Bool, true, false, not}
+use Rattle.mv_interpreter.proofs.Borrows.Common.{cond, inl, inr, refl, sym, ◌∙◌, ap, ap₂, arith, subst, Option, Some, None, eqb, slice_get, ◌&&◌}
+use Rattle.mv_interpreter.proofs.Borrows.Common.{◌||◌, ◌==◌, replicate, list_any, list_all, reverse_onto, eq-eqb, and_parts, and_from, eqb-true}
+use Rattle.mv_interpreter.proofs.Borrows.Common.{not-true, eqb_tells, length-map, same_Some, Node, Slot, Own, Glob, Temp, Token, Plain, ReferenceTo}
+use Rattle.mv_interpreter.proofs.Borrows.Common.{MutableReferenceTo, ◌>>>◌, Module, FunctionDefinition, Reference, Value, Frame, reference_of, Edge}
+use Rattle.mv_interpreter.proofs.Borrows.Common.{same_node, without, inherited, Point, no_edge_out, is_mutable, return_edges, Types, Seen, Defined}
+use Rattle.mv_interpreter.proofs.Borrows.Common.{TheLabel, TheNode, AtOwn, AtGlob, AtTemp, TheRef, Live, TheValue, seen_frame, local_ref, Layer}
+use Rattle.mv_interpreter.proofs.Borrows.Common.{Chain, home_of, defined, node_of, Member, edges_of, held_as, activation, acquires_of, layer_of}
+use Rattle.mv_interpreter.proofs.Borrows.Common.{operands_of, kind_at, label_from, local_of, alone, token_kind, operand_kind, Fits, layer}
 use Rattle.std.specs.Prelude.{if◌then◌else◌}
 use Rattle.std.proofs.Common.{take, drop, append_assoc}
 use Rattle.std.proofs.lemmas.Bool.{ne_eqb}

@@ -1,5 +1,8 @@
 -- What a certificate that holds says at an instruction and after it.
-use Rattle.mv_interpreter.proofs.Borrows.Common.{◌≡◌, ℕ, List, [], ◌∷◌, ◌++◌, Bool, true, false, inl, inr, refl, sym, ◌∙◌, ap, ap₂, subst, Option, Some, None, ◌&&◌, beq, option_map_or, list_any, list_all, and_parts, same_Some, Instruction, Module, FunctionDefinition, begins, Types, Edge, Label, same_node, EdgesBelow, node_of, label_from, Member, edges_of}
+use Rattle.mv_interpreter.proofs.Borrows.Common.{◌≡◌, ℕ, List, [], ◌∷◌, ◌++◌, Bool, true, false, inl, inr, refl, sym, ◌∙◌, ap, ap₂, subst, Option}
+use Rattle.mv_interpreter.proofs.Borrows.Common.{Some, None, ◌&&◌, beq, option_map_or, list_any, list_all, and_parts, same_Some, Instruction, Module}
+use Rattle.mv_interpreter.proofs.Borrows.Common.{FunctionDefinition, begins, Types, Edge, Label, same_node, EdgesBelow, node_of, label_from, Member}
+use Rattle.mv_interpreter.proofs.Borrows.Common.{edges_of}
 use Rattle.std.specs.Str.{bytes_eq}
 use Rattle.std.proofs.lemmas.Bool.{or_cases}
 use Rattle.std.proofs.lemmas.Slice.Eq.{bytes_eq-Decides}

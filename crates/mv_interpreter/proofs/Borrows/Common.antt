@@ -1,5 +1,6 @@
 -- What the theory of borrows speaks of all along: words and lemmas of std, edges and certificates, the machine's rules, and the specs of this theory.
-pub use Rattle.std.proofs.Common.{refl, sym, ◌≡◌, ℕ, List, [], ◌∷◌, true, false, ◌⊎◌, inl, inr, ap, subst, zero, suc, ◌++◌, map, length, Option, Some, None, Ok, ◌≤◌, ◌+◌, ◌-◌, reverse, Bool, not, cond, ◌∙◌, ap₂, arith, eqb, ◌<◌, Result, Err}
+pub use Rattle.std.proofs.Common.{refl, sym, ◌≡◌, ℕ, List, [], ◌∷◌, true, false, ◌⊎◌, inl, inr, ap, subst, zero, suc, ◌++◌, map, length, Option, Some}
+pub use Rattle.std.proofs.Common.{None, Ok, ◌≤◌, ◌+◌, ◌-◌, reverse, Bool, not, cond, ◌∙◌, ap₂, arith, eqb, ◌<◌, Result, Err}
 pub use Rattle.std.proofs.lemmas.Bool.{and_from, eq-eqb, and_parts, eqb-true, not-true}
 pub use Rattle.std.proofs.lemmas.Bool.Decides.{eqb_tells}
 pub use Rattle.std.proofs.lemmas.Grind.{reverse_onto}

@@ -1,5 +1,7 @@
 -- Each rule on lists of edges includes what the borrow theory's row leaves.
-use Rattle.mv_interpreter.proofs.Borrows.Common.{◌≡◌, ℕ, List, [], ◌∷◌, ◌++◌, Bool, true, false, not, inl, inr, refl, sym, ◌∙◌, ap, filter, Node, Slot, Temp, Label, Edge, same_node, here, without, inherited, renamed, an_edge, extended, TheLabel, TheNode, node_of, label_from, Member, edges_of}
+use Rattle.mv_interpreter.proofs.Borrows.Common.{◌≡◌, ℕ, List, [], ◌∷◌, ◌++◌, Bool, true, false, not, inl, inr, refl, sym, ◌∙◌, ap, filter, Node}
+use Rattle.mv_interpreter.proofs.Borrows.Common.{Slot, Temp, Label, Edge, same_node, here, without, inherited, renamed, an_edge, extended, TheLabel}
+use Rattle.mv_interpreter.proofs.Borrows.Common.{TheNode, node_of, label_from, Member, edges_of}
 use Rattle.std.proofs.Common.{◌&&◌}
 use Rattle.mv_edges.specs.Edges.{into, renamed_node}
 use Rattle.mv_borrow_graph.specs.Abstract.Places.{extend}

@@ -1,5 +1,8 @@
 -- Edges of a list, and what the tests on a list say of them.
-use Rattle.mv_interpreter.proofs.Borrows.Common.{◌≡◌, ℕ, suc, List, [], ◌∷◌, ◌++◌, map, length, Bool, true, false, inl, inr, refl, sym, ◌∙◌, ap, arith, Some, filter, list_any, eqb-true, not-true, Node, Slot, Own, Glob, Temp, Edge, same_node, Point, no_edge_out, no_mutable_from, is_mutable, Defined, TheLabel, TheNode, AtGlob, defined, node_of, Member, edges_of, kind_at}
+use Rattle.mv_interpreter.proofs.Borrows.Common.{◌≡◌, ℕ, suc, List, [], ◌∷◌, ◌++◌, map, length, Bool, true, false, inl, inr, refl, sym, ◌∙◌, ap}
+use Rattle.mv_interpreter.proofs.Borrows.Common.{arith, Some, filter, list_any, eqb-true, not-true, Node, Slot, Own, Glob, Temp, Edge, same_node}
+use Rattle.mv_interpreter.proofs.Borrows.Common.{Point, no_edge_out, no_mutable_from, is_mutable, Defined, TheLabel, TheNode, AtGlob, defined}
+use Rattle.mv_interpreter.proofs.Borrows.Common.{node_of, Member, edges_of, kind_at}
 use Rattle.std.proofs.Common.{◌||◌}
 use Rattle.std.specs.Prelude.{flat_map}
 use Rattle.std.specs.Bool.{then_some}

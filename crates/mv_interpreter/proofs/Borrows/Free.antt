@@ -1,5 +1,12 @@
 -- What no live reference of any frame leads into.
-use Rattle.mv_interpreter.proofs.Borrows.Common.{◌≡◌, ℕ, suc, ◌<◌, ◌≤◌, List, [], ◌∷◌, ◌++◌, map, length, reverse, true, false, not, ◌⊎◌, inl, inr, refl, sym, ◌∙◌, ap, ap₂, arith, subst, Option, Some, None, ◌&&◌, ◌||◌, ◌==◌, list_any, and_parts, and_from, eq-eqb, eqb-true, not-true, eqb_tells, Key, Slot, Own, Glob, Temp, Local, Stored, Reference, Value, Frame, State, reference_of, live, is_frozen_by, begins, no_edge_out, return_edges, is_mutable, Seen, Defined, TheLabel, TheNode, AtSlot, AtTemp, AtOwn, AtGlob, TheRef, Live, local_ref, stack_ref, seen_frame, Layer, Chain, Edge, Node, Point, home_of, Stood, seen_of, layer_at, layers, StoodOn, held_as, node_of, edges_of, Member, defined, ref_of, local_of, acquires_of, operands_of, activation}
+use Rattle.mv_interpreter.proofs.Borrows.Common.{◌≡◌, ℕ, suc, ◌<◌, ◌≤◌, List, [], ◌∷◌, ◌++◌, map, length, reverse, true, false, not, ◌⊎◌, inl, inr}
+use Rattle.mv_interpreter.proofs.Borrows.Common.{refl, sym, ◌∙◌, ap, ap₂, arith, subst, Option, Some, None, ◌&&◌, ◌||◌, ◌==◌, list_any, and_parts}
+use Rattle.mv_interpreter.proofs.Borrows.Common.{and_from, eq-eqb, eqb-true, not-true, eqb_tells, Key, Slot, Own, Glob, Temp, Local, Stored}
+use Rattle.mv_interpreter.proofs.Borrows.Common.{Reference, Value, Frame, State, reference_of, live, is_frozen_by, begins, no_edge_out, return_edges}
+use Rattle.mv_interpreter.proofs.Borrows.Common.{is_mutable, Seen, Defined, TheLabel, TheNode, AtSlot, AtTemp, AtOwn, AtGlob, TheRef, Live, local_ref}
+use Rattle.mv_interpreter.proofs.Borrows.Common.{stack_ref, seen_frame, Layer, Chain, Edge, Node, Point, home_of, Stood, seen_of, layer_at, layers}
+use Rattle.mv_interpreter.proofs.Borrows.Common.{StoodOn, held_as, node_of, edges_of, Member, defined, ref_of, local_of, acquires_of, operands_of}
+use Rattle.mv_interpreter.proofs.Borrows.Common.{activation}
 use Rattle.std.specs.Prelude.{flat_map}
 use Rattle.std.specs.List.{cons_option}
 use Rattle.std.proofs.lemmas.Bool.{or_cases, cases_Bool}

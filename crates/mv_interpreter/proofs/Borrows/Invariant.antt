@@ -1,5 +1,9 @@
 -- Every step keeps what the borrow rules need of a state.
-use Rattle.mv_interpreter.proofs.Borrows.Common.{◌≡◌, ℕ, ◌<◌, ◌+◌, List, [], ◌∷◌, ◌++◌, map, length, reverse, refl, sym, ◌∙◌, ap, ap₂, arith, subst, Option, Some, Ok, slice_get, Instruction, Module, FunctionDefinition, Reference, Value, Frame, State, reference_of, Edge, return_edges, Call, length-map, Types, token_kind, operand_kind, Fits, activation, held_as, edges_of, layer_of, alone, layer, EdgesBelow, Here, Layer, Chain, Stood, seen_of, layer_at, layers, StoodOn, Descending, home_of}
+use Rattle.mv_interpreter.proofs.Borrows.Common.{◌≡◌, ℕ, ◌<◌, ◌+◌, List, [], ◌∷◌, ◌++◌, map, length, reverse, refl, sym, ◌∙◌, ap, ap₂, arith, subst}
+use Rattle.mv_interpreter.proofs.Borrows.Common.{Option, Some, Ok, slice_get, Instruction, Module, FunctionDefinition, Reference, Value, Frame, State}
+use Rattle.mv_interpreter.proofs.Borrows.Common.{reference_of, Edge, return_edges, Call, length-map, Types, token_kind, operand_kind, Fits}
+use Rattle.mv_interpreter.proofs.Borrows.Common.{activation, held_as, edges_of, layer_of, alone, layer, EdgesBelow, Here, Layer, Chain, Stood}
+use Rattle.mv_interpreter.proofs.Borrows.Common.{seen_of, layer_at, layers, StoodOn, Descending, home_of}
 use Rattle.mv_borrow_graph.specs.BorrowRules.{edges_after, call_edges}
 use Rattle.mv_move_types.specs.declared.tables.Definition.{Definition}
 use Rattle.std.proofs.lemmas.List.{map-append}

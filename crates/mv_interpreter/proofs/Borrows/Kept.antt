@@ -1,5 +1,10 @@
 -- A step of the frame at work keeps the chain of frames: one lemma a row, at the machine's lists.
-use Rattle.mv_interpreter.proofs.Borrows.Common.{◌≡◌, ℕ, ◌<◌, List, [], ◌∷◌, ◌++◌, map, length, Bool, true, false, not, inl, inr, refl, sym, ◌∙◌, ap, arith, subst, Option, Some, None, slice_get, slice_set, filter, eqb_tells, length-map, Key, Slot, Own, Glob, Temp, Local, Stored, Reference, Value, Frame, reference_of, Edge, same_node, here, without, inherited, renamed, an_edge, extended, TheLabel, TheNode, AtSlot, AtOwn, AtGlob, AtTemp, TheRef, Live, Bars, TheValue, seen_frame, Layer, Chain, layer, EdgesBelow, Kinds, home_of, defined, ref_of, held_as, local_of, acquires_of, activation, edges_of}
+use Rattle.mv_interpreter.proofs.Borrows.Common.{◌≡◌, ℕ, ◌<◌, List, [], ◌∷◌, ◌++◌, map, length, Bool, true, false, not, inl, inr, refl, sym, ◌∙◌, ap}
+use Rattle.mv_interpreter.proofs.Borrows.Common.{arith, subst, Option, Some, None, slice_get, slice_set, filter, eqb_tells, length-map, Key, Slot}
+use Rattle.mv_interpreter.proofs.Borrows.Common.{Own, Glob, Temp, Local, Stored, Reference, Value, Frame, reference_of, Edge, same_node, here}
+use Rattle.mv_interpreter.proofs.Borrows.Common.{without, inherited, renamed, an_edge, extended, TheLabel, TheNode, AtSlot, AtOwn, AtGlob, AtTemp}
+use Rattle.mv_interpreter.proofs.Borrows.Common.{TheRef, Live, Bars, TheValue, seen_frame, Layer, Chain, layer, EdgesBelow, Kinds, home_of, defined}
+use Rattle.mv_interpreter.proofs.Borrows.Common.{ref_of, held_as, local_of, acquires_of, activation, edges_of}
 use Rattle.mv_borrow_graph.specs.Abstract.Places.{LabelBelow, Exact, Open}
 use Rattle.mv_borrow_graph.proofs.Abstract.Places.{begins_self}
 use Rattle.mv_borrow_graph.specs.Abstract.Covers.{Edges}

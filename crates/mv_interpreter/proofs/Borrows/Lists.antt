@@ -1,5 +1,8 @@
 -- Lists of locals and operands, as the machine has them and as the borrow theory has them.
-use Rattle.mv_interpreter.proofs.Borrows.Common.{◌≡◌, ℕ, zero, suc, ◌<◌, ◌≤◌, ◌+◌, List, [], ◌∷◌, ◌++◌, map, length, reverse, cond, inl, inr, refl, sym, ◌∙◌, ap, arith, Option, Some, None, eqb, slice_get, slice_set, eqb_tells, reverse_onto, length-map, Reference, Value, reference_of, TheRef, TheValue, stack_ref, local_ref, ref_of, held_as, local_of}
+use Rattle.mv_interpreter.proofs.Borrows.Common.{◌≡◌, ℕ, zero, suc, ◌<◌, ◌≤◌, ◌+◌, List, [], ◌∷◌, ◌++◌, map, length, reverse, cond, inl, inr, refl}
+use Rattle.mv_interpreter.proofs.Borrows.Common.{sym, ◌∙◌, ap, arith, Option, Some, None, eqb, slice_get, slice_set, eqb_tells, reverse_onto}
+use Rattle.mv_interpreter.proofs.Borrows.Common.{length-map, Reference, Value, reference_of, TheRef, TheValue, stack_ref, local_ref, ref_of, held_as}
+use Rattle.mv_interpreter.proofs.Borrows.Common.{local_of}
 use Rattle.std.proofs.lemmas.Bool.{cases_lt}
 use Rattle.std.proofs.lemmas.List.{length-append, length-reverse}
 use Rattle.mv_borrow_graph.specs.Abstract.Lists.{set_local, ref_of as the_ref_of}

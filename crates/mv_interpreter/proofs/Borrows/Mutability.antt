@@ -1,5 +1,8 @@
 -- A frame's references have the mutability that the types say.
-use Rattle.mv_interpreter.proofs.Borrows.Common.{◌≡◌, ℕ, List, [], ◌∷◌, map, length, Bool, true, false, cond, inl, inr, refl, sym, ◌∙◌, ap, Option, Some, None, eqb, option_and_then, option_map_or, eqb_tells, length-map, Token, Plain, ReferenceTo, MutableReferenceTo, Reference, Value, Point, Seen, TheNode, AtSlot, AtOwn, AtGlob, AtTemp, TheRef, Live, seen_frame, ref_of, operands_of, activation, kind_at, token_kind, operand_kind, Fits}
+use Rattle.mv_interpreter.proofs.Borrows.Common.{◌≡◌, ℕ, List, [], ◌∷◌, map, length, Bool, true, false, cond, inl, inr, refl, sym, ◌∙◌, ap, Option}
+use Rattle.mv_interpreter.proofs.Borrows.Common.{Some, None, eqb, option_and_then, option_map_or, eqb_tells, length-map, Token, Plain, ReferenceTo}
+use Rattle.mv_interpreter.proofs.Borrows.Common.{MutableReferenceTo, Reference, Value, Point, Seen, TheNode, AtSlot, AtOwn, AtGlob, AtTemp, TheRef}
+use Rattle.mv_interpreter.proofs.Borrows.Common.{Live, seen_frame, ref_of, operands_of, activation, kind_at, token_kind, operand_kind, Fits}
 use Rattle.mv_borrow_graph.specs.BorrowRules.{is_mutable_token, is_reference_token}
 use Rattle.mv_interpreter.proofs.Borrows.Lists.{place_get, local-back, stack-back, place-reverse}
 

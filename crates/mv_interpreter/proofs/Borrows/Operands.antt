@@ -1,5 +1,9 @@
 -- The machine's rules taken apart: what they take off the stack and put on it.
-use Rattle.mv_interpreter.proofs.Borrows.Common.{◌≡◌, List, [], ◌∷◌, ◌++◌, map, reverse, Bool, true, false, refl, sym, ◌∙◌, ap, subst, Option, Some, None, Result, Ok, Err, ap₂, option_and_then, ⊤, reverse_onto, Module, Token, Plain, ReferenceTo, MutableReferenceTo, beq, option_map_or, and_parts, State, place_value, tag_named, Faults, entry, has_tag, Tag, token_kind, operand_kind, ◌>>>◌, Value, Leaf, Struct, Ref, reference_of, Here, on_ok, ok-is}
+use Rattle.mv_interpreter.proofs.Borrows.Common.{◌≡◌, List, [], ◌∷◌, ◌++◌, map, reverse, Bool, true, false, refl, sym, ◌∙◌, ap, subst, Option, Some}
+use Rattle.mv_interpreter.proofs.Borrows.Common.{None, Result, Ok, Err, ap₂, option_and_then, ⊤, reverse_onto, Module, Token, Plain, ReferenceTo}
+use Rattle.mv_interpreter.proofs.Borrows.Common.{MutableReferenceTo, beq, option_map_or, and_parts, State, place_value, tag_named, Faults, entry}
+use Rattle.mv_interpreter.proofs.Borrows.Common.{has_tag, Tag, token_kind, operand_kind, ◌>>>◌, Value, Leaf, Struct, Ref, reference_of, Here, on_ok}
+use Rattle.mv_interpreter.proofs.Borrows.Common.{ok-is}
 use Rattle.std.specs.Prelude.{option_map}
 use Rattle.mv_move_types.specs.Names.{StructName}
 use Rattle.mv_move_types.specs.Module.{struct_name}

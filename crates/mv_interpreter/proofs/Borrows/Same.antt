@@ -1,5 +1,8 @@
 -- A write through a reference changes no reference of any frame.
-use Rattle.mv_interpreter.proofs.Borrows.Common.{◌≡◌, ℕ, zero, suc, ◌<◌, List, [], ◌∷◌, map, Bool, true, false, cond, inl, inr, refl, sym, ◌∙◌, ap, arith, subst, Option, Some, None, slice_get, slice_set, option_and_then, ◌==◌, ⊤, eqb-true, eqb_tells, same_Some, Local, Stored, Reference, Value, Leaf, Struct, Ref, Frame, State, place_value, reference_of, Tag, has_tag, Edge, local_of, layer_of, Descending}
+use Rattle.mv_interpreter.proofs.Borrows.Common.{◌≡◌, ℕ, zero, suc, ◌<◌, List, [], ◌∷◌, map, Bool, true, false, cond, inl, inr, refl, sym, ◌∙◌, ap}
+use Rattle.mv_interpreter.proofs.Borrows.Common.{arith, subst, Option, Some, None, slice_get, slice_set, option_and_then, ◌==◌, ⊤, eqb-true}
+use Rattle.mv_interpreter.proofs.Borrows.Common.{eqb_tells, same_Some, Local, Stored, Reference, Value, Leaf, Struct, Ref, Frame, State, place_value}
+use Rattle.mv_interpreter.proofs.Borrows.Common.{reference_of, Tag, has_tag, Edge, local_of, layer_of, Descending}
 use Rattle.std.specs.Prelude.{option_map}
 use Rattle.mv_machine.specs.Value.{Root, Place, value_at, with_value_at, field_of, with_field_of}
 use Rattle.mv_machine.specs.State.{frames, local_in, root_value, with_local, with_root, with_place}

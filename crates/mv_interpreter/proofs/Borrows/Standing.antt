@@ -1,5 +1,9 @@
 -- The frame at work stands on the chain of frames: what its next step may be proved from, and how a step ends that keeps the chain.
-use Rattle.mv_interpreter.proofs.Borrows.Common.{◌≡◌, ℕ, suc, ◌+◌, ◌-◌, List, [], ◌∷◌, map, length, ◌⊎◌, refl, sym, ◌∙◌, ap, arith, subst, Option, Some, None, Result, Ok, Err, slice_get, option_and_then, ⊤, same_Some, Temp, Token, Instruction, Call, Reference, Value, Frame, State, reference_of, successors, Edge, without, Point, Types, alone, activation, kind_at, layer_of, Here, Turn, gives, with_top, Layer, Chain, Kinds, home_of, Fits, token_kind, operand_kind, ok-is}
+use Rattle.mv_interpreter.proofs.Borrows.Common.{◌≡◌, ℕ, suc, ◌+◌, ◌-◌, List, [], ◌∷◌, map, length, ◌⊎◌, refl, sym, ◌∙◌, ap, arith, subst, Option}
+use Rattle.mv_interpreter.proofs.Borrows.Common.{Some, None, Result, Ok, Err, slice_get, option_and_then, ⊤, same_Some, Temp, Token, Instruction}
+use Rattle.mv_interpreter.proofs.Borrows.Common.{Call, Reference, Value, Frame, State, reference_of, successors, Edge, without, Point, Types, alone}
+use Rattle.mv_interpreter.proofs.Borrows.Common.{activation, kind_at, layer_of, Here, Turn, gives, with_top, Layer, Chain, Kinds, home_of, Fits}
+use Rattle.mv_interpreter.proofs.Borrows.Common.{token_kind, operand_kind, ok-is}
 use Rattle.mv_move_types.specs.declared.instruction.Instruction.TheVariants.{Ret}
 use Rattle.mv_move_types.specs.Module.{local_type}
 use Rattle.mv_machine.specs.Typing.{Failure}

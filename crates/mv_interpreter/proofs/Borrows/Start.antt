@@ -1,5 +1,8 @@
 -- The first state of a run, whose arguments are no references.
-use Rattle.mv_interpreter.proofs.Borrows.Common.{◌≡◌, ℕ, zero, suc, ◌<◌, List, [], ◌∷◌, ◌++◌, map, reverse, refl, sym, ◌∙◌, ap, subst, Some, None, slice_get, replicate, same_Some, Module, FunctionDefinition, Reference, Value, State, reference_of, Edge, Types, TheNode, AtSlot, AtOwn, AtGlob, AtTemp, TheRef, Live, seen_frame, stack_ref, held_as, activation, alone, StoodOn, Descending}
+use Rattle.mv_interpreter.proofs.Borrows.Common.{◌≡◌, ℕ, zero, suc, ◌<◌, List, [], ◌∷◌, ◌++◌, map, reverse, refl, sym, ◌∙◌, ap, subst, Some, None}
+use Rattle.mv_interpreter.proofs.Borrows.Common.{slice_get, replicate, same_Some, Module, FunctionDefinition, Reference, Value, State, reference_of}
+use Rattle.mv_interpreter.proofs.Borrows.Common.{Edge, Types, TheNode, AtSlot, AtOwn, AtGlob, AtTemp, TheRef, Live, seen_frame, stack_ref, held_as}
+use Rattle.mv_interpreter.proofs.Borrows.Common.{activation, alone, StoodOn, Descending}
 use Rattle.mv_borrow_graph.specs.Abstract.Lists.{refs_among}
 use Rattle.mv_borrow_graph.specs.Abstract.Stack.{Bottom}
 use Rattle.mv_interpreter.specs.Borrows.Hypotheses.{NoneOf}

@@ -1,5 +1,9 @@
 -- A step on the storage keeps the chain of frames.
-use Rattle.mv_interpreter.proofs.Borrows.Common.{◌≡◌, ℕ, suc, ◌+◌, ◌-◌, List, [], ◌∷◌, ◌++◌, map, length, Bool, true, false, inl, refl, sym, ◌∙◌, ap, arith, subst, Option, Some, None, Ok, ◌==◌, list_any, and_from, eq-eqb, same_Some, Key, Glob, Temp, Instruction, need, Stored, Reference, Value, Ref, Frame, reference_of, successors, Edge, here, without, an_edge, no_edge_out, no_mutable_from, defined, acquires_of, edges_of, kind_at, held_as, Turn, with_top, TheLabel, TheNode, AtSlot, AtOwn, AtGlob, AtTemp, Bars, Kinds, stack_ref}
+use Rattle.mv_interpreter.proofs.Borrows.Common.{◌≡◌, ℕ, suc, ◌+◌, ◌-◌, List, [], ◌∷◌, ◌++◌, map, length, Bool, true, false, inl, refl, sym, ◌∙◌, ap}
+use Rattle.mv_interpreter.proofs.Borrows.Common.{arith, subst, Option, Some, None, Ok, ◌==◌, list_any, and_from, eq-eqb, same_Some, Key, Glob, Temp}
+use Rattle.mv_interpreter.proofs.Borrows.Common.{Instruction, need, Stored, Reference, Value, Ref, Frame, reference_of, successors, Edge, here}
+use Rattle.mv_interpreter.proofs.Borrows.Common.{without, an_edge, no_edge_out, no_mutable_from, defined, acquires_of, edges_of, kind_at, held_as}
+use Rattle.mv_interpreter.proofs.Borrows.Common.{Turn, with_top, TheLabel, TheNode, AtSlot, AtOwn, AtGlob, AtTemp, Bars, Kinds, stack_ref}
 use Rattle.std.specs.Prelude.{is_some}
 use Rattle.mv_move_types.specs.declared.instruction.Instruction.TheVariants.{Exists, MutBorrowGlobal, ImmBorrowGlobal, MoveFrom, MoveTo}
 use Rattle.mv_machine.specs.State.{stored_at, without_stored, with_stored}

@@ -1,5 +1,10 @@
 -- A step on a local keeps the chain of frames: copies, moves, stores and borrows.
-use Rattle.mv_interpreter.proofs.Borrows.Common.{◌≡◌, ℕ, zero, suc, ◌+◌, List, [], ◌∷◌, ◌++◌, map, length, Bool, true, false, inl, refl, sym, ◌∙◌, ap, subst, Option, Some, None, Ok, slice_get, slice_set, same_Some, Slot, Own, Temp, Token, Plain, ReferenceTo, MutableReferenceTo, Instruction, need, ◌>>>◌, Reference, Value, Ref, Frame, reference_of, successors, entry, tag_named, Tag, Edge, here, without, inherited, renamed, an_edge, no_edge_out, no_mutable_from, edges_of, kind_at, Turn, with_top, TheLabel, TheNode, AtOwn, Bars, token_kind, operand_kind, on_ok, found-is}
+use Rattle.mv_interpreter.proofs.Borrows.Common.{◌≡◌, ℕ, zero, suc, ◌+◌, List, [], ◌∷◌, ◌++◌, map, length, Bool, true, false, inl, refl, sym, ◌∙◌, ap}
+use Rattle.mv_interpreter.proofs.Borrows.Common.{subst, Option, Some, None, Ok, slice_get, slice_set, same_Some, Slot, Own, Temp, Token, Plain}
+use Rattle.mv_interpreter.proofs.Borrows.Common.{ReferenceTo, MutableReferenceTo, Instruction, need, ◌>>>◌, Reference, Value, Ref, Frame}
+use Rattle.mv_interpreter.proofs.Borrows.Common.{reference_of, successors, entry, tag_named, Tag, Edge, here, without, inherited, renamed, an_edge}
+use Rattle.mv_interpreter.proofs.Borrows.Common.{no_edge_out, no_mutable_from, edges_of, kind_at, Turn, with_top, TheLabel, TheNode, AtOwn, Bars}
+use Rattle.mv_interpreter.proofs.Borrows.Common.{token_kind, operand_kind, on_ok, found-is}
 use Rattle.mv_move_types.specs.declared.instruction.Instruction.TheVariants.{CopyLoc, MoveLoc, StLoc, MutBorrowLoc, ImmBorrowLoc}
 use Rattle.mv_move_types.specs.Module.{local_tokens, local_type}
 use Rattle.mv_machine.specs.Typing.{linked}

@@ -1,5 +1,10 @@
 -- A step on references keeps the chain of frames: fields, FreezeRef, reads and writes.
-use Rattle.mv_interpreter.proofs.Borrows.Common.{◌≡◌, ℕ, ◌+◌, ◌-◌, List, [], ◌∷◌, ◌++◌, map, length, Bool, true, false, not, inl, refl, sym, ◌∙◌, ap, subst, Some, None, Ok, slice_get, ◌&&◌, ◌||◌, ◌==◌, filter, list_any, not-true, and_from, eq-eqb, same_Some, Temp, Instruction, need, ◌>>>◌, Reference, Value, Ref, Frame, reference_of, successors, entry, Edge, Label, same_node, without, inherited, extended, is_mutable, no_edge_out, no_mutable_from, edges_of, kind_at, label_from, Member, Turn, gives, with_top, with_stack, TheLabel, TheNode, AtTemp, Chain, home_of, Descending, begins, on_ok, ok-is, found-is}
+use Rattle.mv_interpreter.proofs.Borrows.Common.{◌≡◌, ℕ, ◌+◌, ◌-◌, List, [], ◌∷◌, ◌++◌, map, length, Bool, true, false, not, inl, refl, sym, ◌∙◌, ap}
+use Rattle.mv_interpreter.proofs.Borrows.Common.{subst, Some, None, Ok, slice_get, ◌&&◌, ◌||◌, ◌==◌, filter, list_any, not-true, and_from, eq-eqb}
+use Rattle.mv_interpreter.proofs.Borrows.Common.{same_Some, Temp, Instruction, need, ◌>>>◌, Reference, Value, Ref, Frame, reference_of, successors}
+use Rattle.mv_interpreter.proofs.Borrows.Common.{entry, Edge, Label, same_node, without, inherited, extended, is_mutable, no_edge_out}
+use Rattle.mv_interpreter.proofs.Borrows.Common.{no_mutable_from, edges_of, kind_at, label_from, Member, Turn, gives, with_top, with_stack, TheLabel}
+use Rattle.mv_interpreter.proofs.Borrows.Common.{TheNode, AtTemp, Chain, home_of, Descending, begins, on_ok, ok-is, found-is}
 use Rattle.mv_move_types.specs.declared.instruction.Instruction.TheVariants.{MutBorrowField, ImmBorrowField, ReadRef, WriteRef, FreezeRef}
 use Rattle.mv_edges.specs.Edges.{out_of, agrees}
 use Rattle.mv_borrow_graph.specs.BorrowRules.{edges_after, position_of, field_edges, top_temp}

@@ -1,8 +1,17 @@
 -- One step of the machine keeps the chain of frames: every instruction but Call and Ret, in one table over the families.
-use Rattle.mv_interpreter.proofs.Borrows.Common.{◌≡◌, ℕ, ◌+◌, ◌-◌, List, ◌∷◌, ◌++◌, map, length, reverse, Bool, true, false, not, cond, inl, inr, refl, sym, ap, subst, Some, None, Ok, ◌&&◌, ◌||◌, ◌==◌, beq, same_Some, Temp, Instruction, Call, Value, Leaf, Struct, reference_of, successors, Edge, without, Turn, gives, with_top, with_stack, Descending}
+use Rattle.mv_interpreter.proofs.Borrows.Common.{◌≡◌, ℕ, ◌+◌, ◌-◌, List, ◌∷◌, ◌++◌, map, length, reverse, Bool, true, false, not, cond, inl, inr}
+use Rattle.mv_interpreter.proofs.Borrows.Common.{refl, sym, ap, subst, Some, None, Ok, ◌&&◌, ◌||◌, ◌==◌, beq, same_Some, Temp, Instruction, Call}
+use Rattle.mv_interpreter.proofs.Borrows.Common.{Value, Leaf, Struct, reference_of, successors, Edge, without, Turn, gives, with_top, with_stack}
+use Rattle.mv_interpreter.proofs.Borrows.Common.{Descending}
 use Rattle.std.specs.Prelude.{nat_le, bit_or, bit_and, bit_xor, nat_lt}
 use Rattle.mv_move_types.specs.declared.token.Width.TheVariants.{U8, U16, U32, U64, U128}
-use Rattle.mv_move_types.specs.declared.instruction.Instruction.TheVariants.{Pop, Ret, BrTrue, BrFalse, Branch, LdU64, LdConst, LdTrue, LdFalse, CopyLoc, MoveLoc, StLoc, MutBorrowLoc, ImmBorrowLoc, MutBorrowField, ImmBorrowField, Pack, Unpack, ReadRef, WriteRef, Add, Sub, Mul, Mod, Div, BitOr, BitAnd, Xor, Or, And, Not, Eq, Neq, Lt, Gt, Le, Ge, Abort, Nop, Exists, MutBorrowGlobal, ImmBorrowGlobal, MoveFrom, MoveTo, FreezeRef, Shl, Shr, LdU8, LdU128, CastU8, CastU64, CastU128, LdU16, LdU32, CastU16, CastU32}
+use Rattle.mv_move_types.specs.declared.instruction.Instruction.TheVariants.{Pop, Ret, BrTrue, BrFalse, Branch, LdU64, LdConst, LdTrue, LdFalse}
+use Rattle.mv_move_types.specs.declared.instruction.Instruction.TheVariants.{CopyLoc, MoveLoc, StLoc, MutBorrowLoc, ImmBorrowLoc, MutBorrowField}
+use Rattle.mv_move_types.specs.declared.instruction.Instruction.TheVariants.{ImmBorrowField, Pack, Unpack, ReadRef, WriteRef, Add, Sub, Mul, Mod, Div}
+use Rattle.mv_move_types.specs.declared.instruction.Instruction.TheVariants.{BitOr, BitAnd, Xor, Or, And, Not, Eq, Neq, Lt, Gt, Le, Ge, Abort, Nop}
+use Rattle.mv_move_types.specs.declared.instruction.Instruction.TheVariants.{Exists, MutBorrowGlobal, ImmBorrowGlobal, MoveFrom, MoveTo, FreezeRef}
+use Rattle.mv_move_types.specs.declared.instruction.Instruction.TheVariants.{Shl, Shr, LdU8, LdU128, CastU8, CastU64, CastU128, LdU16, LdU32, CastU16}
+use Rattle.mv_move_types.specs.declared.instruction.Instruction.TheVariants.{CastU32}
 use Rattle.mv_machine.specs.Value.{fields_of, list_of}
 use Rattle.mv_borrow_graph.specs.BorrowRules.{edges_after}
 use Rattle.mv_interpreter.specs.Borrows.Links.{Reaches}

@@ -1,5 +1,10 @@
 -- The whole: a run of linked code over an accepted store agrees with the machine's run.
-use Rattle.mv_interpreter.proofs.Flat.Common.{◌≡◌, ℕ, ◌≤◌, List, [], ◌∷◌, ◌++◌, map, length, refl, sym, ◌∙◌, subst, Option, Some, None, Result, Ok, flat_map, replicate, option_map_or, same_Some, Token, Module, Value, Leaf, Struct, Ref, State, Storage, flat, Failure, Tag, LeafTag, StructTag, ReferenceTag, token_named, tokens_named, FunctionCall, Roots, HasType, HaveTypes, HaveTokens, StorageTyped, SoundStore, Guides, StoreAccepted, Program, width_of_tags, width_of_tokens, IsLinked, on_bind, History, ValueWords, LocalsWords, Represented, flat_entry, SameOutcome}
+use Rattle.mv_interpreter.proofs.Flat.Common.{◌≡◌, ℕ, ◌≤◌, List, [], ◌∷◌, ◌++◌, map, length, refl, sym, ◌∙◌, subst, Option, Some, None, Result, Ok}
+use Rattle.mv_interpreter.proofs.Flat.Common.{flat_map, replicate, option_map_or, same_Some, Token, Module, Value, Leaf, Struct, Ref, State, Storage}
+use Rattle.mv_interpreter.proofs.Flat.Common.{flat, Failure, Tag, LeafTag, StructTag, ReferenceTag, token_named, tokens_named, FunctionCall, Roots}
+use Rattle.mv_interpreter.proofs.Flat.Common.{HasType, HaveTypes, HaveTokens, StorageTyped, SoundStore, Guides, StoreAccepted, Program, width_of_tags}
+use Rattle.mv_interpreter.proofs.Flat.Common.{width_of_tokens, IsLinked, on_bind, History, ValueWords, LocalsWords, Represented, flat_entry}
+use Rattle.mv_interpreter.proofs.Flat.Common.{SameOutcome}
 use Rattle.mv_machine.specs.Run.{outcome_from, run}
 use Rattle.mv_interpreter.specs.Typing.HasType.{fields_by_name}
 use Rattle.mv_interpreter.proofs.Typing.Structs.{names_length}

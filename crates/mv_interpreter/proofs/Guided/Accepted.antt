@@ -1,5 +1,9 @@
 -- A certificate that holds of a module holds of each of its functions; and what is known where a callee begins.
-use Rattle.mv_interpreter.proofs.Guided.Common.{◌≡◌, ℕ, zero, suc, ◌+◌, ◌-◌, List, [], ◌∷◌, ◌++◌, map, length, true, false, refl, sym, ◌∙◌, ap, subst, arith, Bool, Option, Some, None, option_map, Ok, slice_get, option_map_or, and_parts, same_Some, FunctionHandle, Token, Available, Unavailable, Module, FunctionDefinition, local_tokens, Value, Tag, same_tag, same_tags, Known, Certificate, Stated, locals_leq, edges_leq, Here, Callee, on_bind, callee-is, AsKnown, StoreFacts}
+use Rattle.mv_interpreter.proofs.Guided.Common.{◌≡◌, ℕ, zero, suc, ◌+◌, ◌-◌, List, [], ◌∷◌, ◌++◌, map, length, true, false, refl, sym, ◌∙◌, ap, subst}
+use Rattle.mv_interpreter.proofs.Guided.Common.{arith, Bool, Option, Some, None, option_map, Ok, slice_get, option_map_or, and_parts, same_Some}
+use Rattle.mv_interpreter.proofs.Guided.Common.{FunctionHandle, Token, Available, Unavailable, Module, FunctionDefinition, local_tokens, Value, Tag}
+use Rattle.mv_interpreter.proofs.Guided.Common.{same_tag, same_tags, Known, Certificate, Stated, locals_leq, edges_leq, Here, Callee, on_bind}
+use Rattle.mv_interpreter.proofs.Guided.Common.{callee-is, AsKnown, StoreFacts}
 use Rattle.std.proofs.Common.{replicate}
 use Rattle.std.proofs.lemmas.List.{length-append}
 use Rattle.mv_move_types.specs.Module.{parameter_tokens}

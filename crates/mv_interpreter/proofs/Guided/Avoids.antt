@@ -1,5 +1,8 @@
 -- What no live reference of any frame leads into, as the rules of types ask for it.
-use Rattle.mv_interpreter.proofs.Guided.Common.{◌≡◌, ℕ, List, [], ◌∷◌, ◌++◌, map, length, reverse, true, ◌⊎◌, inl, inr, refl, sym, ◌∙◌, ap, subst, Option, Some, None, ◌==◌, list_any, cons_option, and_from, eq-eqb, reverse_onto, Own, Glob, Root, Local, Stored, Reference, Value, Frame, State, frames, reference_of, references, local_references, Point, no_edge_out, root_of, Stood, seen_of, layer_at, layers, StoodOn, InRefs}
+use Rattle.mv_interpreter.proofs.Guided.Common.{◌≡◌, ℕ, List, [], ◌∷◌, ◌++◌, map, length, reverse, true, ◌⊎◌, inl, inr, refl, sym, ◌∙◌, ap, subst}
+use Rattle.mv_interpreter.proofs.Guided.Common.{Option, Some, None, ◌==◌, list_any, cons_option, and_from, eq-eqb, reverse_onto, Own, Glob, Root}
+use Rattle.mv_interpreter.proofs.Guided.Common.{Local, Stored, Reference, Value, Frame, State, frames, reference_of, references, local_references}
+use Rattle.mv_interpreter.proofs.Guided.Common.{Point, no_edge_out, root_of, Stood, seen_of, layer_at, layers, StoodOn, InRefs}
 use Rattle.std.specs.Prelude.{filter_map}
 use Rattle.std.proofs.lemmas.Bool.Decides.{eqb_tells}
 use Rattle.mv_borrow_graph.specs.BorrowRules.{return_edges}

@@ -1,5 +1,9 @@
 -- What an accepted certificate says before an instruction, and that it goes on to what it says before each that may come next.
-use Rattle.mv_interpreter.proofs.Guided.Common.{◌≡◌, ℕ, ◌+◌, ◌-◌, ◌<◌, ◌≤◌, Bool, true, false, List, [], ◌∷◌, ◌++◌, map, length, refl, sym, ap, ◌∙◌, subst, Option, Some, None, option_map, arith, inl, inr, slice_get, nat_le, zip, list_all, option_map_or, and_parts, and_from, same_Some, Unavailable, Available, Instruction, Module, FunctionDefinition, Block, starts_from, Edge, edges_leq, Known, Stated, locals_leq, known_before, Point, Types, on_bind}
+use Rattle.mv_interpreter.proofs.Guided.Common.{◌≡◌, ℕ, ◌+◌, ◌-◌, ◌<◌, ◌≤◌, Bool, true, false, List, [], ◌∷◌, ◌++◌, map, length, refl, sym, ap, ◌∙◌}
+use Rattle.mv_interpreter.proofs.Guided.Common.{subst, Option, Some, None, option_map, arith, inl, inr, slice_get, nat_le, zip, list_all}
+use Rattle.mv_interpreter.proofs.Guided.Common.{option_map_or, and_parts, and_from, same_Some, Unavailable, Available, Instruction, Module}
+use Rattle.mv_interpreter.proofs.Guided.Common.{FunctionDefinition, Block, starts_from, Edge, edges_leq, Known, Stated, locals_leq, known_before}
+use Rattle.mv_interpreter.proofs.Guided.Common.{Point, Types, on_bind}
 use Rattle.std.proofs.Common.{take, drop}
 use Rattle.std.specs.Prelude.{slice_range}
 use Rattle.std.proofs.lemmas.Bool.{leb-true, false_from_ne_true}

@@ -1,5 +1,7 @@
 -- The invariant as the theory of borrows has it, and back.
-use Rattle.mv_interpreter.proofs.Guided.Common.{◌≡◌, ℕ, List, [], ◌∷◌, map, length, sym, ◌∙◌, ap, Option, Module, Reference, Frame, State, frames, reference_of, Certificate, held_as, Fits, Stood, seen_of, point_of, layer_at, layers, StoodOn, Sound, AllPlaced, StoodFit, AllAgree, Guided}
+use Rattle.mv_interpreter.proofs.Guided.Common.{◌≡◌, ℕ, List, [], ◌∷◌, map, length, sym, ◌∙◌, ap, Option, Module, Reference, Frame, State, frames}
+use Rattle.mv_interpreter.proofs.Guided.Common.{reference_of, Certificate, held_as, Fits, Stood, seen_of, point_of, layer_at, layers, StoodOn, Sound}
+use Rattle.mv_interpreter.proofs.Guided.Common.{AllPlaced, StoodFit, AllAgree, Guided}
 use Rattle.mv_borrow_graph.specs.Abstract.Stack.{Chain, Bottom, Above, Calls}
 use Rattle.mv_borrow_graph.specs.Abstract.Rows.{IsArgument}
 use Rattle.mv_borrow_graph.proofs.Abstract.Stack.{chain_covers, chain_return}

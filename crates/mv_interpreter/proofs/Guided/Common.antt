@@ -1,5 +1,6 @@
 -- What the theory of guided runs speaks of all along: words and lemmas of std, certificates, the machine's rules, and the specs of the theories below.
-pub use Rattle.std.proofs.Common.{◌≡◌, ℕ, zero, suc, ◌+◌, ◌-◌, List, [], ◌∷◌, ◌++◌, map, length, true, false, refl, sym, ◌∙◌, ap, subst, arith, Bool, Option, Some, None, option_map, Ok, reverse, ◌⊎◌, inl, inr, ◌<◌, ◌≤◌, ap₂, cond, Result, Err}
+pub use Rattle.std.proofs.Common.{◌≡◌, ℕ, zero, suc, ◌+◌, ◌-◌, List, [], ◌∷◌, ◌++◌, map, length, true, false, refl, sym, ◌∙◌, ap, subst, arith, Bool}
+pub use Rattle.std.proofs.Common.{Option, Some, None, option_map, Ok, reverse, ◌⊎◌, inl, inr, ◌<◌, ◌≤◌, ap₂, cond, Result, Err}
 pub use Rattle.std.proofs.lemmas.Bool.{and_parts, and_from, eq-eqb, eqb-true}
 pub use Rattle.std.proofs.lemmas.Grind.{reverse_onto}
 pub use Rattle.std.proofs.lemmas.Option.{same_Some}

@@ -1,5 +1,10 @@
 -- The invariant in the words of the definition: what is known covers each frame, and frames stand as they should to one another.
-use Rattle.mv_interpreter.proofs.Guided.Common.{◌≡◌, ℕ, zero, suc, ◌<◌, List, [], ◌∷◌, ◌++◌, map, length, reverse, Bool, true, false, ◌⊎◌, inl, inr, refl, sym, ◌∙◌, ap, ap₂, subst, arith, Option, Some, None, slice_get, option_and_then, ◌==◌, list_any, and_parts, and_from, eq-eqb, eqb-true, reverse_onto, same_Some, Own, Glob, Module, Root, Local, Stored, Reference, Value, Frame, State, frames, reference_of, frame_references, Edge, Known, Certificate, root_of, held_as, local_of, Stood, seen_of, layer_at, StoodOn, InRefs, AsKnown, AllPlaced, Guided, StoreFacts}
+use Rattle.mv_interpreter.proofs.Guided.Common.{◌≡◌, ℕ, zero, suc, ◌<◌, List, [], ◌∷◌, ◌++◌, map, length, reverse, Bool, true, false, ◌⊎◌, inl, inr}
+use Rattle.mv_interpreter.proofs.Guided.Common.{refl, sym, ◌∙◌, ap, ap₂, subst, arith, Option, Some, None, slice_get, option_and_then, ◌==◌, list_any}
+use Rattle.mv_interpreter.proofs.Guided.Common.{and_parts, and_from, eq-eqb, eqb-true, reverse_onto, same_Some, Own, Glob, Module, Root, Local}
+use Rattle.mv_interpreter.proofs.Guided.Common.{Stored, Reference, Value, Frame, State, frames, reference_of, frame_references, Edge, Known}
+use Rattle.mv_interpreter.proofs.Guided.Common.{Certificate, root_of, held_as, local_of, Stood, seen_of, layer_at, StoodOn, InRefs, AsKnown}
+use Rattle.mv_interpreter.proofs.Guided.Common.{AllPlaced, Guided, StoreFacts}
 use Rattle.std.proofs.Common.{◌≢◌, append_assoc}
 use Rattle.std.specs.Prelude.{slice_index_or, IsTrue, Contains, All, AllPairs}
 use Rattle.std.proofs.lemmas.Bool.{or_left, or_right, or_cases}

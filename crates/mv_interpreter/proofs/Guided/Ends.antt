@@ -1,5 +1,8 @@
 -- The parts of a rule, one after the other: each gives a value of which something holds, or fails otherwise than by what is lost or frozen.
-use Rattle.mv_interpreter.proofs.Guided.Common.{◌≡◌, ℕ, Bool, true, false, List, [], ◌∷◌, cond, refl, sym, subst, Option, Some, None, Result, Ok, Err, ok_or, nat_le, ⊤, for_each, Value, Ref, Failure, Aborts, Faults, TypeFault, LinkageFault, LostFault, DanglingFault, FrozenFault, StructTag, same_tag, operand, operands, as_number, as_boolean, as_reference}
+use Rattle.mv_interpreter.proofs.Guided.Common.{◌≡◌, ℕ, Bool, true, false, List, [], ◌∷◌, cond, refl, sym, subst, Option, Some, None, Result, Ok, Err}
+use Rattle.mv_interpreter.proofs.Guided.Common.{ok_or, nat_le, ⊤, for_each, Value, Ref, Failure, Aborts, Faults, TypeFault, LinkageFault, LostFault}
+use Rattle.mv_interpreter.proofs.Guided.Common.{DanglingFault, FrozenFault, StructTag, same_tag, operand, operands, as_number, as_boolean}
+use Rattle.mv_interpreter.proofs.Guided.Common.{as_reference}
 use Rattle.std.specs.Prelude.{length, reverse, take, drop}
 use Rattle.mv_move_types.specs.declared.token.LeafKind.TheVariants.{Boolean, Number, Address, Signer}
 use Rattle.mv_move_types.specs.Results.{◌>>=◌, ◌>>◌, need}

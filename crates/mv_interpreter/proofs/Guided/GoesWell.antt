@@ -1,5 +1,8 @@
 -- What rules look up and compute goes well: it gives a value, or fails otherwise than by what is lost or frozen.
-use Rattle.mv_interpreter.proofs.Guided.Common.{ℕ, List, length, Bool, true, false, cond, Ok, Err, ok_or, ◌&&◌, ◌||◌, ◌==◌, Token, ValueType, OfLeaf, OfStruct, Plain, ReferenceTo, MutableReferenceTo, Module, local_tokens, struct_name, Value, Failure, Faults, TypeFault, LinkageFault, entry, linked, tag_named, same_tags, declared, same_abilities, Here, operand, operands, as_reference, as_boolean, as_number}
+use Rattle.mv_interpreter.proofs.Guided.Common.{ℕ, List, length, Bool, true, false, cond, Ok, Err, ok_or, ◌&&◌, ◌||◌, ◌==◌, Token, ValueType, OfLeaf}
+use Rattle.mv_interpreter.proofs.Guided.Common.{OfStruct, Plain, ReferenceTo, MutableReferenceTo, Module, local_tokens, struct_name, Value, Failure}
+use Rattle.mv_interpreter.proofs.Guided.Common.{Faults, TypeFault, LinkageFault, entry, linked, tag_named, same_tags, declared, same_abilities, Here}
+use Rattle.mv_interpreter.proofs.Guided.Common.{operand, operands, as_reference, as_boolean, as_number}
 use Rattle.mv_move_types.specs.declared.token.Width.{Width}
 use Rattle.mv_move_types.specs.declared.token.Width.TheVariants.{U8}
 use Rattle.mv_move_types.specs.Names.{same_module}

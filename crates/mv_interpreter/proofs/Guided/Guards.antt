@@ -1,5 +1,8 @@
 -- The invariant gives what the rules of types need of borrows at each step.
-use Rattle.mv_interpreter.proofs.Guided.Common.{◌≡◌, ℕ, List, sym, ◌∙◌, ap, subst, Option, Some, None, slice_get, option_and_then, same_Some, Glob, Token, Instruction, Ret, StLoc, MoveFrom, Module, FunctionDefinition, local_type, Value, State, reference_of, Point, no_edge_out, Certificate, on_bind, token_kind, operand_kind, Stood, Reaches, Guided, StoreFacts, TypeFacts}
+use Rattle.mv_interpreter.proofs.Guided.Common.{◌≡◌, ℕ, List, sym, ◌∙◌, ap, subst, Option, Some, None, slice_get, option_and_then, same_Some, Glob}
+use Rattle.mv_interpreter.proofs.Guided.Common.{Token, Instruction, Ret, StLoc, MoveFrom, Module, FunctionDefinition, local_type, Value, State}
+use Rattle.mv_interpreter.proofs.Guided.Common.{reference_of, Point, no_edge_out, Certificate, on_bind, token_kind, operand_kind, Stood, Reaches}
+use Rattle.mv_interpreter.proofs.Guided.Common.{Guided, StoreFacts, TypeFacts}
 use Rattle.mv_move_types.specs.declared.instruction.Instruction.TheVariants.{MoveLoc}
 use Rattle.mv_borrow_graph.specs.BorrowRules.{edges_after}
 use Rattle.mv_interpreter.proofs.Borrows.Edges.{then-some}

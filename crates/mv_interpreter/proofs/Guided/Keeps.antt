@@ -1,5 +1,11 @@
 -- Each step of a state that is as the certificates say leads to such a state, and meets nothing lost or frozen.
-use Rattle.mv_interpreter.proofs.Guided.Common.{◌≡◌, ℕ, ◌+◌, List, [], ◌∷◌, ◌++◌, map, length, reverse, true, refl, sym, ◌∙◌, ap, ap₂, subst, Option, Some, Result, Ok, Err, inl, slice_get, ok_or, ⊤, list_all, and_parts, same_Some, Instruction, Ret, Call, local_of, alone, Module, FunctionDefinition, Value, Reference, Frame, State, reference_of, Failure, Faults, TypeFault, LinkageFault, entry, Known, Certificate, locals_leq, edges_leq, Point, Types, known_before, Here, Goes, Callee, ok-is, found-is, Fits, token_kind, operand_kind, Stood, seen_of, point_of, StoodOn, Sound, Reaches, callee-is, AsKnown, AllPlaced, StoodFit, AllAgree, Guided, StoreFacts, TypeFacts}
+use Rattle.mv_interpreter.proofs.Guided.Common.{◌≡◌, ℕ, ◌+◌, List, [], ◌∷◌, ◌++◌, map, length, reverse, true, refl, sym, ◌∙◌, ap, ap₂, subst, Option}
+use Rattle.mv_interpreter.proofs.Guided.Common.{Some, Result, Ok, Err, inl, slice_get, ok_or, ⊤, list_all, and_parts, same_Some, Instruction, Ret}
+use Rattle.mv_interpreter.proofs.Guided.Common.{Call, local_of, alone, Module, FunctionDefinition, Value, Reference, Frame, State, reference_of}
+use Rattle.mv_interpreter.proofs.Guided.Common.{Failure, Faults, TypeFault, LinkageFault, entry, Known, Certificate, locals_leq, edges_leq, Point}
+use Rattle.mv_interpreter.proofs.Guided.Common.{Types, known_before, Here, Goes, Callee, ok-is, found-is, Fits, token_kind, operand_kind, Stood}
+use Rattle.mv_interpreter.proofs.Guided.Common.{seen_of, point_of, StoodOn, Sound, Reaches, callee-is, AsKnown, AllPlaced, StoodFit, AllAgree, Guided}
+use Rattle.mv_interpreter.proofs.Guided.Common.{StoreFacts, TypeFacts}
 use Rattle.std.specs.Prelude.{nat_lt}
 use Rattle.mv_move_types.specs.declared.tables.Definition.{Definition}
 use Rattle.mv_move_types.specs.Flow.{successors}
@@ -141,7 +147,8 @@ module _ (depends : ℕ → ℕ → Type 0) (modules : List Module) (certificate
 
       -- the arguments that the waiting frame lent, and what is left on its stack
       called-stack : (t : State) (stack : List Value) (ws : List Stood)
-          → StoodOn t.top.entered_with t.below (record { home = w.home; function = w.function; frame = record (s.top) { stack = stack }; lent = t.top.entered_with; types = w.types; edges = w.known.edges } ∷ ws)
+          → StoodOn t.top.entered_with t.below
+          (record { home = w.home; function = w.function; frame = record (s.top) { stack = stack }; lent = t.top.entered_with; types = w.types; edges = w.known.edges } ∷ ws)
           → Called h j t → map reference_of s.top.stack ≡ reverse t.top.entered_with ++ map reference_of stack
       called-stack t stack ws st k =
           let below = subst (λ fs. StoodOn t.top.entered_with fs (record { home = w.home; function = w.function; frame = record (s.top) { stack = stack }; lent = t.top.entered_with; types = w.types; edges = w.known.edges } ∷ ws)) k.below st in

@@ -1,5 +1,6 @@
 -- Over published modules no run meets a fault, and each state that it comes to is as the certificates say.
-use Rattle.mv_interpreter.proofs.Guided.Common.{◌≡◌, ℕ, zero, suc, List, [], ◌∷◌, length, refl, sym, ◌∙◌, ap, subst, Option, Some, None, slice_get, and_parts, same_Some, Module, Certificate, State, StoreCertified, ok-is}
+use Rattle.mv_interpreter.proofs.Guided.Common.{◌≡◌, ℕ, zero, suc, List, [], ◌∷◌, length, refl, sym, ◌∙◌, ap, subst, Option, Some, None, slice_get}
+use Rattle.mv_interpreter.proofs.Guided.Common.{and_parts, same_Some, Module, Certificate, State, StoreCertified, ok-is}
 use Rattle.std.specs.Prelude.{option_map, IsTrue}
 use Rattle.std.proofs.lemmas.Option.{slice_get-map}
 use Rattle.mv_move_types.specs.Published.{PublishedModule}

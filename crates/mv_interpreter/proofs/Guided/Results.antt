@@ -1,5 +1,11 @@
 -- What stays as the types say while a frame waits; results are as the handle of the Call says.
-use Rattle.mv_interpreter.proofs.Guided.Common.{◌≡◌, ℕ, zero, suc, List, [], ◌∷◌, ◌++◌, map, reverse, Bool, true, false, refl, sym, ◌∙◌, ap, ap₂, subst, Option, Some, None, Ok, slice_get, option_and_then, and_parts, same_Some, FunctionHandle, ValueType, Call, OfLeaf, OfStruct, Token, Plain, ReferenceTo, MutableReferenceTo, for_each, Module, FunctionDefinition, struct_name, Value, Reference, Frame, State, reference_of, Faults, LinkageFault, entry, linked, tag_named, Tag, StructTag, same_tag, same_tags, declared, same_abilities, Here, Goes, Callee, ok-is, local_of, held_as, Fits, token_kind, operand_kind, Stood, seen_of, point_of, StoodOn, StoodFit, AllAgree, callee-is}
+use Rattle.mv_interpreter.proofs.Guided.Common.{◌≡◌, ℕ, zero, suc, List, [], ◌∷◌, ◌++◌, map, reverse, Bool, true, false, refl, sym, ◌∙◌, ap, ap₂}
+use Rattle.mv_interpreter.proofs.Guided.Common.{subst, Option, Some, None, Ok, slice_get, option_and_then, and_parts, same_Some, FunctionHandle}
+use Rattle.mv_interpreter.proofs.Guided.Common.{ValueType, Call, OfLeaf, OfStruct, Token, Plain, ReferenceTo, MutableReferenceTo, for_each, Module}
+use Rattle.mv_interpreter.proofs.Guided.Common.{FunctionDefinition, struct_name, Value, Reference, Frame, State, reference_of, Faults, LinkageFault}
+use Rattle.mv_interpreter.proofs.Guided.Common.{entry, linked, tag_named, Tag, StructTag, same_tag, same_tags, declared, same_abilities, Here, Goes}
+use Rattle.mv_interpreter.proofs.Guided.Common.{Callee, ok-is, local_of, held_as, Fits, token_kind, operand_kind, Stood, seen_of, point_of, StoodOn}
+use Rattle.mv_interpreter.proofs.Guided.Common.{StoodFit, AllAgree, callee-is}
 use Rattle.std.specs.Bool.{beq}
 use Rattle.mv_machine.specs.Typing.{value_type_tag}
 use Rattle.mv_move_types.specs.Tags.{LeafTag, ReferenceTag}

@@ -1,11 +1,23 @@
 -- Every rule but those of Call and Ret leaves the locals as they are known then, and none meets what is lost or frozen.
-use Rattle.mv_interpreter.proofs.Guided.Common.{◌≡◌, ℕ, suc, ◌-◌, List, [], ◌∷◌, ◌++◌, map, length, Bool, true, false, refl, sym, ◌∙◌, ap, subst, arith, Option, Some, None, Result, Ok, slice_get, ok_or, ◌&&◌, ◌||◌, ◌==◌, nat_le, flat_map, ⊤, list_any, list_all, same_Some, Unavailable, Available, Glob, Instruction, Ret, StLoc, Call, MoveFrom, for_each, Module, FunctionDefinition, local_tokens, local_type, Stored, Reference, Value, Ref, Frame, State, reference_of, references, frame_references, Failure, Faults, Aborts, TypeFault, LostFault, FrozenFault, DanglingFault, entry, tag_named, StructTag, Edge, Known, Point, no_edge_out, Types, Here, Goes, operand, operands, as_reference, as_boolean, as_number, on_bind, alone, Stood, Sound, Fits, InRefs, found-is, Reaches, AsKnown, Rooted}
+use Rattle.mv_interpreter.proofs.Guided.Common.{◌≡◌, ℕ, suc, ◌-◌, List, [], ◌∷◌, ◌++◌, map, length, Bool, true, false, refl, sym, ◌∙◌, ap, subst}
+use Rattle.mv_interpreter.proofs.Guided.Common.{arith, Option, Some, None, Result, Ok, slice_get, ok_or, ◌&&◌, ◌||◌, ◌==◌, nat_le, flat_map, ⊤}
+use Rattle.mv_interpreter.proofs.Guided.Common.{list_any, list_all, same_Some, Unavailable, Available, Glob, Instruction, Ret, StLoc, Call, MoveFrom}
+use Rattle.mv_interpreter.proofs.Guided.Common.{for_each, Module, FunctionDefinition, local_tokens, local_type, Stored, Reference, Value, Ref, Frame}
+use Rattle.mv_interpreter.proofs.Guided.Common.{State, reference_of, references, frame_references, Failure, Faults, Aborts, TypeFault, LostFault}
+use Rattle.mv_interpreter.proofs.Guided.Common.{FrozenFault, DanglingFault, entry, tag_named, StructTag, Edge, Known, Point, no_edge_out, Types, Here}
+use Rattle.mv_interpreter.proofs.Guided.Common.{Goes, operand, operands, as_reference, as_boolean, as_number, on_bind, alone, Stood, Sound, Fits}
+use Rattle.mv_interpreter.proofs.Guided.Common.{InRefs, found-is, Reaches, AsKnown, Rooted}
 use Rattle.std.proofs.Common.{not}
 use Rattle.std.specs.Prelude.{slice_set, bit_or, bit_and, bit_xor, nat_lt, is_some}
 use Rattle.mv_move_types.specs.declared.borrow.Availability.{Availability}
 use Rattle.mv_move_types.specs.declared.borrow.Node.TheVariants.{Temp}
 use Rattle.mv_move_types.specs.declared.token.Width.TheVariants.{U8, U16, U32, U64, U128}
-use Rattle.mv_move_types.specs.declared.instruction.Instruction.TheVariants.{Pop, BrTrue, BrFalse, Branch, LdU64, LdConst, LdTrue, LdFalse, CopyLoc, MoveLoc, MutBorrowLoc, ImmBorrowLoc, MutBorrowField, ImmBorrowField, Pack, Unpack, ReadRef, WriteRef, Add, Sub, Mul, Mod, Div, BitOr, BitAnd, Xor, Or, And, Not, Eq, Neq, Lt, Gt, Le, Ge, Abort, Nop, Exists, MutBorrowGlobal, ImmBorrowGlobal, MoveTo, FreezeRef, Shl, Shr, LdU8, LdU128, CastU8, CastU64, CastU128, LdU16, LdU32, CastU16, CastU32}
+use Rattle.mv_move_types.specs.declared.instruction.Instruction.TheVariants.{Pop, BrTrue, BrFalse, Branch, LdU64, LdConst, LdTrue, LdFalse, CopyLoc}
+use Rattle.mv_move_types.specs.declared.instruction.Instruction.TheVariants.{MoveLoc, MutBorrowLoc, ImmBorrowLoc, MutBorrowField, ImmBorrowField}
+use Rattle.mv_move_types.specs.declared.instruction.Instruction.TheVariants.{Pack, Unpack, ReadRef, WriteRef, Add, Sub, Mul, Mod, Div, BitOr, BitAnd}
+use Rattle.mv_move_types.specs.declared.instruction.Instruction.TheVariants.{Xor, Or, And, Not, Eq, Neq, Lt, Gt, Le, Ge, Abort, Nop, Exists}
+use Rattle.mv_move_types.specs.declared.instruction.Instruction.TheVariants.{MutBorrowGlobal, ImmBorrowGlobal, MoveTo, FreezeRef, Shl, Shr, LdU8}
+use Rattle.mv_move_types.specs.declared.instruction.Instruction.TheVariants.{LdU128, CastU8, CastU64, CastU128, LdU16, LdU32, CastU16, CastU32}
 use Rattle.mv_move_types.specs.Tokens.{same_width}
 use Rattle.mv_machine.specs.State.{stored_at, with_place, place_value}
 use Rattle.mv_machine.specs.Live.{live, is_frozen_by}
@@ -30,9 +42,12 @@ use Rattle.mv_machine.proofs.Binds.{held-is, operand-is, operands-is, reference-
 use Rattle.mv_interpreter.proofs.Borrows.Free.{struct-unfrozen, write-unfrozen, return-unfrozen}
 use Rattle.mv_interpreter.proofs.Borrows.Available.{known-at, known-set, known-same, held-found, needed-holds, overwritten-drops, left-drops}
 use Rattle.mv_interpreter.specs.Guided.Facts.{Able}
-use Rattle.mv_interpreter.proofs.Guided.Ends.{Ends, Goes_well, after, given, tests, passes, found-well, operand-well, operands-well, number-well, boolean-well, address-well, signer-well, reference-well, fields-well, each-well}
+use Rattle.mv_interpreter.proofs.Guided.Ends.{Ends, Goes_well, after, given, tests, passes, found-well, operand-well, operands-well, number-well}
+use Rattle.mv_interpreter.proofs.Guided.Ends.{boolean-well, address-well, signer-well, reference-well, fields-well, each-well}
 use Rattle.mv_interpreter.proofs.Guided.Working.{worked}
-use Rattle.mv_interpreter.proofs.Guided.GoesWell.{tag-well, own-struct-well, keyed-well, own-field-well, local-tag-well, signature-well, choice-well, other-well, binary-well, comparison-well, shift-well, cast-well, logic-well, negation-well, freeze-well, constant-well, call-well}
+use Rattle.mv_interpreter.proofs.Guided.GoesWell.{tag-well, own-struct-well, keyed-well, own-field-well, local-tag-well, signature-well, choice-well}
+use Rattle.mv_interpreter.proofs.Guided.GoesWell.{other-well, binary-well, comparison-well, shift-well, cast-well, logic-well, negation-well}
+use Rattle.mv_interpreter.proofs.Guided.GoesWell.{freeze-well, constant-well, call-well}
 use Rattle.mv_interpreter.proofs.Guided.Unfrozen.{fewer-live, from-taken, local-not-frozen, nothing-frozen, moved-free, stored-free}
 
 -- the locals of a state are as known

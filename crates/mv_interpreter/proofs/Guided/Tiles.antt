@@ -1,5 +1,7 @@
 -- Blocks tile the code: which block an instruction stands in, and what is stated where a block begins.
-use Rattle.mv_interpreter.proofs.Guided.Common.{◌≡◌, ℕ, zero, suc, ◌+◌, ◌-◌, ◌<◌, ◌≤◌, Bool, true, false, cond, List, [], ◌∷◌, ◌++◌, map, length, refl, sym, ap, ◌∙◌, subst, Option, Some, None, option_map, arith, slice_get, nat_le, ◌&&◌, ◌||◌, ◌==◌, zip, option_and_then, ⊤, eqb-true, and_from, same_Some, Instruction, Block, starts_from}
+use Rattle.mv_interpreter.proofs.Guided.Common.{◌≡◌, ℕ, zero, suc, ◌+◌, ◌-◌, ◌<◌, ◌≤◌, Bool, true, false, cond, List, [], ◌∷◌, ◌++◌, map, length}
+use Rattle.mv_interpreter.proofs.Guided.Common.{refl, sym, ap, ◌∙◌, subst, Option, Some, None, option_map, arith, slice_get, nat_le, ◌&&◌, ◌||◌, ◌==◌}
+use Rattle.mv_interpreter.proofs.Guided.Common.{zip, option_and_then, ⊤, eqb-true, and_from, same_Some, Instruction, Block, starts_from}
 use Rattle.std.specs.Prelude.{find}
 use Rattle.std.proofs.lemmas.Bool.{leb-true, le-leb, and_right, false_from_ne_true}
 use Rattle.mv_cfg.specs.Blocks.{blocks_at, block_between, is_target, leads_to}

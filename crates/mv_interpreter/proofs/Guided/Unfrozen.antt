@@ -1,5 +1,10 @@
 -- What live references lead to, where a local is emptied or overwritten and where a value is stored: nothing there is frozen.
-use Rattle.mv_interpreter.proofs.Guided.Common.{◌≡◌, ℕ, zero, suc, List, [], ◌∷◌, ◌++◌, reverse, Bool, true, false, cond, ◌⊎◌, inl, inr, refl, sym, ◌∙◌, ap, subst, Option, Some, None, ◌==◌, flat_map, cons_option, and_parts, eq-eqb, eqb-true, reverse_onto, same_Some, Own, Token, Plain, ReferenceTo, MutableReferenceTo, local_type, Root, Local, Stored, Reference, Value, State, reference_of, references, local_references, frame_references, Edge, Point, no_edge_out, Types, Here, root_of, alone, Stood, Sound, Fits, token_kind, operand_kind, InRefs, Rooted}
+use Rattle.mv_interpreter.proofs.Guided.Common.{◌≡◌, ℕ, zero, suc, List, [], ◌∷◌, ◌++◌, reverse, Bool, true, false, cond, ◌⊎◌, inl, inr, refl, sym}
+use Rattle.mv_interpreter.proofs.Guided.Common.{◌∙◌, ap, subst, Option, Some, None, ◌==◌, flat_map, cons_option, and_parts, eq-eqb, eqb-true}
+use Rattle.mv_interpreter.proofs.Guided.Common.{reverse_onto, same_Some, Own, Token, Plain, ReferenceTo, MutableReferenceTo, local_type, Root, Local}
+use Rattle.mv_interpreter.proofs.Guided.Common.{Stored, Reference, Value, State, reference_of, references, local_references, frame_references, Edge}
+use Rattle.mv_interpreter.proofs.Guided.Common.{Point, no_edge_out, Types, Here, root_of, alone, Stood, Sound, Fits, token_kind, operand_kind, InRefs}
+use Rattle.mv_interpreter.proofs.Guided.Common.{Rooted}
 use Rattle.std.proofs.Common.{take}
 use Rattle.mv_move_types.specs.declared.tables.Key.{Key}
 use Rattle.mv_machine.specs.State.{stored_at, local_value, local_in, root_value}

@@ -1,5 +1,7 @@
 -- An address of 16 bytes is in its range.
-use Rattle.mv_interpreter.proofs.Typing.Common.{◌≡◌, ℕ, zero, suc, ◌+◌, ◌-◌, ◌*◌, ◌^◌, ◌<◌, ◌≤◌, true, List, [], ◌∷◌, length, refl, ap, subst, ◌∙◌, arith, IsTrue, ◌==◌, ◌&&◌, list_all, first_so, second_so, ltb-true, lt-ltb, Address, Module, each, in_range, SoundStore, StoreAccepted}
+use Rattle.mv_interpreter.proofs.Typing.Common.{◌≡◌, ℕ, zero, suc, ◌+◌, ◌-◌, ◌*◌, ◌^◌, ◌<◌, ◌≤◌, true, List, [], ◌∷◌, length, refl, ap, subst, ◌∙◌}
+use Rattle.mv_interpreter.proofs.Typing.Common.{arith, IsTrue, ◌==◌, ◌&&◌, list_all, first_so, second_so, ltb-true, lt-ltb, Address, Module, each}
+use Rattle.mv_interpreter.proofs.Typing.Common.{in_range, SoundStore, StoreAccepted}
 use Rattle.std.specs.Prelude.{slice_index}
 use Rattle.std.specs.Int.{sum_through, byte_worth}
 use Rattle.std.proofs.lemmas.Nat.{pow-add}

@@ -1,5 +1,11 @@
 -- A run that the ledger admits is a typed call.
-use Rattle.mv_interpreter.proofs.Typing.Common.{◌≡◌, ℕ, ◌^◌, true, List, [], ◌∷◌, ◌++◌, length, refl, subst, Option, Some, None, Result, Ok, slice_get, IsTrue, ◌&&◌, nat_le, nat_lt, ok_or, list_all, first_so, second_so, LeafKind, Boolean, Number, Address, Signer, OfLeaf, OfStruct, Token, Plain, ReferenceTo, MutableReferenceTo, Module, FunctionDefinition, Value, Leaf, Struct, Ref, same_kind, module_place, FunctionCall, address_fits, function_definition_fits, instruction_fits, below, function_in, instruction_in, local_count, token_in, function_is_typed, ends_well, on_bind, each, there_below, then_found, in_range, HasToken, HaveTokens, ModuleAccepted, StoreAccepted}
+use Rattle.mv_interpreter.proofs.Typing.Common.{◌≡◌, ℕ, ◌^◌, true, List, [], ◌∷◌, ◌++◌, length, refl, subst, Option, Some, None, Result, Ok}
+use Rattle.mv_interpreter.proofs.Typing.Common.{slice_get, IsTrue, ◌&&◌, nat_le, nat_lt, ok_or, list_all, first_so, second_so, LeafKind, Boolean}
+use Rattle.mv_interpreter.proofs.Typing.Common.{Number, Address, Signer, OfLeaf, OfStruct, Token, Plain, ReferenceTo, MutableReferenceTo, Module}
+use Rattle.mv_interpreter.proofs.Typing.Common.{FunctionDefinition, Value, Leaf, Struct, Ref, same_kind, module_place, FunctionCall, address_fits}
+use Rattle.mv_interpreter.proofs.Typing.Common.{function_definition_fits, instruction_fits, below, function_in, instruction_in, local_count, token_in}
+use Rattle.mv_interpreter.proofs.Typing.Common.{function_is_typed, ends_well, on_bind, each, there_below, then_found, in_range, HasToken, HaveTokens}
+use Rattle.mv_interpreter.proofs.Typing.Common.{ModuleAccepted, StoreAccepted}
 use Rattle.mv_move_types.specs.Results.{◌>>=◌}
 use Rattle.mv_move_types.specs.Module.{parameter_tokens}
 use Rattle.mv_move_types.specs.Named.{function_place}

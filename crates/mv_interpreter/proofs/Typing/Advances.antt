@@ -1,5 +1,9 @@
 -- A typed instruction leads to typed instructions.
-use Rattle.mv_interpreter.proofs.Typing.Common.{◌≡◌, ℕ, zero, suc, ◌+◌, ◌-◌, ◌<◌, ◌≤◌, Bool, true, false, List, [], ◌∷◌, ◌++◌, length, take, drop, refl, sym, ap, subst, ◌∙◌, Option, Some, None, arith, ◌⊎◌, inl, inr, slice_get, IsTrue, nat_lt, nat_le, ◌||◌, ◌==◌, list_all, option_map_or, ltb-true, lt-ltb, eqb-true, and_from, eq-eqb, same_Some, Instruction, Ret, Module, FunctionDefinition, Types, function_is_typed, ends_well, instruction_in, local_count, instruction_fits, TypesAt, each, Advance}
+use Rattle.mv_interpreter.proofs.Typing.Common.{◌≡◌, ℕ, zero, suc, ◌+◌, ◌-◌, ◌<◌, ◌≤◌, Bool, true, false, List, [], ◌∷◌, ◌++◌, length, take, drop}
+use Rattle.mv_interpreter.proofs.Typing.Common.{refl, sym, ap, subst, ◌∙◌, Option, Some, None, arith, ◌⊎◌, inl, inr, slice_get, IsTrue, nat_lt}
+use Rattle.mv_interpreter.proofs.Typing.Common.{nat_le, ◌||◌, ◌==◌, list_all, option_map_or, ltb-true, lt-ltb, eqb-true, and_from, eq-eqb, same_Some}
+use Rattle.mv_interpreter.proofs.Typing.Common.{Instruction, Ret, Module, FunctionDefinition, Types, function_is_typed, ends_well, instruction_in}
+use Rattle.mv_interpreter.proofs.Typing.Common.{local_count, instruction_fits, TypesAt, each, Advance}
 use Rattle.std.specs.Prelude.{slice_range}
 use Rattle.std.specs.List.{list_any}
 use Rattle.mv_move_types.specs.declared.instruction.Instruction.TheVariants.{BrTrue, BrFalse, Branch, Abort}
@@ -10,7 +14,8 @@ use Rattle.mv_type_states.specs.TypesHold.{types_through, block_is_typed}
 use Rattle.mv_cfg.specs.Blocks.{may_be_last}
 use Rattle.mv_linker.proofs.Found.{some_passes, there_at}
 use Rattle.mv_interpreter.specs.Typing.Facts.{AllAt}
-use Rattle.mv_interpreter.proofs.Typing.FlowFacts.{range_split, through_step, through_apart, through_join, through_one, Among, Rising, rising_bounds, starts_rise, targets_begin, ended_begin, BlockFacts, block_facts, begins_block}
+use Rattle.mv_interpreter.proofs.Typing.FlowFacts.{range_split, through_step, through_apart, through_join, through_one, Among, Rising, rising_bounds}
+use Rattle.mv_interpreter.proofs.Typing.FlowFacts.{starts_rise, targets_begin, ended_begin, BlockFacts, block_facts, begins_block}
 use Rattle.mv_interpreter.proofs.Lists.{below-or-at}
 
 -- where control goes on at the next instruction

@@ -1,5 +1,11 @@
 -- What the store says of the functions that a module's handles name.
-use Rattle.mv_interpreter.proofs.Typing.Common.{◌≡◌, ℕ, Bool, true, false, List, [], ◌∷◌, ◌++◌, length, refl, sym, ap, ap₂, subst, ◌∙◌, Option, Some, None, Ok, slice_get, ok_or, ◌&&◌, ◌||◌, ◌==◌, option_and_then, list_all, option_map_or, first_so, second_so, same_Some, and_from, eq-eqb, Token, ◌>>=◌, ◌>>◌, need, for_each, Module, FunctionDefinition, Faults, LinkageFault, entry, tag_named, Tag, module_place, below, function_in, instruction_in, local_count, function_is_typed, ends_well, function_definition_fits, instruction_fits, token_named, tokens_named, structs_are_there, Here, on_bind, each, there_below, then_found, ModuleAccepted, StoreAccepted}
+use Rattle.mv_interpreter.proofs.Typing.Common.{◌≡◌, ℕ, Bool, true, false, List, [], ◌∷◌, ◌++◌, length, refl, sym, ap, ap₂, subst, ◌∙◌, Option, Some}
+use Rattle.mv_interpreter.proofs.Typing.Common.{None, Ok, slice_get, ok_or, ◌&&◌, ◌||◌, ◌==◌, option_and_then, list_all, option_map_or, first_so}
+use Rattle.mv_interpreter.proofs.Typing.Common.{second_so, same_Some, and_from, eq-eqb, Token, ◌>>=◌, ◌>>◌, need, for_each, Module}
+use Rattle.mv_interpreter.proofs.Typing.Common.{FunctionDefinition, Faults, LinkageFault, entry, tag_named, Tag, module_place, below, function_in}
+use Rattle.mv_interpreter.proofs.Typing.Common.{instruction_in, local_count, function_is_typed, ends_well, function_definition_fits, instruction_fits}
+use Rattle.mv_interpreter.proofs.Typing.Common.{token_named, tokens_named, structs_are_there, Here, on_bind, each, there_below, then_found}
+use Rattle.mv_interpreter.proofs.Typing.Common.{ModuleAccepted, StoreAccepted}
 use Rattle.mv_move_types.specs.declared.tables.FunctionHandle.{FunctionHandle}
 use Rattle.mv_move_types.specs.Names.{ModuleName, same_module}
 use Rattle.mv_move_types.specs.Module.{module_name, own_name}

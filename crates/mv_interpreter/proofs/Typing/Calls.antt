@@ -1,5 +1,12 @@
 -- The rows of Call and Ret.
-use Rattle.mv_interpreter.proofs.Typing.Common.{◌≡◌, ℕ, ◌+◌, ◌<◌, ◌≤◌, Bool, true, false, cond, List, [], ◌∷◌, ◌++◌, map, length, reverse, refl, sym, ap, subst, ◌∙◌, Option, Some, None, Result, Ok, Err, eqb, arith, slice_get, not, ok_or, list_all, eqb-true, ne_eqb, same_Some, Token, Ret, ◌>>=ᵣ◌, need, for_each, Module, Root, Local, Stored, Value, Leaf, Struct, Ref, Frame, State, frames, root_value, local_in, local_value, references, local_references, Faults, LinkageFault, LostFault, FrozenFault, tag_named, have_tags, entry, Tag, LeafTag, StructTag, ReferenceTag, Types, tokens_named, Here, operands, Roots, Rooted, HaveTypes, TypesAt, on_bind, HaveTokens, LocalsHaveTokens, Numbered, AreWaiting, StateTyped, TurnTyped, Row, Avoid}
+use Rattle.mv_interpreter.proofs.Typing.Common.{◌≡◌, ℕ, ◌+◌, ◌<◌, ◌≤◌, Bool, true, false, cond, List, [], ◌∷◌, ◌++◌, map, length, reverse, refl, sym}
+use Rattle.mv_interpreter.proofs.Typing.Common.{ap, subst, ◌∙◌, Option, Some, None, Result, Ok, Err, eqb, arith, slice_get, not, ok_or, list_all}
+use Rattle.mv_interpreter.proofs.Typing.Common.{eqb-true, ne_eqb, same_Some, Token, Ret, ◌>>=ᵣ◌, need, for_each, Module, Root, Local, Stored, Value}
+use Rattle.mv_interpreter.proofs.Typing.Common.{Leaf, Struct, Ref, Frame, State, frames, root_value, local_in, local_value, references}
+use Rattle.mv_interpreter.proofs.Typing.Common.{local_references, Faults, LinkageFault, LostFault, FrozenFault, tag_named, have_tags, entry, Tag}
+use Rattle.mv_interpreter.proofs.Typing.Common.{LeafTag, StructTag, ReferenceTag, Types, tokens_named, Here, operands, Roots, Rooted, HaveTypes}
+use Rattle.mv_interpreter.proofs.Typing.Common.{TypesAt, on_bind, HaveTokens, LocalsHaveTokens, Numbered, AreWaiting, StateTyped, TurnTyped, Row}
+use Rattle.mv_interpreter.proofs.Typing.Common.{Avoid}
 use Rattle.std.proofs.Common.{replicate}
 use Rattle.std.specs.Prelude.{flat_map}
 use Rattle.std.specs.List.{list_any}

@@ -1,5 +1,6 @@
 -- What the theory of types speaks of all along: words and lemmas of std, types and instructions, the machine's rules, and the specs of this theory.
-pub use Rattle.std.proofs.Common.{◌≡◌, ℕ, zero, suc, ◌+◌, ◌-◌, ◌*◌, ◌^◌, ◌<◌, ◌≤◌, true, List, [], ◌∷◌, length, refl, ap, subst, ◌∙◌, arith, ◌++◌, Option, Some, None, Result, Ok, Bool, false, take, drop, sym, ◌⊎◌, inl, inr, ap₂, cond, map, reverse, Err, eqb}
+pub use Rattle.std.proofs.Common.{◌≡◌, ℕ, zero, suc, ◌+◌, ◌-◌, ◌*◌, ◌^◌, ◌<◌, ◌≤◌, true, List, [], ◌∷◌, length, refl, ap, subst, ◌∙◌, arith, ◌++◌}
+pub use Rattle.std.proofs.Common.{Option, Some, None, Result, Ok, Bool, false, take, drop, sym, ◌⊎◌, inl, inr, ap₂, cond, map, reverse, Err, eqb}
 pub use Rattle.std.proofs.lemmas.Bool.{ltb-true, lt-ltb, eqb-true, and_from, eq-eqb, ne_eqb, eqb-false}
 pub use Rattle.std.proofs.lemmas.Option.{same_Some}
 pub use Rattle.std.specs.Bool.{beq}

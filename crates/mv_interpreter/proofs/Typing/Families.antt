@@ -1,5 +1,8 @@
 -- Rows of operands alone: numbers, bools, constants.
-use Rattle.mv_interpreter.proofs.Typing.Common.{◌≡◌, ℕ, ◌+◌, ◌-◌, ◌*◌, ◌^◌, ◌<◌, ◌≤◌, Bool, true, false, List, [], ◌∷◌, refl, sym, ap, ◌∙◌, subst, Some, Ok, eqb, arith, IsTrue, nat_lt, nat_le, not, lt-ltb, ltb-true, same_Some, Boolean, Number, Address, Signer, OfLeaf, OfStruct, Token, Plain, ReferenceTo, MutableReferenceTo, Module, Value, Leaf, Types, boolean, takes_gives, taken, top_type, truth, on_bind, Roots, HasToken, HaveTokens}
+use Rattle.mv_interpreter.proofs.Typing.Common.{◌≡◌, ℕ, ◌+◌, ◌-◌, ◌*◌, ◌^◌, ◌<◌, ◌≤◌, Bool, true, false, List, [], ◌∷◌, refl, sym, ap, ◌∙◌, subst}
+use Rattle.mv_interpreter.proofs.Typing.Common.{Some, Ok, eqb, arith, IsTrue, nat_lt, nat_le, not, lt-ltb, ltb-true, same_Some, Boolean, Number}
+use Rattle.mv_interpreter.proofs.Typing.Common.{Address, Signer, OfLeaf, OfStruct, Token, Plain, ReferenceTo, MutableReferenceTo, Module, Value, Leaf}
+use Rattle.mv_interpreter.proofs.Typing.Common.{Types, boolean, takes_gives, taken, top_type, truth, on_bind, Roots, HasToken, HaveTokens}
 use Rattle.std.proofs.Common.{◌/◌, ◌%◌}
 use Rattle.std.specs.Prelude.{bit_and, bit_or, bit_xor}
 use Rattle.std.proofs.Math.Nat.{div-le_self}

@@ -1,5 +1,11 @@
 -- A storage that the ledger calls fine is typed, and a typed one is fine.
-use Rattle.mv_interpreter.proofs.Typing.Common.{◌≡◌, ℕ, true, false, List, [], ◌∷◌, map, refl, sym, ap, subst, ◌∙◌, Option, Some, slice_get, IsTrue, ◌&&◌, list_all, option_map_or, first_so, second_so, same_Some, and_from, LeafKind, Boolean, Number, Address, Signer, OfLeaf, OfStruct, Token, Plain, ReferenceTo, MutableReferenceTo, Abilities, StructName, Module, struct_name, Field, Value, Leaf, Struct, Ref, Values, NoMore, More, same_kind, Storage, Tag, LeafTag, StructTag, module_place, address_fits, below, token_named, tokens_named, on_bind, each, then_found, in_range, IsOf, AreOf, EntryTyped, StorageTyped, ModuleAccepted, StoreAccepted}
+use Rattle.mv_interpreter.proofs.Typing.Common.{◌≡◌, ℕ, true, false, List, [], ◌∷◌, map, refl, sym, ap, subst, ◌∙◌, Option, Some, slice_get, IsTrue}
+use Rattle.mv_interpreter.proofs.Typing.Common.{◌&&◌, list_all, option_map_or, first_so, second_so, same_Some, and_from, LeafKind, Boolean, Number}
+use Rattle.mv_interpreter.proofs.Typing.Common.{Address, Signer, OfLeaf, OfStruct, Token, Plain, ReferenceTo, MutableReferenceTo, Abilities}
+use Rattle.mv_interpreter.proofs.Typing.Common.{StructName, Module, struct_name, Field, Value, Leaf, Struct, Ref, Values, NoMore, More, same_kind}
+use Rattle.mv_interpreter.proofs.Typing.Common.{Storage, Tag, LeafTag, StructTag, module_place, address_fits, below, token_named, tokens_named}
+use Rattle.mv_interpreter.proofs.Typing.Common.{on_bind, each, then_found, in_range, IsOf, AreOf, EntryTyped, StorageTyped, ModuleAccepted}
+use Rattle.mv_interpreter.proofs.Typing.Common.{StoreAccepted}
 use Rattle.mv_move_types.specs.Options.{find_index}
 use Rattle.mv_move_types.specs.Names.{same_struct}
 use Rattle.mv_move_types.specs.Module.{StructDefinition, name_at}

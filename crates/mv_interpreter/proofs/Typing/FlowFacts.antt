@@ -1,5 +1,7 @@
 -- Blocks: where they begin and end, and how types are carried through them.
-use Rattle.mv_interpreter.proofs.Typing.Common.{◌≡◌, ℕ, zero, suc, ◌+◌, ◌-◌, ◌<◌, ◌≤◌, Bool, true, false, cond, List, [], ◌∷◌, ◌++◌, length, take, drop, refl, sym, ap, subst, Some, None, eqb, arith, ◌⊎◌, inl, inr, slice_get, nat_le, ◌||◌, eqb-true, eqb-false, same_Some, Instruction, Module, FunctionDefinition, Types, on_bind}
+use Rattle.mv_interpreter.proofs.Typing.Common.{◌≡◌, ℕ, zero, suc, ◌+◌, ◌-◌, ◌<◌, ◌≤◌, Bool, true, false, cond, List, [], ◌∷◌, ◌++◌, length, take}
+use Rattle.mv_interpreter.proofs.Typing.Common.{drop, refl, sym, ap, subst, Some, None, eqb, arith, ◌⊎◌, inl, inr, slice_get, nat_le, ◌||◌, eqb-true}
+use Rattle.mv_interpreter.proofs.Typing.Common.{eqb-false, same_Some, Instruction, Module, FunctionDefinition, Types, on_bind}
 use Rattle.std.specs.Prelude.{slice_range}
 use Rattle.mv_cfg.specs.Blocks.{BasicBlock, blocks_at, block_between, starts_from, is_target}
 use Rattle.mv_move_types.specs.Flow.{ends_block}

@@ -1,5 +1,9 @@
 -- A write to a local of some frame: what the locals of all frames hold then.
-use Rattle.mv_interpreter.proofs.Typing.Common.{◌≡◌, ℕ, zero, suc, ◌<◌, ◌≤◌, Bool, true, false, cond, List, [], ◌∷◌, map, refl, sym, ap, ap₂, subst, ◌∙◌, Option, Some, None, eqb, arith, slice_get, option_and_then, eqb-true, ne_eqb, same_Some, Token, Module, Reference, Value, Leaf, Struct, Ref, Frame, local_value, local_in, Tag, LeafTag, StructTag, ReferenceTag, Table, Roots, IsOf, HasType, HasToken, LocalHasToken, LocalsHaveTokens, Numbered, AreWaiting}
+use Rattle.mv_interpreter.proofs.Typing.Common.{◌≡◌, ℕ, zero, suc, ◌<◌, ◌≤◌, Bool, true, false, cond, List, [], ◌∷◌, map, refl, sym, ap, ap₂, subst}
+use Rattle.mv_interpreter.proofs.Typing.Common.{◌∙◌, Option, Some, None, eqb, arith, slice_get, option_and_then, eqb-true, ne_eqb, same_Some, Token}
+use Rattle.mv_interpreter.proofs.Typing.Common.{Module, Reference, Value, Leaf, Struct, Ref, Frame, local_value, local_in, Tag, LeafTag, StructTag}
+use Rattle.mv_interpreter.proofs.Typing.Common.{ReferenceTag, Table, Roots, IsOf, HasType, HasToken, LocalHasToken, LocalsHaveTokens, Numbered}
+use Rattle.mv_interpreter.proofs.Typing.Common.{AreWaiting}
 use Rattle.std.specs.Prelude.{slice_set}
 use Rattle.mv_machine.specs.State.{with_local}
 use Rattle.mv_interpreter.specs.Typing.HasType.{fields_by_name}

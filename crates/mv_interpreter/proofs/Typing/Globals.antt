@@ -1,5 +1,13 @@
 -- Rows of the storage.
-use Rattle.mv_interpreter.proofs.Typing.Common.{◌≡◌, ℕ, ◌+◌, Bool, true, false, List, [], ◌∷◌, refl, sym, ap, subst, ◌∙◌, Option, Some, None, Ok, slice_get, ok_or, not, IsTrue, option_map_or, same_Some, Key, Address, Signer, ValueType, OfLeaf, OfStruct, Token, Plain, ReferenceTo, Instruction, Abilities, StructName, Root, Local, Stored, Reference, Value, Leaf, Struct, Ref, Storage, root_value, stored_at, with_stored, same_key, references, Faults, DanglingFault, has_tag, Tag, LeafTag, StructTag, ReferenceTag, Types, boolean, takes_gives, address_fits, value_type_named, token_named, Here, OwnStruct, operand, as_reference, follow, with_stack, goes_on, untouched, truth, gives, in_range, Table, Roots, IsOf, Rooted, AtOnce, HasType, TypesAt, on_bind, then_found, same_key-to, HasToken, HaveTokens, TurnTyped, StorageTyped, Row, Facts, Avoid, Unreached}
+use Rattle.mv_interpreter.proofs.Typing.Common.{◌≡◌, ℕ, ◌+◌, Bool, true, false, List, [], ◌∷◌, refl, sym, ap, subst, ◌∙◌, Option, Some, None, Ok}
+use Rattle.mv_interpreter.proofs.Typing.Common.{slice_get, ok_or, not, IsTrue, option_map_or, same_Some, Key, Address, Signer, ValueType, OfLeaf}
+use Rattle.mv_interpreter.proofs.Typing.Common.{OfStruct, Token, Plain, ReferenceTo, Instruction, Abilities, StructName, Root, Local, Stored}
+use Rattle.mv_interpreter.proofs.Typing.Common.{Reference, Value, Leaf, Struct, Ref, Storage, root_value, stored_at, with_stored, same_key}
+use Rattle.mv_interpreter.proofs.Typing.Common.{references, Faults, DanglingFault, has_tag, Tag, LeafTag, StructTag, ReferenceTag, Types, boolean}
+use Rattle.mv_interpreter.proofs.Typing.Common.{takes_gives, address_fits, value_type_named, token_named, Here, OwnStruct, operand, as_reference}
+use Rattle.mv_interpreter.proofs.Typing.Common.{follow, with_stack, goes_on, untouched, truth, gives, in_range, Table, Roots, IsOf, Rooted, AtOnce}
+use Rattle.mv_interpreter.proofs.Typing.Common.{HasType, TypesAt, on_bind, then_found, same_key-to, HasToken, HaveTokens, TurnTyped, StorageTyped}
+use Rattle.mv_interpreter.proofs.Typing.Common.{Row, Facts, Avoid, Unreached}
 use Rattle.std.specs.Prelude.{is_some}
 use Rattle.mv_move_types.specs.Results.{◌>>=◌}
 use Rattle.mv_move_types.specs.Module.{struct_abilities, name_at}

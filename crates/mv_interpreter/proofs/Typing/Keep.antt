@@ -1,5 +1,7 @@
 -- What stays typed when something changes at the roots.
-use Rattle.mv_interpreter.proofs.Typing.Common.{List, [], ◌∷◌, Option, Some, None, Token, Module, Root, Reference, Value, Leaf, Struct, Ref, Frame, State, references, local_references, Tag, LeafTag, StructTag, ReferenceTag, Roots, Rooted, PointsTo, HasType, HasToken, HaveTokens, LocalsHaveTokens, AreWaiting, Avoid, Unreached}
+use Rattle.mv_interpreter.proofs.Typing.Common.{List, [], ◌∷◌, Option, Some, None, Token, Module, Root, Reference, Value, Leaf, Struct, Ref, Frame}
+use Rattle.mv_interpreter.proofs.Typing.Common.{State, references, local_references, Tag, LeafTag, StructTag, ReferenceTag, Roots, Rooted, PointsTo}
+use Rattle.mv_interpreter.proofs.Typing.Common.{HasType, HasToken, HaveTokens, LocalsHaveTokens, AreWaiting, Avoid, Unreached}
 use Rattle.std.specs.Prelude.{filter_map}
 use Rattle.mv_interpreter.specs.Typing.HasType.{LentHaveTypes, fields_by_name}
 use Rattle.mv_interpreter.specs.Typing.StateTyped.{IsWaiting}
@@ -32,7 +34,8 @@ first_avoids gone (Struct name fields) vs h = (tt, h)
 first_avoids gone (Ref r) vs h = (h.0, h.1)
 
 -- a waiting frame with other locals, where its values have their types at other roots
-abbrev pub waits_with : (modules : List Module) (look look' : Roots) (lent : List (Option Reference)) (given : List Tag) (f : Frame) (w : IsWaiting modules look lent given f) (locals : List (Option Value))
+abbrev pub waits_with : (modules : List Module) (look look' : Roots) (lent : List (Option Reference)) (given : List Tag)
+    (f : Frame) (w : IsWaiting modules look lent given f) (locals : List (Option Value))
     → LocalsHaveTokens modules look' w.home locals w.tokens → HaveTokens modules look' w.home f.stack w.under
     → LentHaveTypes (fields_by_name modules) look' lent w.parameter_tags → IsWaiting modules look' lent given (record f { locals = locals })
 waits_with modules look look' lent given f w locals held stack arguments = record {

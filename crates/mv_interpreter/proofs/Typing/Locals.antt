@@ -1,5 +1,11 @@
 -- Rows of locals.
-use Rattle.mv_interpreter.proofs.Typing.Common.{◌≡◌, ℕ, ◌+◌, Bool, true, false, List, [], ◌∷◌, refl, sym, ap, subst, ◌∙◌, Option, Some, None, Ok, eqb, ◌⊎◌, inl, inr, slice_get, not, ok_or, eqb-true, eqb-false, same_Some, ValueType, Token, Plain, ReferenceTo, MutableReferenceTo, Instruction, ◌>>=◌, ◌>>=ᵣ◌, need, Module, Root, Local, Stored, Value, Leaf, Struct, Ref, State, root_value, references, Faults, LinkageFault, LostFault, entry, Tag, ReferenceTag, Types, plain_of, taken, token_named, value_type_named, Here, goes_on, with_stack, operand, untouched, Roots, IsOf, Rooted, AtOnce, HasType, TypesAt, on_bind, HasToken, HaveTokens, LocalHasToken, TurnTyped, Row, Avoid, Unreached}
+use Rattle.mv_interpreter.proofs.Typing.Common.{◌≡◌, ℕ, ◌+◌, Bool, true, false, List, [], ◌∷◌, refl, sym, ap, subst, ◌∙◌, Option, Some, None, Ok, eqb}
+use Rattle.mv_interpreter.proofs.Typing.Common.{◌⊎◌, inl, inr, slice_get, not, ok_or, eqb-true, eqb-false, same_Some, ValueType, Token, Plain}
+use Rattle.mv_interpreter.proofs.Typing.Common.{ReferenceTo, MutableReferenceTo, Instruction, ◌>>=◌, ◌>>=ᵣ◌, need, Module, Root, Local, Stored, Value}
+use Rattle.mv_interpreter.proofs.Typing.Common.{Leaf, Struct, Ref, State, root_value, references, Faults, LinkageFault, LostFault, entry, Tag}
+use Rattle.mv_interpreter.proofs.Typing.Common.{ReferenceTag, Types, plain_of, taken, token_named, value_type_named, Here, goes_on, with_stack}
+use Rattle.mv_interpreter.proofs.Typing.Common.{operand, untouched, Roots, IsOf, Rooted, AtOnce, HasType, TypesAt, on_bind, HasToken, HaveTokens}
+use Rattle.mv_interpreter.proofs.Typing.Common.{LocalHasToken, TurnTyped, Row, Avoid, Unreached}
 use Rattle.mv_move_types.specs.Module.{local_tokens}
 use Rattle.mv_type_states.specs.TypeRules.{of_copy, of_borrow_local}
 use Rattle.mv_move_types.specs.Module.{local_type}

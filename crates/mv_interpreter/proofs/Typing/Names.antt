@@ -1,5 +1,10 @@
 -- Types that an accepted module names are there in the store.
-use Rattle.mv_interpreter.proofs.Typing.Common.{◌≡◌, ℕ, zero, suc, ◌+◌, Bool, true, false, List, [], ◌∷◌, refl, sym, ap, subst, ◌∙◌, Option, Some, None, Result, Ok, arith, slice_get, ok_or, ◌&&◌, beq, list_all, option_map_or, first_so, second_so, and_from, same_Some, ValueType, OfLeaf, OfStruct, Token, Plain, ReferenceTo, MutableReferenceTo, Abilities, ◌>>=◌, ◌>>=ᵣ◌, ◌>>◌, need, StructName, Module, struct_name, Failure, Faults, LinkageFault, tag_named, Tag, LeafTag, StructTag, ReferenceTag, below, token_in, structs_are_there, value_type_named, token_named, tokens_named, on_bind, each, there_below}
+use Rattle.mv_interpreter.proofs.Typing.Common.{◌≡◌, ℕ, zero, suc, ◌+◌, Bool, true, false, List, [], ◌∷◌, refl, sym, ap, subst, ◌∙◌, Option, Some}
+use Rattle.mv_interpreter.proofs.Typing.Common.{None, Result, Ok, arith, slice_get, ok_or, ◌&&◌, beq, list_all, option_map_or, first_so, second_so}
+use Rattle.mv_interpreter.proofs.Typing.Common.{and_from, same_Some, ValueType, OfLeaf, OfStruct, Token, Plain, ReferenceTo, MutableReferenceTo}
+use Rattle.mv_interpreter.proofs.Typing.Common.{Abilities, ◌>>=◌, ◌>>=ᵣ◌, ◌>>◌, need, StructName, Module, struct_name, Failure, Faults, LinkageFault}
+use Rattle.mv_interpreter.proofs.Typing.Common.{tag_named, Tag, LeafTag, StructTag, ReferenceTag, below, token_in, structs_are_there}
+use Rattle.mv_interpreter.proofs.Typing.Common.{value_type_named, token_named, tokens_named, on_bind, each, there_below}
 use Rattle.std.specs.Cmp.{booleans_Decides}
 use Rattle.mv_move_types.specs.declared.tables.StructHandle.{StructHandle}
 use Rattle.mv_machine.specs.Typing.{struct_tag, value_type_tag}

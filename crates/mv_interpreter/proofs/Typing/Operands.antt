@@ -1,5 +1,8 @@
 -- Operands by their types: what the rules of types say of the stack, and what the stack then is.
-use Rattle.mv_interpreter.proofs.Typing.Common.{◌≡◌, ℕ, suc, Bool, true, false, List, [], ◌∷◌, ◌++◌, length, take, drop, reverse, refl, sym, ap, ap₂, ◌∙◌, subst, Some, Ok, arith, IsTrue, same_Some, LeafKind, ValueType, OfLeaf, Token, Plain, Module, Value, Leaf, Struct, Ref, LeafTag, taken, takes_gives, top_type, operands, Roots, in_range, HasType, HasToken, HaveTokens, on_bind}
+use Rattle.mv_interpreter.proofs.Typing.Common.{◌≡◌, ℕ, suc, Bool, true, false, List, [], ◌∷◌, ◌++◌, length, take, drop, reverse, refl, sym, ap, ap₂}
+use Rattle.mv_interpreter.proofs.Typing.Common.{◌∙◌, subst, Some, Ok, arith, IsTrue, same_Some, LeafKind, ValueType, OfLeaf, Token, Plain, Module}
+use Rattle.mv_interpreter.proofs.Typing.Common.{Value, Leaf, Struct, Ref, LeafTag, taken, takes_gives, top_type, operands, Roots, in_range, HasType}
+use Rattle.mv_interpreter.proofs.Typing.Common.{HasToken, HaveTokens, on_bind}
 use Rattle.std.proofs.Common.{leb, length-append}
 use Rattle.std.proofs.lemmas.List.{length-reverse, reverse-append, reverse-reverse, take-append-drop}
 use Rattle.std.proofs.Math.Seq.{take-append_seam, drop-append_seam}

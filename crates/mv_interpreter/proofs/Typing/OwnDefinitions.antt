@@ -1,5 +1,9 @@
 -- What the store says of the own module's structs.
-use Rattle.mv_interpreter.proofs.Typing.Common.{◌≡◌, ℕ, Bool, true, List, [], ◌∷◌, map, refl, ap, subst, ◌∙◌, Option, Some, Result, Ok, slice_get, ok_or, not, list_all, first_so, second_so, and_from, same_Some, Token, Plain, ReferenceTo, MutableReferenceTo, ◌>>=ᵣ◌, ◌>>◌, need, StructName, Module, struct_name, Field, Faults, LinkageFault, entry, Tag, below, token_in, tokens_named, token_named, Here, OwnStruct, is_reference_tag, on_bind, each, there_below, then_found, ModuleAccepted, StoreAccepted}
+use Rattle.mv_interpreter.proofs.Typing.Common.{◌≡◌, ℕ, Bool, true, List, [], ◌∷◌, map, refl, ap, subst, ◌∙◌, Option, Some, Result, Ok, slice_get}
+use Rattle.mv_interpreter.proofs.Typing.Common.{ok_or, not, list_all, first_so, second_so, and_from, same_Some, Token, Plain, ReferenceTo}
+use Rattle.mv_interpreter.proofs.Typing.Common.{MutableReferenceTo, ◌>>=ᵣ◌, ◌>>◌, need, StructName, Module, struct_name, Field, Faults, LinkageFault}
+use Rattle.mv_interpreter.proofs.Typing.Common.{entry, Tag, below, token_in, tokens_named, token_named, Here, OwnStruct, is_reference_tag, on_bind}
+use Rattle.mv_interpreter.proofs.Typing.Common.{each, there_below, then_found, ModuleAccepted, StoreAccepted}
 use Rattle.mv_move_types.specs.declared.tables.StructHandle.{StructHandle}
 use Rattle.mv_move_types.specs.Names.{ModuleName}
 use Rattle.mv_move_types.specs.Module.{StructDefinition, own_name}

@@ -1,5 +1,11 @@
 -- Rows of references that change nothing: fields, reads, freezing.
-use Rattle.mv_interpreter.proofs.Typing.Common.{◌≡◌, ℕ, zero, suc, ◌+◌, Bool, true, false, List, [], ◌∷◌, map, refl, sym, ap, subst, ◌∙◌, Option, Some, Ok, slice_get, ok_or, option_map, same_Some, ValueType, OfStruct, Token, Plain, ReferenceTo, MutableReferenceTo, Instruction, ◌>>=◌, StructName, need, Module, Field, Reference, Value, Leaf, Struct, Ref, Values, root_value, Faults, LostFault, DanglingFault, Tag, StructTag, ReferenceTag, Types, top_type, plain_of, token_named, tokens_named, value_type_named, Here, OwnStruct, follow, as_reference, operand, Table, Roots, IsOf, AreOf, PointsTo, HasType, TypesAt, on_bind, HasToken, HaveTokens, TurnTyped, Row, Facts}
+use Rattle.mv_interpreter.proofs.Typing.Common.{◌≡◌, ℕ, zero, suc, ◌+◌, Bool, true, false, List, [], ◌∷◌, map, refl, sym, ap, subst, ◌∙◌, Option}
+use Rattle.mv_interpreter.proofs.Typing.Common.{Some, Ok, slice_get, ok_or, option_map, same_Some, ValueType, OfStruct, Token, Plain, ReferenceTo}
+use Rattle.mv_interpreter.proofs.Typing.Common.{MutableReferenceTo, Instruction, ◌>>=◌, StructName, need, Module, Field, Reference, Value, Leaf}
+use Rattle.mv_interpreter.proofs.Typing.Common.{Struct, Ref, Values, root_value, Faults, LostFault, DanglingFault, Tag, StructTag, ReferenceTag}
+use Rattle.mv_interpreter.proofs.Typing.Common.{Types, top_type, plain_of, token_named, tokens_named, value_type_named, Here, OwnStruct, follow}
+use Rattle.mv_interpreter.proofs.Typing.Common.{as_reference, operand, Table, Roots, IsOf, AreOf, PointsTo, HasType, TypesAt, on_bind, HasToken}
+use Rattle.mv_interpreter.proofs.Typing.Common.{HaveTokens, TurnTyped, Row, Facts}
 use Rattle.std.proofs.lemmas.Option.{slice_get-map}
 use Rattle.mv_machine.specs.Value.{list_of}
 use Rattle.mv_type_states.specs.TypeRules.{target_of, mutable_target_of, field_types, of_mutable_field, of_immutable_field, of_read, of_freeze}

@@ -1,5 +1,10 @@
 -- What stands at the roots after a local is changed, and what a typed value's tag is.
-use Rattle.mv_interpreter.proofs.Typing.Common.{◌≡◌, ℕ, zero, suc, Bool, true, false, List, [], ◌∷◌, refl, sym, ap, subst, ◌∙◌, Option, Some, eqb, slice_get, option_map, option_and_then, option_map_or, eqb-true, eqb-false, ne_eqb, and_from, eq-eqb, same_Some, ValueType, OfLeaf, OfStruct, Token, Module, struct_name, Root, Local, Stored, Reference, Value, Leaf, Struct, Ref, State, root_value, Tag, LeafTag, StructTag, ReferenceTag, tag_of, has_tag, have_tags, value_type_named, token_named, tokens_named, is_reference_tag, on_bind, Table, Roots, IsOf, PointsTo, HasType, HaveTypes, HaveTokens, LocalHasToken, LocalsHaveTokens}
+use Rattle.mv_interpreter.proofs.Typing.Common.{◌≡◌, ℕ, zero, suc, Bool, true, false, List, [], ◌∷◌, refl, sym, ap, subst, ◌∙◌, Option, Some, eqb}
+use Rattle.mv_interpreter.proofs.Typing.Common.{slice_get, option_map, option_and_then, option_map_or, eqb-true, eqb-false, ne_eqb, and_from, eq-eqb}
+use Rattle.mv_interpreter.proofs.Typing.Common.{same_Some, ValueType, OfLeaf, OfStruct, Token, Module, struct_name, Root, Local, Stored, Reference}
+use Rattle.mv_interpreter.proofs.Typing.Common.{Value, Leaf, Struct, Ref, State, root_value, Tag, LeafTag, StructTag, ReferenceTag, tag_of, has_tag}
+use Rattle.mv_interpreter.proofs.Typing.Common.{have_tags, value_type_named, token_named, tokens_named, is_reference_tag, on_bind, Table, Roots, IsOf}
+use Rattle.mv_interpreter.proofs.Typing.Common.{PointsTo, HasType, HaveTypes, HaveTokens, LocalHasToken, LocalsHaveTokens}
 use Rattle.std.specs.Prelude.{slice_set}
 use Rattle.mv_machine.specs.Value.{value_at}
 use Rattle.mv_machine.specs.State.{place_value}

@@ -1,8 +1,18 @@
 -- Each instruction by its row, a step, and a whole run.
-use Rattle.mv_interpreter.proofs.Typing.Common.{ℕ, ◌+◌, true, false, List, length, refl, ap, Option, Result, Ok, slice_get, not, ok_or, nat_lt, nat_le, ◌==◌, ◌||◌, ◌&&◌, list_all, second_so, Boolean, Number, ReferenceTo, MutableReferenceTo, Instruction, Ret, Module, FunctionDefinition, Value, State, root_value, Failure, Faults, TypeFault, LinkageFault, entry, Types, Here, gives, TypesAt, HaveTokens, StateTyped, TurnTyped, Row, Advance, SoundStore}
+use Rattle.mv_interpreter.proofs.Typing.Common.{ℕ, ◌+◌, true, false, List, length, refl, ap, Option, Result, Ok, slice_get, not, ok_or, nat_lt}
+use Rattle.mv_interpreter.proofs.Typing.Common.{nat_le, ◌==◌, ◌||◌, ◌&&◌, list_all, second_so, Boolean, Number, ReferenceTo, MutableReferenceTo}
+use Rattle.mv_interpreter.proofs.Typing.Common.{Instruction, Ret, Module, FunctionDefinition, Value, State, root_value, Failure, Faults, TypeFault}
+use Rattle.mv_interpreter.proofs.Typing.Common.{LinkageFault, entry, Types, Here, gives, TypesAt, HaveTokens, StateTyped, TurnTyped, Row, Advance}
+use Rattle.mv_interpreter.proofs.Typing.Common.{SoundStore}
 use Rattle.std.specs.Prelude.{bit_and, bit_or, bit_xor, ◌^◌}
 use Rattle.mv_move_types.specs.declared.token.Width.TheVariants.{U8, U16, U32, U64, U128}
-use Rattle.mv_move_types.specs.declared.instruction.Instruction.TheVariants.{Pop, BrTrue, BrFalse, Branch, LdU64, LdConst, LdTrue, LdFalse, CopyLoc, MoveLoc, StLoc, MutBorrowLoc, ImmBorrowLoc, MutBorrowField, ImmBorrowField, Call, Pack, Unpack, ReadRef, WriteRef, Add, Sub, Mul, Mod, Div, BitOr, BitAnd, Xor, Or, And, Not, Eq, Neq, Lt, Gt, Le, Ge, Abort, Nop, Exists, MutBorrowGlobal, ImmBorrowGlobal, MoveFrom, MoveTo, FreezeRef, Shl, Shr, LdU8, LdU128, CastU8, CastU64, CastU128, LdU16, LdU32, CastU16, CastU32}
+use Rattle.mv_move_types.specs.declared.instruction.Instruction.TheVariants.{Pop, BrTrue, BrFalse, Branch, LdU64, LdConst, LdTrue, LdFalse, CopyLoc}
+use Rattle.mv_move_types.specs.declared.instruction.Instruction.TheVariants.{MoveLoc, StLoc, MutBorrowLoc, ImmBorrowLoc, MutBorrowField}
+use Rattle.mv_move_types.specs.declared.instruction.Instruction.TheVariants.{ImmBorrowField, Call, Pack, Unpack, ReadRef, WriteRef, Add, Sub, Mul}
+use Rattle.mv_move_types.specs.declared.instruction.Instruction.TheVariants.{Mod, Div, BitOr, BitAnd, Xor, Or, And, Not, Eq, Neq, Lt, Gt, Le, Ge}
+use Rattle.mv_move_types.specs.declared.instruction.Instruction.TheVariants.{Abort, Nop, Exists, MutBorrowGlobal, ImmBorrowGlobal, MoveFrom, MoveTo}
+use Rattle.mv_move_types.specs.declared.instruction.Instruction.TheVariants.{FreezeRef, Shl, Shr, LdU8, LdU128, CastU8, CastU64, CastU128, LdU16}
+use Rattle.mv_move_types.specs.declared.instruction.Instruction.TheVariants.{LdU32, CastU16, CastU32}
 use Rattle.mv_machine.specs.Numbers.{sum_of, difference_of, product_of, remainder_of, quotient_of, shifted_left, shifted_right}
 use Rattle.mv_move_types.specs.Flow.{successors}
 use Rattle.mv_type_states.specs.TypeRules.{types_after}
@@ -12,7 +22,9 @@ use Rattle.mv_machine.specs.StepReferences.{read_reference}
 use Rattle.mv_interpreter.specs.Typing.Unreached.{Guarded, StepGuarded}
 use Rattle.mv_interpreter.proofs.Typing.Parts.{Part, known, passes}
 use Rattle.mv_interpreter.proofs.Typing.Stays.{gives_typed, here_of, advance_of, row_of}
-use Rattle.mv_interpreter.proofs.Typing.Families.{binary_typed, comparison_typed, shift_typed, cast_typed, logic_typed, negation_typed, sum_keeps, difference_keeps, product_keeps, remainder_keeps, quotient_keeps, or_keeps, and_keeps, xor_keeps, left_keeps, right_keeps}
+use Rattle.mv_interpreter.proofs.Typing.Families.{binary_typed, comparison_typed, shift_typed, cast_typed, logic_typed, negation_typed, sum_keeps}
+use Rattle.mv_interpreter.proofs.Typing.Families.{difference_keeps, product_keeps, remainder_keeps, quotient_keeps, or_keeps, and_keeps, xor_keeps}
+use Rattle.mv_interpreter.proofs.Typing.Families.{left_keeps, right_keeps}
 use Rattle.mv_interpreter.proofs.Typing.Locals.{copies, moves, stores, borrows}
 use Rattle.mv_interpreter.proofs.Typing.References.{mutable_field, immutable_field, reads, freezes, immutable_names, mutable_names}
 use Rattle.mv_interpreter.proofs.Typing.Write.{writes}

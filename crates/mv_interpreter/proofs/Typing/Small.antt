@@ -1,5 +1,9 @@
 -- The small rows: loads, constants, Pop, Eq, branches, Abort, Nop.
-use Rattle.mv_interpreter.proofs.Typing.Common.{◌≡◌, ℕ, ◌+◌, Bool, true, false, cond, List, [], ◌∷◌, refl, sym, ap, subst, ◌∙◌, Option, Some, Ok, eqb, slice_get, not, ok_or, IsTrue, ◌&&◌, beq, same_Some, LeafKind, Boolean, Number, OfLeaf, Token, Plain, Instruction, need, Value, Leaf, root_value, Faults, TypeFault, LinkageFault, LostFault, tag_of, has_tag, entry, Tag, Types, boolean, top_type, plain_of, taken, token_named, Here, operand, is_reference_tag, truth, HasType, in_range, TypesAt, on_bind, HasToken, HaveTokens, TurnTyped, Row}
+use Rattle.mv_interpreter.proofs.Typing.Common.{◌≡◌, ℕ, ◌+◌, Bool, true, false, cond, List, [], ◌∷◌, refl, sym, ap, subst, ◌∙◌, Option, Some, Ok, eqb}
+use Rattle.mv_interpreter.proofs.Typing.Common.{slice_get, not, ok_or, IsTrue, ◌&&◌, beq, same_Some, LeafKind, Boolean, Number, OfLeaf, Token, Plain}
+use Rattle.mv_interpreter.proofs.Typing.Common.{Instruction, need, Value, Leaf, root_value, Faults, TypeFault, LinkageFault, LostFault, tag_of}
+use Rattle.mv_interpreter.proofs.Typing.Common.{has_tag, entry, Tag, Types, boolean, top_type, plain_of, taken, token_named, Here, operand}
+use Rattle.mv_interpreter.proofs.Typing.Common.{is_reference_tag, truth, HasType, in_range, TypesAt, on_bind, HasToken, HaveTokens, TurnTyped, Row}
 use Rattle.mv_move_types.specs.declared.token.Width.TheVariants.{U64}
 use Rattle.mv_move_types.specs.Module.{Constant}
 use Rattle.mv_machine.specs.Value.{same_value}

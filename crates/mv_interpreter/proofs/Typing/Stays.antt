@@ -1,5 +1,7 @@
 -- The row at which a typed state stands, and the typed state that a rule leads to in the same frame.
-use Rattle.mv_interpreter.proofs.Typing.Common.{ℕ, ◌+◌, List, Option, Result, Ok, Err, Instruction, Module, Value, Storage, Frame, State, root_value, Failure, Types, Here, gives, TypesAt, HaveTokens, LocalsHaveTokens, Numbered, AreWaiting, StorageTyped, StateTyped, TurnTyped, Row, SoundStore, Advance, ◌≡◌, ◌∷◌, subst, Token, HasToken}
+use Rattle.mv_interpreter.proofs.Typing.Common.{ℕ, ◌+◌, List, Option, Result, Ok, Err, Instruction, Module, Value, Storage, Frame, State, root_value}
+use Rattle.mv_interpreter.proofs.Typing.Common.{Failure, Types, Here, gives, TypesAt, HaveTokens, LocalsHaveTokens, Numbered, AreWaiting}
+use Rattle.mv_interpreter.proofs.Typing.Common.{StorageTyped, StateTyped, TurnTyped, Row, SoundStore, Advance, ◌≡◌, ◌∷◌, subst, Token, HasToken}
 use Rattle.mv_machine.specs.State.{Event}
 use Rattle.mv_machine.specs.StepParts.{with_top}
 use Rattle.mv_interpreter.proofs.Typing.Parts.{Part}
@@ -11,7 +13,8 @@ moved_to s target locals stack below storage events =
     record s { top = record (s.top) { at = target; locals = locals; stack = stack }; below = below; storage = storage; events = events }
 
 -- it is typed where its parts are
-pub moved : (h : Here) (i : Instruction) (types after : Types) (row : Row h i types after) (target : ℕ) (locals : List (Option Value)) (stack : List Value) (below : List Frame) (storage : Storage) (events : List Event)
+pub moved : (h : Here) (i : Instruction) (types after : Types) (row : Row h i types after) (target : ℕ)
+    (locals : List (Option Value)) (stack : List Value) (below : List Frame) (storage : Storage) (events : List Event)
     → TypesAt h.home h.function target after → Numbered h.state.top.number below
     → LocalsHaveTokens h.modules (root_value (moved_to h.state target locals stack below storage events)) h.home locals row.stands.tokens
     → HaveTokens h.modules (root_value (moved_to h.state target locals stack below storage events)) h.home stack after

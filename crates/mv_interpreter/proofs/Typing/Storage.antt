@@ -1,5 +1,6 @@
 -- Look-ups in a storage that was changed.
-use Rattle.mv_interpreter.proofs.Typing.Common.{◌≡◌, Bool, true, false, cond, List, [], ◌∷◌, refl, sym, subst, Some, same_Some, Key, Module, Value, Storage, same_key, stored_at, with_stored, same_key-to, EntryTyped, StorageTyped}
+use Rattle.mv_interpreter.proofs.Typing.Common.{◌≡◌, Bool, true, false, cond, List, [], ◌∷◌, refl, sym, subst, Some, same_Some, Key, Module, Value}
+use Rattle.mv_interpreter.proofs.Typing.Common.{Storage, same_key, stored_at, with_stored, same_key-to, EntryTyped, StorageTyped}
 use Rattle.mv_machine.specs.State.{Entry, key_before, without_stored}
 use Rattle.mv_storage.proofs.Keys.{same_key-refl}
 

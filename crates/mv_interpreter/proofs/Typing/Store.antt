@@ -1,5 +1,11 @@
 -- An accepted store gives what the rows rest on.
-use Rattle.mv_interpreter.proofs.Typing.Common.{◌≡◌, ℕ, suc, ◌+◌, ◌*◌, ◌^◌, ◌<◌, Bool, true, List, [], ◌∷◌, ◌++◌, length, refl, ap, subst, ◌∙◌, Option, Some, None, arith, slice_get, IsTrue, ◌&&◌, ◌==◌, nat_lt, list_all, first_so, second_so, ltb-true, lt-ltb, eqb-true, and_from, same_Some, LeafKind, Boolean, Number, Address, Signer, OfLeaf, OfStruct, Token, Plain, ReferenceTo, MutableReferenceTo, Module, FunctionDefinition, token_in, function_in, below, instruction_in, local_count, function_is_typed, ends_well, function_definition_fits, instruction_fits, structs_are_there, Here, on_bind, each, in_range, SoundStore, ModuleAccepted, StoreAccepted}
+use Rattle.mv_interpreter.proofs.Typing.Common.{◌≡◌, ℕ, suc, ◌+◌, ◌*◌, ◌^◌, ◌<◌, Bool, true, List, [], ◌∷◌, ◌++◌, length, refl, ap, subst, ◌∙◌}
+use Rattle.mv_interpreter.proofs.Typing.Common.{Option, Some, None, arith, slice_get, IsTrue, ◌&&◌, ◌==◌, nat_lt, list_all, first_so, second_so}
+use Rattle.mv_interpreter.proofs.Typing.Common.{ltb-true, lt-ltb, eqb-true, and_from, same_Some, LeafKind, Boolean, Number, Address, Signer, OfLeaf}
+use Rattle.mv_interpreter.proofs.Typing.Common.{OfStruct, Token, Plain, ReferenceTo, MutableReferenceTo, Module, FunctionDefinition, token_in}
+use Rattle.mv_interpreter.proofs.Typing.Common.{function_in, below, instruction_in, local_count, function_is_typed, ends_well}
+use Rattle.mv_interpreter.proofs.Typing.Common.{function_definition_fits, instruction_fits, structs_are_there, Here, on_bind, each, in_range}
+use Rattle.mv_interpreter.proofs.Typing.Common.{SoundStore, ModuleAccepted, StoreAccepted}
 use Rattle.std.specs.Prelude.{is_some, slice_index}
 use Rattle.std.proofs.lemmas.Nat.{pow-add}
 use Rattle.mv_move_types.specs.Module.{Constant, local_tokens}

@@ -1,5 +1,10 @@
 -- Rows of struct values, and lists of values by their tags.
-use Rattle.mv_interpreter.proofs.Typing.Common.{◌≡◌, ℕ, suc, ◌+◌, Bool, true, false, List, [], ◌∷◌, ◌++◌, map, length, reverse, refl, sym, ap, subst, ◌∙◌, Some, Ok, slice_get, not, first_so, second_so, same_Some, OfStruct, Token, Plain, Instruction, for_each, Module, Field, Value, Struct, Values, NoMore, More, root_value, Tag, StructTag, tag_named, have_tags, Types, token_named, tokens_named, value_type_named, Here, OwnStruct, operand, operands, with_stack, goes_on, is_reference_tag, Roots, IsOf, AreOf, HasType, HaveTypes, TypesAt, on_bind, HasToken, HaveTokens, TurnTyped, Row, Facts}
+use Rattle.mv_interpreter.proofs.Typing.Common.{◌≡◌, ℕ, suc, ◌+◌, Bool, true, false, List, [], ◌∷◌, ◌++◌, map, length, reverse, refl, sym, ap, subst}
+use Rattle.mv_interpreter.proofs.Typing.Common.{◌∙◌, Some, Ok, slice_get, not, first_so, second_so, same_Some, OfStruct, Token, Plain, Instruction}
+use Rattle.mv_interpreter.proofs.Typing.Common.{for_each, Module, Field, Value, Struct, Values, NoMore, More, root_value, Tag, StructTag, tag_named}
+use Rattle.mv_interpreter.proofs.Typing.Common.{have_tags, Types, token_named, tokens_named, value_type_named, Here, OwnStruct, operand, operands}
+use Rattle.mv_interpreter.proofs.Typing.Common.{with_stack, goes_on, is_reference_tag, Roots, IsOf, AreOf, HasType, HaveTypes, TypesAt, on_bind}
+use Rattle.mv_interpreter.proofs.Typing.Common.{HasToken, HaveTokens, TurnTyped, Row, Facts}
 use Rattle.std.proofs.lemmas.List.{length-map}
 use Rattle.mv_machine.specs.Value.{list_of, fields_of}
 use Rattle.mv_type_states.specs.TypeRules.{of_pack, of_unpack}

@@ -1,5 +1,7 @@
 -- The whole: a run over an accepted store, which a predicate watches all along, meets no fault.
-use Rattle.mv_interpreter.proofs.Typing.Common.{◌≡◌, ℕ, zero, suc, ◌+◌, Bool, true, false, List, length, refl, sym, subst, Result, Ok, Err, nat_lt, Module, Storage, State, frames, Failure, Faults, TypeFault, LinkageFault, LostFault, DanglingFault, FrozenFault, FunctionCall, StateTyped, StorageTyped, TurnTyped, SoundStore, StoreAccepted}
+use Rattle.mv_interpreter.proofs.Typing.Common.{◌≡◌, ℕ, zero, suc, ◌+◌, Bool, true, false, List, length, refl, sym, subst, Result, Ok, Err, nat_lt}
+use Rattle.mv_interpreter.proofs.Typing.Common.{Module, Storage, State, frames, Failure, Faults, TypeFault, LinkageFault, LostFault, DanglingFault}
+use Rattle.mv_interpreter.proofs.Typing.Common.{FrozenFault, FunctionCall, StateTyped, StorageTyped, TurnTyped, SoundStore, StoreAccepted}
 use Rattle.mv_machine.specs.Typing.{Aborts}
 use Rattle.mv_machine.specs.Step.{Turn, Goes, Returns, step}
 use Rattle.mv_machine.specs.Run.{run, outcome_from, turns, follows, goes_with}

@@ -1,5 +1,7 @@
 -- Places within values: what is of a type is there along each path that its type has, and stays of its type after a write.
-use Rattle.mv_interpreter.proofs.Typing.Common.{◌≡◌, ℕ, zero, suc, List, [], ◌∷◌, ◌++◌, refl, sym, ap, subst, Some, slice_get, option_map, option_and_then, same_Some, StructName, Value, Leaf, Struct, Ref, Values, NoMore, More, Tag, LeafTag, StructTag, ReferenceTag, Table, IsOf, AreOf, AtOnce}
+use Rattle.mv_interpreter.proofs.Typing.Common.{◌≡◌, ℕ, zero, suc, List, [], ◌∷◌, ◌++◌, refl, sym, ap, subst, Some, slice_get, option_map}
+use Rattle.mv_interpreter.proofs.Typing.Common.{option_and_then, same_Some, StructName, Value, Leaf, Struct, Ref, Values, NoMore, More, Tag, LeafTag}
+use Rattle.mv_interpreter.proofs.Typing.Common.{StructTag, ReferenceTag, Table, IsOf, AreOf, AtOnce}
 use Rattle.mv_machine.specs.Value.{field, with_field, with_field_of, value_at, with_value_at}
 use Rattle.mv_machine.specs.Typing.{plain_tag}
 use Rattle.mv_interpreter.specs.Typing.HasType.{Leads, Through}

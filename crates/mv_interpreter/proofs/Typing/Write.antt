@@ -1,5 +1,12 @@
 -- The row of a write through a reference.
-use Rattle.mv_interpreter.proofs.Typing.Common.{◌≡◌, ℕ, ◌+◌, Bool, true, false, cond, List, [], ◌∷◌, map, refl, sym, ap, subst, ◌∙◌, Option, Some, eqb, arith, ok_or, option_map, option_and_then, eqb-true, same_Some, Key, Token, Plain, MutableReferenceTo, Instruction, need, Root, Local, Stored, Reference, Value, Frame, State, frames, root_value, local_in, local_value, stored_at, with_stored, same_key, Faults, TypeFault, LostFault, DanglingFault, has_tag, tag_of, Tag, StructTag, Types, top_type, taken, Here, operand, as_reference, follow, with_stack, goes_on, untouched, Roots, IsOf, Rooted, HasType, TypesAt, HaveTokens, LocalsHaveTokens, TurnTyped, Numbered, AreWaiting, EntryTyped, Row, references, local_references, on_bind, same_key-to}
+use Rattle.mv_interpreter.proofs.Typing.Common.{◌≡◌, ℕ, ◌+◌, Bool, true, false, cond, List, [], ◌∷◌, map, refl, sym, ap, subst, ◌∙◌, Option, Some}
+use Rattle.mv_interpreter.proofs.Typing.Common.{eqb, arith, ok_or, option_map, option_and_then, eqb-true, same_Some, Key, Token, Plain}
+use Rattle.mv_interpreter.proofs.Typing.Common.{MutableReferenceTo, Instruction, need, Root, Local, Stored, Reference, Value, Frame, State, frames}
+use Rattle.mv_interpreter.proofs.Typing.Common.{root_value, local_in, local_value, stored_at, with_stored, same_key, Faults, TypeFault, LostFault}
+use Rattle.mv_interpreter.proofs.Typing.Common.{DanglingFault, has_tag, tag_of, Tag, StructTag, Types, top_type, taken, Here, operand, as_reference}
+use Rattle.mv_interpreter.proofs.Typing.Common.{follow, with_stack, goes_on, untouched, Roots, IsOf, Rooted, HasType, TypesAt, HaveTokens}
+use Rattle.mv_interpreter.proofs.Typing.Common.{LocalsHaveTokens, TurnTyped, Numbered, AreWaiting, EntryTyped, Row, references, local_references}
+use Rattle.mv_interpreter.proofs.Typing.Common.{on_bind, same_key-to}
 use Rattle.mv_machine.specs.Value.{Place, with_value_at}
 use Rattle.mv_machine.specs.State.{with_local, with_root, with_place}
 use Rattle.mv_type_states.specs.TypeRules.{mutable_target_of, of_write}

@@ -25,16 +25,19 @@ pub record StoreFacts (depends : ℕ → ℕ → Type 0) (modules : List Module)
   pub through : (a b c : ℕ) → depends a b → depends b c → depends a c
   pub no_cycle : (a : ℕ) → depends a a → ⊥
   pub certified : (place : ℕ) (m : Module) → slice_get modules place ≡ Some m → (c : Certificate) × (slice_get certificates place ≡ Some c) × IsTrue (all_locals_hold m c) × IsTrue (all_edges_hold m c)
-  pub reaches : (place index at : ℕ) (m : Module) (d : FunctionDefinition) (i : Instruction) → slice_get modules place ≡ Some m → slice_get m.functions index ≡ Some d → slice_get d.code at ≡ Some i → Reaches d.acquires i
-  pub calls : (s : State) (m : Module) (d : FunctionDefinition) (i : ℕ) → slice_get modules s.top.function.place ≡ Some m → slice_get m.functions s.top.function.index ≡ Some d → slice_get d.code s.top.at ≡ Some (Call i) →
-      CallFacts depends (record { modules = modules; home = m; function = d; state = s }) i
+  pub reaches : (place index at : ℕ) (m : Module) (d : FunctionDefinition) (i : Instruction) → slice_get modules place ≡ Some m
+      → slice_get m.functions index ≡ Some d → slice_get d.code at ≡ Some i → Reaches d.acquires i
+  pub calls : (s : State) (m : Module) (d : FunctionDefinition) (i : ℕ) → slice_get modules s.top.function.place ≡ Some m
+      → slice_get m.functions s.top.function.index ≡ Some d → slice_get d.code s.top.at ≡ Some (Call i)
+      → CallFacts depends (record { modules = modules; home = m; function = d; state = s }) i
 
 -- ---- the types
 
 -- a frame's references are as the types say that are carried to its instruction
 abbrev pub FrameFits : List Module → Seen → Type 0
 FrameFits modules v =
-    (home : Module) (function : FunctionDefinition) (stated : Stated) (known : Known) (types : Types) → slice_get modules v.frame.function.place ≡ Some home → slice_get home.functions v.frame.function.index ≡ Some function →
+    (home : Module) (function : FunctionDefinition) (stated : Stated) (known : Known) (types : Types) →
+    slice_get modules v.frame.function.place ≡ Some home → slice_get home.functions v.frame.function.index ≡ Some function →
     known_before home function stated v.frame.at ≡ Some (known, types) → Fits (record { home = home; function = function; types = types }) v
 
 -- what a live reference leads into is there, and is no reference
@@ -46,7 +49,8 @@ abbrev pub Able : Here → Types → Instruction → Type 0
 Able h types Pop = (v : Value) (below : List Value) → h.state.top.stack ≡ v ∷ below → can_drop h v ≡ true
 Able h types (CopyLoc l) = (v : Value) → slice_get h.state.top.locals l ≡ Some (Some v) → can_copy h v ≡ true
 Able h types (StLoc l) =
-    (v : Value) (t : Token) → slice_get h.state.top.locals l ≡ Some (Some v) → local_type h.home h.function l ≡ Some t → has_drop (record { home = h.home; function = h.function; types = types }) t ≡ true → can_drop h v ≡ true
+    (v : Value) (t : Token) → slice_get h.state.top.locals l ≡ Some (Some v) → local_type h.home h.function l ≡ Some t
+    → has_drop (record { home = h.home; function = h.function; types = types }) t ≡ true → can_drop h v ≡ true
 Able h types ReadRef = (r : Reference) (below : List Value) (v : Value) → h.state.top.stack ≡ Ref r ∷ below → place_value h.state r.place ≡ Some v → can_copy h v ≡ true
 Able h types WriteRef = (r : Reference) (below : List Value) (v : Value) → h.state.top.stack ≡ Ref r ∷ below → place_value h.state r.place ≡ Some v → can_drop h v ≡ true
 Able h types Eq = (v w : Value) (below : List Value) → h.state.top.stack ≡ v ∷ w ∷ below → (can_drop h w && can_drop h v) ≡ true

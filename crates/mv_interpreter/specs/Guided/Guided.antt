@@ -43,8 +43,10 @@ StoodFit (x ∷ xs) = Fits (point_of x) (seen_of x) × StoodFit xs
 -- what a waiting frame's Call says of the results, and what the function says that it called: which are references, and which mutable ones
 abbrev pub ResultsAgree : Stood → Module → FunctionDefinition → Type 0
 ResultsAgree w home function =
-    (i : ℕ) (handle : FunctionHandle) (results : List Token) → slice_get w.function.code w.frame.at ≡ Some (Call i) → slice_get w.home.function_handles i ≡ Some handle → slice_get w.home.signatures handle.results ≡ Some results →
-    (own : FunctionHandle) (own_results : List Token) → slice_get home.function_handles function.handle ≡ Some own → slice_get home.signatures own.results ≡ Some own_results → map token_kind results ≡ map token_kind own_results
+    (i : ℕ) (handle : FunctionHandle) (results : List Token) → slice_get w.function.code w.frame.at ≡ Some (Call i) →
+    slice_get w.home.function_handles i ≡ Some handle → slice_get w.home.signatures handle.results ≡ Some results →
+    (own : FunctionHandle) (own_results : List Token) → slice_get home.function_handles function.handle ≡ Some own →
+    slice_get home.signatures own.results ≡ Some own_results → map token_kind results ≡ map token_kind own_results
 
 -- each frame, of this function, and the one below it
 abbrev pub AllAgree : Module → FunctionDefinition → List Stood → Type 0

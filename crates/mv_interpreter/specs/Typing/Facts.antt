@@ -73,7 +73,9 @@ pub record Facts (h : Here) : Type 0 where
   pub tag : (t : Token) (tag : Tag) → token_named h.home t ≡ Some tag → tag_named h.modules h.home t ≡ Ok tag
   pub local_names : (tokens : List Token) (l : ℕ) (t : Token) → local_tokens h.home h.function ≡ Some tokens → slice_get tokens l ≡ Some t → Named h.home t
   pub own : (i : ℕ) (d : StructDefinition) → slice_get h.home.structs i ≡ Some d → OwnFacts h i d
-  pub call : (i : ℕ) (handle : FunctionHandle) (parameters results : List Token) → slice_get h.home.function_handles i ≡ Some handle → slice_get h.home.signatures handle.parameters ≡ Some parameters → slice_get h.home.signatures handle.results ≡ Some results → CallFacts h i handle parameters results
+  pub call : (i : ℕ) (handle : FunctionHandle) (parameters results : List Token) → slice_get h.home.function_handles i ≡ Some handle
+      → slice_get h.home.signatures handle.parameters ≡ Some parameters → slice_get h.home.signatures handle.results ≡ Some results
+      → CallFacts h i handle parameters results
   pub constant : (i : ℕ) (c : Constant) → slice_get h.home.constants i ≡ Some c → ConstantFacts c
 
 -- the types at each of these places
@@ -107,4 +109,5 @@ pub record Advance (m : Module) (d : FunctionDefinition) (at : ℕ) (types : Typ
 pub record SoundStore (modules : List Module) : Type 0 where
   pub facts : (home : Module) (function : FunctionDefinition) (s : State) → slice_get modules s.top.function.place ≡ Some home → slice_get home.functions s.top.function.index ≡ Some function →
       Facts (record { modules = modules; home = home; function = function; state = s })
-  pub advance : (place index at : ℕ) (m : Module) (d : FunctionDefinition) (types : Types) → slice_get modules place ≡ Some m → slice_get m.functions index ≡ Some d → TypesAt m d at types → Advance m d at types
+  pub advance : (place index at : ℕ) (m : Module) (d : FunctionDefinition) (types : Types) → slice_get modules place ≡ Some m
+      → slice_get m.functions index ≡ Some d → TypesAt m d at types → Advance m d at types

@@ -8,7 +8,8 @@ use Rattle.mv_machine.specs.State.{Storage, Event}
 use Rattle.mv_machine.specs.Typed.{is_fine_storage}
 use Rattle.mv_machine.specs.Run.{RunOutcome, Returned, Aborted, Exhausted, Faulted, FunctionCall, run}
 use Rattle.mv_machine.specs.Lines.{Reply, Published, Refused, Rejected, Returned as RanToEnd, Aborted as RanToAbort, Exhausted as RanOut, Told}
-use Rattle.mv_machine.specs.Ledger.{Offer, LedgerState, Request, RunRequest, Publish, Run, Show, Audit, BadRun, Bad, modules_of, empty_ledger, with_bundle, with_run, with_returned, admitted, attempted, settled, Answers}
+use Rattle.mv_machine.specs.Ledger.{Offer, LedgerState, Request, RunRequest, Publish, Run, Show, Audit, BadRun, Bad, modules_of, empty_ledger}
+use Rattle.mv_machine.specs.Ledger.{with_bundle, with_run, with_returned, admitted, attempted, settled, Answers}
 use Rattle.mv_linker.specs.Link.{IsStore, tables_in}
 use Rattle.mv_linker.proofs.Joining.Empty.{no_modules}
 use Rattle.mv_interpreter.specs.Typing.StateTyped.{StorageTyped}

@@ -9,7 +9,9 @@ use Rattle.mv_move_types.specs.declared.token.LeafKind.TheVariants.{Address}
 use Rattle.std.proofs.lemmas.List.{reverse-reverse}
 use Rattle.mv_machine.specs.StepParts.{can_drop}
 use Rattle.mv_interpreter.specs.Typing.StateTyped.{Numbered}
-use Rattle.mv_ledger.proofs.Counting.Counts.{none_in, lacks_copy, lacks_drop, held-append, held-reverse, held-list_of, held-fields_of, held-set, held-entered, kept-append, kept-first, kept-rest, kept-reverse, kept-list_of, kept-set, kept-get, kept-entered, kept-value_at, Replaces, replaces-at}
+use Rattle.mv_ledger.proofs.Counting.Counts.{none_in, lacks_copy, lacks_drop, held-append, held-reverse, held-list_of, held-fields_of, held-set}
+use Rattle.mv_ledger.proofs.Counting.Counts.{held-entered, kept-append, kept-first, kept-rest, kept-reverse, kept-list_of, kept-set, kept-get}
+use Rattle.mv_ledger.proofs.Counting.Counts.{kept-entered, kept-value_at, Replaces, replaces-at}
 use Rattle.mv_ledger.proofs.Counting.Stored.{count-without, count-new, kept-stored_at, kept-without, kept-with, ascending-without, ascending-with}
 use Rattle.mv_ledger.proofs.Counting.Frames.{fine-stack, kept-root, fine-root, held-root}
 use Rattle.mv_ledger.proofs.Counting.Tags.{tag_of-abilities, has_tag-abilities}

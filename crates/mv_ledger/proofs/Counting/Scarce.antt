@@ -23,12 +23,14 @@ all-filter_map P f (x ∷ xs) h = by_case (f x) refl (all-filter_map P f xs h)
 scarce_name-scarce : (modules : List Module) (m : Module) (d : StructDefinition) (name : StructName) → HandlesDeclared modules m → scarce_name m d ≡ Some name → IsScarce modules name
 scarce_name-scarce modules m d name declares e = by_case (struct_abilities m d) refl e
   where
-    by_copy : (copy drop : Bool) (a : Abilities) → a.copy ≡ copy → a.drop ≡ drop → struct_abilities m d ≡ Some a → cond (not copy && not drop) (name_of_struct m d) None ≡ Some name → IsScarce modules name
+    by_copy : (copy drop : Bool) (a : Abilities) → a.copy ≡ copy → a.drop ≡ drop → struct_abilities m d ≡ Some a
+        → cond (not copy && not drop) (name_of_struct m d) None ≡ Some name → IsScarce modules name
     by_copy false false a c dr s g = record { abilities = a; is_declared = definition-declared modules m d name a declares g s; copy = c; drop = dr }
     by_copy false true a c dr s g = absurd cc
     by_copy true drop a c dr s g = absurd cc
 
-    by_case : (o : Option Abilities) → struct_abilities m d ≡ o → cond (option_map_or (λ (a : Abilities). not a.copy && not a.drop) o false) (name_of_struct m d) None ≡ Some name → IsScarce modules name
+    by_case : (o : Option Abilities) → struct_abilities m d ≡ o
+        → cond (option_map_or (λ (a : Abilities). not a.copy && not a.drop) o false) (name_of_struct m d) None ≡ Some name → IsScarce modules name
     by_case (Some a) s g = by_copy a.copy a.drop a refl refl s g
     by_case None s g = absurd cc
 
@@ -98,5 +100,5 @@ pub scarce_name-is : (m : Module) (d : StructDefinition) (name : StructName) (a 
     → scarce_name m d ≡ Some name
 scarce_name-is m d name a name_is a_is c dr =
     let both : is_scarce_struct m d ≡ true =
-          ap (λ (o : Option Abilities). option_map_or (λ (a : Abilities). not a.copy && not a.drop) o false) a_is ∙ ap₂ (λ (x y : Bool). not x && not y) c dr in
+    ap (λ (o : Option Abilities). option_map_or (λ (a : Abilities). not a.copy && not a.drop) o false) a_is ∙ ap₂ (λ (x y : Bool). not x && not y) c dr in
     ap (λ (b : Bool). cond b (name_of_struct m d) None) both ∙ name_is

@@ -15,7 +15,8 @@ use Rattle.mv_ledger.proofs.Loads.BodyLookups.{or_else, words-append, puts, word
 use Rattle.mv_ledger.proofs.Loads.BodyEntries.{struct_under, entry_text, IsEntry}
 use Rattle.mv_ledger.proofs.Loads.BodyGroups.{rises-ascends, ascends-rises, group-parts, group-whole, Among, group_text, groups-parts, groups-whole, is-own, own-is}
 use Rattle.mv_ledger.proofs.Loads.BodyKeyed.{keyed-distinct, keyed-among}
-use Rattle.mv_ledger.proofs.Loads.BodyValues.{flat_entry, valued, entry-valued, EachIsSized, FineParts, fine-parts, stored-as, addressed-as, ascending-ascends, ascends-ascending, under-valued, under-flat}
+use Rattle.mv_ledger.proofs.Loads.BodyValues.{flat_entry, valued, entry-valued, EachIsSized, FineParts, fine-parts, stored-as, addressed-as}
+use Rattle.mv_ledger.proofs.Loads.BodyValues.{ascending-ascends, ascends-ascending, under-valued, under-flat}
 
 -- ---- what is read
 

@@ -64,7 +64,8 @@ impl Joined {
         requires texts { AreTexts news.items }
         requires few { length self.old.store + length news.items ≤ most_modules }
         requires joined { IsJoined self.old.store self.old.tallies self.old.counters }
-        ensures joined { OnOk result ((before offers : List Offer) → AreJoined before self.old.store self.old.tallies self.old.counters → AllPass offers (published_of news.entry.items) → AreJoined (before ++ offers) self.new.store self.new.tallies self.new.counters) }
+        ensures joined { OnOk result ((before offers : List Offer) → AreJoined before self.old.store self.old.tallies self.old.counters
+            → AllPass offers (published_of news.entry.items) → AreJoined (before ++ offers) self.new.store self.new.tallies self.new.counters) }
         ensures refused { IfErr result (IsRefusedIn 13 (AreLinked (self.old.store ++ published_of news.entry.items))) }
         ensures store { OnErr result (self.new.store ≡ self.old.store) }
         ensures tallies { OnErr result (self.new.tallies ≡ self.old.tallies) }
@@ -89,7 +90,8 @@ impl Joined {
     fn join(&mut self, alloc: Global, offers: &[Offered<'_>]) -> Result<(), LoadError>
         requires few { length self.old.store + length offers.now ≤ most_modules }
         requires joined { IsJoined self.old.store self.old.tallies self.old.counters }
-        ensures joined { (before : List Offer) → AreJoined before self.old.store self.old.tallies self.old.counters → OnOk result (AreJoined (before ++ offers_of offers.now) self.new.store self.new.tallies self.new.counters) }
+        ensures joined { (before : List Offer) → AreJoined before self.old.store self.old.tallies self.old.counters
+            → OnOk result (AreJoined (before ++ offers_of offers.now) self.new.store self.new.tallies self.new.counters) }
         ensures refused { (before : List Offer) → AreJoined before self.old.store self.old.tallies self.old.counters → IfErr result (AreNotJoined (before ++ offers_of offers.now)) }
     {
         let news = match all_verified(alloc, offers) {
@@ -111,7 +113,8 @@ impl Joined {
         requires few { length self.old.store + length offers.now ≤ most_modules }
         requires joined { IsJoined self.old.store self.old.tallies self.old.counters }
         ensures few { IfOk result (λ n. n ≤ length offers.now) }
-        ensures joined { (before : List Offer) → AreJoined before self.old.store self.old.tallies self.old.counters → IfOk result (λ n. AreJoined (before ++ take n (offers_of offers.now)) self.new.store self.new.tallies self.new.counters) }
+        ensures joined { (before : List Offer) → AreJoined before self.old.store self.old.tallies self.old.counters
+            → IfOk result (λ n. AreJoined (before ++ take n (offers_of offers.now)) self.new.store self.new.tallies self.new.counters) }
         ensures refused { (before : List Offer) → AreJoined before self.old.store self.old.tallies self.old.counters → IfErr result (AreNotJoined (before ++ offers_of offers.now)) }
     {
         let most = offers.len().min(MOST_IN_GROUP);

@@ -57,7 +57,8 @@ find-with_table (m ∷ ms) n own name named = step (have_one_name n m) refl (is_
 
     later : (a : Bool) → is_module name n ≡ a → (b : Bool) → is_module name m ≡ b → have_one_name n m ≡ false → (rest : Option ℕ)
         → rest ≡ cond a (Some (place_for ms n)) (module_place ms name)
-        → cond b (Some 0) (option_map suc rest) ≡ cond a (Some (unwrap_or (option_map suc (find_index (have_one_name n) ms)) (suc (length ms)))) (cond b (Some 0) (option_map suc (module_place ms name)))
+        → cond b (Some 0) (option_map suc rest)
+        ≡ cond a (Some (unwrap_or (option_map suc (find_index (have_one_name n) ms)) (suc (length ms)))) (cond b (Some 0) (option_map suc (module_place ms name)))
     later true p true q h rest e = absurd (clash h p q)
     later true p false q h rest e = ap (option_map suc) e ∙ ap Some (sym (unwrapped (find_index (have_one_name n) ms) (length ms)))
     later false p true q h rest e = refl

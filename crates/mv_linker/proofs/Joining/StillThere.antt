@@ -140,7 +140,8 @@ module _ (old ns : List Module) (j : Joining old ns) where
       called false e = let no : have_one_name m x ≡ true = e in absurd cc
 
       go : (o : Option FunctionDefinition) → option_map_or (λ (e : FunctionDefinition). is_public e && have_one_type x d y e) o false ≡ true
-          → option_map_or (λ (own : FunctionHandle). same_signature m handle.parameters x own.parameters && same_signature m handle.results x own.results) (slice_get x.function_handles d.handle) false ≡ true
+          → option_map_or (λ (own : FunctionHandle). same_signature m handle.parameters x own.parameters
+          && same_signature m handle.results x own.results) (slice_get x.function_handles d.handle) false ≡ true
           → option_map_or (function_fits m handle y) o false ≡ true
       go None e f = absurd cc
       go (Some e) g f = deeper (slice_get x.function_handles d.handle) refl (slice_get y.function_handles e.handle) refl (first_so (is_public e) (have_one_type x d y e) g) (second_so (is_public e) (have_one_type x d y e) g) f
@@ -174,7 +175,8 @@ module _ (old ns : List Module) (j : Joining old ns) where
   function-still-there m kept handle e = go (module_name m handle.module) refl e
     where
       go : (o : Option ModuleName) → module_name m handle.module ≡ o
-          → option_map_or (λ n. option_map_or (λ name. option_map_or (function_fits m handle n) (function_named n name) false) (slice_get m.identifiers handle.name) false) (o >>= module_named old) false ≡ true
+          → option_map_or (λ n. option_map_or
+          (λ name. option_map_or (function_fits m handle n) (function_named n name) false) (slice_get m.identifiers handle.name) false) (o >>= module_named old) false ≡ true
           → function_is_there (with_tables old ns) m handle ≡ true
       go None p q = absurd cc
       go (Some k) p q = deeper (module_named old k) refl q

@@ -73,7 +73,8 @@ pub record Replaces (m n : Module) : Type 0 where
 module _ (m n : Module) (r : Replaces m n) where
   -- the parts of a definition that stays
   parts : (d e : StructDefinition) → same_struct_definition m d n e ≡ true
-      → (both_there (λ (a b : StructName). bytes_eq a.name b.name) (name_of_struct m d) (name_of_struct n e) ≡ true) × (both_there same_abilities (struct_abilities m d) (struct_abilities n e) ≡ true) × (same_fields m d.fields n e.fields ≡ true)
+      → (both_there (λ (a b : StructName). bytes_eq a.name b.name) (name_of_struct m d) (name_of_struct n e) ≡ true)
+      × (both_there same_abilities (struct_abilities m d) (struct_abilities n e) ≡ true) × (same_fields m d.fields n e.fields ≡ true)
   parts d e h =
       let one = and_parts (both_there (λ (a b : StructName). bytes_eq a.name b.name) (name_of_struct m d) (name_of_struct n e) && both_there same_abilities (struct_abilities m d) (struct_abilities n e)) (same_fields m d.fields n e.fields) h in
       let two = and_parts (both_there (λ (a b : StructName). bytes_eq a.name b.name) (name_of_struct m d) (name_of_struct n e)) (both_there same_abilities (struct_abilities m d) (struct_abilities n e)) one.0 in

@@ -13,7 +13,8 @@ pub record Stays (old result : List Module) : Type 0 where
 -- a module that a function handle leads to is not replaced
 abbrev pub CallsStay : List Module → List Module → Module → Type 0
 CallsStay old result m =
-    (i : ℕ) (handle : FunctionHandle) (name : ModuleName) (p : ℕ) → slice_get m.function_handles i ≡ Some handle → module_name m handle.module ≡ Some name → module_place old name ≡ Some p → slice_get result p ≡ slice_get old p
+    (i : ℕ) (handle : FunctionHandle) (name : ModuleName) (p : ℕ) → slice_get m.function_handles i ≡ Some handle
+    → module_name m handle.module ≡ Some name → module_place old name ≡ Some p → slice_get result p ≡ slice_get old p
 
 -- a function's module is there
 record IsHome (old : List Module) (m : Module) (handle : FunctionHandle) : Type 0 where

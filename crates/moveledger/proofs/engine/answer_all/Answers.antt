@@ -3,7 +3,9 @@ use Rattle.std.proofs.KnownBytes.{Appends-kept}
 use Rattle.std.proofs.lemmas.Result.{err_from_is_err_and}
 use Rattle.moveledger.specs.Records.{Cut, IsText, Whole}
 use Rattle.mv_machine.specs.Lines.{Refused, reply_lines, numbered}
-use Rattle.moveledger.proofs.Steps.{Progress-start, Progress-next, Progress-stops_reading, Progress-ends, Progress-full, Progress-cut, Progress-reads, Progress-reads_cut, Progress-reads_full, Stops-read, Stops-written, Stops-writing, Stops-begun, Stops-answered, StartsWith-whole, error-is}
+use Rattle.moveledger.proofs.Steps.{Progress-start, Progress-next, Progress-stops_reading, Progress-ends, Progress-full, Progress-cut, Progress-reads}
+use Rattle.moveledger.proofs.Steps.{Progress-reads_cut, Progress-reads_full, Stops-read, Stops-written, Stops-writing, Stops-begun, Stops-answered}
+use Rattle.moveledger.proofs.Steps.{StartsWith-whole, error-is}
 use Rattle.moveledger.proofs.engine.answer_all.Goals as goal
 
 pub loop-n-init : goal.loop-n-init

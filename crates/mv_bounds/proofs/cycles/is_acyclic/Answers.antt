@@ -8,7 +8,9 @@ use Rattle.mv_bounds.proofs.RemovalLemmas.{removal_begins, node_within, unmarked
 use Rattle.mv_bounds.proofs.cycles.is_acyclic.Goals as goal
 
 -- the successors of a node of the graph
-successors_at : (graph : List (Vec ℕ Global)) (node : ℕ) (v : Vec ℕ Global) (targets : List ℕ) → node < length (map (λ (s : Vec ℕ Global). s.items) graph) → v ≡ get_or graph node v → targets ≡ v.items → slice_get (map (λ (s : Vec ℕ Global). s.items) graph) node ≡ Some targets
+successors_at : (graph : List (Vec ℕ Global)) (node : ℕ) (v : Vec ℕ Global) (targets : List ℕ)
+    → node < length (map (λ (s : Vec ℕ Global). s.items) graph) → v ≡ get_or graph node v → targets ≡ v.items
+    → slice_get (map (λ (s : Vec ℕ Global). s.items) graph) node ≡ Some targets
 successors_at graph node v targets low at is =
     slice_get-map (λ (s : Vec ℕ Global). s.items) graph node
     ∙ ap (option_map (λ (s : Vec ℕ Global). s.items)) (slice_get_read graph (length graph) node v refl (omega (arith, low, length-map graph (λ (s : Vec ℕ Global). s.items))) at)

@@ -5,5 +5,6 @@ use Rattle.mv_linker.proofs.sizes.size_of_struct.Given as goal
 abbrev pub invariant-loop-f : goal.invariant-loop-f
 invariant-loop-f l = record {
   few : l.leaves ≤ 256;
-  total : total_of (size_of_token (map (λ (r : Vec (Option Size) Global). r.items) l.rows) l.defined) l.fields ≡ plus l.leaves l.deepest (total_of (size_of_token (map (λ (r : Vec (Option Size) Global). r.items) l.rows) l.defined) (drop l.f-index l.fields));
+  total : total_of (size_of_token (map (λ (r : Vec (Option Size) Global). r.items) l.rows) l.defined) l.fields
+      ≡ plus l.leaves l.deepest (total_of (size_of_token (map (λ (r : Vec (Option Size) Global). r.items) l.rows) l.defined) (drop l.f-index l.fields));
 }

@@ -1,11 +1,18 @@
 use Rattle.mv_uleb.specs.Uleb.{uleb}
-use Rattle.mv_module_text.specs.Entries.{token_text, field_text, instruction_text, module_handle_text, struct_handle_text, function_handle_text, field_handle_text, signature_text, constant_text, identifier_text, address_text, struct_definition_text, function_definition_text}
-use Rattle.mv_module_text.specs.Fits.{is_index, token_fits, field_fits, instruction_fits, module_handle_fits, struct_handle_fits, function_handle_fits, field_handle_fits, signature_fits, constant_fits, identifier_fits, address_fits, struct_definition_fits, function_definition_fits}
-use Rattle.mv_module_text.specs.Parsing.{index_from, token_from, field_from, instruction_from, module_handle_from, struct_handle_from, function_handle_from, field_handle_from, signature_from, constant_from, identifier_from, address_from, struct_definition_from, function_definition_from}
+use Rattle.mv_module_text.specs.Entries.{token_text, field_text, instruction_text, module_handle_text, struct_handle_text, function_handle_text}
+use Rattle.mv_module_text.specs.Entries.{field_handle_text, signature_text, constant_text, identifier_text, address_text, struct_definition_text}
+use Rattle.mv_module_text.specs.Entries.{function_definition_text}
+use Rattle.mv_module_text.specs.Fits.{is_index, token_fits, field_fits, instruction_fits, module_handle_fits, struct_handle_fits}
+use Rattle.mv_module_text.specs.Fits.{function_handle_fits, field_handle_fits, signature_fits, constant_fits, identifier_fits, address_fits}
+use Rattle.mv_module_text.specs.Fits.{struct_definition_fits, function_definition_fits}
+use Rattle.mv_module_text.specs.Parsing.{index_from, token_from, field_from, instruction_from, module_handle_from, struct_handle_from}
+use Rattle.mv_module_text.specs.Parsing.{function_handle_from, field_handle_from, signature_from, constant_from, identifier_from, address_from}
+use Rattle.mv_module_text.specs.Parsing.{struct_definition_from, function_definition_from}
 use Rattle.mv_module_text.proofs.Texts.{index-parts, index-whole, stands}
 use Rattle.mv_module_text.proofs.Tokens.{token-parts, token-whole, field-parts, field-whole, signature-parts, signature-whole, constant-parts, constant-whole}
 use Rattle.mv_module_text.proofs.Opcodes.{instruction-parts, instruction-whole}
-use Rattle.mv_module_text.proofs.Handles.{module_handle-parts, module_handle-whole, struct_handle-parts, struct_handle-whole, function_handle-parts, function_handle-whole, field_handle-parts, field_handle-whole, identifier-parts, identifier-whole}
+use Rattle.mv_module_text.proofs.Handles.{module_handle-parts, module_handle-whole, struct_handle-parts, struct_handle-whole, function_handle-parts}
+use Rattle.mv_module_text.proofs.Handles.{function_handle-whole, field_handle-parts, field_handle-whole, identifier-parts, identifier-whole}
 use Rattle.mv_module_text.proofs.Addresses.{address-parts, address-whole}
 use Rattle.mv_module_text.proofs.Definitions.{struct_definition-parts, struct_definition-whole, function_definition-parts, function_definition-whole}
 use Rattle.mv_module_text.proofs.laws.entries_stand_by_text.Goals as goal

@@ -1,12 +1,17 @@
-use Rattle.mv_module_text.specs.Entries.{module_handle_text, struct_handle_text, function_handle_text, field_handle_text, signature_text, constant_text, identifier_text, address_text, struct_definition_text, function_definition_text}
-use Rattle.mv_module_text.specs.Fits.{module_handle_fits, struct_handle_fits, function_handle_fits, field_handle_fits, signature_fits, constant_fits, identifier_fits, address_fits, struct_definition_fits, function_definition_fits}
-use Rattle.mv_module_text.specs.Parsing.{module_handle_from, struct_handle_from, function_handle_from, field_handle_from, signature_from, constant_from, identifier_from, address_from, struct_definition_from, function_definition_from}
+use Rattle.mv_module_text.specs.Entries.{module_handle_text, struct_handle_text, function_handle_text, field_handle_text, signature_text}
+use Rattle.mv_module_text.specs.Entries.{constant_text, identifier_text, address_text, struct_definition_text, function_definition_text}
+use Rattle.mv_module_text.specs.Fits.{module_handle_fits, struct_handle_fits, function_handle_fits, field_handle_fits, signature_fits, constant_fits}
+use Rattle.mv_module_text.specs.Fits.{identifier_fits, address_fits, struct_definition_fits, function_definition_fits}
+use Rattle.mv_module_text.specs.Parsing.{module_handle_from, struct_handle_from, function_handle_from, field_handle_from, signature_from}
+use Rattle.mv_module_text.specs.Parsing.{constant_from, identifier_from, address_from, struct_definition_from, function_definition_from}
 use Rattle.mv_module_text.proofs.Texts.{stand_all}
 use Rattle.mv_module_text.proofs.Tokens.{signature-parts, signature-whole, constant-parts, constant-whole}
-use Rattle.mv_module_text.proofs.Handles.{module_handle-parts, module_handle-whole, struct_handle-parts, struct_handle-whole, function_handle-parts, function_handle-whole, field_handle-parts, field_handle-whole, identifier-parts, identifier-whole}
+use Rattle.mv_module_text.proofs.Handles.{module_handle-parts, module_handle-whole, struct_handle-parts, struct_handle-whole, function_handle-parts}
+use Rattle.mv_module_text.proofs.Handles.{function_handle-whole, field_handle-parts, field_handle-whole, identifier-parts, identifier-whole}
 use Rattle.mv_module_text.proofs.Addresses.{address-parts, address-whole}
 use Rattle.mv_module_text.proofs.Definitions.{struct_definition-parts, struct_definition-whole, function_definition-parts, function_definition-whole}
-use Rattle.mv_module_text.proofs.Sizes.{module_handle-takes, struct_handle-takes, function_handle-takes, field_handle-takes, signature-takes, constant-takes, identifier-takes, address-takes, struct_definition-takes, function_definition-takes}
+use Rattle.mv_module_text.proofs.Sizes.{module_handle-takes, struct_handle-takes, function_handle-takes, field_handle-takes, signature-takes}
+use Rattle.mv_module_text.proofs.Sizes.{constant-takes, identifier-takes, address-takes, struct_definition-takes, function_definition-takes}
 use Rattle.mv_module_text.proofs.laws.tables_stand_as_texts.Goals as goal
 
 pub returns-clause-module_handles : goal.returns-clause-module_handles

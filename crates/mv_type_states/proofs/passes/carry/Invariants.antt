@@ -8,7 +8,9 @@ use Rattle.mv_type_states.proofs.passes.carry.Given as goal
 -- listed and what is left make the whole
 abbrev pub invariant-loop-instruction : goal.invariant-loop-instruction
 invariant-loop-instruction l = record {
-  leads : types_through l.scope.module.now l.scope.function.now l.code (reverse l.fn.stack.items) ≡ types_through l.scope.module.now l.scope.function.now (drop l.instruction-index l.code) (reverse l.stack.items);
+  leads : types_through l.scope.module.now l.scope.function.now l.code (reverse l.fn.stack.items)
+      ≡ types_through l.scope.module.now l.scope.function.now (drop l.instruction-index l.code) (reverse l.stack.items);
   room : IsSome (height_through l.scope.module.now l.scope.function.now (drop l.instruction-index l.code) (length (reverse l.stack.items)));
-  listed : l.all ++ types_each l.scope.module.now l.scope.function.now (drop l.instruction-index l.code) (reverse l.stack.items) ≡ l.fn.all ++ types_each l.scope.module.now l.scope.function.now l.code (reverse l.fn.stack.items);
+  listed : l.all ++ types_each l.scope.module.now l.scope.function.now (drop l.instruction-index l.code) (reverse l.stack.items)
+      ≡ l.fn.all ++ types_each l.scope.module.now l.scope.function.now l.code (reverse l.fn.stack.items);
 }
