@@ -4,7 +4,7 @@ use Rattle.std.specs.List.{list_all}
 use Rattle.mv_move_types.specs.Module.{Module}
 use Rattle.mv_move_types.specs.Published.{PublishedModule}
 use Rattle.mv_linker.specs.Link.{tables_in}
-use Rattle.mv_linker.specs.Links.{module_is_there, modules_are_there}
+use Rattle.mv_linker.specs.StoreRules.{module_is_there, modules_are_there}
 
 -- the published modules, and so many of those that come next
 abbrev pub with_next : List PublishedModule → List PublishedModule → ℕ → List Module

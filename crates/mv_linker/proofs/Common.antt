@@ -19,24 +19,24 @@ pub use Rattle.mv_move_types.specs.Published.{PublishedModule, with_modules}
 pub use Rattle.mv_move_types.specs.declared.tables.Definition.{Definition}
 pub use Rattle.mv_bounds.specs.Definitions.{WellDefined, all_differ}
 pub use Rattle.mv_linker.specs.Code.{operation, operations}
-pub use Rattle.mv_linker.specs.Coded.{AreCodes, AreOthers, AreOwnSizes, AreToLink, IsCode, callee_by, callees_by, widths_in, words_of_others, words_of_size}
+pub use Rattle.mv_linker.specs.LinkedTogether.{AreCodes, AreOthers, AreOwnSizes, AreToLink, IsCode, callee_by, callees_by, widths_in, words_of_others, words_of_size}
 pub use Rattle.mv_linker.specs.Indexed.{ArePlacesOf, has_name_of}
 pub use Rattle.mv_linker.specs.Interfaces.{AreInterfacesOf, IsInterfaceOf}
 pub use Rattle.mv_linker.specs.Kept.{AreKeyed, Kept, name_in, published_as, published_in, published_under}
 pub use Rattle.mv_linker.specs.Link.{AreSentBy, IsPublishable, IsStore, MayJoin, all_follow, are_compatible, have_one_name, is_sent_by, tables_in}
 pub use Rattle.mv_linker.specs.LinkedBy.{AreAlong, AreFunctions, AreOperations, constant_numbers}
-pub use Rattle.mv_linker.specs.Links.{Links, modules_are_there, names_hold}
+pub use Rattle.mv_linker.specs.StoreRules.{Links, modules_are_there, names_hold}
 pub use Rattle.mv_linker.specs.NamerSteps.{AreNamed, HasAll}
 pub use Rattle.mv_linker.specs.Namers.{AreNamedBy, AreNamers, AreNamersOf, AreNamersOfAll}
 pub use Rattle.mv_linker.specs.News.{published_of, published_one}
 pub use Rattle.mv_linker.specs.Operations.{BorrowLocal as BorrowOperation, Differ as DifferOperation, Discard as DiscardOperation, Load as LoadOperation, PutStored as PutStoredOperation}
 pub use Rattle.mv_linker.specs.Operations.{Read as ReadOperation, Same as SameOperation, Store as StoreOperation, Write as WriteOperation}
-pub use Rattle.mv_linker.specs.Order.{AreDependencies, AreHandlePlaces, IsDependencyGraph, IsOrdered, others, shifted}
+pub use Rattle.mv_linker.specs.DependencyGraph.{AreDependencies, AreHandlePlaces, IsDependencyGraph, IsOrdered, others, shifted}
 pub use Rattle.mv_linker.specs.Relinked.{AreCalls, AreLinkable, AreSizesAt, IsApart, IsDependant, IsFunction, IsStruct, NamesBundle}
 pub use Rattle.mv_linker.specs.Scope.{all_named, found_among, offered, place_for, places_in, with_tables}
 pub use Rattle.mv_linker.specs.Shapes.{AreFieldsAt, AreShapes, has_key, part_by, parts_by, shapes_by}
 pub use Rattle.mv_linker.specs.Sizes.{AreDefined, next_rows, rows_after, size_of_struct, size_of_token, total_of}
-pub use Rattle.mv_linker.specs.Sizing.{AreFoundFor, IsFoundAt}
+pub use Rattle.mv_linker.specs.FoundStructs.{AreFoundFor, IsFoundAt}
 pub use Rattle.mv_linker.specs.Stored.{AreCodesOf, AreDependenciesOf, AreNames, KeepsDependencies, Relinks, with_codes, with_dependencies}
 pub use Rattle.mv_linker.specs.Targets.{AreFunctionsAt, AreStructsAt, IsFunctionAt, IsFunctionIn, IsStructAt, IsStructIn, function_matches, modules_in, struct_matches, tables_of}
 pub use Rattle.mv_linker.specs.declared.New.{New}

@@ -1,7 +1,7 @@
 -- Rule f, and who depends on whom: the order of modules once a bundle joins, the places that are kept of what each module names
 -- and of what names it, and the search from a bundle along them. The main statement is `ordered-acyclic`, in Depends.
 --
--- Read first specs/Order.antt and Reached.antt, then Depends and ReachedLemmas.
+-- Read first specs/DependencyGraph.antt and Reached.antt, then Depends and ReachedLemmas.
 --   Depends           `ordered-acyclic`: dependencies by their places: a cycle of modules is a cycle of places
 --   Graphs            `whole-graph`, `appended-graph`: graphs of dependencies: of all modules, of modules after others, and where a store grows
 --   JoinedOrder       `names-stay`: the order of modules once a bundle joins

@@ -1,7 +1,7 @@
 -- Linked code: that what is made of each function is what the definition lists (`function-whole`, in LinkLemmas), and that
 -- with the code of a bundle and of its dependants a store has that of all its modules (`relinking`, in PlacedCodes).
 --
--- Read first specs/Linked.antt and Coded.antt, then LinkLemmas, CodeStays and Linkable.
+-- Read first specs/Linked.antt and LinkedTogether.antt, then LinkLemmas, CodeStays and Linkable.
 --   Constants        `few-numbers`: the numbers of a module's constants are few
 --   TopLemmas        `along-tops`: linking reads the two topmost types before an instruction, and none below them
 --   WidthLemmas      `width-by`, `words-by`: the words of a module's types are those that its resolved handles give

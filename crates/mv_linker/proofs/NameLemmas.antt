@@ -10,7 +10,7 @@ use Rattle.mv_move_types.specs.Names.{ModuleName, StructName, same_module, same_
 use Rattle.mv_move_types.specs.Module.{Module, own_name, module_name}
 use Rattle.mv_move_types.specs.Named.{is_module, have_one_name, module_place}
 use Rattle.mv_bounds.specs.Definitions.{all_differ}
-use Rattle.mv_linker.specs.Links.{depends_on, names_module}
+use Rattle.mv_linker.specs.StoreRules.{depends_on, names_module}
 use Rattle.mv_linker.proofs.Found.{found_at, find_first, differ_at, one_place}
 
 abbrev module_of : ℕ → List ℕ → ModuleName

@@ -13,7 +13,7 @@ use Rattle.mv_bounds.specs.Definitions.{all_differ}
 use Rattle.mv_type_states.specs.Sound.{IsSound}
 use Rattle.mv_acquires.specs.Acquires.{AcquiresHold}
 use Rattle.mv_certificate.specs.Verified.{IsCertifiedBy}
-use Rattle.mv_linker.specs.Links.{Links}
+use Rattle.mv_linker.specs.StoreRules.{Links}
 use Rattle.mv_linker.specs.Upgrades.{may_replace}
 
 -- the module's own address is the sender

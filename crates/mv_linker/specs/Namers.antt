@@ -5,7 +5,7 @@
 use Rattle.std.specs.Prelude.{◌≡◌, ℕ, ◌<◌, List, Contains, IsTrue, Some, slice_get}
 use Rattle.mv_move_types.specs.Module.{Module}
 use Rattle.mv_linker.specs.declared.dependencies.Dependencies.{Dependencies}
-use Rattle.mv_linker.specs.Links.{depends_on}
+use Rattle.mv_linker.specs.StoreRules.{depends_on}
 
 -- what a module at a place names is among the pairs, which have places of 16 bits
 abbrev pub AreNamedBy : List (ℕ × ℕ) → ℕ → List ℕ → Type 0

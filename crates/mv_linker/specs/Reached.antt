@@ -4,8 +4,8 @@
 --   IsExtended, AreNumbers                places that are reached, with more of them, and where these stand
 use Rattle.std.specs.Prelude.{◌≡◌, ◌⊎◌, ℕ, List, length, IsTrue, Some, Contains, slice_get}
 use Rattle.mv_move_types.specs.Module.{Module}
-use Rattle.mv_linker.specs.Links.{depends_on}
-use Rattle.mv_linker.specs.Order.{IsDependencyGraph}
+use Rattle.mv_linker.specs.StoreRules.{depends_on}
+use Rattle.mv_linker.specs.DependencyGraph.{IsDependencyGraph}
 
 -- some of the modules: all of a bundle, and with each one those that it depends on
 pub record AreReached (modules bundle reached : List Module) : Type 0 where

@@ -11,7 +11,7 @@ use Rattle.mv_move_types.specs.Names.{ModuleName, StructName}
 use Rattle.mv_move_types.specs.Module.{Module, StructDefinition, struct_name, name_of_struct, name_at, own_name}
 use Rattle.mv_move_types.specs.Named.{module_named, definition_of}
 use Rattle.mv_move_types.specs.Leaves.{leaves_within}
-use Rattle.mv_linker.specs.Links.{struct_is_small}
+use Rattle.mv_linker.specs.StoreRules.{struct_is_small}
 use Rattle.mv_linker.specs.Upgrades.{structs_stay}
 use Rattle.mv_linker.specs.declared.sizes.Size.{Size}
 use Rattle.mv_linker.specs.declared.sizes.Defined.{Defined}

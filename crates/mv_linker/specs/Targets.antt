@@ -10,7 +10,7 @@ use Rattle.mv_move_types.specs.Named.{module_place, declared_in}
 pub use Rattle.mv_linker.specs.Handles.{IsStructIn, IsFunctionIn, IsStructAt, IsFunctionAt, EachAt, AreStructsAt, AreFunctionsAt}
 use Rattle.mv_bounds.specs.Definitions.{WellDefined}
 use Rattle.mv_linker.specs.Link.{tables_in}
-use Rattle.mv_linker.specs.Links.{function_fits, function_named}
+use Rattle.mv_linker.specs.StoreRules.{function_fits, function_named}
 use Rattle.mv_linker.specs.Scope.{with_tables, offered}
 use Rattle.mv_linker.specs.declared.scope.Scope.{Scope}
 use Rattle.mv_linker.specs.declared.targets.Found.{Found}

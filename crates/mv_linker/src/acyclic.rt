@@ -1,8 +1,8 @@
 // Rule f of linking: no module that a store has once a bundle joins depends on itself by a chain.
 ghost use Rattle.std.specs.Prelude.{◌≡◌, ◌↔◌, ◌+◌, ◌<◌, ◌≤◌, ◌^◌, length, map, IsTrue, IfOk};
 ghost use Rattle.mv_linker.specs.Link.{IsStore};
-ghost use Rattle.mv_linker.specs.Order.{IsOrdered};
-ghost use Rattle.mv_linker.specs.Ordering.{count_after as counted_after, AreDependenciesIn};
+ghost use Rattle.mv_linker.specs.DependencyGraph.{IsOrdered};
+ghost use Rattle.mv_linker.specs.ScopeDependencies.{count_after as counted_after, AreDependenciesIn};
 ghost use Rattle.mv_linker.specs.Relinked.{IsFitting};
 ghost use Rattle.mv_linker.specs.Scope.{offered};
 ghost use Rattle.mv_linker.specs.Stored.{AreNamesOf};

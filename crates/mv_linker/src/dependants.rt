@@ -2,7 +2,7 @@
 ghost use Rattle.std.specs.Prelude.{◌≡◌, ◌↔◌, ◌<◌, ◌≤◌, ◌==◌, None, is_some, length, position, slice_get, IsTrue, IfOk, IfSome, MatchOption};
 ghost use Rattle.std.specs.List.{list_any};
 ghost use Rattle.mv_linker.specs.Link.{tables_in};
-ghost use Rattle.mv_linker.specs.Links.{names_hold};
+ghost use Rattle.mv_linker.specs.StoreRules.{names_hold};
 ghost use Rattle.mv_linker.specs.Namers.{AreNamersOfAll};
 ghost use Rattle.mv_linker.specs.Relinked.{Joins, NamesBundle, IsApart, IsDependant, AreDependants};
 ghost use Rattle.mv_linker.specs.Stored.{AreNames};

@@ -2,7 +2,7 @@
 ghost use Rattle.std.specs.Prelude.{◌≡◌, ◌<◌, length, map, IfOk};
 ghost use Rattle.std.specs.List.{zip};
 ghost use Rattle.mv_linker.specs.Link.{tables_in};
-ghost use Rattle.mv_linker.specs.Ordering.{AreDependenciesAt};
+ghost use Rattle.mv_linker.specs.ScopeDependencies.{AreDependenciesAt};
 
 use crate::Store;
 use std::alloc::{AllocError, Global};

@@ -3,7 +3,7 @@ ghost use Rattle.std.specs.Prelude.{◌≡◌, ◌↔◌, List, map, IsTrue, IfO
 ghost use Rattle.mv_move_types.specs.Module.{Module};
 ghost use Rattle.mv_move_types.specs.Named.{have_one_name};
 ghost use Rattle.mv_bounds.specs.Definitions.{all_differ};
-ghost use Rattle.mv_linker.specs.Order.{AreHandlePlaces, AreDependencies, IsDependencyGraph, IsOrdered, others, shifted};
+ghost use Rattle.mv_linker.specs.DependencyGraph.{AreHandlePlaces, AreDependencies, IsDependencyGraph, IsOrdered, others, shifted};
 
 use mv_bounds::is_acyclic;
 use std::alloc::{AllocError, Global};

@@ -4,7 +4,7 @@ ghost use Rattle.std.specs.List.{list_all};
 ghost use Rattle.mv_move_types.specs.Refusals.{IsRefusedIn};
 ghost use Rattle.mv_move_types.specs.Named.{have_one_name as are_of_one_name, is_public as may_be_called};
 ghost use Rattle.mv_bounds.specs.Definitions.{WellDefined};
-ghost use Rattle.mv_linker.specs.Links.{struct_is_there, structs_are_there, function_fits, function_is_there};
+ghost use Rattle.mv_linker.specs.StoreRules.{struct_is_there, structs_are_there, function_fits, function_is_there};
 ghost use Rattle.mv_linker.specs.Targets.{modules_in, AreTargets, declared_at, struct_matches, function_matches, IsStructIn, IsFunctionIn, IsStructAt, IsFunctionAt, AreStructsAt, AreFunctionsAt};
 
 use crate::likely::{likely_functions, likely_structs};

@@ -1,7 +1,7 @@
 // The modules that are reached from those of a bundle along dependencies.
 ghost use Rattle.std.specs.Prelude.{◌≡◌, ◌<◌, [], length, map, IfOk, OnOk};
 ghost use Rattle.mv_linker.specs.Link.{IsStore};
-ghost use Rattle.mv_linker.specs.Ordering.{AreDependenciesAt, AreDependenciesIn};
+ghost use Rattle.mv_linker.specs.ScopeDependencies.{AreDependenciesAt, AreDependenciesIn};
 ghost use Rattle.mv_linker.specs.Reached.{AreNumbers, IsExtended, IsReachedGraph};
 ghost use Rattle.mv_linker.specs.Scope.{offered};
 ghost use Rattle.mv_linker.specs.Targets.{modules_in};

@@ -6,7 +6,7 @@ ghost use Rattle.mv_move_types.specs.Refusals.{IsRefusedIn};
 ghost use Rattle.mv_linker.specs.Link.{tables_in};
 ghost use Rattle.mv_linker.specs.Relinked.{IsFitting};
 ghost use Rattle.mv_linker.specs.Sizes.{AreSizes, AreSmall};
-ghost use Rattle.mv_linker.specs.Sizing.{IsFoundAt, AreFoundFor};
+ghost use Rattle.mv_linker.specs.FoundStructs.{IsFoundAt, AreFoundFor};
 ghost use Rattle.mv_linker.specs.Scope.{offered};
 ghost use Rattle.mv_linker.specs.Stored.{AreNamesOf};
 ghost use Rattle.mv_linker.specs.Targets.{EachAt, modules_in};

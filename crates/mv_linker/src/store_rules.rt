@@ -5,7 +5,7 @@ ghost use Rattle.std.specs.List.{list_all};
 ghost use Rattle.mv_move_types.specs.Refusals.{IsRefusedIn};
 ghost use Rattle.mv_bounds.specs.Definitions.{all_differ};
 ghost use Rattle.mv_linker.specs.Link.{tables_in, have_one_name};
-ghost use Rattle.mv_linker.specs.Links.{Links, names_hold};
+ghost use Rattle.mv_linker.specs.StoreRules.{Links, names_hold};
 ghost use Rattle.mv_linker.specs.Relinked.{IsFitting};
 ghost use Rattle.mv_linker.specs.Scope.{offered};
 ghost use Rattle.mv_linker.specs.Stored.{KeepsDependencies, Relinks, AreNames, AreNamesOf};

@@ -5,7 +5,7 @@ ghost use Rattle.mv_move_types.specs.Module.{name_at};
 ghost use Rattle.mv_move_types.specs.Named.{function_place};
 ghost use Rattle.mv_linker.specs.Link.{IsStore, tables_in};
 ghost use Rattle.mv_linker.specs.Code.{operations};
-ghost use Rattle.mv_linker.specs.Coded.{AreOwnSizes};
+ghost use Rattle.mv_linker.specs.LinkedTogether.{AreOwnSizes};
 ghost use Rattle.mv_linker.specs.Interfaces.{IsInterfaceAt};
 ghost use Rattle.mv_linker.specs.Linked.{program_of, width_of_others};
 ghost use Rattle.mv_linker.specs.Shapes.{AreFieldsAt, is_keyed, structs_in};

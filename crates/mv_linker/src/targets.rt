@@ -5,7 +5,7 @@ ghost use Rattle.mv_move_types.specs.Refusals.{IsRefusedIn};
 ghost use Rattle.mv_move_types.specs.Named.{module_place};
 ghost use Rattle.mv_bounds.specs.Definitions.{WellDefined};
 ghost use Rattle.mv_linker.specs.Kept.{name_in};
-ghost use Rattle.mv_linker.specs.Links.{module_is_there, modules_are_there};
+ghost use Rattle.mv_linker.specs.StoreRules.{module_is_there, modules_are_there};
 ghost use Rattle.mv_linker.specs.Targets.{modules_in, tables_of, IsTarget, AreTargets};
 
 use crate::entry::Name;

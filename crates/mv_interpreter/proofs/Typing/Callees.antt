@@ -14,7 +14,7 @@ use Rattle.mv_move_types.specs.Tags.{same_tags}
 use Rattle.mv_move_types.specs.Named.{module_named, is_module}
 use Rattle.mv_move_types.specs.Named.{have_one_name}
 use Rattle.mv_linker.specs.TypesByName.{signature_named, same_signature}
-use Rattle.mv_linker.specs.Links.{function_named, function_fits, function_is_there}
+use Rattle.mv_linker.specs.StoreRules.{function_named, function_fits, function_is_there}
 use Rattle.mv_machine.specs.Step.{signature_tags}
 use Rattle.mv_machine.specs.StepControl.{Callee, callee}
 use Rattle.mv_move_types.specs.Named.{function_place, is_public}

@@ -37,7 +37,7 @@ pub use Rattle.mv_bounds.specs.Bounds.{below, function_in, instruction_in, local
 pub use Rattle.mv_cfg.specs.Blocks.{ends_well}
 pub use Rattle.mv_module_text.proofs.Texts.{on_bind}
 pub use Rattle.mv_linker.proofs.Found.{each, there_below, then_found}
-pub use Rattle.mv_linker.specs.Links.{structs_are_there}
+pub use Rattle.mv_linker.specs.StoreRules.{structs_are_there}
 pub use Rattle.mv_linker.specs.TypesByName.{token_named, tokens_named, value_type_named}
 pub use Rattle.mv_module_text.specs.Fits.{address_fits, function_definition_fits, instruction_fits}
 pub use Rattle.mv_storage.proofs.Keys.{same_key-to}

@@ -3,7 +3,7 @@ use Rattle.std.specs.Prelude.{◌≡◌, ℕ, IsTrue, List, Some, slice_get}
 use Rattle.mv_move_types.specs.Module.{Module}
 use Rattle.mv_acquires.specs.Acquires.{AcquiresHold}
 use Rattle.mv_certificate.specs.Certificate.{Certificate, all_locals_hold, all_edges_hold}
-use Rattle.mv_linker.specs.Links.{Reaches}
+use Rattle.mv_linker.specs.StoreRules.{Reaches}
 use Rattle.mv_interpreter.specs.Typing.Accepted.{StoreAccepted}
 
 -- the modules are accepted, and each has a certificate that holds and acquires lists that are right

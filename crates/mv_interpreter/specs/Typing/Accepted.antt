@@ -8,7 +8,7 @@ use Rattle.mv_abilities.specs.Abilities.{AbilitiesHold}
 use Rattle.mv_cfg.specs.Blocks.{FlowHolds}
 use Rattle.mv_type_states.specs.TypesHold.{TypesHold}
 use Rattle.mv_binary_format.specs.ModuleText.{HasText}
-use Rattle.mv_linker.specs.Links.{Links}
+use Rattle.mv_linker.specs.StoreRules.{Links}
 use Rattle.mv_move_types.specs.Named.{have_one_name}
 
 -- a module passes what it has to alone, and has a text

@@ -18,7 +18,7 @@ use Rattle.mv_certificate.specs.Shape.{StatedFits, AllStatedFit, known_fits}
 use Rattle.mv_certificate.specs.CertificateText.{certificate_text}
 use Rattle.mv_binary_format.specs.ModuleText.{HasText, IsModuleText, tables, headers_from, ordered_text}
 use Rattle.mv_bounds.specs.Definitions.{Holds, defined_by, directly, further}
-use Rattle.mv_linker.specs.Links.{depends_on, Reaches, directly as depends_at_once, further as depends_further}
+use Rattle.mv_linker.specs.StoreRules.{depends_on, Reaches, directly as depends_at_once, further as depends_further}
 use Rattle.mv_machine.specs.Ledger.{Offer, LedgerState, RunRequest, empty_ledger, with_bundle, admitted}
 use Rattle.mv_move_types.specs.Published.{PublishedModule}
 use Rattle.mv_uleb.specs.Uleb.{uleb}

@@ -21,7 +21,7 @@ use Rattle.mv_machine.specs.Typed.{leaf_fits, is_of_type, are_of_types, is_of_st
 use Rattle.mv_machine.specs.Flat.{FlatEntry, value_from, fields_from, struct_from, value_under, storage_of}
 use Rattle.mv_linker.specs.TypesByName.{token_named, value_type_named}
 use Rattle.mv_linker.specs.Upgrades.{same_field, same_fields}
-use Rattle.mv_linker.specs.Links.{struct_is_there, structs_are_there}
+use Rattle.mv_linker.specs.StoreRules.{struct_is_there, structs_are_there}
 use Rattle.mv_module_text.proofs.Texts.{on_bind}
 use Rattle.mv_linker.proofs.TagTests.{same_tag-is}
 use Rattle.mv_interpreter.specs.Owned.{IsOwn}

@@ -5,7 +5,7 @@ use Rattle.mv_ledger.proofs.Counting.Common.{Tag, StructHandle, Abilities, Where
 use Rattle.mv_ledger.proofs.Counting.Common.{fields_of, AbilitiesHold, field_is_able, implies, struct_is_able, token_abilities, each, IsAbleStore, Allows, AreKept, IsKept, StackIsKept}
 use Rattle.mv_move_types.specs.Results.{for_each}
 use Rattle.mv_move_types.specs.declared.tables.Field.{Field}
-use Rattle.mv_linker.specs.Links.{struct_is_there, structs_are_there}
+use Rattle.mv_linker.specs.StoreRules.{struct_is_there, structs_are_there}
 use Rattle.mv_machine.specs.StepStructs.{own_struct}
 use Rattle.mv_linker.proofs.Joining.Upgraded.{same_abilities-is}
 use Rattle.mv_ledger.proofs.Counting.Tags.{has_tag-abilities, tag_named-abilities}

@@ -43,7 +43,7 @@ pub use Rattle.mv_machine.specs.Typed.{abilities_at, are_of_types, is_fine_entry
 pub use Rattle.mv_machine.specs.Value.{Leaf, More, NoMore, Ref, Struct, Value, Values}
 pub use Rattle.mv_linker.proofs.NameLemmas.{same_struct-is, same_struct-same}
 pub use Rattle.mv_linker.specs.Link.{IsPublishable, IsStore, MayJoin, are_compatible, have_one_name, tables_in}
-pub use Rattle.mv_linker.specs.Links.{Links, module_is_there, modules_are_there, struct_is_small}
+pub use Rattle.mv_linker.specs.StoreRules.{Links, module_is_there, modules_are_there, struct_is_small}
 pub use Rattle.mv_storage.specs.FlatStorage.{FlatStorage, with_words, words_under}
 pub use Rattle.mv_storage.specs.Map.{Ascends, IsBelow}
 pub use Rattle.mv_ledger.specs.Counting.Kept.{AreAbove, IsAscending}

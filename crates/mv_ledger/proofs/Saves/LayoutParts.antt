@@ -14,7 +14,7 @@ use Rattle.mv_type_states.specs.Sound.{IsSound}
 use Rattle.mv_linker.specs.declared.shapes.Part.{Part}
 use Rattle.mv_linker.specs.declared.shapes.Part.TheVariants.{Leaf, Struct, Nothing}
 use Rattle.mv_linker.specs.Handles.{IsStructAt}
-use Rattle.mv_linker.specs.Links.{struct_is_small}
+use Rattle.mv_linker.specs.StoreRules.{struct_is_small}
 use Rattle.mv_linker.specs.Shapes.{AreFieldsAt, AreParts, IsMadeOf, IsPart, has_key, is_of_value}
 use Rattle.mv_linker.specs.Shapes.{is_keyed as keyed_in}
 use Rattle.mv_linker.proofs.Joining.Assembling.{passed-among}

@@ -6,7 +6,7 @@ use Rattle.mv_move_types.specs.Module.{Module}
 use Rattle.mv_machine.specs.State.{State, frames}
 use Rattle.mv_abilities.specs.Abilities.{AbilitiesHold}
 use Rattle.mv_signatures.specs.Signatures.{entry_fits}
-use Rattle.mv_linker.specs.Links.{structs_are_there}
+use Rattle.mv_linker.specs.StoreRules.{structs_are_there}
 use Rattle.mv_interpreter.specs.Typing.StateTyped.{Numbered}
 use Rattle.mv_ledger.specs.Counting.Held.{held, made, unmade}
 use Rattle.mv_ledger.specs.Counting.Kept.{FramesAreKept, StorageIsKept, IsAscending}

@@ -13,7 +13,7 @@ pub use Rattle.mv_move_types.specs.Named.{have_one_name, is_module, module_place
 pub use Rattle.mv_move_types.specs.Names.{ModuleName}
 pub use Rattle.mv_bounds.proofs.PlaceLemmas.{slice_get-first, slice_get-second}
 pub use Rattle.mv_bounds.specs.Definitions.{all_differ}
-pub use Rattle.mv_linker.specs.Links.{Links, Reaches, depends_on, directly, further, modules_are_there, names_module}
-pub use Rattle.mv_linker.specs.Order.{AreDependencies, AreHandlePlaces, IsDependencyGraph, IsOrdered, others, shifted}
-pub use Rattle.mv_linker.specs.Ordering.{AreDependenciesAt, AreDependenciesIn, ArePlaces, count_after}
+pub use Rattle.mv_linker.specs.StoreRules.{Links, Reaches, depends_on, directly, further, modules_are_there, names_module}
+pub use Rattle.mv_linker.specs.DependencyGraph.{AreDependencies, AreHandlePlaces, IsDependencyGraph, IsOrdered, others, shifted}
+pub use Rattle.mv_linker.specs.ScopeDependencies.{AreDependenciesAt, AreDependenciesIn, ArePlaces, count_after}
 pub use Rattle.mv_linker.specs.Scope.{offered, place_for, places_in, with_table, with_tables}

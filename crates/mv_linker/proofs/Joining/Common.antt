@@ -21,8 +21,8 @@ pub use Rattle.mv_module_text.proofs.Texts.{on_bind}
 pub use Rattle.mv_bounds.specs.Bounds.{InBounds}
 pub use Rattle.mv_bounds.specs.Definitions.{WellDefined, all_differ}
 pub use Rattle.mv_linker.specs.Link.{IsPublishable, IsStore, MayJoin, all_follow, are_compatible, follows, replaced_in, tables_in}
-pub use Rattle.mv_linker.specs.Links.{IsLinkedBundle, Links, Reaches, directly, function_fits, function_is_there, function_named, further, module_is_there, modules_are_there, names_hold}
-pub use Rattle.mv_linker.specs.Links.{struct_is_small, struct_is_there, structs_are_there}
+pub use Rattle.mv_linker.specs.StoreRules.{IsLinkedBundle, Links, Reaches, directly, function_fits, function_is_there, function_named, further, module_is_there, modules_are_there, names_hold}
+pub use Rattle.mv_linker.specs.StoreRules.{struct_is_small, struct_is_there, structs_are_there}
 pub use Rattle.mv_linker.specs.Scope.{all_named, found_among, newest_at, offered, place_for, places_in, with_table, with_tables}
 pub use Rattle.mv_linker.specs.Targets.{AreTargets, EachAt, IsFunctionAt, IsFunctionIn, IsStructAt, IsStructIn, IsTarget, function_matches, modules_in, struct_matches, tables_of}
 pub use Rattle.mv_linker.specs.Upgrades.{function_stays, have_one_type, may_replace, same_fields, same_struct_definition, structs_stay}

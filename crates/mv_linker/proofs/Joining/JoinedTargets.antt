@@ -2,7 +2,7 @@
 use Rattle.mv_linker.proofs.Joining.Common.{ℕ, ◌+◌, ◌∙◌, ◌≡◌, List, None, Option, Some, ap, length, map, option_map, refl, subst, sym, true, length-map, none-some, same_Some, slice_get-map, slice_get}
 use Rattle.mv_linker.proofs.Joining.Common.{Module, module_name, name_at, name_of_struct, definition_of, have_one_name, module_place, StructName, ◌>>=◌, on_bind, all_differ, Links, with_tables}
 use Rattle.mv_linker.proofs.Joining.Common.{AreTargets}
-use Rattle.mv_linker.specs.Order.{AreHandlePlaces, AreDependencies, IsDependencyGraph}
+use Rattle.mv_linker.specs.DependencyGraph.{AreHandlePlaces, AreDependencies, IsDependencyGraph}
 use Rattle.mv_linker.specs.Sizes.{IsSized}
 use Rattle.mv_linker.specs.declared.sizes.Size.{Size}
 use Rattle.mv_linker.specs.declared.targets.Target.{Target}

@@ -5,10 +5,10 @@ use Rattle.mv_linker.proofs.Kept.Common.{name_of_struct, own_name, definition_of
 use Rattle.mv_linker.specs.declared.store_rules.Names.{Names}
 use Rattle.mv_linker.specs.declared.sizes.Defined.{Defined}
 use Rattle.mv_linker.specs.declared.sizes.Defined.TheVariants.{Published, Bundled}
-use Rattle.mv_linker.specs.Links.{structs_are_there}
+use Rattle.mv_linker.specs.StoreRules.{structs_are_there}
 use Rattle.mv_linker.specs.Scope.{with_tables, places_in}
 use Rattle.mv_linker.specs.Sizes.{IsSized, IsDefined, AreDefined}
-use Rattle.mv_linker.specs.Sizing.{IsFoundAt, AreFoundFor}
+use Rattle.mv_linker.specs.FoundStructs.{IsFoundAt, AreFoundFor}
 use Rattle.mv_linker.specs.Targets.{IsStructAt}
 use Rattle.mv_linker.proofs.Joining.Bundled.{bundle-at, old-at, place-at}
 use Rattle.mv_linker.proofs.Cycles.DependencyLemmas.{length-places}

@@ -4,7 +4,7 @@
 --   length-put_all, from-put_all       several, one after the other
 use Rattle.mv_linker.proofs.Kept.Common.{[], ℕ, ◌++◌, ◌+◌, ◌∙◌, ◌∷◌, ◌≡◌, ◌≤◌, ◌⊎◌, Bool, Contains, List, Some, ap, arith, cond, false, inl, inr, length, map, refl, slice_get, subst, suc, sym, true}
 use Rattle.mv_linker.proofs.Kept.Common.{zero, eqb-false, eqb-true, none-some, same_Some, ◌==◌, fold, slice_set, with_at}
-use Rattle.mv_linker.specs.Ordering.{count_after, ArePlaces}
+use Rattle.mv_linker.specs.ScopeDependencies.{count_after, ArePlaces}
 use Rattle.mv_linker.proofs.Found.{Contains-at, at-Contains}
 
 -- ---- one entry

@@ -23,10 +23,10 @@ pub use Rattle.mv_move_types.specs.declared.token.ValueType.{ValueType}
 pub use Rattle.mv_bounds.specs.Bounds.{InBounds, below, function_handle_in, function_in, instruction_in, local_count}
 pub use Rattle.mv_type_states.specs.Sound.{IsSound, types_before}
 pub use Rattle.mv_type_states.specs.TypeRules.{Types, target_of, top_type}
-pub use Rattle.mv_linker.specs.Coded.{AreCodes, AreOwnSizes, AreSized, AreToLink, IsCode}
+pub use Rattle.mv_linker.specs.LinkedTogether.{AreCodes, AreOwnSizes, AreSized, AreToLink, IsCode}
 pub use Rattle.mv_linker.specs.Linked.{Entered, constant_number, linked_module, others_in, program_of, programs_from, to_field, to_return, width_of_others, with_slot, with_target, with_top}
 pub use Rattle.mv_linker.specs.LinkedBy.{AreAlong, AreFunctions, AreOperations, Gives, GoesOn, IsLinker, Pushes, Stands, constant_numbers, literal_of, site_of}
-pub use Rattle.mv_linker.specs.Links.{Links, function_fits, function_is_there, function_named, struct_is_small, structs_are_there}
+pub use Rattle.mv_linker.specs.StoreRules.{Links, function_fits, function_is_there, function_named, struct_is_small, structs_are_there}
 pub use Rattle.mv_linker.specs.Operations.{BorrowInside, BorrowLocal, Differ, Discard, Enter, GiveUp, Leave, Load, Operation, Push, PutStored, Read, Same, Store, Write}
 pub use Rattle.mv_linker.specs.Resolved.{AreResolved, callee_of, width_of_handle}
 pub use Rattle.mv_linker.specs.Scope.{offered, with_tables}

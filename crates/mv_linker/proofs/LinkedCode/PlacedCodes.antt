@@ -9,7 +9,7 @@ use Rattle.mv_linker.specs.declared.code.CodeAt.{CodeAt}
 use Rattle.mv_linker.specs.declared.dependants.Dependant.{Dependant}
 use Rattle.mv_linker.specs.declared.scope.Scope.{Scope}
 use Rattle.mv_linker.specs.Link.{tables_in}
-use Rattle.mv_linker.specs.Ordering.{count_after, ArePlaces}
+use Rattle.mv_linker.specs.ScopeDependencies.{count_after, ArePlaces}
 use Rattle.mv_linker.specs.Relinked.{Joins, IsDependant, AreDependants, AreLinkable}
 use Rattle.mv_linker.proofs.Cycles.DependantLemmas.{names-none}
 use Rattle.mv_linker.proofs.Joining.Joins.{joining, kept-at}

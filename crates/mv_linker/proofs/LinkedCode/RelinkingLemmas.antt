@@ -1,7 +1,7 @@
 -- Modules that were linked: the codes of a store's modules with theirs are those of the result's modules.
 use Rattle.mv_linker.proofs.LinkedCode.Common.{ℕ, ◌∙◌, ◌≡◌, Contains, List, Some, ap, inl, inr, length, map, slice_get, subst, sym, same_Some, Module, IsCode, Relinks, Code}
 use Rattle.mv_linker.specs.declared.code.CodeAt.{CodeAt}
-use Rattle.mv_linker.specs.Ordering.{count_after, ArePlaces}
+use Rattle.mv_linker.specs.ScopeDependencies.{count_after, ArePlaces}
 use Rattle.mv_linker.proofs.Kept.WithAt.{length-put_all, from-put_all, WasPut}
 
 -- Each module that was linked has its code in the result, where it stands at its place or at the next one; and the code of each

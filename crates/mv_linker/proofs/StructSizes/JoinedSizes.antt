@@ -3,7 +3,7 @@ use Rattle.std.proofs.Common.{List, inl, inr}
 use Rattle.std.specs.List.{list_all}
 use Rattle.std.specs.Cmp.{first_so}
 use Rattle.mv_move_types.specs.Module.{Module}
-use Rattle.mv_linker.specs.Links.{Links, struct_is_small}
+use Rattle.mv_linker.specs.StoreRules.{Links, struct_is_small}
 use Rattle.mv_linker.specs.Scope.{with_tables}
 use Rattle.mv_linker.specs.Upgrades.{structs_stay, function_stays}
 use Rattle.mv_linker.specs.Sizes.{Keeps, AreSmall}

@@ -17,7 +17,7 @@ use Rattle.mv_move_types.specs.Names.{StructName}
 use Rattle.mv_move_types.specs.Module.{Module, StructDefinition, struct_name, name_of_struct, name_at, module_name}
 use Rattle.mv_move_types.specs.Named.{definition_of}
 use Rattle.mv_move_types.specs.Leaves.{leaves_within, leaves_of, sum_of_fields}
-use Rattle.mv_linker.specs.Links.{struct_is_small}
+use Rattle.mv_linker.specs.StoreRules.{struct_is_small}
 use Rattle.mv_linker.specs.declared.sizes.Size.{Size}
 use Rattle.mv_linker.specs.declared.sizes.Defined.{Defined}
 use Rattle.mv_linker.specs.declared.sizes.Defined.TheVariants.{Published, Bundled}

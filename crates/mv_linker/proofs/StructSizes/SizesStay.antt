@@ -22,7 +22,7 @@ use Rattle.mv_move_types.specs.Module.{Module, StructDefinition, own_name, modul
 use Rattle.mv_move_types.specs.Named.{is_struct, module_named, module_place, definition_of, declared, declared_in}
 use Rattle.mv_move_types.specs.Leaves.{leaves_within, leaves_of, sum_of_fields}
 use Rattle.mv_linker.specs.TypesByName.{token_named, value_type_named}
-use Rattle.mv_linker.specs.Links.{struct_is_there, structs_are_there, struct_is_small}
+use Rattle.mv_linker.specs.StoreRules.{struct_is_there, structs_are_there, struct_is_small}
 use Rattle.mv_linker.specs.Upgrades.{same_fields, same_struct_definition, structs_stay}
 use Rattle.mv_linker.specs.Sizes.{OwnsStructs, Keeps, IsSized}
 use Rattle.mv_linker.specs.declared.sizes.Size.{Size}

@@ -1,7 +1,7 @@
 -- What is known of the dependencies of the modules of a scope.
 use Rattle.std.specs.Prelude.{◌≡◌, ℕ, ◌+◌, ◌≤◌, ◌==◌, cond, List, [], ◌∷◌, length, Some, slice_get}
 use Rattle.mv_move_types.specs.Module.{Module}
-use Rattle.mv_linker.specs.Order.{AreDependencies}
+use Rattle.mv_linker.specs.DependencyGraph.{AreDependencies}
 
 -- how many modules there are once those before are so many and modules took these places
 abbrev pub count_after : List ℕ → ℕ → ℕ
