@@ -68,12 +68,7 @@ fn release(
 fn all_marked(marks: &[bool]) -> bool
     ensures { result ≡ list_all (λ r. r) marks.now }
 {
-    for mark in marks {
-        if !*mark {
-            return false;
-        }
-    }
-    true
+    marks.iter().all(|mark| *mark)
 }
 
 /// Whether no node of a graph, which is given by each node's successors, leads to itself. A successor that is no node

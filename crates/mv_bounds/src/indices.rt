@@ -156,10 +156,9 @@ fn structs_in(m: &Module) -> bool
 fn field_handle_in(m: &Module, h: FieldHandle) -> bool
     ensures { result ≡ field_handle_in m.now h }
 {
-    match m.structs().get(usize::from(h.definition)) {
-        Some(d) => usize::from(h.position) < d.fields().len(),
-        None => false,
-    }
+    m.structs()
+        .get(usize::from(h.definition))
+        .is_some_and(|d| usize::from(h.position) < d.fields().len())
 }
 
 /// Whether the field handles' struct definitions are there and have the positions.
