@@ -11,7 +11,8 @@ ghost use Rattle.mv_borrow_graph.specs.Nodes.{are_few as few};
 use super::site::{Site, leaves_edges};
 use mv_binary_format::FunctionDefinition;
 use mv_bounds::Bounded;
-use mv_edges::{Edge, Edges, MOST_EDGES, MOST_POSITIONS};
+use mv_cfg::Block;
+use mv_edges::{Aim, Edge, Edges, MOST_EDGES, MOST_POSITIONS};
 use mv_lattice::{Domain, StepError};
 use mv_move_types::Instruction;
 use mv_type_states::{StackTypes, Typed};
@@ -94,6 +95,14 @@ impl<'t, 'm> BorrowDomain<'t, 'm> {
         })
     }
 
+    /// Where the first result of the call at a place stands on the stack, if a call is there.
+    fn first_result(&self, at: usize) -> Option<usize> {
+        match self.instruction(at) {
+            Some(Instruction::Call(callee)) => self.site(at)?.first_result(callee),
+            _ => None,
+        }
+    }
+
     /// Whether types are known before an instruction.
     fn is_known(&self, at: usize) -> bool
         ensures { result ≡ is_some (slice_get (types_before self.now.home self.now.function) at) }
@@ -131,6 +140,12 @@ impl<'t, 'm> BorrowDomain<'t, 'm> {
     }
 }
 
+/// Whether one of the instructions is a call.
+fn has_call(code: &[Instruction]) -> bool {
+    code.iter()
+        .any(|instruction| matches!(instruction, Instruction::Call(_)))
+}
+
 /// Whether each edge has a label of at most 8 positions.
 fn are_short(edges: &[Edge]) -> bool
     ensures { result ≡ list_all (λ e. nat_le (length e.label.path) 8) edges.now }
@@ -153,11 +168,16 @@ impl<'t, 'm> Domain for BorrowDomain<'t, 'm> {
     ghost use Rattle.mv_edges.specs.Edges.{Edge as EdgeRecord, edges_leq};
     ghost use Rattle.mv_edges.specs.Sorted.{sorted};
     ghost use Rattle.mv_edges.specs.Ascending.{are_ascending};
+    ghost use Rattle.mv_edges.specs.Related.{edges_alike, is_in_aim};
     ghost use Rattle.mv_borrow_graph.specs.Domain.{edges_step, places_reference};
     ghost use Rattle.mv_borrow_graph.specs.Laws.{edges_lawful};
     ghost use Rattle.mv_borrow_graph.specs.Nodes.{may_begin_with, are_few, IsGraphOf};
 
     type State = Edges;
+
+    type Carried = Edges;
+
+    type Aim = Aim;
 
     ghost size = { λ d. length d.function.code };
 
@@ -173,13 +193,13 @@ impl<'t, 'm> Domain for BorrowDomain<'t, 'm> {
 
     ghost is_small = { λ d s. IsTrue (are_few s) };
 
+    ghost goes_for = { λ d a c s. IsTrue (are_ascending c) × IsTrue (edges_alike a c s) };
+
+    ghost aims_at = { λ d a u. IsTrue (is_in_aim a u) };
+
     ghost laws = { λ d. edges_lawful d.home d.function };
 
     fn copy(&self, alloc: Global, s: &Edges) -> Result<Edges, AllocError> {
-        s.copy(alloc)
-    }
-
-    fn copy_into(&self, alloc: Global, s: &Edges, _t: Edges) -> Result<Edges, AllocError> {
         s.copy(alloc)
     }
 
@@ -210,6 +230,45 @@ impl<'t, 'm> Domain for BorrowDomain<'t, 'm> {
     {
         self.change(alloc, &mut s, at)?;
         Ok(s)
+    }
+
+    /// Where no function is called no label is opened, so that none is worth a cut.
+    fn aim(&self, alloc: Global, block: &Block) -> Aim {
+        if has_call(&self.code[block.first..=block.last]) {
+            Aim::none(alloc)
+        } else {
+            Aim::any(alloc)
+        }
+    }
+
+    fn aim_at(&self, alloc: Global, aim: Aim, u: &Edges) -> Result<Aim, AllocError> {
+        aim.with(alloc, u)
+    }
+
+    fn enter(
+        &self,
+        alloc: Global,
+        _aim: &Aim,
+        s: &Edges,
+        _spent: Option<Edges>,
+    ) -> Result<Edges, AllocError>
+        requires { IsTrue (are_ascending s.now) }
+        ensures { IfOk result (λ c. IsTrue (are_ascending c) × IsTrue (edges_alike _aim.now c s.now)) }
+    {
+        s.copy(alloc)
+    }
+
+    /// The labels of a call's results are cut down to what the aim sees of them.
+    fn pass(&self, alloc: Global, aim: &Aim, mut c: Edges, at: usize) -> Result<Edges, StepError> {
+        self.change(alloc, &mut c, at)?;
+        match self.first_result(at) {
+            Some(place) => Ok(c.simplified(alloc, aim, place)?),
+            None => Ok(c),
+        }
+    }
+
+    fn is_under(&self, _aim: &Aim, c: &Edges, u: &Edges) -> bool {
+        c.leq(u)
     }
 
     fn fits(&self, s: &Edges) -> bool {

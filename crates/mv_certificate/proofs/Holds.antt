@@ -165,8 +165,8 @@ module _ (m : Module) (d : FunctionDefinition) (g : Cfg) (stated : Stated) (fg :
       ap (λ o. option_map_or (λ (start : Known). flow_holds edges_after edges_leq m d start.edges (map (option_map (λ k. k.edges)) stated)) o false) b.is
       ∙ ap (λ z. flow_holds edges_after edges_leq m d z (map (option_map (λ k. k.edges)) stated)) (b.free ∙ sym none)
       ∙ ap (flow_holds edges_after edges_leq m d s) (sym is) in (
-        λ c. same ∙ holds_from_closed (List Edge) edges_after edges_leq (edges_step m d) SameEdges m d (edges_do m d) SameEdges-self (λ u e x r. leq_same u e x x r (SameEdges-self x)) g fg typed (λ e. IsTrue (are_ascending e)) s all fl c,
-        λ h. closed_from_holds (List Edge) edges_after edges_leq (edges_step m d) SameEdges m d (edges_do m d) SameEdges-self (λ u e x r. leq_same u e x x r (SameEdges-self x)) g fg typed (λ e. IsTrue (are_ascending e)) s all fl (sym same ∙ h),
+        λ c. same ∙ holds_from_closed (List Edge) edges_after edges_leq (edges_step m d) SameEdges m d (edges_do m d) SameEdges-self leq_same g fg typed (λ e. IsTrue (are_ascending e)) s all fl c,
+        λ h. closed_from_holds (List Edge) edges_after edges_leq (edges_step m d) SameEdges m d (edges_do m d) SameEdges-self leq_same g fg typed (λ e. IsTrue (are_ascending e)) s all fl (sym same ∙ h),
       )
 
 -- what holds of the function at a place

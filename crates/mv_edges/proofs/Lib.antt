@@ -1,3 +1,4 @@
+pub mod Alike
 pub mod Changes
 pub mod Comparisons
 pub mod Counting
@@ -10,6 +11,8 @@ pub mod Lexicographic
 pub mod Moved
 pub mod Order
 pub mod Passed
+pub mod Related
 pub mod Renamed
 pub mod Searches
+pub mod Seen
 pub mod Sorting

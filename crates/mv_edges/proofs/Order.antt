@@ -1,17 +1,15 @@
 -- The order of labels, edges and lists of edges.
-use Rattle.std.proofs.Common.{◌≡◌, ℕ, ◌↔◌, ◌⊎◌, inl, inr, Bool, true, ◌&&◌, List, [], ◌∷◌, ◌++◌, Contains, eqb, bytes_eq, refl, sym, ◌∙◌, subst, true≢false, eqb-true, eq-eqb}
+use Rattle.std.proofs.Common.{◌≡◌, ℕ, ◌↔◌, ◌⊎◌, inl, inr, true, ◌&&◌, List, [], ◌∷◌, ◌++◌, Contains, eqb, bytes_eq, refl, sym, ◌∙◌, subst, true≢false, eqb-true, eq-eqb}
 use Rattle.std.specs.Bool.{beq}
-use Rattle.std.specs.List.{list_any}
 use Rattle.std.proofs.lemmas.Bool.{and_parts, and_from, or_cases, or_left, or_right}
-use Rattle.std.proofs.lemmas.List.Folds.{list_any_at}
 use Rattle.std.proofs.lemmas.List.Elements.{Contains-append_cases, Contains-append_left, Contains-append_right}
 use Rattle.mv_move_types.specs.Paths.{begins}
-use Rattle.mv_edges.specs.Edges.{Label, Edge, same_node, same_label, label_leq, edge_leq, edges_leq}
+use Rattle.mv_edges.specs.Edges.{Label, Edge, same_label, label_leq, edge_leq, edges_leq}
 use Rattle.mv_edges.specs.Sorted.{sorted}
 use Rattle.mv_edges.specs.Joins.{IsJoin}
-use Rattle.mv_edges.specs.Equality.{same_node_decides, same_label_decides}
-use Rattle.mv_edges.proofs.Insertion.{contains_here, contains_there, all_contains, all_from_contains}
+use Rattle.mv_edges.specs.Equality.{same_label_decides}
 use Rattle.mv_edges.proofs.Sorting.{contains-sorted}
+use Rattle.mv_edges.proofs.Related.{Passing, partner, edges_related_from, related_from, related_from_contains, related-transitive}
 
 -- ---- prefixes
 
@@ -63,72 +61,27 @@ label_leq-transitive a b c h g = by_cases (label_below a b h) (label_below b c g
     by_cases (prefix o p) (same e) = subst (λ x. label_leq a x ≡ true) e h
     by_cases (prefix o p) (prefix q r) = label_leq_prefix a c q (begins-transitive c.path b.path a.path r p)
 
--- ---- edges
-
--- the nodes are the same, and the one label is below the other
-pub record EdgeBelow (a b : Edge) : Type 0 where
-  pub from : a.from ≡ b.from
-  pub to : a.to ≡ b.to
-  pub label : label_leq a.label b.label ≡ true
-
-pub edge_below : (a b : Edge) → edge_leq a b ≡ true → EdgeBelow a b
-edge_below a b h =
-    let parts = and_parts (same_node a.from b.from && same_node a.to b.to) (label_leq a.label b.label) h in
-    let nodes = and_parts (same_node a.from b.from) (same_node a.to b.to) parts.0 in
-    record { from = (same_node_decides a.from b.from).0 nodes.0; to = (same_node_decides a.to b.to).0 nodes.1; label = parts.1 }
-
-pub edge_leq_from : (a b : Edge) → a.from ≡ b.from → a.to ≡ b.to → label_leq a.label b.label ≡ true → edge_leq a b ≡ true
-edge_leq_from a b from to label =
-    and_from (same_node a.from b.from && same_node a.to b.to) (label_leq a.label b.label)
-    (and_from (same_node a.from b.from) (same_node a.to b.to) ((same_node_decides a.from b.from).1 from) ((same_node_decides a.to b.to).1 to)) label
+-- ---- edges and lists of edges
 
 pub edge_leq_itself : (e : Edge) → edge_leq e e ≡ true
-edge_leq_itself e = edge_leq_from e e refl refl (label_leq_itself e.label)
-
-pub edge_leq-transitive : (a b c : Edge) → edge_leq a b ≡ true → edge_leq b c ≡ true → edge_leq a c ≡ true
-edge_leq-transitive a b c h g =
-    let x = edge_below a b h in
-    let y = edge_below b c g in
-    edge_leq_from a c (x.from ∙ y.from) (x.to ∙ y.to) (label_leq-transitive a.label b.label c.label x.label y.label)
-
--- ---- lists of edges
-
--- an edge of a list that passes a test
-pub record Passing (p : Edge → Bool) (es : List Edge) : Type 0 where
-  pub edge : Edge
-  pub there : Contains es edge
-  pub passes : p edge ≡ true
-
-pub passing : (p : Edge → Bool) (es : List Edge) → list_any p es ≡ true → Passing p es
-passing p [] h = absurd (true≢false (sym h))
-passing p (e ∷ es) h =
-    elim (or_cases (p e) (list_any p es) h) [
-      | inl g ↦ record { edge = e; there = contains_here e es; passes = g }
-      | inr g ↦ let rest = passing p es g in record { edge = rest.edge; there = contains_there e es rest.edge rest.there; passes = rest.passes }
-    ]
-
-pub list_any_from : (p : Edge → Bool) (es : List Edge) (e : Edge) → Contains es e → p e ≡ true → list_any p es ≡ true
-list_any_from p es e c h = list_any_at p es c.0 e c.1 (subst (λ x. p x ≡ true) (sym c.2) h)
+edge_leq_itself e = related_from label_leq e e refl refl (label_leq_itself e.label)
 
 -- each edge of the one list is below one of the other
 pub above : (es fs : List Edge) → edges_leq es fs ≡ true → (e : Edge) → Contains es e → Passing (edge_leq e) fs
-above es fs h e c = passing (edge_leq e) fs (all_contains (λ a. list_any (edge_leq a) fs) es e h c)
+above es fs h e c = partner label_leq es fs h e c
 
 pub edges_leq_from : (es fs : List Edge) → ((e : Edge) → Contains es e → Passing (edge_leq e) fs) → edges_leq es fs ≡ true
-edges_leq_from es fs f =
-    all_from_contains (λ a. list_any (edge_leq a) fs) es (λ e c. let p = f e c in list_any_from (edge_leq e) fs p.edge p.there p.passes)
+edges_leq_from es fs f = edges_related_from label_leq es fs f
 
 -- a list is below one that has its edges
 pub edges_leq_from_contains : (es fs : List Edge) → ((e : Edge) → Contains es e → Contains fs e) → edges_leq es fs ≡ true
-edges_leq_from_contains es fs f = edges_leq_from es fs (λ e c. record { edge = e; there = f e c; passes = edge_leq_itself e })
+edges_leq_from_contains es fs f = related_from_contains label_leq label_leq_itself es fs f
 
 pub edges_leq_itself : (es : List Edge) → edges_leq es es ≡ true
 edges_leq_itself es = edges_leq_from_contains es es (λ e c. c)
 
 pub edges_leq-transitive : (es fs gs : List Edge) → edges_leq es fs ≡ true → edges_leq fs gs ≡ true → edges_leq es gs ≡ true
-edges_leq-transitive es fs gs h g =
-    edges_leq_from es gs
-    (λ e c. let x = above es fs h e c in let y = above fs gs g x.edge x.there in record { edge = y.edge; there = y.there; passes = edge_leq-transitive e x.edge y.edge x.passes y.passes })
+edges_leq-transitive es fs gs h g = related-transitive label_leq label_leq label_leq label_leq-transitive es fs gs h g
 
 -- a list that has just the edges of two is the least above both
 pub join_from_members : (a b s : List Edge) → ((e : Edge) → Contains s e ↔ (Contains a e ⊎ Contains b e)) → IsJoin a b s

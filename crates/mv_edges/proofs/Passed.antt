@@ -15,7 +15,7 @@ use Rattle.mv_edges.specs.Sought.{IsNext, FailUpTo, ComeBefore}
 use Rattle.mv_edges.proofs.Lexicographic.{irreflexive, total, list_before_strict}
 use Rattle.mv_edges.proofs.EdgeOrder.{edge_strict}
 use Rattle.mv_edges.proofs.Insertion.{all_contains, all_from_contains}
-use Rattle.mv_edges.proofs.Order.{list_any_from}
+use Rattle.mv_edges.proofs.Related.{list_any_from}
 use Rattle.mv_edges.proofs.Leaps.{lower_nodes}
 use Rattle.mv_edges.proofs.Sorting.{ascending_above, ascending_tail, ascending_front, ascending-push_some, any_passes, any_filter}
 

@@ -6,13 +6,14 @@ use Rattle.std.specs.Result.{is_ok}
 use Rattle.std.proofs.lemmas.Bool.{and_parts, cases_lt, false_from_ne_true}
 use Rattle.std.proofs.lemmas.List.Elements.{Contains-append_cases}
 use Rattle.mv_move_types.specs.Paths.{begins}
-use Rattle.mv_edges.specs.Edges.{Edge, same_edge, edge_leq, longest, opened_at}
+use Rattle.mv_edges.specs.Edges.{Edge, same_edge, label_leq, edge_leq, longest, opened_at}
 use Rattle.mv_edges.specs.Ascending.{edge_before}
 use Rattle.mv_edges.proofs.EdgeOrder.{edge_strict}
 use Rattle.mv_edges.specs.Equality.{same_edge_decides}
 use Rattle.mv_edges.proofs.Insertion.{contains_here, contains_there, all_contains}
 use Rattle.mv_edges.proofs.Lengths.{longest_above}
-use Rattle.mv_edges.proofs.Order.{begins-append, same, prefix, label_below, label_leq_prefix, edge_below, edge_leq_from, edge_leq_itself, Passing, passing, list_any_from}
+use Rattle.mv_edges.proofs.Order.{begins-append, same, prefix, label_below, label_leq_prefix, edge_leq_itself}
+use Rattle.mv_edges.proofs.Related.{related_parts, related_from, Passing, passing, list_any_from}
 
 pub contains_at : (es : List Edge) (i : ℕ) (e : Edge) → slice_get es i ≡ Some e → Contains es e
 contains_at [] i e h = cc
@@ -56,7 +57,7 @@ begins-take k xs = subst (λ ys. begins (take k xs) ys ≡ true) (take-append-dr
 pub reached_prefix : (es : List Edge) (e : Edge) (k : ℕ) → list_any (same_edge (opened_at k e)) es ≡ true → list_any (edge_leq e) es ≡ true
 reached_prefix es e k h =
     let p = passing (same_edge (opened_at k e)) es h in
-    let below : edge_leq e (opened_at k e) ≡ true = edge_leq_from e (opened_at k e) refl refl (label_leq_prefix e.label (opened_at k e).label refl (begins-take k e.label.path)) in
+    let below : edge_leq e (opened_at k e) ≡ true = related_from label_leq e (opened_at k e) refl refl (label_leq_prefix e.label (opened_at k e).label refl (begins-take k e.label.path)) in
     list_any_from (edge_leq e) es p.edge p.there (subst (λ x. edge_leq e x ≡ true) ((same_edge_decides (opened_at k e) p.edge).0 p.passes) below)
 
 begins_length : (xs ys : List ℕ) → begins xs ys ≡ true → length xs ≤ length ys
@@ -79,7 +80,7 @@ not_reached es e h f = false_from_ne_true (list_any (edge_leq e) es) (λ some. r
     refuted : Passing (edge_leq e) es → ⊥
     refuted p =
         let x = p.edge in
-        let below = edge_below e x p.passes in
+        let below = related_parts label_leq e x p.passes in
         elim (label_below e.label x.label below.label) [
           | same g ↦
               let equal : e ≡ x = λ i. record { from = below.from i; label = g i; to = below.to i } in

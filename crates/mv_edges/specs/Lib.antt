@@ -4,5 +4,6 @@ pub mod Edges
 pub mod Equality
 pub mod Joins
 pub mod Positions
+pub mod Related
 pub mod Sorted
 pub mod Sought

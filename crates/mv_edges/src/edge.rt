@@ -1,5 +1,5 @@
 // An edge, and the order of edges.
-ghost use Rattle.std.specs.Prelude.{◌≡◌, ◌≤◌, max, length, IfOk};
+ghost use Rattle.std.specs.Prelude.{◌≡◌, ◌≤◌, max, length, true, IfOk};
 ghost use Rattle.std.specs.Ordering.{ordering_then, nat_cmp, bool_cmp};
 ghost use Rattle.std.specs.Cmp.Lexicographic.{slice_cmp};
 ghost use Rattle.mv_edges.specs.Edges.{an_edge, is_global_node, same_node, renamed_node, changed, edge_leq, opened_at};
@@ -223,6 +223,18 @@ impl<'a> Model for EdgeView<'a> {
 }
 
 impl<'a> EdgeView<'a> {
+    /// An edge from a node to itself, whose label is open and has these positions.
+    pub(crate) fn open_loop(path: &'a [u8]) -> Self
+        ensures { result ≡ an_edge (Node.Slot 0) (record { path = path.now; is_open = true }) (Node.Slot 0) }
+    {
+        EdgeView {
+            from: Node::Slot(0),
+            path,
+            is_open: true,
+            to: Node::Slot(0),
+        }
+    }
+
     /// How many positions the label has.
     pub(crate) fn depth(&self) -> usize
         ensures { result ≡ length self.now.label.path }

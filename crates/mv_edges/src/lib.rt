@@ -18,6 +18,7 @@
 //! ```
 #![tactic(auto)]
 
+mod aim;
 mod edge;
 mod edges;
 mod ends;
@@ -35,6 +36,7 @@ pub const MOST_EDGES: usize = 1024;
 /// How many positions the label of a stated edge has at most.
 pub const MOST_POSITIONS: usize = 8;
 
+pub use aim::Aim;
 pub use edge::Edge;
 pub use edges::Edges;
 pub use label::{Change, Label};

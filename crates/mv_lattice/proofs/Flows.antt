@@ -3,7 +3,7 @@ use Rattle.std.proofs.Common.{◌≡◌, ℕ, suc, ◌+◌, ◌-◌, ◌<◌, �
 use Rattle.std.proofs.lemmas.Bool.{cases_eq}
 use Rattle.std.proofs.lemmas.List.Elements.{All-more}
 use Rattle.std.proofs.lemmas.Option.{slice_get-map, slice_get_read, slice_get_within}
-use Rattle.mv_lattice.specs.Flow.{carried, states_of, IsStated, IsBelowEach}
+use Rattle.mv_lattice.specs.Flow.{carried, states_of, IsStated, AimsAtEach}
 
 module _ {S : Type 0} (step : ℕ → S → Option S) where
   -- one instruction more
@@ -18,6 +18,18 @@ module _ {S : Type 0} (step : ℕ → S → Option S) where
       let n : last + 1 - at ≡ suc (last + 1 - (at + 1)) = omega arith in
       rw (n, e) refl
 
+  module _ (IsState : S → Type 0) (first last : ℕ) where
+    -- of each state with P the instructions from `first` to `last` make what those from `at` on make of one with Q
+    abbrev pub CarriesOn : ℕ → (S → Type 0) → (S → Type 0) → Type 0
+    CarriesOn at P Q = (s : S) → IsState s → P s → (u : S) × (IsState u × (Q u × (carried step at (last + 1 - at) u ≡ carried step first (last + 1 - first) s)))
+
+    pub carries_on : (at : ℕ) (P Q R : S → Type 0) → at ≤ last → ((u t : S) → IsState u → step at u ≡ Some t → IsState t)
+        → ((u : S) → IsState u → Q u → (t : S) × ((step at u ≡ Some t) × R t)) → CarriesOn at P Q → CarriesOn (at + 1) P R
+    carries_on at P Q R h keeps passes on s is p =
+        let before = on s is p in
+        let after = passes before.0 before.1.0 before.1.1.0 in
+        (after.0, (keeps before.0 after.0 before.1.0 after.1.0, (after.1.1, carried_some at last before.0 after.0 h after.1.0 ∙ before.1.1.1)))
+
 -- what is stated at a place, by the entry that was read there
 module _ {K S : Type 0} (inner : K → S) (entries : List (Option K)) (k : ℕ) (r : Option K) (within : k < length entries) (read : r ≡ get_or entries k r) where
   stated_at : slice_get (states_of inner entries) k ≡ option_map (option_map inner) (Some r)
@@ -29,19 +41,19 @@ module _ {K S : Type 0} (inner : K → S) (entries : List (Option K)) (k : ℕ) 
   pub unstated_entry : r ≡ None → slice_get (states_of inner entries) k ≡ Some None
   unstated_entry is = stated_at ∙ ap (λ o. Some (option_map inner o)) is
 
-module _ {S : Type 0} (below : S → S → Type 0) (flow : List (Option S)) (blocks : List ℕ) (t : S) where
-  pub below_each_some : (i n : ℕ) (v : S) → i < length blocks → n ≡ get_or blocks i 0 → IsStated flow n v → below t v
-      → IsBelowEach below flow (take i blocks) t → IsBelowEach below flow (take (i + 1) blocks) t
-  below_each_some i n v h at is b before =
-      All-more (λ m. (u : S) → IsStated flow m u → below t u) blocks i 0 h before
+-- of the states that are stated for these blocks, one block more
+module _ {S : Type 0} (P : S → Type 0) (flow : List (Option S)) (blocks : List ℕ) where
+  pub each_some : (i n : ℕ) (v : S) → i < length blocks → n ≡ get_or blocks i 0 → IsStated flow n v → P v → AimsAtEach P flow (take i blocks) → AimsAtEach P flow (take (i + 1) blocks)
+  each_some i n v h at is p before =
+      All-more (λ m. (u : S) → IsStated flow m u → P u) blocks i 0 h before
       (λ u st.
       let st' : IsStated flow n u = subst (λ x. IsStated flow x u) (sym at) st in
       let same : v ≡ u = cc in
-      subst (λ x. below t x) same b)
+      subst P same p)
 
-  pub below_each_none : (i n : ℕ) → i < length blocks → n ≡ get_or blocks i 0 → slice_get flow n ≡ Some None → IsBelowEach below flow (take i blocks) t → IsBelowEach below flow (take (i + 1) blocks) t
-  below_each_none i n h at none before =
-      All-more (λ m. (u : S) → IsStated flow m u → below t u) blocks i 0 h before
+  pub each_none : (i n : ℕ) → i < length blocks → n ≡ get_or blocks i 0 → slice_get flow n ≡ Some None → AimsAtEach P flow (take i blocks) → AimsAtEach P flow (take (i + 1) blocks)
+  each_none i n h at none before =
+      All-more (λ m. (u : S) → IsStated flow m u → P u) blocks i 0 h before
       (λ u st. let st' : IsStated flow n u = subst (λ x. IsStated flow x u) (sym at) st in cc)
 
 -- what a read of a list gives

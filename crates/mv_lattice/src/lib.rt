@@ -18,7 +18,7 @@
 ghost use Rattle.std.specs.Prelude.{◌≡◌, ℕ, ◌+◌, ◌-◌, ◌<◌, ◌≤◌, ◌↔◌, Option, length, IsTrue, IfOk, OnOk, IsErrOf, All, [], ◌∷◌};
 ghost use Rattle.mv_cfg.specs.declared.Cfg.{Cfg};
 ghost use Rattle.mv_cfg.specs.Graph.{IsGraph};
-ghost use Rattle.mv_lattice.specs.Flow.{IsFlow, IsClosed, IsClosedAt, IsBelowEach, IsStated, carried, states_of};
+ghost use Rattle.mv_lattice.specs.Flow.{IsFlow, IsClosed, IsClosedAt, IsBelowEach, AimsAtEach, IsStated, carried, states_of};
 ghost use Rattle.mv_lattice.specs.Laws.{IsLawful};
 
 mod search;
@@ -51,6 +51,13 @@ impl From<AllocError> for StepError {
 pub trait Domain {
     type State: PartialEq + Drop;
 
+    /// A state on its way through a block. It may be simpler than the state that it goes for, as long as no need of an
+    /// instruction and none of the states that it is compared with where the block ends tells the two apart.
+    type Carried: Drop;
+
+    /// The states with which a state is compared where its block ends.
+    type Aim: Drop;
+
     /// How many instructions the function has.
     ghost size: { Self → ℕ };
 
@@ -72,23 +79,16 @@ pub trait Domain {
     /// The states that are small enough to be stated by a search.
     ghost is_small: { Self → Self.State → Type 0 };
 
+    /// What is on its way to an aim goes for the state.
+    ghost goes_for: { Self → Self.Aim → Self.Carried → Self.State → Type 0 };
+
+    /// The state is one of those that are aimed at.
+    ghost aims_at: { Self → Self.Aim → Self.State → Type 0 };
+
     /// An equal state.
     fn copy(&self, alloc: Global, s: &Self::State) -> Result<Self::State, AllocError>
         requires { is_state self.now s.now }
         ensures { IfOk result (λ t. t ≡ s.now) };
-
-    /// A state equal to `s`, in the memory of `t` where that is enough.
-    ///
-    /// # Errors
-    /// If an allocation failed; `t` is gone then, as it is otherwise.
-    fn copy_into(
-        &self,
-        alloc: Global,
-        s: &Self::State,
-        t: Self::State,
-    ) -> Result<Self::State, AllocError>
-        requires { is_state self.now s.now }
-        ensures { IfOk result (λ u. u ≡ s.now) };
 
     /// Whether the first state is below the second.
     fn leq(&self, a: &Self::State, b: &Self::State) -> bool
@@ -121,6 +121,57 @@ pub trait Domain {
         requires inside { at < size self.now }
         ensures ok { IfOk result (λ t. steps self.now at s ≡ Option.Some t) }
         ensures need { IsErrOf result StepError.Need → steps self.now at s ≡ Option.None };
+
+    /// The aim of a block, of which no state is aimed at yet.
+    fn aim(&self, alloc: Global, block: &Block) -> Self::Aim
+        requires order { block.now.first ≤ block.now.last }
+        requires inside { block.now.last < size self.now };
+
+    /// The aim with one more state that is aimed at.
+    fn aim_at(
+        &self,
+        alloc: Global,
+        aim: Self::Aim,
+        u: &Self::State,
+    ) -> Result<Self::Aim, AllocError>
+        requires { is_state self.now u.now }
+        ensures there { IfOk result (λ a. aims_at self.now a u.now) }
+        ensures kept { IfOk result (λ a. (v : Self.State) → aims_at self.now aim v → aims_at self.now a v) };
+
+    /// What goes for the state where its block begins, in the memory of what is spent, if that is enough.
+    fn enter(
+        &self,
+        alloc: Global,
+        aim: &Self::Aim,
+        s: &Self::State,
+        spent: Option<Self::Carried>,
+    ) -> Result<Self::Carried, AllocError>
+        requires { is_state self.now s.now }
+        ensures { IfOk result (λ c. goes_for self.now aim.now c s.now) };
+
+    /// What the instruction at `at` makes of what goes for a state: it goes for what the instruction makes of that state.
+    ///
+    /// # Errors
+    /// `Need` where a need of the instruction fails of the state; `Memory` if an allocation failed.
+    fn pass(
+        &self,
+        alloc: Global,
+        aim: &Self::Aim,
+        c: Self::Carried,
+        at: usize,
+    ) -> Result<Self::Carried, StepError>
+        requires state { (s : Self.State) × (is_state self.now s × goes_for self.now aim.now c s) }
+        requires inside { at < size self.now }
+        ensures ok { IfOk result (λ b. (s : Self.State) → is_state self.now s → goes_for self.now aim.now c s
+            → (t : Self.State) × ((steps self.now at s ≡ Option.Some t) × goes_for self.now aim.now b t)) }
+        ensures need { IsErrOf result StepError.Need → (s : Self.State) → is_state self.now s → goes_for self.now aim.now c s → steps self.now at s ≡ Option.None };
+
+    /// Whether what goes for a state says that the state is below one of those that are aimed at.
+    fn is_under(&self, aim: &Self::Aim, c: &Self::Carried, u: &Self::State) -> bool
+        requires carried { (s : Self.State) × (is_state self.now s × goes_for self.now aim.now c.now s) }
+        requires state { is_state self.now u.now }
+        ensures { (s : Self.State) → is_state self.now s → goes_for self.now aim.now c.now s → aims_at self.now aim.now u.now
+            → (IsTrue result ↔ below self.now s u.now) };
 
     /// Whether the state is small enough to be stated by a search.
     fn fits(&self, s: &Self::State) -> bool
@@ -162,21 +213,68 @@ fn carry<D: Domain>(
     Ok(s)
 }
 
-/// Whether the state is below each one that is stated for one of the blocks.
+/// What is aimed at, with each state that is stated for one of the blocks.
+fn aim_at_each<D: Domain, K: HasState<D::State>>(
+    alloc: Global,
+    d: &D,
+    aim: D::Aim,
+    blocks: &[usize],
+    flow: &[Option<K>],
+) -> Result<D::Aim, AllocError>
+    requires states { (k : ℕ) (u : D.State) → IsStated (states_of K.inner flow.now) k u → D.is_state d.now u }
+    requires inside { All (λ n. n < length flow.now) blocks.now }
+    ensures { IfOk result (λ a. AimsAtEach (D.aims_at d.now a) (states_of K.inner flow.now) blocks.now) }
+{
+    let mut all = aim;
+    for n in blocks {
+        if let Some(entry) = &flow[*n] {
+            all = d.aim_at(alloc, all, entry.state())?;
+        }
+    }
+    Ok(all)
+}
+
+/// Carries what goes for a state through the instructions from `first` to `last`.
+fn pass_through<D: Domain>(
+    alloc: Global,
+    d: &D,
+    aim: &D::Aim,
+    mut c: D::Carried,
+    first: usize,
+    last: usize,
+) -> Result<D::Carried, StepError>
+    requires state { (s : D.State) × (D.is_state d.now s × D.goes_for d.now aim.now c s) }
+    requires order { first ≤ last }
+    requires inside { last < D.size d.now }
+    ensures ok { IfOk result (λ b. (s : D.State) → D.is_state d.now s → D.goes_for d.now aim.now c s
+        → (t : D.State) × ((carried (D.steps d.now) first (last + 1 - first) s ≡ Option.Some t) × (D.is_state d.now t × D.goes_for d.now aim.now b t))) }
+    ensures need { IsErrOf result StepError.Need → (s : D.State) → D.is_state d.now s → D.goes_for d.now aim.now c s
+        → carried (D.steps d.now) first (last + 1 - first) s ≡ Option.None }
+{
+    for at in first..=last {
+        c = d.pass(alloc, aim, c, at)?;
+    }
+    Ok(c)
+}
+
+/// Whether what goes for a state says that it is below each one that is stated for one of the blocks, at all of which is aimed.
 fn is_below_each<D: Domain, K: HasState<D::State>>(
     d: &D,
-    t: &D::State,
+    aim: &D::Aim,
+    c: &D::Carried,
     blocks: &[usize],
     flow: &[Option<K>],
 ) -> bool
-    requires state { D.is_state d.now t.now }
+    requires carried { (s : D.State) × (D.is_state d.now s × D.goes_for d.now aim.now c.now s) }
     requires states { (k : ℕ) (u : D.State) → IsStated (states_of K.inner flow.now) k u → D.is_state d.now u }
     requires inside { All (λ n. n < length flow.now) blocks.now }
-    ensures { IsTrue result ↔ IsBelowEach (D.below d.now) (states_of K.inner flow.now) blocks.now t.now }
+    requires aim { AimsAtEach (D.aims_at d.now aim.now) (states_of K.inner flow.now) blocks.now }
+    ensures { (s : D.State) → D.is_state d.now s → D.goes_for d.now aim.now c.now s
+        → (IsTrue result ↔ IsBelowEach (D.below d.now) (states_of K.inner flow.now) blocks.now s) }
 {
     for n in blocks {
         if let Some(entry) = &flow[*n] {
-            if !d.leq(t, entry.state()) {
+            if !d.is_under(aim, c, entry.state()) {
                 return false;
             }
         }
@@ -184,16 +282,16 @@ fn is_below_each<D: Domain, K: HasState<D::State>>(
     true
 }
 
-/// Whether the block carries the state to one that is below each one stated for a successor. It is carried in the memory of
-/// `t`, which may be any state; the state that it is carried to is answered, for its memory alone.
+/// Whether the block carries the state to one that is below each one stated for a successor. What goes for the state is kept in
+/// the memory of what is spent; it is answered for its memory alone.
 fn check_block<D: Domain, K: HasState<D::State>>(
     alloc: Global,
     d: &D,
     block: &Block,
     s: &D::State,
-    t: D::State,
+    spent: Option<D::Carried>,
     flow: &[Option<K>],
-) -> Result<D::State, StepError>
+) -> Result<D::Carried, StepError>
     requires state { D.is_state d.now s.now }
     requires order { block.now.first ≤ block.now.last }
     requires inside { block.now.last < D.size d.now }
@@ -202,9 +300,10 @@ fn check_block<D: Domain, K: HasState<D::State>>(
     ensures ok { OnOk result (IsClosedAt (D.below d.now) (D.steps d.now) (states_of K.inner flow.now) block.now s.now) }
     ensures need { IsErrOf result StepError.Need → ¬ IsClosedAt (D.below d.now) (D.steps d.now) (states_of K.inner flow.now) block.now s.now }
 {
-    let copied = d.copy_into(alloc, s, t)?;
-    let last = carry(alloc, d, copied, block.first, block.last)?;
-    if is_below_each(d, &last, &block.successors, flow) {
+    let aim = aim_at_each(alloc, d, d.aim(alloc, block), &block.successors, flow)?;
+    let entered = d.enter(alloc, &aim, s, spent)?;
+    let last = pass_through(alloc, d, &aim, entered, block.first, block.last)?;
+    if is_below_each(d, &aim, &last, &block.successors, flow) {
         Ok(last)
     } else {
         Err(StepError::Need)
@@ -212,8 +311,8 @@ fn check_block<D: Domain, K: HasState<D::State>>(
 }
 
 /// Accepts exactly the closed flows: the state that is stated for block 0 is above the start state, and each stated state
-/// is carried through its block, every need met, to a state that is below each one stated for a successor. They are all
-/// carried in the memory of the start state.
+/// is carried through its block, every need met, to a state that is below each one stated for a successor. What is carried is
+/// kept in one memory for all blocks.
 ///
 /// # Errors
 /// `Need` for each other flow; `Memory` if an allocation failed.
@@ -221,24 +320,24 @@ pub fn check_flow<D: Domain, K: HasState<D::State>>(
     alloc: Global,
     d: &D,
     g: &Cfg,
-    start: D::State,
+    start: &D::State,
     stated: &[Option<K>],
 ) -> Result<(), StepError>
     requires graph { IsGraph g.now (D.size d.now) }
-    requires start { D.is_state d.now start }
+    requires start { D.is_state d.now start.now }
     requires flow { IsFlow (D.is_state d.now) g.now (states_of K.inner stated.now) }
-    ensures ok { OnOk result (IsClosed (D.below d.now) (D.steps d.now) g.now start (states_of K.inner stated.now)) }
-    ensures need { IsErrOf result StepError.Need → ¬ IsClosed (D.below d.now) (D.steps d.now) g.now start (states_of K.inner stated.now) }
+    ensures ok { OnOk result (IsClosed (D.below d.now) (D.steps d.now) g.now start.now (states_of K.inner stated.now)) }
+    ensures need { IsErrOf result StepError.Need → ¬ IsClosed (D.below d.now) (D.steps d.now) g.now start.now (states_of K.inner stated.now) }
 {
     if let Some(entry) = &stated[0] {
-        if !d.leq(&start, entry.state()) {
+        if !d.leq(start, entry.state()) {
             return Err(StepError::Need);
         }
     }
-    let mut t = start;
+    let mut spent = None;
     for (k, block) in g.blocks.iter().enumerate() {
         if let Some(entry) = &stated[k] {
-            t = check_block(alloc, d, block, entry.state(), t, stated)?;
+            spent = Some(check_block(alloc, d, block, entry.state(), spent, stated)?);
         }
     }
     Ok(())

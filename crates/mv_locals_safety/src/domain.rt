@@ -8,6 +8,7 @@ ghost use Rattle.mv_locals_safety.specs.Domain.{point_in, start_locals, may_stay
 use super::Availabilities;
 use mv_binary_format::{FunctionDefinition, Module};
 use mv_bounds::Bounded;
+use mv_cfg::Block;
 use mv_lattice::{Domain, StepError};
 use mv_move_types::{Availability, Instruction, Token};
 use mv_type_states::Typed;
@@ -198,6 +199,11 @@ impl<'t, 'm> Domain for LocalsDomain<'t, 'm> {
 
     type State = Availabilities;
 
+    /// The state itself is carried, whatever is aimed at.
+    type Carried = Availabilities;
+
+    type Aim = ();
+
     ghost size = { λ d. length d.function.code };
 
     ghost is_graph = { λ d g. ⊤ };
@@ -212,20 +218,14 @@ impl<'t, 'm> Domain for LocalsDomain<'t, 'm> {
 
     ghost is_small = { λ d s. ⊤ };
 
+    ghost goes_for = { λ d a c s. c ≡ s };
+
+    ghost aims_at = { λ d a u. ⊤ };
+
     ghost laws = { λ d. locals_lawful d.home d.function };
 
     fn copy(&self, alloc: Global, s: &Availabilities) -> Result<Availabilities, AllocError> {
         s.copy(alloc)
-    }
-
-    fn copy_into(
-        &self,
-        _alloc: Global,
-        s: &Availabilities,
-        mut t: Availabilities,
-    ) -> Result<Availabilities, AllocError> {
-        t.copy_from(s)?;
-        Ok(t)
     }
 
     fn leq(&self, a: &Availabilities, b: &Availabilities) -> bool {
@@ -255,6 +255,44 @@ impl<'t, 'm> Domain for LocalsDomain<'t, 'm> {
     {
         self.change(&mut s, at)?;
         Ok(s)
+    }
+
+    fn aim(&self, _alloc: Global, _block: &Block) {}
+
+    fn aim_at(&self, _alloc: Global, aim: (), _u: &Availabilities) -> Result<(), AllocError> {
+        Ok(aim)
+    }
+
+    fn enter(
+        &self,
+        alloc: Global,
+        _aim: &(),
+        s: &Availabilities,
+        spent: Option<Availabilities>,
+    ) -> Result<Availabilities, AllocError>
+        ensures { IfOk result (λ c. c ≡ s.now) }
+    {
+        match spent {
+            Some(mut c) => {
+                c.copy_from(s)?;
+                Ok(c)
+            }
+            None => s.copy(alloc),
+        }
+    }
+
+    fn pass(
+        &self,
+        alloc: Global,
+        _aim: &(),
+        c: Availabilities,
+        at: usize,
+    ) -> Result<Availabilities, StepError> {
+        self.step(alloc, c, at)
+    }
+
+    fn is_under(&self, _aim: &(), c: &Availabilities, u: &Availabilities) -> bool {
+        c.is_below(u)
     }
 
     fn fits(&self, _s: &Availabilities) -> bool {

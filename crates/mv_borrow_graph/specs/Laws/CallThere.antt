@@ -16,7 +16,7 @@ use Rattle.mv_type_states.specs.TypeRules.{Types}
 use Rattle.mv_type_states.specs.TypesHold.{Point}
 use Rattle.mv_edges.specs.Edges.{Edge, same_node, opened, inherited, without}
 use Rattle.mv_edges.proofs.Insertion.{contains_here, contains_cases, all_contains, all_from_contains, all_filter}
-use Rattle.mv_edges.proofs.Order.{list_any_from}
+use Rattle.mv_edges.proofs.Related.{list_any_from}
 use Rattle.mv_edges.proofs.Sorting.{any_passes}
 use Rattle.mv_borrow_graph.specs.BorrowRules.{is_mutable_token, is_reference_token, no_edge_out, reference_nodes, without_all, opened_edges, result_edges}
 use Rattle.mv_borrow_graph.specs.Domain.{point_at}

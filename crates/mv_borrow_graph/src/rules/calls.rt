@@ -204,6 +204,13 @@ impl<'d, 'm> Site<'d, 'm> {
         self.stack.len().saturating_sub(count)
     }
 
+    /// Where the first result of a call stands on the stack, if the function is there.
+    pub fn first_result(&self, callee: u16) -> Option<usize> {
+        let handle = self.function_handle(callee)?;
+        let parameters = self.signature(handle.parameters)?;
+        Some(self.first_of(parameters.len()))
+    }
+
     /// Whether no edge leads out of the globals that a function acquires. Where none leads out of any global, it isn't asked
     /// which those are.
     fn are_acquired_free(&self, callee: u16, s: &Edges) -> bool

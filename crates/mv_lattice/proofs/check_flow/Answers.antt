@@ -5,7 +5,7 @@ use Rattle.mv_cfg.specs.Graph.{IsBlock}
 use Rattle.mv_lattice.specs.Flow.{IsClosedAt, states_of}
 use Rattle.mv_lattice.proofs.Flows.{block_read, stated_entry, unstated_entry, holds_some, holds_none, stated_within}
 use Rattle.mv_lattice.proofs.check_flow.Goals as goal
-use Rattle.mv_lattice.proofs.check_flow.Goals.{in-Some+else-not-leq, in_default, in-Some-stated+in_ok-t, in_default-stated}
+use Rattle.mv_lattice.proofs.check_flow.Goals.{in-Some+else-not-leq, in_default, in-Some-stated+in_ok-check_block, in_default-stated}
 
 pub leq-requires-clause-b : goal.leq-requires-clause-b
 leq-requires-clause-b g c =
@@ -34,14 +34,14 @@ check_block-requires-clause-successors g c =
     let long = length-map c.args.stated.now (option_map g.K.HasState.inner) in
     λ k d h. let n = c.requires.graph.inside c.loop-k.k c.block-item.result block k d h in omega (arith, n, long, c.requires.flow.entries)
 
-pub returns-in_err-t-clause-need : goal.returns-in_err-t-clause-need
-returns-in_err-t-clause-need g c = λ e closed.
+pub returns-in_err-check_block-clause-need : goal.returns-in_err-check_block-clause-need
+returns-in_err-check_block-clause-need g c = λ e closed.
     let block : IsBlock c.args.g.now c.loop-k.k c.block-item.result = block_read c.deref-block-items.result.now c.args.g.now.blocks.items c.loop-k.k c.block-item.result c.deref-block-items.ensures.value c.loop-k-test.true c.block-item.is in
     let long = length-map c.args.stated.now (option_map g.K.HasState.inner) in
     let within : c.loop-k.k < length c.args.stated.now = omega (arith, long, c.requires.flow.entries, c.deref-block-items.ensures.len) in
     let stated = stated_entry g.K.HasState.inner c.args.stated.now c.loop-k.k c.index-stated-k.result within c.index-stated-k.is c.in-Some-stated.entry c.state-in-Some-stated.result.now c.in-Some-stated.is c.state-in-Some-stated.ensures in
     let p = err_from_is_err_and c.from_residual.result c.from_residual.ensures.1 in
-    c.in_err-t.ensures.need (cc (p.1, p.2, e)) (closed.closed c.loop-k.k c.block-item.result c.state-in-Some-stated.result.now block stated)
+    c.in_err-check_block.ensures.need (cc (p.1, p.2, e)) (closed.closed c.loop-k.k c.block-item.result c.state-in-Some-stated.result.now block stated)
 
 pub loop-k-preserved : goal.loop-k-preserved
 loop-k-preserved g c =
@@ -52,10 +52,10 @@ loop-k-preserved g c =
     let long = length-map c.args.stated.now (option_map g.K.HasState.inner) in
     let within : c.loop-k.k < length c.args.stated.now = omega (arith, long, c.requires.flow.entries, c.deref-block-items.ensures.len) in
     elim c.match-stated-k.branch [
-      | in-Some-stated+in_ok-t w ↦
+      | in-Some-stated+in_ok-check_block w ↦
           holds_some c.args.g.now.blocks.items states (IsClosedAt (m.below d) (m.steps d) states) c.loop-k.k c.block-item.result w.state-in-Some-stated.result.now block
           (stated_entry g.K.HasState.inner c.args.stated.now c.loop-k.k c.index-stated-k.result within c.index-stated-k.is w.in-Some-stated.entry w.state-in-Some-stated.result.now w.in-Some-stated.is w.state-in-Some-stated.ensures)
-          w.in_ok-t.ensures.ok c.loop-k.invariant
+          w.in_ok-check_block.ensures.ok c.loop-k.invariant
       | in_default-stated w ↦
           holds_none c.args.g.now.blocks.items states (IsClosedAt (m.below d) (m.steps d) states) c.loop-k.k
           (unstated_entry g.K.HasState.inner c.args.stated.now c.loop-k.k c.index-stated-k.result within c.index-stated-k.is w.in_default-stated.is) c.loop-k.invariant

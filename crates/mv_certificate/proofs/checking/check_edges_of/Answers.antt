@@ -22,8 +22,8 @@ returns-in-Ok-clause-holds c =
     (edges-flow-at c.args.m.now c.args.f c.function_at-function.result.now c.graph_of-graph.result.now c.args.stated.now (states_of (λ k. k.edges) c.deref.result.now)
     c.function_at-function.ensures.at c.graph_of-graph.ensures c.requires.fits (ap (states_of (λ k. k.edges)) (c.deref.ensures.value ∙ c.stated.view_is)))).0 c.in-Ok.ensures.ok
 
-pub returns-in-Err-clause-refused : goal.returns-in-Err-clause-refused
-returns-in-Err-clause-refused c =
+pub returns-clause-refused : goal.returns-clause-refused
+returns-clause-refused c =
     refused_flow 11 _ _ c.in-Err.e c.refusal_in.result
     ((edges_exact_at c.args.m.now c.of_function-domain.result.home c.args.f c.function_at-function.result.now c.of_function-domain.result.function c.graph_of-graph.result.now c.args.stated.now
     c.of_function-domain.ensures.home c.function_at-function.ensures.at c.of_function-domain.ensures.function c.graph_of-graph.ensures c.function_at-function.ensures.typed
