@@ -83,16 +83,24 @@ const MOST_DIGITS: usize = 20;
 // The bytes of a line that stand around its text at most: a number's digits, a blank and a line end.
 const NUMBER_ROOM: usize = MOST_DIGITS + 2;
 
-/// A line of the report: the record's number, a blank, the text and a line end.
-fn numbered_line(alloc: Global, number: u64, text: &[u8]) -> Result<Vec<u8>, AllocError>
-    ensures { IfOk result (λ line. line.items ≡ numbered number text.now) }
+/// Appends a line of the report: the record's number, a blank, the text and a line end.
+fn put_line(line: &mut Vec<u8>, number: u64, text: &[u8]) -> Result<(), AllocError>
+    ensures { OnOk result (line.new.items ≡ line.old.items ++ numbered number text.now) }
 {
     let mut digits = Buffer::new();
-    let mut line = Vec::with_capacity(alloc, text.len().saturating_add(NUMBER_ROOM))?;
     line.extend_from_slice(digits.format(number).as_bytes())?;
     line.push(b' ')?;
     line.extend_from_slice(text)?;
     line.push(b'\n')?;
+    Ok(())
+}
+
+/// A line of the report: the record's number, a blank, the text and a line end.
+fn numbered_line(alloc: Global, number: u64, text: &[u8]) -> Result<Vec<u8>, AllocError>
+    ensures { IfOk result (λ line. line.items ≡ numbered number text.now) }
+{
+    let mut line = Vec::with_capacity(alloc, text.len().saturating_add(NUMBER_ROOM))?;
+    put_line(&mut line, number, text)?;
     Ok(line)
 }
 
@@ -143,22 +151,23 @@ fn reply_line(alloc: Global, number: u64, reply: Reply) -> Result<Option<Vec<u8>
     })
 }
 
-/// Writes a line of the report: the record's number, a blank, the text and a line end.
+/// Writes a line of the report: the record's number, a blank, the text and a line end. It is made in the memory of another line.
 fn write_line<W: Write>(
-    alloc: Global,
     writer: &mut W,
     number: u64,
     text: &[u8],
+    line: &mut Vec<u8>,
 ) -> Result<(), EngineError>
     ensures ok { OnOk result (Appends (W.contents writer.old) (W.contents writer.new) (numbered number text.now)) }
     ensures err { IfErr result (λ e. (e ≢ EngineError.Read) × (part : List ℕ) × StartsWith (numbered number text.now) part
         × Appends (W.contents writer.old) (W.contents writer.new) part) }
 {
-    let line = numbered_line(alloc, number, text)?;
-    write_text(writer, &line)
+    line.clear();
+    put_line(line, number, text)?;
+    write_text(writer, line)
 }
 
-/// Writes lines of the report, all with the number of one record. Each is made when the one before it is written.
+/// Writes lines of the report, all with the number of one record. Each is made when the one before it is written, in its memory.
 fn write_lines<W: Write>(
     alloc: Global,
     writer: &mut W,
@@ -169,8 +178,9 @@ fn write_lines<W: Write>(
     ensures err { IfErr result (λ e. (e ≢ EngineError.Read)
         × WritesPart number lines.entry (W.contents writer.old) (W.contents writer.new)) }
 {
+    let mut line = Vec::new(alloc);
     'each: while let Some(text) = lines.next()? {
-        write_line(alloc, writer, number, &text)?;
+        write_line(writer, number, &text, &mut line)?;
     }
     Ok(())
 }
