@@ -200,16 +200,52 @@ def calling(times, references):
     return m.bytes(), b"\x01" * (1 + references) + b"\x00" + STATED
 
 
-def gathering(times):
-    """So many fields at different paths of what it refers to are borrowed, and a function returns one reference for all of them."""
+def gathered(times, parameters, locals_, last):
+    """A module with a function in which so many fields at different paths of what its first parameter refers to are borrowed, and a
+    function returns one reference for all of them; and the certificates of the others."""
     m = Module()
     m.struct("T", "has copy, drop", "; ".join(f"g{n}: u64" for n in range(8)))
     m.struct("S", "has copy, drop", "; ".join(f"f{n}: T" for n in range(32)))
     m.function("first", "&S", "&u64", "", "MoveLoc 0; ImmBorrowField S.f0; ImmBorrowField T.g0; Ret", entry=False)
     m.function("with", "&u64; &u64", "&u64", "", "MoveLoc 0; Ret", entry=False)
     paths = [f"CopyLoc 0; ImmBorrowField S.f{n // 8}; ImmBorrowField T.g{n % 8}; Call with;" for n in range(times)]
-    m.function("f", "&S; u64", "", "", "CopyLoc 0; Call first;" + "".join(paths) + "Pop; MoveLoc 0; Pop; Ret", entry=False)
-    return m.bytes(), b"\x01\x01\x00" + b"\x01\x01\x01\x00" + STATED
+    m.function("f", parameters, "", locals_, "CopyLoc 0; Call first;" + "".join(paths) + last, entry=False)
+    return m.bytes(), b"\x01\x01\x00" + b"\x01\x01\x01\x00"
+
+
+def gathering(times):
+    """The reference is released where the function ends."""
+    text, others = gathered(times, "&S; u64", "", "Pop; MoveLoc 0; Pop; Ret")
+    return text, others + STATED
+
+
+def state(holding, edges):
+    """What is stated of a block: which locals hold a value, and edges: from a local's value to a reference, at a list that may be
+    open."""
+    count = bytes([len(edges)]) if len(edges) < 128 else bytes([len(edges) & 127 | 128, len(edges) >> 7])
+    return b"\x01" + bytes(holding) + count + b"".join(bytes([1, own, 0, to, len(path), *path, is_open]) for own, to, path, is_open in edges)
+
+
+ON = "MoveLoc 0; Pop; Branch next; next: MoveLoc {0}; Pop; Ret"
+
+
+def gathering_on(times):
+    """The reference is stated in a block ahead, with as many open labels as can be."""
+    text, others = gathered(times, "&S; u64", "&u64", "StLoc 2;" + ON.format(2))
+    pairs = [(a, b) for a in range(32) for b in range(32)]
+    here = state([1, 1, 0], [(1, 0, pair, 0) for pair in pairs])
+    return text, others + here + state([0, 1, 1], [(1, 2, pair, 1) for pair in pairs])
+
+
+def gathering_from(times):
+    """The reference leads into 61 locals, and what is stated ahead of one of them tells all paths apart."""
+    parameters, others, last = 15, 46, 62
+    text, certificates = gathered(times, "&S" + "; u64" * parameters, "u64; " * others + "&u64", f"StLoc {last};" + ON.format(last))
+    holding = [1] * parameters + [0] * others
+    here = state([1, *holding, 0], [(own, 0, (), 0) for own in range(1, last)])
+    paths = sorted([(n // 8, n % 8) for n in range(times)] + [(n,) for n in range(32)])
+    ahead = [(1, last, path, 1) for path in [(), *paths]] + [(own, last, (), 1) for own in range(2, last)]
+    return text, certificates + here + state([0, *holding, 1], ahead)
 
 
 def tell_dearest(program):
@@ -251,6 +287,8 @@ def tell_dearest(program):
         ("50 calls with 8 copies of it that return as many", calling(50, 8)),
         ("256 fields of it at different paths, gathered in one reference by as many calls", gathering(256)),
         ("128 fields of it gathered so", gathering(128)),
+        ("256 fields gathered so, with 1,024 open labels stated ahead", gathering_on(256)),
+        ("256 fields gathered so of a reference into 61 locals", gathering_from(256)),
     ):
         tell_one(what, record(1, publish(made)))
     for per_megabyte, each, what, spent, size in sorted(dear, reverse=True):
