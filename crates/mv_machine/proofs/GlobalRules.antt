@@ -1,5 +1,5 @@
 -- The rules of the storage taken apart: what each found, and what it leaves.
-use Rattle.std.proofs.Common.{◌≡◌, ℕ, Bool, true, List, [], ◌∷◌, Some, None, Ok, ap, ◌∙◌}
+use Rattle.std.proofs.Common.{◌≡◌, ℕ, Bool, List, [], ◌∷◌, Some, None, Ok, ap, ◌∙◌}
 use Rattle.std.specs.Prelude.{not, is_some}
 use Rattle.mv_move_types.specs.declared.token.LeafKind.TheVariants.{Address}
 use Rattle.mv_move_types.specs.Tags.{StructTag}

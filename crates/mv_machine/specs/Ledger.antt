@@ -1,6 +1,6 @@
 -- The ledger's state, its requests, and what each request changes and answers.
 use Rattle.std.specs.Prelude.{ℕ, List, [], map, cond, Option, Some, None, flat_map, filter_map, find, unwrap_or, Bool, false, ◌∷◌, ◌≡◌, true, ◌&&◌}
-use Rattle.std.specs.Prelude.{◌^◌, nat_lt, nat_le, Result, Ok, ok_or, slice_get, ◌+◌, Err, length}
+use Rattle.std.specs.Prelude.{nat_lt, nat_le, Result, Ok, ok_or, slice_get, ◌+◌, Err, length}
 use Rattle.mv_machine.specs.State.{Storage, Event}
 use Rattle.mv_machine.specs.Lines.{Tallied, Reply, Returned as RanToEnd, Aborted as RanToAbort, Exhausted as RanOut, Rejected, Published, Refused, Told, show_lines, audit_lines, show_json, audit_json}
 use Rattle.mv_move_types.specs.Limits.{most_runs, most_steps}
