@@ -96,6 +96,7 @@ impl<'t, 'm> BorrowDomain<'t, 'm> {
     }
 
     /// Where the first result of the call at a place stands on the stack, if a call is there.
+    #[inline(always)]
     fn first_result(&self, at: usize) -> Option<usize> {
         match self.instruction(at) {
             Some(Instruction::Call(callee)) => self.site(at)?.first_result(callee),
