@@ -174,6 +174,18 @@ def many_own(count, own="H"):
     return m.bytes()
 
 
+def state(holding, edges):
+    """What is stated of a block: which locals hold a value, and edges: from a local's value to a reference, at a list that may be
+    open."""
+    count = bytes([len(edges)]) if len(edges) < 128 else bytes([len(edges) & 127 | 128, len(edges) >> 7])
+    return b"\x01" + bytes(holding) + count + b"".join(bytes([1, own, 0, to, len(path), *path, is_open]) for own, to, path, is_open in edges)
+
+
+# Releases the first parameter, and goes on to a block that releases a local.
+ON = "MoveLoc 0; Pop; Branch next; next: MoveLoc {0}; Pop; Ret"
+PAIRS = [(a, b) for a in range(32) for b in range(32)]
+
+
 def stated(code, parameters="&u64; u64"):
     """A module with a function of one block, stated with 1,024 edges into its first parameter; and its certificate."""
     m = Module()
@@ -200,6 +212,17 @@ def calling(times, references):
     return m.bytes(), b"\x01" * (1 + references) + b"\x00" + STATED
 
 
+def calling_on(times, references):
+    """The same, and what the last call returns is stated in a block ahead, with as many open labels as can be."""
+    m = Module()
+    kinds = "; ".join(["&u64"] * references)
+    m.function("pick", kinds, kinds, "", "".join(f"MoveLoc {n};" for n in range(references)) + "Ret", entry=False)
+    code = "CopyLoc 0;" * references + "Call pick;" * times + "Pop;" * (references - 1) + "StLoc 2;" + ON.format(2)
+    m.function("f", "&u64; u64", "", "&u64", code, entry=False)
+    here = state([1, 1, 0], [(1, 0, pair, 0) for pair in PAIRS])
+    return m.bytes(), b"\x01" * (1 + references) + b"\x00" + here + state([0, 1, 1], [(1, 2, pair, 1) for pair in PAIRS])
+
+
 def gathered(times, parameters, locals_, last):
     """A module with a function in which so many fields at different paths of what its first parameter refers to are borrowed, and a
     function returns one reference for all of them; and the certificates of the others."""
@@ -219,22 +242,11 @@ def gathering(times):
     return text, others + STATED
 
 
-def state(holding, edges):
-    """What is stated of a block: which locals hold a value, and edges: from a local's value to a reference, at a list that may be
-    open."""
-    count = bytes([len(edges)]) if len(edges) < 128 else bytes([len(edges) & 127 | 128, len(edges) >> 7])
-    return b"\x01" + bytes(holding) + count + b"".join(bytes([1, own, 0, to, len(path), *path, is_open]) for own, to, path, is_open in edges)
-
-
-ON = "MoveLoc 0; Pop; Branch next; next: MoveLoc {0}; Pop; Ret"
-
-
 def gathering_on(times):
     """The reference is stated in a block ahead, with as many open labels as can be."""
     text, others = gathered(times, "&S; u64", "&u64", "StLoc 2;" + ON.format(2))
-    pairs = [(a, b) for a in range(32) for b in range(32)]
-    here = state([1, 1, 0], [(1, 0, pair, 0) for pair in pairs])
-    return text, others + here + state([0, 1, 1], [(1, 2, pair, 1) for pair in pairs])
+    here = state([1, 1, 0], [(1, 0, pair, 0) for pair in PAIRS])
+    return text, others + here + state([0, 1, 1], [(1, 2, pair, 1) for pair in PAIRS])
 
 
 def gathering_from(times):
@@ -285,6 +297,7 @@ def tell_dearest(program):
         ("20 moves of it above 125 copies", moving(20, 125)),
         ("100 calls with 8 copies of it that return as many, of 4,000 that fit", calling(100, 8)),
         ("50 calls with 8 copies of it that return as many", calling(50, 8)),
+        ("100 such calls, with 1,024 open labels stated ahead", calling_on(100, 8)),
         ("256 fields of it at different paths, gathered in one reference by as many calls", gathering(256)),
         ("128 fields of it gathered so", gathering(128)),
         ("256 fields gathered so, with 1,024 open labels stated ahead", gathering_on(256)),
