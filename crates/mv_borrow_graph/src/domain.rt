@@ -14,7 +14,7 @@ use mv_bounds::Bounded;
 use mv_cfg::Block;
 use mv_edges::{Aim, Edge, Edges, MOST_EDGES, MOST_POSITIONS};
 use mv_lattice::{Domain, StepError};
-use mv_move_types::Instruction;
+use mv_move_types::{Instruction, Node};
 use mv_type_states::{StackTypes, Typed};
 use std::alloc::{AllocError, Global};
 use std::marker::Model;
@@ -95,11 +95,14 @@ impl<'t, 'm> BorrowDomain<'t, 'm> {
         })
     }
 
-    /// Where the first result of the call at a place stands on the stack, if a call is there.
+    /// Where the first result of the call at a place stands on the stack, if a call is there and its results' labels are worth a cut.
     #[inline(always)]
-    fn first_result(&self, at: usize) -> Option<usize> {
+    fn first_to_cut(&self, edges: &Edges, at: usize) -> Option<usize> {
         match self.instruction(at) {
-            Some(Instruction::Call(callee)) => self.site(at)?.first_result(callee),
+            Some(Instruction::Call(callee)) => {
+                let place = self.site(at)?.first_result(callee)?;
+                are_exact_enough(edges, place).then_some(place)
+            }
             _ => None,
         }
     }
@@ -139,6 +142,31 @@ impl<'t, 'm> BorrowDomain<'t, 'm> {
     {
         Edges::new(alloc)
     }
+}
+
+/// Whether an edge leads to an operand at a place or above it.
+fn leads_to_operand(e: &Edge, place: usize) -> bool {
+    match e.to() {
+        Node::Temp(operand) => usize::from(operand) >= place,
+        Node::Slot(_) | Node::Own(_) | Node::Glob(_) => false,
+    }
+}
+
+/// Whether it is worth its time to cut the labels of what a call returns, where its first argument stands at a place: of the edges
+/// into its arguments an eighth at least are exact, which the call opens. Labels that are open were cut by an earlier call.
+fn are_exact_enough(edges: &Edges, place: usize) -> bool {
+    let mut all = 0_usize;
+    let mut exact = 0_usize;
+    for e in edges.as_slice().iter().rev() {
+        if !leads_to_operand(e, place) {
+            break;
+        }
+        all = all.saturating_add(1);
+        if !e.label().is_open() {
+            exact = exact.saturating_add(1);
+        }
+    }
+    exact > 0 && exact.saturating_mul(8) >= all
 }
 
 /// Whether one of the instructions is a call.
@@ -261,8 +289,9 @@ impl<'t, 'm> Domain for BorrowDomain<'t, 'm> {
 
     /// The labels of a call's results are cut down to what the aim sees of them.
     fn pass(&self, alloc: Global, aim: &Aim, mut c: Edges, at: usize) -> Result<Edges, StepError> {
+        let first = self.first_to_cut(&c, at);
         self.change(alloc, &mut c, at)?;
-        match self.first_result(at) {
+        match first {
             Some(place) => Ok(c.simplified(alloc, aim, place)?),
             None => Ok(c),
         }
