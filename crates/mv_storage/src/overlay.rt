@@ -144,6 +144,7 @@ impl Overlay {
     }
 
     /// The key of an address, a module's place and a definition's index, if it can be the key of a stored value.
+    #[inline(always)]
     pub fn key_at(&self, address: u128, place: u128, index: u16) -> Option<Key>
         ensures { MatchOption result
             (words_under self.now.current (record { address = address; place = place; index = index }) ≡ None)
@@ -175,6 +176,7 @@ impl Overlay {
     /// Puts words in place of as many from a place on, of those that the run sees under a key, and says whether so many were
     /// there; nothing changes where they were not. The first edit of a committed value copies it. It fails only where memory
     /// runs out, and nothing changes then.
+    #[inline(always)]
     pub fn edit(&mut self, key: &Key, from: usize, new: &[u128]) -> Result<bool, AllocError>
         ensures done { IfOk result (λ done. done ≡ is_some (option_and_then (spliced from new.now) (words_under self.old.current key.now))) }
         ensures current { OnOk result (self.new.current ≡ overwritten self.old.current key.now from new.now) }

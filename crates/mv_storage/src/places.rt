@@ -70,17 +70,28 @@ impl Places {
     }
 
     // The place of a key's slot, which is remembered from then on.
-    #[inline]
+    #[inline(always)]
     pub(crate) fn recall(&self, last: &mut Option<(Key, u32)>, key: &Key) -> Option<u32>
         requires { IsRemembered self.now.tree last.old }
         ensures remembered { IsRemembered self.now.tree last.new }
         ensures place { result ≡ get key_cmp self.now.tree key.now }
     {
-        if let Some(place) = recalled(last, key) {
-            return Some(place);
+        match recalled(last, key) {
+            Some(place) => Some(place),
+            None => self.search(last, *key),
         }
-        let place = self.place(key)?;
-        *last = Some((*key, place));
+    }
+
+    // The same by a search.
+    #[cold]
+    #[inline(never)]
+    fn search(&self, last: &mut Option<(Key, u32)>, key: Key) -> Option<u32>
+        requires { IsRemembered self.now.tree last.old }
+        ensures remembered { IsRemembered self.now.tree last.new }
+        ensures place { result ≡ get key_cmp self.now.tree key }
+    {
+        let place = self.place(&key)?;
+        *last = Some((key, place));
         Some(place)
     }
 

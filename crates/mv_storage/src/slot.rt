@@ -7,7 +7,7 @@ ghost use Rattle.mv_storage.specs.declared.slot.Layer.{Layer};
 ghost use Rattle.mv_storage.specs.declared.slot.Layer.TheVariants.{Committed, Current};
 
 use crate::Value;
-use crate::value::{Words, overwrite};
+use crate::value::{Words, edit_words};
 use std::alloc::{AllocError, Global};
 use std::mem::{replace, size_of};
 use std::slice;
@@ -35,6 +35,19 @@ impl Versions {
         match layer {
             Layer::Committed => self.committed.take(),
             Layer::Current => self.current.take(),
+        }
+    }
+
+    // Puts words in place of as many that the run sees, if they are there, and says whether it did.
+    #[inline(always)]
+    fn edit(&mut self, from: usize, new: &[u128]) -> bool
+        ensures done { result ≡ is_some (option_and_then (spliced from new.now) (version Current self.old)) }
+        ensures current { version Current self.new ≡ edited from new.now (version Current self.old) }
+        ensures committed { version Committed self.new ≡ version Committed self.old }
+    {
+        match &mut self.current {
+            Some(value) => value.edit(from, new),
+            None => false,
         }
     }
 }
@@ -87,6 +100,14 @@ impl Slot {
         ensures { result ≡ not (is_change self.now) }
     {
         matches!(self, Slot::Vacant(_) | Slot::One(_) | Slot::Many(_))
+    }
+
+    // Whether both versions of a value stand here.
+    #[inline(always)]
+    pub(crate) fn has_versions(&self) -> bool
+        ensures { result ≡ true → is_change self.now ≡ true }
+    {
+        matches!(self, Slot::Changed(_))
     }
 
     // Whether it is no key's.
@@ -215,6 +236,8 @@ impl Slot {
     }
 
     // Gives the run its own copy of a committed value. It fails only where memory runs out, and nothing changes then.
+    #[cold]
+    #[inline(never)]
     fn own(&mut self, alloc: Global) -> Result<(), AllocError>
         requires { is_vacant self.old ≡ false }
         ensures layers { (layer : Layer) → of_layer layer self.new ≡ of_layer layer self.old }
@@ -231,6 +254,7 @@ impl Slot {
     }
 
     // Puts words in place of as many that the run sees, if they are there, and says whether it did.
+    #[inline(always)]
     pub(crate) fn edit(
         &mut self,
         from: usize,
@@ -244,28 +268,16 @@ impl Slot {
         ensures used { is_vacant self.new ≡ false }
         ensures err { OnErr result (of_layer Current self.new ≡ of_layer Current self.old) }
     {
-        let Some(words) = self.current() else {
-            return Ok(false);
-        };
-        if from > words.len() || new.len() > words.len() - from {
-            return Ok(false);
+        if let Slot::Changed(versions) = self {
+            return Ok(versions.edit(from, new));
         }
         self.own(alloc)?;
         match self {
-            Slot::AddedOne(word) => {
-                if let Some(first) = new.first() {
-                    *word = *first;
-                }
-            }
-            Slot::AddedMany(words) => overwrite(words.as_mut_slice(), from, new),
-            Slot::Changed(versions) => {
-                if let Some(value) = &mut versions.current {
-                    value.write(from, new);
-                }
-            }
-            _ => {}
+            Slot::Changed(versions) => Ok(versions.edit(from, new)),
+            Slot::AddedOne(word) => Ok(edit_words(slice::from_mut(word), from, new)),
+            Slot::AddedMany(words) => Ok(edit_words(words.as_mut_slice(), from, new)),
+            _ => Ok(false),
         }
-        Ok(true)
     }
 
     // Makes one layer of it the committed one, and says whether there is one.

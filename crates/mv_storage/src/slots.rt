@@ -16,8 +16,27 @@ use mv_move_types::Key;
 use std::alloc::{AllocError, Global};
 
 // Makes sure that the key of a slot that is about to be changed is among the keys touched.
-#[inline]
-fn note(slot: &Slot, touched: &mut Vec<(Key, u32)>, key: Key, place: u32) -> Result<(), AllocError>
+#[inline(always)]
+fn note(slot: &Slot, touched: &mut Vec<(Key, u32)>, key: &Key, place: u32) -> Result<(), AllocError>
+    ensures noted { OnOk result (is_change slot.now ≡ false → list_any (λ t. same_key key.now t.0) touched.new.items ≡ true) }
+    ensures kept { (q : Key) → list_any (λ t. same_key q t.0) touched.old.items ≡ true → list_any (λ t. same_key q t.0) touched.new.items ≡ true }
+    ensures placed { (tree : BTreeMap Key ℕ) → get key_cmp tree key.now ≡ Some place → ArePlaced tree touched.old.items → ArePlaced tree touched.new.items }
+{
+    if slot.has_versions() {
+        return Ok(());
+    }
+    note_any(slot, touched, *key, place)
+}
+
+// The same of any slot, apart from the way that is gone most.
+#[cold]
+#[inline(never)]
+fn note_any(
+    slot: &Slot,
+    touched: &mut Vec<(Key, u32)>,
+    key: Key,
+    place: u32,
+) -> Result<(), AllocError>
     ensures noted { OnOk result (is_change slot.now ≡ false → list_any (λ t. same_key key t.0) touched.new.items ≡ true) }
     ensures kept { (q : Key) → list_any (λ t. same_key q t.0) touched.old.items ≡ true → list_any (λ t. same_key q t.0) touched.new.items ≡ true }
     ensures placed { (tree : BTreeMap Key ℕ) → get key_cmp tree key ≡ Some place → ArePlaced tree touched.old.items → ArePlaced tree touched.new.items }
@@ -48,11 +67,12 @@ pub(crate) fn take_from(
     let Some(place) = places.recall(last, key) else {
         return Ok(None);
     };
-    note(&places.slots[place as usize], touched, *key, place)?;
+    note(&places.slots[place as usize], touched, key, place)?;
     places.slots[place as usize].take(alloc)
 }
 
 // Puts words in place of as many that the run sees under a key, if they are there, and says whether it did.
+#[inline(always)]
 pub(crate) fn edit_in(
     places: &mut Places,
     touched: &mut Vec<(Key, u32)>,
@@ -74,7 +94,7 @@ pub(crate) fn edit_in(
     let Some(place) = places.recall(last, key) else {
         return Ok(false);
     };
-    note(&places.slots[place as usize], touched, *key, place)?;
+    note(&places.slots[place as usize], touched, key, place)?;
     places.slots[place as usize].edit(from, new, alloc)
 }
 
