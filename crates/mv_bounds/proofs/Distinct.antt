@@ -68,3 +68,9 @@ pub answer_by_keys : {X K V E : Type 0} (now : K → V) (key : X → V) (eq : V 
 answer_by_keys now key eq same keys xs r are tell h =
     IfOk-weaker r (λ b. b ≡ all_differ (λ k l. eq (now k) (now l)) keys) (λ b. b ≡ all_differ same xs)
     (λ b e. e ∙ sym (all_differ_mapped now eq keys) ∙ ap (all_differ eq) are ∙ all_differ_mapped key eq xs ∙ all_differ_alike (λ x y. eq (key x) (key y)) same xs tell) h
+
+-- fewer than two entries differ
+pub few_differ : {K : Type 0} (eq : K → K → Bool) (xs : List K) → length xs ≤ 1 → all_differ eq xs ≡ true
+few_differ eq [] few = refl
+few_differ eq (x ∷ []) few = refl
+few_differ eq (x ∷ (y ∷ xs)) few = absurd (omega (arith, few))

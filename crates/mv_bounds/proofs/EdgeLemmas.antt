@@ -1,9 +1,10 @@
 -- Edges from nodes that are not removed, and chains of edges.
 use Rattle.std.proofs.Common.{◌≡◌, ℕ, zero, suc, ◌+◌, ◌<◌, Bool, true, false, cond, List, [], ◌∷◌, ◌++◌, length, get_or, set, slice_get, Some, refl}
-use Rattle.std.proofs.Common.{sym, ap, ◌∙◌, subst, arith, Contains, inl, inr, ◌⊎◌, replicate}
-use Rattle.std.proofs.lemmas.Bool.{false≢true, cases_eq, cases_lt}
+use Rattle.std.proofs.Common.{sym, ap, ◌∙◌, subst, arith, Contains, inl, inr, ◌⊎◌, replicate, map, Vec, Global, ◌==◌}
+use Rattle.std.specs.List.{list_all}
+use Rattle.std.proofs.lemmas.Bool.{and_parts, eqb-true, false≢true, cases_eq, cases_lt}
 use Rattle.std.proofs.lemmas.Option.{none-some, same_Some, slice_get_within}
-use Rattle.mv_bounds.specs.Cycles.{LeadsTo, directly, further}
+use Rattle.mv_bounds.specs.Cycles.{IsAcyclic, LeadsTo, directly, further}
 use Rattle.mv_bounds.specs.Removal.{times, edges_to}
 use Rattle.mv_bounds.proofs.TimesLemmas.{times_of, contains_from_times}
 
@@ -154,3 +155,26 @@ none_remains R chain never removed (suc n) before z low remains = by_last (remov
 
         none : (x : ℕ) → x < n → removed x ≡ false → ⊥
         none = others (λ x l r. fewer x (before x (omega (arith, l)) r))
+
+-- nothing stands in a list without entries
+none_within : (s : List ℕ) (k : ℕ) → length s ≡ 0 → Contains s k → ⊥
+none_within [] k none has = omega (arith, times_of k [] has)
+none_within (x ∷ s) k none has = omega (arith, none)
+
+-- a node of a graph without edges has no successor
+none_after : (graph : List (Vec ℕ Global)) (i k : ℕ) (s : List ℕ) → list_all (λ (v : Vec ℕ Global). length v.items == 0) graph ≡ true
+    → slice_get (map (λ (v : Vec ℕ Global). v.items) graph) i ≡ Some s → Contains s k → ⊥
+none_after [] i k s none at has = none-some s at
+none_after (v ∷ graph) zero k s none at has =
+    let parts = and_parts (length v.items == 0) (list_all (λ (v : Vec ℕ Global). length v.items == 0) graph) none in
+    none_within s k (ap (λ xs. length xs) (sym (same_Some v.items s at)) ∙ eqb-true (length v.items) 0 parts.0) has
+none_after (v ∷ graph) (suc i) k s none at has =
+    let parts = and_parts (length v.items == 0) (list_all (λ (v : Vec ℕ Global). length v.items == 0) graph) none in
+    none_after graph i k s parts.1 at has
+
+-- no chain leads through a graph without edges
+pub acyclic_without_edges : (graph : List (Vec ℕ Global)) → list_all (λ (v : Vec ℕ Global). length v.items == 0) graph ≡ true
+    → IsAcyclic (map (λ (v : Vec ℕ Global). v.items) graph)
+acyclic_without_edges graph none i chain =
+    let end = last_edge (map (λ (v : Vec ℕ Global). v.items) graph) i i chain in
+    none_after graph end.0 i end.1.successors none end.1.at end.1.has

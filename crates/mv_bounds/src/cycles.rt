@@ -1,5 +1,5 @@
 // Whether a graph has a cycle: nodes without an edge to them are removed as long as there are any.
-ghost use Rattle.std.specs.Prelude.{◌≡◌, ◌+◌, ◌*◌, ◌^◌, ◌≤◌, ◌<◌, ◌↔◌, ℕ, length, map, slice_index, vec_len, IsTrue, IfOk, OnOk, nat_lt, []};
+ghost use Rattle.std.specs.Prelude.{◌≡◌, ◌+◌, ◌*◌, ◌^◌, ◌≤◌, ◌<◌, ◌↔◌, ℕ, length, map, slice_index, vec_len, IsTrue, IfOk, OnOk, nat_lt, ◌==◌, []};
 ghost use Rattle.std.specs.List.{list_all};
 ghost use Rattle.mv_bounds.specs.Cycles.{IsAcyclic};
 ghost use Rattle.mv_bounds.specs.Removal.{times, edges_to, is_zero, Released};
@@ -71,13 +71,15 @@ fn all_marked(marks: &[bool]) -> bool
     marks.iter().all(|mark| *mark)
 }
 
-/// Whether no node of a graph, which is given by each node's successors, leads to itself. A successor that is no node
-/// leads nowhere. The work grows with the nodes and edges.
-///
-/// # Errors
-///
-/// If an allocation failed.
-pub fn is_acyclic(alloc: Global, graph: &[Vec<usize>]) -> Result<bool, AllocError>
+/// Whether no edge leads anywhere.
+fn has_no_edges(graph: &[Vec<usize>]) -> bool
+    ensures { result ≡ list_all (λ s. length s.items == 0) graph.now }
+{
+    graph.iter().all(|targets| targets.is_empty())
+}
+
+/// Whether no node of a graph leads to itself: all are removed.
+fn can_be_emptied(alloc: Global, graph: &[Vec<usize>]) -> Result<bool, AllocError>
     ensures { IfOk result (λ b. IsTrue b ↔ IsAcyclic (map (λ s. s.items) graph.now)) }
 {
     let mut waiting = incoming(alloc, graph)?;
@@ -88,4 +90,20 @@ pub fn is_acyclic(alloc: Global, graph: &[Vec<usize>]) -> Result<bool, AllocErro
         release(&mut waiting, &mut ready, &graph[node])?;
     }
     Ok(all_marked(&removed))
+}
+
+/// Whether no node of a graph, which is given by each node's successors, leads to itself. A successor that is no node
+/// leads nowhere. The work grows with the nodes and edges.
+///
+/// # Errors
+///
+/// If an allocation failed.
+#[tactic(auto, using(crate::proofs::EdgeLemmas::acyclic_without_edges))]
+pub fn is_acyclic(alloc: Global, graph: &[Vec<usize>]) -> Result<bool, AllocError>
+    ensures { IfOk result (λ b. IsTrue b ↔ IsAcyclic (map (λ s. s.items) graph.now)) }
+{
+    if has_no_edges(graph) {
+        return Ok(true);
+    }
+    can_be_emptied(alloc, graph)
 }

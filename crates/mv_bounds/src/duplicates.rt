@@ -29,12 +29,23 @@ fn set_of<K: Ord + Copy>(alloc: Global, items: &[K]) -> Result<BTreeSet<K>, Allo
     items.iter().copied().collect(alloc)
 }
 
-/// Whether no two items are equal.
-fn all_distinct<K: Ord + Copy>(alloc: Global, items: &[K]) -> Result<bool, AllocError>
+/// Whether no two items are equal, by the set of them.
+fn differ_as_set<K: Ord + Copy>(alloc: Global, items: &[K]) -> Result<bool, AllocError>
     ensures { IfOk result (λ b. b ≡ all_differ K.eq items.now) }
 {
     let seen = set_of(alloc, items)?;
     Ok(seen.len() == items.len())
+}
+
+/// Whether no two items are equal. Fewer than two need no set.
+#[tactic(auto, using(crate::proofs::Distinct::few_differ))]
+fn all_distinct<K: Ord + Copy>(alloc: Global, items: &[K]) -> Result<bool, AllocError>
+    ensures { IfOk result (λ b. b ≡ all_differ K.eq items.now) }
+{
+    if items.len() < 2 {
+        return Ok(true);
+    }
+    differ_as_set(alloc, items)
 }
 
 /// The address and the name of each module handle, as indices.
@@ -47,12 +58,23 @@ fn module_names(alloc: Global, m: &Module) -> Result<Vec<(u16, u16)>, AllocError
         .collect(alloc)
 }
 
-/// Whether no two module handles have the same address and name.
-fn module_handles_differ(alloc: Global, m: &Module) -> Result<bool, AllocError>
+/// Whether no two module handles have the same address and name, by the list of both.
+fn module_names_differ(alloc: Global, m: &Module) -> Result<bool, AllocError>
     ensures { IfOk result (λ b. b ≡ all_differ (λ (x y : ModuleHandle). (x.address == y.address) && (x.name == y.name)) m.now.module_handles) }
 {
     let names = module_names(alloc, m)?;
     all_distinct(alloc, &names)
+}
+
+/// Whether no two module handles have the same address and name. Many modules name none but themselves.
+#[tactic(auto, using(crate::proofs::Distinct::few_differ))]
+fn module_handles_differ(alloc: Global, m: &Module) -> Result<bool, AllocError>
+    ensures { IfOk result (λ b. b ≡ all_differ (λ (x y : ModuleHandle). (x.address == y.address) && (x.name == y.name)) m.now.module_handles) }
+{
+    if m.module_handles().len() < 2 {
+        return Ok(true);
+    }
+    module_names_differ(alloc, m)
 }
 
 /// The module and the name of each struct handle, as indices.
@@ -129,12 +151,23 @@ fn identifiers<'a>(alloc: Global, m: &Module<'a>) -> Result<Vec<&'a [u8]>, Alloc
     Ok(names)
 }
 
-/// Whether no two identifiers are equal.
-fn identifiers_differ(alloc: Global, m: &Module) -> Result<bool, AllocError>
+/// Whether no two identifiers are equal, by the list of them.
+fn texts_differ(alloc: Global, m: &Module) -> Result<bool, AllocError>
     ensures { IfOk result (λ b. b ≡ all_differ bytes_eq m.now.identifiers) }
 {
     let texts = identifiers(alloc, m)?;
     all_distinct(alloc, &texts)
+}
+
+/// Whether no two identifiers are equal.
+#[tactic(auto, using(crate::proofs::Distinct::few_differ))]
+fn identifiers_differ(alloc: Global, m: &Module) -> Result<bool, AllocError>
+    ensures { IfOk result (λ b. b ≡ all_differ bytes_eq m.now.identifiers) }
+{
+    if m.identifier_count() < 2 {
+        return Ok(true);
+    }
+    texts_differ(alloc, m)
 }
 
 /// The types of each signature, as numbers.
@@ -273,6 +306,9 @@ fn function_homes(alloc: Global, m: &Module) -> Result<Vec<u16>, AllocError>
 fn structs_defined_once(alloc: Global, m: &Module) -> Result<bool, AllocError>
     ensures { IfOk result (λ b. b ≡ defined_once (struct_home m.now) m.now.own (length m.now.struct_handles) (map (λ (d : StructTable). d.handle) m.now.structs)) }
 {
+    if m.struct_handles().is_empty() {
+        return Ok(true);
+    }
     let homes = struct_homes(alloc, m)?;
     let defined = defined_structs(alloc, m)?;
     defined_once(alloc, &homes, m.own(), &defined)
@@ -282,6 +318,9 @@ fn structs_defined_once(alloc: Global, m: &Module) -> Result<bool, AllocError>
 fn functions_defined_once(alloc: Global, m: &Module) -> Result<bool, AllocError>
     ensures { IfOk result (λ b. b ≡ defined_once (function_home m.now) m.now.own (length m.now.function_handles) (map (λ (d : FunctionTable). d.handle) m.now.functions)) }
 {
+    if m.function_handles().is_empty() {
+        return Ok(true);
+    }
     let homes = function_homes(alloc, m)?;
     let defined = defined_functions(alloc, m)?;
     defined_once(alloc, &homes, m.own(), &defined)

@@ -38,6 +38,9 @@ fn places(alloc: Global, handles: usize, defined: &[u16]) -> Result<Vec<Option<u
 pub fn struct_places(alloc: Global, m: &Module) -> Result<Vec<Option<usize>>, AllocError>
     ensures { IfOk result (λ v. AreStructPlaces m.now v.items) }
 {
+    if m.struct_handles().is_empty() {
+        return Ok(Vec::new(alloc));
+    }
     let defined = defined_structs(alloc, m)?;
     places(alloc, m.struct_handles().len(), &defined)
 }
@@ -46,6 +49,9 @@ pub fn struct_places(alloc: Global, m: &Module) -> Result<Vec<Option<usize>>, Al
 pub fn function_places(alloc: Global, m: &Module) -> Result<Vec<Option<usize>>, AllocError>
     ensures { IfOk result (λ v. AreFunctionPlaces m.now v.items) }
 {
+    if m.function_handles().is_empty() {
+        return Ok(Vec::new(alloc));
+    }
     let defined = defined_functions(alloc, m)?;
     places(alloc, m.function_handles().len(), &defined)
 }

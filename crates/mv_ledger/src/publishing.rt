@@ -87,7 +87,7 @@ pub fn all_verified<'a>(alloc: Global, offers: &[Offered<'a>]) -> Result<Vec<New
     ensures texts { IfOk result (λ v. AreTexts v.items) }
     ensures refused { IfErr result (IsRefusedAmong (offers_of offers.now)) }
 {
-    let mut all = Vec::new(alloc);
+    let mut all = Vec::with_capacity(alloc, offers.len())?;
     'each: for offer in offers {
         all.push(verified(alloc, offer)?).map_err(AllocError::from)?;
     }
@@ -124,8 +124,8 @@ pub fn placed(
     ensures kept { KeepsCounts counters.old counters.new }
     ensures countable { IfOk result (λ v. AreCountable counters.new (map (λ p. p.tallies.items) v.items)) }
 {
-    let mut all = Vec::new(alloc);
     let mut next = tallies.len();
+    let mut all = Vec::with_capacity(alloc, news.len())?;
     'each: for new in news {
         let module = new.module.module();
         let found = place_of(store, module);

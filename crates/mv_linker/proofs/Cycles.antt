@@ -3,6 +3,7 @@
 --
 -- Read first specs/DependencyGraph.antt and Reached.antt, then Depends and ReachedLemmas.
 --   Depends           `ordered-acyclic`: dependencies by their places: a cycle of modules is a cycle of places
+--   NoEdges           `no-edges`: a graph without edges has no cycle
 --   Graphs            `whole-graph`, `appended-graph`: graphs of dependencies: of all modules, of modules after others, and where a store grows
 --   JoinedOrder       `names-stay`: the order of modules once a bundle joins
 --   DependencyLemmas  `one-more`, `graph-appended`: dependencies, place by place
@@ -19,3 +20,4 @@ pub mod DependenciesStay
 pub mod ReachedLemmas
 pub mod NamerLemmas
 pub mod DependantLemmas
+pub mod NoEdges

@@ -1,5 +1,5 @@
 -- What maps say of the modules of a bundle: the place of each name, and which names there are.
-use Rattle.std.specs.Prelude.{◌≡◌, ℕ, Bool, true, cond, List, Some, None, is_some}
+use Rattle.std.specs.Prelude.{◌≡◌, ℕ, Bool, true, cond, List, ◌∷◌, Option, Some, None, is_some}
 use Rattle.std.specs.List.{list_any}
 use Rattle.std.specs.Map.{lookup}
 use Rattle.mv_move_types.specs.Names.{same_module}
@@ -16,6 +16,11 @@ has_name_of q k = same_module (name_in q) (name_in k)
 -- under each name is the place of the last of a bundle with it
 abbrev pub ArePlacesOf : List (Name × ℕ) → List Module → List ℕ → Type 0
 ArePlacesOf entries ns places = (q : Name) → lookup (has_name_of q) entries ≡ found_among (name_in q) ns places None
+
+-- the places by names, and among them the one that was put last
+abbrev pub with_last : Option (Name × ℕ) → List (Name × ℕ) → List (Name × ℕ)
+with_last None others = others
+with_last (Some last) others = last ∷ others
 
 -- the names are those of modules
 abbrev pub AreNamesIn : {V : Type 0} → List (Name × V) → List Kept → Type 0

@@ -1,5 +1,5 @@
 -- Sizes of structs: their leaf values and their nesting.
-use Rattle.std.specs.Prelude.{◌≡◌, ℕ, zero, suc, ◌+◌, ◌≤◌, ◌⊎◌, ◌&&◌, nat_le, nat_lt, cond, IsTrue, List, [], ◌∷◌, length, map, Option, Some, None, slice_get, unwrap_or}
+use Rattle.std.specs.Prelude.{◌≡◌, ℕ, zero, suc, ◌+◌, ◌<◌, ◌≤◌, is_some, ◌⊎◌, ◌&&◌, nat_le, nat_lt, cond, IsTrue, List, [], ◌∷◌, length, map, Option, Some, None, slice_get, unwrap_or}
 use Rattle.std.specs.List.{list_all}
 use Rattle.mv_move_types.specs.Limits.{most_leaves, most_nesting}
 use Rattle.mv_move_types.specs.declared.token.Token.{Token}
@@ -106,3 +106,11 @@ next_rows rows (m ∷ ms) (defined ∷ handles) = row_of rows m defined ∷ next
 abbrev pub rows_after : ℕ → List Module → List (List Defined) → List (List (Option Size))
 rows_after zero bundle handles = []
 rows_after (suc k) bundle handles = next_rows (rows_after k bundle handles) bundle handles
+
+-- what is known after the last round: the eighth, or one that leaves no size unknown
+pub record AreFinalRows (bundle : List Module) (handles : List (List Defined)) (rows : List (List (Option Size))) : Type 0 where
+  pub rounds : ℕ
+  pub some : 0 < rounds
+  pub few : rounds ≤ most_nesting
+  pub after : rows ≡ rows_after rounds bundle handles
+  pub ends : (rounds ≡ most_nesting) ⊎ IsTrue (list_all (list_all is_some) rows)

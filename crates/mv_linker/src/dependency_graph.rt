@@ -1,5 +1,6 @@
 // The graph of which modules depend on which, and whether a chain in it leads back to its module.
-ghost use Rattle.std.specs.Prelude.{◌≡◌, ◌↔◌, List, map, IsTrue, IfOk, Some, slice_get};
+ghost use Rattle.std.specs.Prelude.{◌≡◌, ◌↔◌, ◌==◌, List, length, map, IsTrue, IfOk, Some, slice_get};
+ghost use Rattle.std.specs.List.{list_all};
 ghost use Rattle.mv_move_types.specs.Module.{Module};
 ghost use Rattle.mv_move_types.specs.Named.{have_one_name};
 ghost use Rattle.mv_bounds.specs.Definitions.{all_differ};
@@ -45,11 +46,18 @@ fn graph_from(
 ) -> Result<Vec<Vec<usize>>, AllocError>
     ensures { IfOk result (λ v. map (λ s. s.items) v.items ≡ map (λ d. shifted base d.items) dependencies.now) }
 {
-    let mut graph = Vec::new(alloc);
+    let mut graph = Vec::with_capacity(alloc, dependencies.len())?;
     for places in dependencies {
         graph.push(shifted(alloc, base, places)?)?;
     }
     Ok(graph)
+}
+
+/// Whether no place stands in any of the lists.
+fn are_empty(dependencies: &[Vec<usize>]) -> bool
+    ensures { result ≡ list_all (λ d. length d.items == 0) dependencies.now }
+{
+    dependencies.iter().all(|places| places.is_empty())
 }
 
 /// Whether no module depends on itself by a chain, where the modules before `base` depend on each other alone, and none of
@@ -61,6 +69,9 @@ pub fn is_ordered(
 ) -> Result<bool, AllocError>
     ensures { IfOk result (λ b. (modules : List Module) → IsDependencyGraph modules base (map (λ d. d.items) dependencies.now) → (IsTrue b ↔ IsOrdered modules)) }
 {
+    if are_empty(dependencies) {
+        return Ok(true);
+    }
     let graph = graph_from(alloc, base, dependencies)?;
     is_acyclic(alloc, &graph)
 }

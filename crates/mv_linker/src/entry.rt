@@ -116,7 +116,7 @@ pub fn entries_of(alloc: Global, new: &[New<'_>]) -> Result<Vec<Entry>, AllocErr
     ensures value { IfOk result (λ entries. published_in entries.items ≡ published_of new.now) }
     ensures passed { OnOk result (All IsPublishable (published_of new.now)) }
 {
-    let mut entries = Vec::new(alloc);
+    let mut entries = Vec::with_capacity(alloc, new.len())?;
     for n in new {
         entries.push(entry_of(alloc, n)?)?;
     }

@@ -9,10 +9,9 @@ ghost use Rattle.mv_linker.specs.Link.{IsStore, tables_in, have_one_name};
 ghost use Rattle.mv_linker.specs.Scope.{offered, places_in, all_named};
 
 use crate::entry::Name;
-use crate::indexed::{place_of, put_place};
+use crate::indexed::{PlacesByName, place_of};
 use crate::names::name_of;
 use crate::{New, Store};
-use indexmap::IndexMap;
 use mv_binary_format::Module;
 use std::alloc::{AllocError, Global};
 use std::borrow::CowSlice;
@@ -28,11 +27,11 @@ pub struct Scope<'a> {
     /// The place of each module of the bundle.
     pub places: Vec<usize>,
     /// The same by name.
-    pub names: IndexMap<Name<'static>, usize>,
+    pub names: PlacesByName,
     ghost placed: { places.items ≡ places_in (tables_in store.now) (offered new.now) },
     ghost named: { IsTrue (all_named (offered new.now)) },
     ghost once: { IsTrue (all_differ have_one_name (offered new.now)) },
-    ghost found: { ArePlacesOf names.entries (offered new.now) places.items },
+    ghost found: { ArePlacesOf names (offered new.now) places.items },
 }
 
 /// Whether it is the module of this address and identifier.
@@ -64,25 +63,25 @@ struct Places {
     /// In order.
     places: Vec<usize>,
     /// Under the names.
-    names: IndexMap<Name<'static>, usize>,
+    names: PlacesByName,
 }
 
 /// The places that the modules of a bundle take, each of which has a name.
 fn places_of(alloc: Global, store: &Store, new: &[New<'_>]) -> Result<Places, AllocError>
     requires { length store.now + length new.now ≤ 65536 }
     ensures places { IfOk result (λ p. p.places.items ≡ places_in (tables_in store.now) (offered new.now)) }
-    ensures names { IfOk result (λ p. ArePlacesOf p.names.entries (offered new.now) p.places.items) }
+    ensures names { IfOk result (λ p. ArePlacesOf p.names (offered new.now) p.places.items) }
     ensures named { OnOk result (IsTrue (all_named (offered new.now))) }
     ensures sound { OnOk result (IsStore store.now) }
 {
-    let mut places = Vec::new(alloc);
-    let mut names = IndexMap::new(alloc);
+    let mut places = Vec::with_capacity(alloc, new.len())?;
+    let mut names = PlacesByName::new(alloc);
     let mut count = store.len();
     for i in 0..new.len() {
         let name = own_name(alloc, &new[i])?;
         let place = place_of(store, &names, &name).unwrap_or(count);
         places.push(place)?;
-        put_place(&mut names, name, place)?;
+        names.put(name, place)?;
         if place == count {
             count += 1;
         }

@@ -1,10 +1,10 @@
 // The sizes of structs: how many leaf values each has, and how deep it nests.
-ghost use Rattle.std.specs.Prelude.{◌≡◌, ◌≤◌, List, length, map, is_some, false, IfOk, IfErr, MatchOption};
+ghost use Rattle.std.specs.Prelude.{◌≡◌, ◌≤◌, ◌==◌, List, [], length, map, is_some, false, IfOk, IfErr, MatchOption};
 ghost use Rattle.std.specs.List.{list_all};
 ghost use Rattle.mv_move_types.specs.Module.{Module as Tables};
 ghost use Rattle.mv_move_types.specs.Refusals.{IsRefusedIn};
 ghost use Rattle.mv_linker.specs.Scope.{offered};
-ghost use Rattle.mv_linker.specs.Sizes.{AreDefined, AreSizes, AreSmall, greater, size_at, size_of_token, size_of_struct, row_of, next_rows, rows_after};
+ghost use Rattle.mv_linker.specs.Sizes.{AreDefined, AreSizes, AreSmall, greater, size_at, size_of_token, size_of_struct, row_of, next_rows, AreFinalRows};
 
 use crate::New;
 use mv_binary_format::Module;
@@ -129,17 +129,60 @@ fn next_rows(
     Ok(next)
 }
 
-/// What is known of the bundle's structs after 8 rounds: the sizes of all that are small.
+/// Whether no module of a bundle defines a struct.
+pub fn have_no_structs(bundle: &[New<'_>]) -> bool
+    ensures { result ≡ list_all (λ n. length n.module.structs == 0) bundle.now }
+{
+    bundle.iter().all(|n| defines_none(n))
+}
+
+/// Whether a module defines no struct.
+fn defines_none(n: &New<'_>) -> bool
+    ensures { result ≡ (length n.now.module.structs == 0) }
+{
+    n.module.module().structs().is_empty()
+}
+
+/// The sizes of the structs of a bundle whose modules define none.
+pub fn no_sizes(alloc: Global, bundle: &[New<'_>]) -> Result<Vec<Vec<Size>>, AllocError>
+    ensures { IfOk result (λ v. map (λ r. r.items) v.items ≡ map (λ n. []) bundle.now) }
+{
+    let mut sizes = Vec::with_capacity(alloc, bundle.len())?;
+    for _module in bundle {
+        sizes.push(Vec::new(alloc))?;
+    }
+    Ok(sizes)
+}
+
+/// Whether each size of a row is known.
+fn is_row_known(row: &[Option<Size>]) -> bool
+    ensures { result ≡ list_all is_some row.now }
+{
+    row.iter().all(|size| size.is_some())
+}
+
+/// Whether the size of each struct is known.
+fn are_known(rows: &[Vec<Option<Size>>]) -> bool
+    ensures { result ≡ list_all (λ r. list_all is_some r.items) rows.now }
+{
+    rows.iter().all(|row| is_row_known(row))
+}
+
+/// What is known of the bundle's structs after 8 rounds, or after the first that leaves none unknown: the sizes of all that
+/// are small.
 fn rows_of(
     alloc: Global,
     bundle: &[New<'_>],
     defined: &[Vec<Defined>],
 ) -> Result<Vec<Vec<Option<Size>>>, AllocError>
     requires { length bundle.now ≤ length defined.now }
-    ensures { IfOk result (λ v. map (λ r. r.items) v.items ≡ rows_after 8 (offered bundle.now) (map (λ d. d.items) defined.now)) }
+    ensures { IfOk result (λ v. AreFinalRows (offered bundle.now) (map (λ d. d.items) defined.now) (map (λ r. r.items) v.items)) }
 {
-    let mut rows = Vec::new(alloc);
-    for _round in 0..DEEPEST {
+    let mut rows = next_rows(alloc, &[], bundle, defined)?;
+    for _round in 1..DEEPEST {
+        if are_known(&rows) {
+            return Ok(rows);
+        }
         rows = next_rows(alloc, &rows, bundle, defined)?;
     }
     Ok(rows)
@@ -167,7 +210,7 @@ fn known_rows(
     ensures { IfOk result (λ o. MatchOption o (list_all (list_all is_some) (map (λ r. r.items) rows.now) ≡ false)
         (λ v. map (λ r. r.items) rows.now ≡ map (λ r. map (λ s. Some s) r.items) v.items)) }
 {
-    let mut known = Vec::new(alloc);
+    let mut known = Vec::with_capacity(alloc, rows.len())?;
     for row in rows {
         match known_row(alloc, row)? {
             Some(sizes) => known.push(sizes)?,

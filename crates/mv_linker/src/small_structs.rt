@@ -12,7 +12,7 @@ ghost use Rattle.mv_linker.specs.Stored.{AreNamesOf};
 ghost use Rattle.mv_linker.specs.Targets.{EachAt, modules_in};
 
 use crate::scope::Scope;
-use crate::sizes::{Defined, Size, sizes_of};
+use crate::sizes::{Defined, Size, have_no_structs, no_sizes, sizes_of};
 use crate::store_rules::Names;
 use mv_move_types::{Definition, Refusal};
 use std::alloc::{AllocError, Global};
@@ -63,6 +63,9 @@ impl<'a> Scope<'a> {
         ensures small { OnOk result (AreSmall (modules_in self.now) (offered self.now.new.now)) }
         ensures refused { IfErr result (IsRefusedIn 13 (AreSmall (modules_in self.now) (offered self.now.new.now))) }
     {
+        if have_no_structs(self.new) {
+            return Ok(no_sizes(alloc, self.new)?);
+        }
         let found = self.all_defined(alloc, names)?;
         sizes_of(alloc, self.new, &found)
     }

@@ -3,7 +3,8 @@
 --   placed-at, listed             the codes, by their places
 --   relinking                     what the codes are
 use Rattle.mv_linker.proofs.LinkedCode.Common.{[], ℕ, ◌++◌, ◌+◌, ◌<◌, ◌∙◌, ◌∷◌, ◌≡◌, Contains, List, None, Option, Some, ap, arith, cond, inl, inr, length, map, refl, slice_get, subst, suc, sym, zero}
-use Rattle.mv_linker.proofs.LinkedCode.Common.{ne_eqb, none-some, same_Some, slice_get_within, zip, ◌==◌, position, Module, AreCodes, AreToLink, IsCode, offered, modules_in, Code, ToLink}
+use Rattle.mv_linker.proofs.LinkedCode.Common.{ap₂, ne_eqb, none-some, same_Some, slice_get_within, zip, ◌==◌, position, Module, AreCodes, AreToLink, IsCode, offered, modules_in, Code, ToLink}
+use Rattle.std.specs.Prelude.{drop}
 use Rattle.std.proofs.lemmas.List.Elements.{Contains-append_left, Contains-append_right}
 use Rattle.mv_linker.specs.declared.code.CodeAt.{CodeAt}
 use Rattle.mv_linker.specs.declared.dependants.Dependant.{Dependant}
@@ -49,6 +50,15 @@ places-placed : (linking : List ToLink) (codes : List Code) → length codes ≡
 places-placed [] codes e = refl
 places-placed (t ∷ linking) [] e = absurd (omega (arith, e))
 places-placed (t ∷ linking) (code ∷ codes) e = ap (λ l. t.place ∷ l) (places-placed linking codes (omega (arith, e)))
+
+-- codes with the places of their modules
+pub placed-back : (linking : List ToLink) (cs : List CodeAt) → map (λ (c : CodeAt). c.place) cs ≡ map (λ (t : ToLink). t.place) linking → cs ≡ placed linking (map (λ (c : CodeAt). c.code) cs)
+placed-back [] [] e = refl
+placed-back [] (c ∷ cs) e = absurd (omega (arith, ap length e))
+placed-back (t ∷ linking) [] e = absurd (omega (arith, ap length e))
+placed-back (t ∷ linking) (c ∷ cs) e =
+    let first : c.place ≡ t.place = same_Some c.place t.place (ap (λ (l : List ℕ). slice_get l 0) e) in
+    ap₂ (λ (p : ℕ) (l : List CodeAt). record { place = p; code = c.code } ∷ l) first (placed-back linking cs (ap (drop 1) e))
 
 record IsPlaced (linking : List ToLink) (codes : List Code) (k : ℕ) (c : CodeAt) : Type 0 where
   one : ToLink

@@ -248,20 +248,17 @@ module _ (modules bundle : List Module) (handles : List (List Defined)) (a : Are
   rows_know zero low = λ i j name e n g. absurd (none-some n g)
   rows_know (suc k) low = round_knows k (rows_after k bundle handles) (omega (arith, low)) (rows_know k (omega (arith, low)))
 
-  abbrev last : List (List (Option Size))
-  last = rows_after 8 bundle handles
+  abbrev after : ℕ → List (List (Option Size))
+  after rounds = rows_after rounds bundle handles
 
-  knows_last : Knows 8 last
-  knows_last = rows_know 8 (omega arith)
+  length_after : (j : ℕ) → length (after (suc j)) ≡ length bundle
+  length_after j = length-rows (after j) bundle handles a.len
 
-  length_last : length last ≡ length bundle
-  length_last = length-rows (rows_after 7 bundle handles) bundle handles a.len
-
-  last_row : (i : ℕ) (m : Module) → slice_get bundle i ≡ Some m → (row : List (Option Size)) × (slice_get last i ≡ Some row) × (length row ≡ length m.structs)
-  last_row i m e =
+  row_after : (j i : ℕ) (m : Module) → slice_get bundle i ≡ Some m → (row : List (Option Size)) × (slice_get (after (suc j)) i ≡ Some row) × (length row ≡ length m.structs)
+  row_after j i m e =
       let low = slice_get_within bundle i m e in
       let there = there_at handles i (omega (arith, low, a.len)) in
-      let rows = rows_after 7 bundle handles in
+      let rows = after j in
       (row_of rows m there.0, row_at rows bundle handles i m there.0 e there.1, length-map m.structs (λ (d : StructDefinition). size_of_struct rows there.0 d.fields))
 
   -- a struct is small exactly where its size is known
@@ -283,16 +280,16 @@ module _ (modules bundle : List Module) (handles : List (List Defined)) (a : Are
           let many = known n g in
           omega (arith, few, many)
 
-  pub not_known : (rows : List (List (Option Size))) → rows ≡ last → list_all (list_all is_some) rows ≡ false → AreSmall modules bundle → ⊥
+  pub not_known : (rows : List (List (Option Size))) → rows ≡ after 8 → list_all (list_all is_some) rows ≡ false → AreSmall modules bundle → ⊥
   not_known rows is fails small =
       let r = some_fails (list_all is_some) rows fails in
       let entry = some_fails is_some r.1 r.3 in
       let i = r.0 in
       let j = entry.0 in
-      let at : slice_get last i ≡ Some r.1 = sym (ap (λ l. slice_get l i) is) ∙ r.2 in
-      let low = slice_get_within last i r.1 at in
-      let m = there_at bundle i (omega (arith, low, length_last)) in
-      let row = last_row i m.0 m.1 in
+      let at : slice_get (after 8) i ≡ Some r.1 = sym (ap (λ l. slice_get l i) is) ∙ r.2 in
+      let low = slice_get_within (after 8) i r.1 at in
+      let m = there_at bundle i (omega (arith, low, length_after 7)) in
+      let row = row_after 7 i m.0 m.1 in
       let same : row.0 ≡ r.1 = same_Some row.0 r.1 (sym row.1 ∙ at) in
       let inside = slice_get_within r.1 j entry.1 entry.2 in
       let long : length r.1 ≡ length m.0.structs = sym (ap length same) ∙ row.2 in
@@ -300,9 +297,9 @@ module _ (modules bundle : List Module) (handles : List (List Defined)) (a : Are
       let own = a.own i j m.0 d.0 m.1 d.1 in
       let named : name_at bundle i j ≡ Some own.0 =
       then_found (slice_get bundle i) (λ m. slice_get m.structs j >>= λ d. name_of_struct m d) m.0 (Some own.0) m.1 (then_found (slice_get m.0.structs j) (λ d. name_of_struct m.0 d) d.0 (Some own.0) d.1 own.1) in
-      let unknown : at_place last i j ≡ None =
+      let unknown : at_place (after 8) i j ≡ None =
       ap (λ o. o >>= λ row. unwrap_or (slice_get row j) None) at ∙ ap (λ o. unwrap_or o None) entry.2 ∙ none_is entry.1 entry.3 in
-      not_small m.0 d.0 own.0 own.1 (subst (λ (o : Option Size). KnownWithin modules 8 own.0 o) unknown (knows_last i j own.0 named))
+      not_small m.0 d.0 own.0 own.1 (subst (λ (o : Option Size). KnownWithin modules 8 own.0 o) unknown (rows_know 8 (omega arith) i j own.0 named))
       (each (struct_is_small modules m.0) m.0.structs j d.0 (each (λ m. list_all (struct_is_small modules m) m.structs) bundle i m.0 small m.1) d.1)
     where
       none_is : (o : Option Size) → is_some o ≡ false → o ≡ None
@@ -310,24 +307,25 @@ module _ (modules bundle : List Module) (handles : List (List Defined)) (a : Are
       none_is (Some s) h = absurd (both_ways true h refl)
 
   -- where each is known
-  size_at_last : (sizes : List (List Size)) → last ≡ map (map (λ (s : Size). Some s)) sizes → (i j : ℕ) (row : List Size) (s : Size) → slice_get sizes i ≡ Some row → slice_get row j ≡ Some s
-      → at_place last i j ≡ Some s
-  size_at_last sizes is i j row s e f =
+  size_at_after : (rounds : ℕ) (sizes : List (List Size)) → after rounds ≡ map (map (λ (s : Size). Some s)) sizes → (i j : ℕ) (row : List Size) (s : Size) → slice_get sizes i ≡ Some row → slice_get row j ≡ Some s
+      → at_place (after rounds) i j ≡ Some s
+  size_at_after rounds sizes is i j row s e f =
       ap (λ rows. at_place rows i j) is
       ∙ ap (λ o. o >>= λ row. unwrap_or (slice_get row j) None) (slice_get-map (map (λ (s : Size). Some s)) sizes i ∙ ap (option_map (map (λ (s : Size). Some s))) e)
       ∙ ap (λ o. unwrap_or o None) (slice_get-map (λ (s : Size). Some s) row j ∙ ap (option_map (λ (s : Size). Some s)) f)
 
-  pub sizes_known : (sizes : List (List Size)) → last ≡ map (map (λ (s : Size). Some s)) sizes → AreSizes modules bundle sizes × AreSmall modules bundle
-  sizes_known sizes is = (
+  pub sizes_known : (rounds : ℕ) → 0 < rounds → rounds ≤ 8 → (sizes : List (List Size)) → after rounds ≡ map (map (λ (s : Size). Some s)) sizes → AreSizes modules bundle sizes × AreSmall modules bundle
+  sizes_known zero some few sizes is = absurd (omega (arith, some))
+  sizes_known (suc q) some few sizes is = (
     record {
       len = long;
       count = λ i m row e f.
-          let r = last_row i m e in
+          let r = row_after q i m e in
           let same : r.0 ≡ map (λ (s : Size). Some s) row =
           same_Some r.0 (map (λ (s : Size). Some s) row) (sym r.1 ∙ ap (λ l. slice_get l i) is ∙ slice_get-map (map (λ (s : Size). Some s)) sizes i ∙ ap (option_map (map (λ (s : Size). Some s))) f) in
           sym (length-map row (λ (s : Size). Some s)) ∙ sym (ap length same) ∙ r.2;
       each = λ i j name row s e f g.
-          subst (λ (o : Option Size). KnownWithin modules 8 name o) (size_at_last sizes is i j row s f g) (knows_last i j name e);
+          subst (λ (o : Option Size). KnownWithin modules (suc q) name o) (size_at_after (suc q) sizes is i j row s f g) (rows_know (suc q) few i j name e);
     },
     all_from (λ m. list_all (struct_is_small modules m) m.structs) bundle
         (λ i m e. all_from (struct_is_small modules m) m.structs
@@ -337,14 +335,14 @@ module _ (modules bundle : List Module) (handles : List (List Defined)) (a : Are
         then_found (slice_get bundle i) (λ m. slice_get m.structs j >>= λ d. name_of_struct m d) m (Some own.0) e (then_found (slice_get m.structs j) (λ d. name_of_struct m d) d (Some own.0) f own.1) in
         let low = slice_get_within bundle i m e in
         let row = there_at sizes i (omega (arith, low, long)) in
-        let r = last_row i m e in
+        let r = row_after q i m e in
         let same : r.0 ≡ map (λ (s : Size). Some s) row.0 =
         same_Some r.0 (map (λ (s : Size). Some s) row.0) (sym r.1 ∙ ap (λ l. slice_get l i) is ∙ slice_get-map (map (λ (s : Size). Some s)) sizes i ∙ ap (option_map (map (λ (s : Size). Some s))) row.1) in
         let inside = slice_get_within m.structs j d f in
         let wide : length row.0 ≡ length m.structs = sym (length-map row.0 (λ (s : Size). Some s)) ∙ sym (ap length same) ∙ r.2 in
         let s = there_at row.0 j (omega (arith, inside, wide)) in
-        small_from m d own.0 s.0 own.1 (subst (λ (o : Option Size). KnownWithin modules 8 own.0 o) (size_at_last sizes is i j row.0 s.0 row.1 s.1) (knows_last i j own.0 named)))),
+        small_from m d own.0 s.0 own.1 (subst (λ (o : Option Size). KnownWithin modules (suc q) own.0 o) (size_at_after (suc q) sizes is i j row.0 s.0 row.1 s.1) (rows_know (suc q) few i j own.0 named)))),
   )
     where
       long : length sizes ≡ length bundle
-      long = sym (length-map sizes (map (λ (s : Size). Some s))) ∙ sym (ap length is) ∙ length_last
+      long = sym (length-map sizes (map (λ (s : Size). Some s))) ∙ sym (ap length is) ∙ length_after q

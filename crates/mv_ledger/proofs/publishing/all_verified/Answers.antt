@@ -3,11 +3,11 @@ use Rattle.mv_ledger.proofs.Bundles.Verifying.{verifying-none, verifying-more, v
 use Rattle.mv_ledger.proofs.publishing.all_verified.Goals as goal
 
 pub each-init : goal.each-init
-each-init c = verifying-none c.args.offers.now c.new-all.result.items c.new-all.ensures.items
+each-init c = verifying-none c.args.offers.now c.in_ok-all.all.items c.in_ok-all.ensures.items
 
 pub returns-in_err-verified-clause-refused : goal.returns-in_err-verified-clause-refused
 returns-in_err-verified-clause-refused c =
-    let p = err_from_is_err_and c.from_residual.result c.from_residual.ensures.1 in
+    let p = err_from_is_err_and c.from_residual-in_err-verified.result c.from_residual-in_err-verified.ensures.1 in
     rw (p.1, p.2) (verifying-fails c.args.offers.now c.each.offer-index c.each.all.items _ c.in_err-verified.field-0.0 c.each.invariant c.each-test.true c.in_err-verified.ensures.refused)
 
 pub each-preserved : goal.each-preserved

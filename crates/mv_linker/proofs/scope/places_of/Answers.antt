@@ -8,8 +8,8 @@ use Rattle.mv_linker.proofs.scope.places_of.Goals.{then-place-count, else-place-
 
 pub loop-i-init : goal.loop-i-init
 loop-i-init c = (
-  no-places _ _ _ _ c.new-places.ensures.items (c.len-count.ensures.count ∙ sym (length-map c.args.store.now (λ (p : PublishedModule). p.tables))),
-  λ q. ap (lookup (has_name_of q)) c.new-names.ensures.empty,
+  no-places _ _ _ _ c.in_ok-places.ensures.items (c.len-count.ensures.count ∙ sym (length-map c.args.store.now (λ (p : PublishedModule). p.tables))),
+  λ q. ap (lookup (has_name_of q)) c.new-names.ensures,
 )
 
 pub overflow_add-count : goal.overflow_add-count
@@ -39,9 +39,9 @@ loop-i-preserved c =
             | then-place-count w ↦ w.count-is ∙ sym (ap (λ b. cond b (c.loop-i.count + 1) c.loop-i.count) (eq-eqb c.unwrap_or-place.result c.loop-i.count w.if-place-count.true))
             | else-place-count w ↦ w.count-is ∙ sym (ap (λ b. cond b (c.loop-i.count + 1) c.loop-i.count) (ne_eqb c.unwrap_or-place.result c.loop-i.count w.if-place-count.false))
           ]),
-      subst (λ l. ArePlacesOf c.put_place.new.places.entries l c.push.new.self.items) (sym all)
-          (subst (λ l. ArePlacesOf c.put_place.new.places.entries (before ++ n.module ∷ []) l) (sym c.in_ok-push.ensures.items)
-          (places-put c.loop-i.names.entries c.put_place.new.places.entries before c.loop-i.places.items n.module own c.unwrap_or-place.result c.loop-i.invariant.1 c.in_ok-put_place.ensures c.in_ok-name.ensures
+      subst (λ l. ArePlacesOf c.put.new.self l c.push.new.self.items) (sym all)
+          (subst (λ l. ArePlacesOf c.put.new.self (before ++ n.module ∷ []) l) (sym c.in_ok-push.ensures.items)
+          (places-put c.loop-i.names c.put.new.self before c.loop-i.places.items n.module own c.unwrap_or-place.result c.loop-i.invariant.1 c.in_ok-put.ensures c.in_ok-name.ensures
           (ap length so.placed ∙ length-places old before))),
     )
 
@@ -51,7 +51,7 @@ returns-clause-places c =
 
 pub returns-clause-names : goal.returns-clause-names
 returns-clause-names c =
-    subst (λ l. ArePlacesOf c.loop-i.names.entries (offered l) c.loop-i.places.items) (take_all c.loop-i.i c.args.new.now c.loop-i-test.false) c.loop-i.invariant.1
+    subst (λ l. ArePlacesOf c.loop-i.names (offered l) c.loop-i.places.items) (take_all c.loop-i.i c.args.new.now c.loop-i-test.false) c.loop-i.invariant.1
 
 pub returns-clause-named : goal.returns-clause-named
 returns-clause-named c =

@@ -10,7 +10,7 @@ returns c =
     let before = module_place (tables_in s.store.now) name in
     let asked = c.asked_for-asked.result in
     c.place_of.ensures
-    ∙ ap (λ (n : ModuleName). option_or (lookup (has_name_of asked) s.names.entries) (module_place (tables_in s.store.now) n)) c.asked_for-asked.ensures
+    ∙ ap (λ (n : ModuleName). option_or (lookup (has_name_of asked) s.names) (module_place (tables_in s.store.now) n)) c.asked_for-asked.ensures
     ∙ ap (λ (o : Option _). option_or o before) (s.found asked ∙ ap (λ (n : ModuleName). found_among n (offered s.new.now) s.places.items None) c.asked_for-asked.ensures)
     ∙ sym (found-before name (offered s.new.now) s.places.items before)
     ∙ ap (λ places. found_among name (offered s.new.now) places before) s.placed

@@ -1,6 +1,8 @@
-use Rattle.mv_linker.proofs.Common.{ℕ, ◌≡◌, Global, List, Vec, ap, arith, length, map, subst, sym, length-map, IfErr-weaker, IfOk-weaker, AllZip, tables_in, offered, AreDefined, AreFoundFor}
+use Rattle.mv_linker.proofs.Common.{ℕ, ◌∙◌, ◌≡◌, Global, List, Vec, ap, arith, length, map, subst, sym, length-map, IfErr-weaker, IfOk-weaker, AllZip, tables_in, offered, AreDefined, AreFoundFor}
 use Rattle.mv_linker.proofs.Common.{modules_in, New, Defined}
 use Rattle.mv_linker.proofs.Joining.Assembling.{joining-offered}
+use Rattle.mv_linker.specs.Sizes.{AreSizes}
+use Rattle.mv_linker.proofs.StructSizes.NoStructs.{no-sizes}
 use Rattle.mv_linker.proofs.Kept.HandleDefinitions.{all-defined, zip-length}
 use Rattle.mv_linker.proofs.scope.Scope.sizes.Goals as goal
 
@@ -34,4 +36,14 @@ returns c =
       ok = IfOk-weaker c.sizes_of.result _ _ (λ v f. (f modules defined).0) c.sizes_of.ensures.ok;
       small = IfOk-weaker c.sizes_of.result _ _ (λ v f. (f modules defined).1) c.sizes_of.ensures.ok;
       refused = IfErr-weaker c.sizes_of.result _ _ (λ e f. f modules defined) c.sizes_of.ensures.refused;
+    }
+
+pub returns-then-have_no_structs : goal.returns-then-have_no_structs
+returns-then-have_no_structs c =
+    let s = c.args.self.now in
+    let both = no-sizes (modules_in s) s.new.now (sym c.have_no_structs.ensures ∙ c.if-have_no_structs.true) in
+    record {
+      ok = subst (AreSizes (modules_in s) (offered s.new.now)) (sym c.in_ok-no_sizes.ensures) both.0;
+      small = both.1;
+      refused = tt;
     }

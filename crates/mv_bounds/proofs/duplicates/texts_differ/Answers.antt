@@ -2,7 +2,7 @@ use Rattle.std.proofs.Common.{sym, ap, ◌∙◌, ◌≡◌, bytes_eq, List, ℕ
 use Rattle.std.proofs.lemmas.Result.{IfOk-weaker}
 use Rattle.mv_bounds.specs.Definitions.{all_differ}
 use Rattle.mv_bounds.proofs.Distinct.{all_differ_mapped}
-use Rattle.mv_bounds.proofs.duplicates.identifiers_differ.Goals as goal
+use Rattle.mv_bounds.proofs.duplicates.texts_differ.Goals as goal
 
 pub returns : goal.returns
 returns c =

@@ -2,7 +2,7 @@ use Rattle.std.proofs.Common.{eqb, length, ap, ◌∙◌, sym}
 use Rattle.std.specs.Ordering.{eq_by_cmp}
 use Rattle.std.proofs.lemmas.Map.Views.{btree_set_len-from_list}
 use Rattle.mv_bounds.proofs.Distinct.{all_differ_by_count, all_differ_alike}
-use Rattle.mv_bounds.proofs.duplicates.all_distinct.Goals as goal
+use Rattle.mv_bounds.proofs.duplicates.differ_as_set.Goals as goal
 
 pub returns : goal.returns
 returns g c =

@@ -1,7 +1,7 @@
 use Rattle.std.proofs.Common.{map, ℕ, Vec, Global}
 use Rattle.mv_bounds.specs.Removal.{Removal}
 use Rattle.mv_bounds.proofs.RemovalLemmas.{remaining}
-use Rattle.mv_bounds.proofs.cycles.is_acyclic.Given as goal
+use Rattle.mv_bounds.proofs.cycles.can_be_emptied.Given as goal
 
 abbrev pub invariant-loop-node : goal.invariant-loop-node
 invariant-loop-node l = Removal (map (λ (s : Vec ℕ Global). s.items) l.graph) l.waiting.items l.removed.items l.ready.items

@@ -5,7 +5,7 @@ use Rattle.std.proofs.lemmas.Option.{slice_get-map, slice_get_read}
 use Rattle.std.specs.Option.{option_map}
 use Rattle.mv_bounds.specs.Removal.{times, is_zero, are_nodes, Removal, Released}
 use Rattle.mv_bounds.proofs.RemovalLemmas.{removal_begins, node_within, unmarked, edges_held, removal_more, removal_ends, fewer_remain}
-use Rattle.mv_bounds.proofs.cycles.is_acyclic.Goals as goal
+use Rattle.mv_bounds.proofs.cycles.can_be_emptied.Goals as goal
 
 -- the successors of a node of the graph
 successors_at : (graph : List (Vec ℕ Global)) (node : ℕ) (v : Vec ℕ Global) (targets : List ℕ)

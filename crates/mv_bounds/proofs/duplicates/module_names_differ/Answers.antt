@@ -1,7 +1,7 @@
 use Rattle.std.proofs.Common.{ℕ, ◌==◌, ◌&&◌, ◌∙◌}
 use Rattle.mv_move_types.specs.declared.tables.ModuleHandle.{ModuleHandle}
 use Rattle.mv_bounds.proofs.Distinct.{answer_of_keys}
-use Rattle.mv_bounds.proofs.duplicates.module_handles_differ.Goals as goal
+use Rattle.mv_bounds.proofs.duplicates.module_names_differ.Goals as goal
 
 pub returns : goal.returns
 returns c =
