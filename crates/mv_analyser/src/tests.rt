@@ -1,9 +1,9 @@
 // Functions of the libraries with ample memory, and values from outside.
 
-mod aims;
 mod certificates;
 mod edges;
 mod entries;
+mod graphs;
 mod modules;
 mod numbers;
 mod opcodes;

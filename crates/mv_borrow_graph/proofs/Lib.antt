@@ -1,7 +1,7 @@
 pub mod Tables
 pub mod Stacks
-pub mod Results
-pub mod Alike
+pub mod Between
+pub mod Heirs
 pub mod Rows
 pub mod Unions
 pub mod Abstract

@@ -102,7 +102,7 @@ pub plain_result : (m a : List Node) (k : ℕ) (token : Token) (t : ValueType) (
 plain_result m a k token t s edges is_token ascend = added_none edges ascend ∙ ap (λ x. sorted (edges ++ result_edges m a k (x ∷ []) s)) (sym is_token)
 
 -- the edges of the first result, and of the others
-result_edges-first : (m a : List Node) (k : ℕ) (t : Token) (ts : List Token) (s : List Edge) → result_edges m a k (t ∷ ts) s ≡ result_edges m a k (t ∷ []) s ++ result_edges m a (k + 1) ts s
+pub result_edges-first : (m a : List Node) (k : ℕ) (t : Token) (ts : List Token) (s : List Edge) → result_edges m a k (t ∷ ts) s ≡ result_edges m a k (t ∷ []) s ++ result_edges m a (k + 1) ts s
 result_edges-first m a k (Plain t) ts s = refl
 result_edges-first m a k (Reference t) ts s = ap (λ x. x ++ result_edges m a (k + 1) ts s) (sym (append-nil (opened_edges a (Temp k) s)))
 result_edges-first m a k (MutableReference t) ts s = ap (λ x. x ++ result_edges m a (k + 1) ts s) (sym (append-nil (opened_edges m (Temp k) s)))

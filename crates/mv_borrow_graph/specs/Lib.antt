@@ -2,6 +2,5 @@ pub mod BorrowRules
 pub mod Domain
 pub mod Laws
 pub mod Nodes
-pub mod Results
 pub mod There
 pub mod Abstract

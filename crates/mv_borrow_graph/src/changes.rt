@@ -6,15 +6,22 @@ ghost use Rattle.mv_edges.specs.Ascending.{are_ascending};
 ghost use Rattle.mv_edges.specs.Sorted.{sorted};
 ghost use Rattle.mv_borrow_graph.specs.Domain.{Follows, ordered};
 
-use mv_edges::{Edge, Edges, Label};
+use mv_edges::{Edges, Graph};
 use mv_lattice::StepError;
 use mv_move_types::Node;
 use std::alloc::{AllocError, Global};
 use std::mem;
 
+/// The graph, which is left without an edge.
+pub fn taken(alloc: Global, s: &mut Graph) -> Graph
+    ensures { result ≡ s.old }
+{
+    mem::replace(s, Graph::of_edges(Edges::new(alloc)))
+}
+
 /// Leaves the edges as they are.
 #[tactic(auto, using(crate::proofs::Rows::kept_order))]
-pub fn keep(holds: bool, s: &Edges) -> Result<(), StepError>
+pub fn keep(holds: bool, s: &Graph) -> Result<(), StepError>
     requires { IsTrue (are_ascending s.now) }
     ensures after { Follows result s.now (ordered (then_some holds s.now)) }
     ensures memory { ¬ (result ≡ Err StepError.Memory) }
@@ -23,7 +30,7 @@ pub fn keep(holds: bool, s: &Edges) -> Result<(), StepError>
 }
 
 /// Takes away the edges at a node.
-pub fn release(holds: bool, node: Node, s: &mut Edges) -> Result<(), StepError>
+pub fn release(holds: bool, node: Node, s: &mut Graph) -> Result<(), StepError>
     ensures after { Follows result s.new (ordered (then_some holds (without node s.old))) }
     ensures memory { ¬ (result ≡ Err StepError.Memory) }
 {
@@ -40,22 +47,21 @@ pub fn lend(
     holds: bool,
     from: Node,
     to: Node,
-    s: &mut Edges,
+    s: &mut Graph,
 ) -> Result<(), StepError>
     ensures { Follows result s.new (ordered (then_some holds (s.old ++ an_edge from here to ∷ []))) }
 {
     if !holds {
         return Err(StepError::Need);
     }
-    s.insert(Edge::new(from, Label::here(alloc), to))?;
+    *s = taken(alloc, s).lent(alloc, from, to)?;
     Ok(())
 }
 
 /// Puts one node in place of another, where no need is.
-pub fn rename(alloc: Global, old: Node, new: Node, s: &mut Edges) -> Result<(), AllocError>
+pub fn rename(alloc: Global, old: Node, new: Node, s: &mut Graph) -> Result<(), AllocError>
     ensures { OnOk result (s.new ≡ sorted (renamed old new s.old)) }
 {
-    let edges = mem::replace(s, Edges::new(alloc));
-    *s = edges.rename(alloc, old, new)?;
+    *s = taken(alloc, s).renamed(alloc, old, new)?;
     Ok(())
 }

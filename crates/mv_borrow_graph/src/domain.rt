@@ -11,8 +11,7 @@ ghost use Rattle.mv_borrow_graph.specs.Nodes.{are_few as few};
 use super::site::{Site, leaves_edges};
 use mv_binary_format::FunctionDefinition;
 use mv_bounds::Bounded;
-use mv_cfg::Block;
-use mv_edges::{Aim, Edge, Edges, MOST_EDGES, MOST_POSITIONS};
+use mv_edges::{Edge, Edges, Graph, MOST_EDGES, MOST_POSITIONS};
 use mv_lattice::{Domain, StepError};
 use mv_move_types::{Instruction, Node};
 use mv_type_states::{StackTypes, Typed};
@@ -95,18 +94,6 @@ impl<'t, 'm> BorrowDomain<'t, 'm> {
         })
     }
 
-    /// Where the first result of the call at a place stands on the stack, if a call is there and its results' labels are worth a cut.
-    #[inline(always)]
-    fn first_to_cut(&self, edges: &Edges, at: usize) -> Option<usize> {
-        match self.instruction(at) {
-            Some(Instruction::Call(callee)) => {
-                let place = self.site(at)?.first_result(callee)?;
-                are_exact_enough(edges, place).then_some(place)
-            }
-            _ => None,
-        }
-    }
-
     /// Whether types are known before an instruction.
     fn is_known(&self, at: usize) -> bool
         ensures { result ≡ is_some (slice_get (types_before self.now.home self.now.function) at) }
@@ -117,7 +104,7 @@ impl<'t, 'm> BorrowDomain<'t, 'm> {
     /// Makes of the edges what the instruction at a place does. Memory is wanted only where no need fails, of an instruction
     /// that puts a reference where none stood.
     #[tactic(auto, using(crate::proofs::Stacks::step_ok, crate::proofs::Stacks::step_need, crate::proofs::Stacks::step_meets, crate::proofs::Stacks::step_memory, crate::proofs::Stacks::step_unknown))]
-    fn change(&self, alloc: Global, s: &mut Edges, at: usize) -> Result<(), StepError>
+    fn change(&self, alloc: Global, s: &mut Graph, at: usize) -> Result<(), StepError>
         requires { IsTrue (are_ascending s.old) }
         ensures ok { OnOk result (edges_step self.now.home self.now.function at s.old ≡ Option.Some s.new) }
         ensures need { IsErrOf result StepError.Need → edges_step self.now.home self.now.function at s.old ≡ Option.None }
@@ -144,37 +131,6 @@ impl<'t, 'm> BorrowDomain<'t, 'm> {
     }
 }
 
-/// Whether an edge leads to an operand at a place or above it.
-fn leads_to_operand(e: &Edge, place: usize) -> bool {
-    match e.to() {
-        Node::Temp(operand) => usize::from(operand) >= place,
-        Node::Slot(_) | Node::Own(_) | Node::Glob(_) => false,
-    }
-}
-
-/// Whether it is worth its time to cut the labels of what a call returns, where its first argument stands at a place: of the edges
-/// into its arguments an eighth at least are exact, which the call opens. Labels that are open were cut by an earlier call.
-fn are_exact_enough(edges: &Edges, place: usize) -> bool {
-    let mut all = 0_usize;
-    let mut exact = 0_usize;
-    for e in edges.as_slice().iter().rev() {
-        if !leads_to_operand(e, place) {
-            break;
-        }
-        all = all.saturating_add(1);
-        if !e.label().is_open() {
-            exact = exact.saturating_add(1);
-        }
-    }
-    exact > 0 && exact.saturating_mul(8) >= all
-}
-
-/// Whether one of the instructions is a call.
-fn has_call(code: &[Instruction]) -> bool {
-    code.iter()
-        .any(|instruction| matches!(instruction, Instruction::Call(_)))
-}
-
 /// Whether each edge has a label of at most 8 positions.
 fn are_short(edges: &[Edge]) -> bool
     ensures { result ≡ list_all (λ e. nat_le (length e.label.path) 8) edges.now }
@@ -197,16 +153,14 @@ impl<'t, 'm> Domain for BorrowDomain<'t, 'm> {
     ghost use Rattle.mv_edges.specs.Edges.{Edge as EdgeRecord, edges_leq};
     ghost use Rattle.mv_edges.specs.Sorted.{sorted};
     ghost use Rattle.mv_edges.specs.Ascending.{are_ascending};
-    ghost use Rattle.mv_edges.specs.Related.{edges_alike, is_in_aim};
     ghost use Rattle.mv_borrow_graph.specs.Domain.{edges_step, places_reference};
     ghost use Rattle.mv_borrow_graph.specs.Laws.{edges_lawful};
     ghost use Rattle.mv_borrow_graph.specs.Nodes.{may_begin_with, are_few, IsGraphOf};
 
     type State = Edges;
 
-    type Carried = Edges;
-
-    type Aim = Aim;
+    /// Where there are many edges, they aren't carried as a list.
+    type Carried = Graph;
 
     ghost size = { λ d. length d.function.code };
 
@@ -222,9 +176,7 @@ impl<'t, 'm> Domain for BorrowDomain<'t, 'm> {
 
     ghost is_small = { λ d s. IsTrue (are_few s) };
 
-    ghost goes_for = { λ d a c s. IsTrue (are_ascending c) × IsTrue (edges_alike a c s) };
-
-    ghost aims_at = { λ d a u. IsTrue (is_in_aim a u) };
+    ghost goes_for = { λ d c s. c ≡ s };
 
     ghost laws = { λ d. edges_lawful d.home d.function };
 
@@ -249,56 +201,29 @@ impl<'t, 'm> Domain for BorrowDomain<'t, 'm> {
         Edges::join(alloc, a, b)
     }
 
-    /// Memory is wanted only where no need fails, of an instruction that puts a reference where none stood.
-    fn step(&self, alloc: Global, mut s: Edges, at: usize) -> Result<Edges, StepError>
-        requires { IsTrue (are_ascending s) }
-        ensures ok { IfOk result (λ t. edges_step self.now.home self.now.function at s ≡ Option.Some t) }
-        ensures need { IsErrOf result StepError.Need → edges_step self.now.home self.now.function at s ≡ Option.None }
-        ensures meets { IsErrOf result StepError.Memory → IsSome (edges_step self.now.home self.now.function at s) }
-        ensures memory { IsErrOf result StepError.Memory → IsTrue (option_map_or (places_reference self.now.home self.now.function) (slice_get self.now.function.code at) false) }
-    {
-        self.change(alloc, &mut s, at)?;
-        Ok(s)
-    }
-
-    /// Where no function is called no label is opened, so that none is worth a cut.
-    fn aim(&self, alloc: Global, block: &Block) -> Aim {
-        if has_call(&self.code[block.first..=block.last]) {
-            Aim::none(alloc)
-        } else {
-            Aim::any(alloc)
-        }
-    }
-
-    fn aim_at(&self, alloc: Global, aim: Aim, u: &Edges) -> Result<Aim, AllocError> {
-        aim.with(alloc, u)
-    }
-
-    fn enter(
-        &self,
-        alloc: Global,
-        _aim: &Aim,
-        s: &Edges,
-        _spent: Option<Edges>,
-    ) -> Result<Edges, AllocError>
+    fn enter(&self, alloc: Global, s: &Edges, _spent: Option<Graph>) -> Result<Graph, AllocError>
         requires { IsTrue (are_ascending s.now) }
-        ensures { IfOk result (λ c. IsTrue (are_ascending c) × IsTrue (edges_alike _aim.now c s.now)) }
+        ensures { IfOk result (λ c. c ≡ s.now) }
     {
-        s.copy(alloc)
+        let edges = s.copy(alloc)?;
+        Graph::of_edges(edges).eased(alloc)
     }
 
-    /// The labels of a call's results are cut down to what the aim sees of them.
-    fn pass(&self, alloc: Global, aim: &Aim, mut c: Edges, at: usize) -> Result<Edges, StepError> {
-        let first = self.first_to_cut(&c, at);
+    #[inline(always)]
+    fn pass(&self, alloc: Global, mut c: Graph, at: usize) -> Result<Graph, StepError> {
         self.change(alloc, &mut c, at)?;
-        match first {
-            Some(place) => Ok(c.simplified(alloc, aim, place)?),
-            None => Ok(c),
+        if c.is_long() {
+            return Ok(c.eased(alloc)?);
         }
+        Ok(c)
     }
 
-    fn is_under(&self, _aim: &Aim, c: &Edges, u: &Edges) -> bool {
-        c.leq(u)
+    fn is_under(&self, c: &Graph, u: &Edges) -> bool {
+        c.is_under(u)
+    }
+
+    fn leave(&self, alloc: Global, c: Graph) -> Result<Edges, AllocError> {
+        c.settled(alloc)
     }
 
     fn fits(&self, s: &Edges) -> bool {

@@ -3,10 +3,9 @@ ghost use Rattle.std.specs.Prelude.{◌≡◌, ◌+◌, ◌≤◌, ◌^◌, ◌+
 ghost use Rattle.std.specs.List.{list_all, list_any};
 ghost use Rattle.mv_move_types.specs.declared.borrow.Node.TheVariants.{Glob};
 ghost use Rattle.mv_borrow_graph.specs.BorrowRules.{is_mutable_token, is_reference_token, is_root_node, is_temp, no_edge_out, reference_nodes};
-ghost use Rattle.mv_borrow_graph.specs.Results.{is_immutable_token};
 ghost use Rattle.mv_borrow_graph.specs.Domain.{is_picked};
 
-use mv_edges::Edges;
+use mv_edges::Graph;
 use mv_move_types::{Node, Token};
 use std::alloc::{AllocError, Global};
 
@@ -30,30 +29,6 @@ pub fn is_reference(token: Token) -> bool
     }
 }
 
-/// Whether a type is an immutable reference.
-fn is_immutable_reference(token: Token) -> bool
-    ensures { result ≡ is_immutable_token token }
-{
-    match token {
-        Token::Reference(_) => true,
-        Token::Plain(_) | Token::MutableReference(_) => false,
-    }
-}
-
-/// Whether one of these types is a mutable reference.
-pub fn any_mutable(tokens: &[Token]) -> bool
-    ensures { result ≡ list_any is_mutable_token tokens.now }
-{
-    tokens.iter().any(|token| is_mutable_reference(*token))
-}
-
-/// Whether one of these types is an immutable reference.
-pub fn any_immutable(tokens: &[Token]) -> bool
-    ensures { result ≡ list_any is_immutable_token tokens.now }
-{
-    tokens.iter().any(|token| is_immutable_reference(*token))
-}
-
 /// Whether a node is an operand.
 pub fn is_operand(node: Node) -> bool
     ensures { result ≡ is_temp node }
@@ -75,21 +50,21 @@ pub fn is_root(node: Node) -> bool
 }
 
 /// Whether no edge leads out of a node.
-pub fn is_free(node: Node, s: &Edges) -> bool
+pub fn is_free(node: Node, s: &Graph) -> bool
     ensures { result ≡ no_edge_out node s.now }
 {
     !s.has_out_of(node)
 }
 
 /// Whether no edge leads out of a node, if it is asked for.
-fn is_free_if(asked: bool, node: Node, s: &Edges) -> bool
+fn is_free_if(asked: bool, node: Node, s: &Graph) -> bool
     ensures { result ≡ (not asked || no_edge_out node s.now) }
 {
     !asked || is_free(node, s)
 }
 
 /// Whether no edge leads out of the mutable references among these types, which stand on the stack from a place on.
-pub fn are_free(place: usize, tokens: &[Token], s: &Edges) -> bool
+pub fn are_free(place: usize, tokens: &[Token], s: &Graph) -> bool
     requires { place + length tokens.now ≤ 2 ^ 16 }
     ensures { result ≡ list_all (λ n. no_edge_out n s.now) (reference_nodes is_mutable_token place tokens.now) }
 {
@@ -103,7 +78,7 @@ pub fn are_free(place: usize, tokens: &[Token], s: &Edges) -> bool
 }
 
 /// Whether no edge leads out of any of these globals.
-pub fn are_free_globals(definitions: &[u16], s: &Edges) -> bool
+pub fn are_free_globals(definitions: &[u16], s: &Graph) -> bool
     ensures { result ≡ list_all (λ t. no_edge_out (Glob t) s.now) definitions.now }
 {
     definitions

@@ -13,7 +13,7 @@ use crate::changes::{keep, release};
 use crate::nodes::{is_free, is_mutable_reference};
 use mv_binary_format::FunctionDefinition;
 use mv_bounds::Bounded;
-use mv_edges::Edges;
+use mv_edges::{Graph, NodeSet, One};
 use mv_lattice::StepError;
 use mv_move_types::{Instruction, Node, Token};
 use std::alloc::Global;
@@ -65,6 +65,30 @@ impl<'d, 'm> Model for Site<'d, 'm> {
     ghost view = { λ s. point_at s.module.now s.function.now (reverse s.stack.now) };
 
     ghost invariant = { λ s. (slice_get s.module.now.functions s.place ≡ Some s.function.now) × (length s.stack.now ≤ 128) };
+}
+
+/// The nodes that are mutable references where an instruction stands.
+#[derive(Drop)]
+pub struct MutableAt<'s, 'd, 'm> {
+    pub site: &'s Site<'d, 'm>,
+}
+
+impl<'s, 'd, 'm> Model for MutableAt<'s, 'd, 'm> {
+    ghost use Rattle.mv_type_states.specs.TypesHold.{Point};
+
+    ghost Value = { Point };
+
+    ghost view = { λ m. m.site.now };
+}
+
+impl<'s, 'd, 'm> NodeSet for MutableAt<'s, 'd, 'm> {
+    ghost use Rattle.mv_borrow_graph.specs.BorrowRules.{is_mutable};
+
+    ghost test = { λ p n. is_mutable p n };
+
+    fn has(&self, node: Node) -> bool {
+        self.site.is_mutable(node)
+    }
 }
 
 impl<'d, 'm> Site<'d, 'm> {
@@ -119,22 +143,14 @@ impl<'d, 'm> Site<'d, 'm> {
     }
 
     /// Whether an edge leads from a node to a mutable reference.
-    fn leads_to_mutable(&self, from: Node, s: &Edges) -> bool
+    fn leads_to_mutable(&self, from: Node, s: &Graph) -> bool
         ensures { result ≡ list_any (λ e. is_mutable self.now e.to) (out_of from s.now) }
     {
-        let edges = s.as_slice();
-        let mut place = s.next_out_of(from, 0);
-        while place < edges.len() {
-            if self.is_mutable(edges[place].to()) {
-                return true;
-            }
-            place = s.next_out_of(from, place + 1);
-        }
-        false
+        s.any_between(&One(from), None, &MutableAt { site: self })
     }
 
     /// Whether no edge leads from a node to a mutable reference, so that what it stands for may be read.
-    pub fn is_readable(&self, node: Node, s: &Edges) -> bool
+    pub fn is_readable(&self, node: Node, s: &Graph) -> bool
         ensures { result ≡ no_mutable_from self.now node s.now }
     {
         !self.leads_to_mutable(node, s)
@@ -150,7 +166,7 @@ impl<'d, 'm> Site<'d, 'm> {
         &self,
         alloc: Global,
         instruction: Instruction,
-        s: &mut Edges,
+        s: &mut Graph,
     ) -> Result<(), StepError>
         requires { IsTrue (are_ascending s.old) }
         ensures after { Follows result s.new (ordered (edges_after self.now instruction s.old)) }

@@ -1,8 +1,11 @@
 pub mod Ascending
+pub mod Composition
 pub mod Counts
 pub mod Edges
 pub mod Equality
+pub mod Graph
 pub mod Joins
+pub mod Origins
 pub mod Positions
 pub mod Related
 pub mod Sorted

@@ -2,7 +2,7 @@
 ghost use Rattle.std.specs.Prelude.{◌≡◌, ◌≤◌, max, length, true, IfOk};
 ghost use Rattle.std.specs.Ordering.{ordering_then, nat_cmp, bool_cmp};
 ghost use Rattle.std.specs.Cmp.Lexicographic.{slice_cmp};
-ghost use Rattle.mv_edges.specs.Edges.{an_edge, is_global_node, same_node, renamed_node, changed, edge_leq, opened_at};
+ghost use Rattle.mv_edges.specs.Edges.{here, an_edge, is_global_node, same_node, renamed_node, changed, edge_leq, opened_at};
 ghost use Rattle.mv_edges.specs.Ascending.{node_code, height, edge_height, nodes_code, edge_before, edge_order};
 
 use super::label::{Change, Label};
@@ -12,10 +12,17 @@ use std::cmp::Ordering;
 use std::marker::Model;
 
 /// Whether two nodes are one.
-fn is_same(a: Node, b: Node) -> bool
+pub(crate) fn is_same(a: Node, b: Node) -> bool
     ensures { result ≡ same_node a b }
 {
     a == b
+}
+
+/// The new node, if this is the old one.
+pub(crate) fn renamed(at: Node, old: Node, new: Node) -> Node
+    ensures { result ≡ renamed_node old new at }
+{
+    if is_same(at, old) { new } else { at }
 }
 
 /// What the second node refers to lies at the label from what the first one is or refers to.
@@ -157,11 +164,7 @@ impl Edge {
         ensures { result ≡ an_edge (renamed_node old new self.from) self.label (renamed_node old new self.to) }
     {
         let Edge { from, label, to } = self;
-        Edge::new(
-            if is_same(from, old) { new } else { from },
-            label,
-            if is_same(to, old) { new } else { to },
-        )
+        Edge::new(renamed(from, old, new), label, renamed(to, old, new))
     }
 
     /// The edge for another node, with a change made to its label.
@@ -223,15 +226,15 @@ impl<'a> Model for EdgeView<'a> {
 }
 
 impl<'a> EdgeView<'a> {
-    /// An edge from a node to itself, whose label is open and has these positions.
-    pub(crate) fn open_loop(path: &'a [u8]) -> Self
-        ensures { result ≡ an_edge (Node.Slot 0) (record { path = path.now; is_open = true }) (Node.Slot 0) }
+    /// The edge between these nodes that comes before all others between them.
+    pub(crate) fn between(from: Node, to: Node) -> Self
+        ensures { result ≡ an_edge from here to }
     {
         EdgeView {
-            from: Node::Slot(0),
-            path,
-            is_open: true,
-            to: Node::Slot(0),
+            from,
+            path: &[],
+            is_open: false,
+            to,
         }
     }
 

@@ -1,6 +1,8 @@
 // Where one place lies below another: labels and their order.
-ghost use Rattle.std.specs.Prelude.{◌≡◌, ◌≤◌, length, IsOk, IfOk};
+ghost use Rattle.std.specs.Prelude.{◌≡◌, ◌≤◌, ◌&&◌, length, IsOk, IfOk};
+ghost use Rattle.mv_move_types.specs.Paths.{begins};
 ghost use Rattle.mv_edges.specs.Edges.{here, extended, opened, changed, agrees, label_leq};
+ghost use Rattle.mv_edges.specs.Composition.{agrees_if, composed, is_here};
 
 use super::path::Path;
 use std::alloc::{AllocError, Global};
@@ -53,6 +55,17 @@ impl Label {
         }
     }
 
+    /// The label of the place itself and of anything below it.
+    pub(crate) fn anything() -> Self
+        ensures { result ≡ opened here }
+    {
+        let path = Path::new();
+        Label {
+            path,
+            is_open: true,
+        }
+    }
+
     /// The positions.
     pub fn path(&self) -> &[u8]
         ensures { result.now ≡ self.now.path }
@@ -84,6 +97,37 @@ impl Label {
         self == other || other.is_open && self.path().starts_with(other.path())
     }
 
+    /// Whether the label is open and begins these positions.
+    #[tactic(auto, using(crate::proofs::Comparisons::starts_with_begins))]
+    fn is_open_at(&self, path: &[u8]) -> bool
+        ensures { result ≡ (self.now.is_open && begins self.now.path path.now) }
+    {
+        self.is_open && path.starts_with(self.path())
+    }
+
+    /// Whether the label is below the one of these positions.
+    #[tactic(auto, using(crate::proofs::Comparisons::starts_with_begins))]
+    fn is_below_at(&self, path: &[u8], is_open: bool) -> bool
+        ensures { result ≡ label_leq self.now (record { path = path.now; is_open = is_open }) }
+    {
+        self.path() == path && self.is_open == is_open || is_open && self.path().starts_with(path)
+    }
+
+    /// Whether the label with another behind it is below a third one.
+    pub(crate) fn is_below_with(&self, next: &Label, other: &Label) -> bool
+        ensures { result ≡ label_leq (composed self.now next.now) other.now }
+    {
+        if self.is_open {
+            return self.is_below(other);
+        }
+        let count = self.path().len();
+        if other.path().len() < count {
+            return other.is_open_at(self.path());
+        }
+        let rest = &other.path()[count..];
+        other.path().starts_with(self.path()) && next.is_below_at(rest, other.is_open)
+    }
+
     /// Whether the list is empty or begins with the position.
     #[tactic(auto, using(crate::proofs::Comparisons::agrees_first))]
     pub fn agrees(&self, position: u8) -> bool
@@ -91,6 +135,23 @@ impl Label {
     {
         match self.path().first() {
             Some(first) => *first == position,
+            None => true,
+        }
+    }
+
+    /// Whether the label is that of the place itself.
+    pub(crate) fn is_here(&self) -> bool
+        ensures { result ≡ is_here self.now }
+    {
+        !self.is_open && self.path().is_empty()
+    }
+
+    /// Whether the label agrees with a position, if one is asked for.
+    pub(crate) fn agrees_if(&self, position: Option<u8>) -> bool
+        ensures { result ≡ agrees_if position self.now }
+    {
+        match position {
+            Some(position) => self.agrees(position),
             None => true,
         }
     }
@@ -111,6 +172,18 @@ impl Label {
             path,
             is_open: false,
         })
+    }
+
+    /// The label of two edges, one behind the other; what lies below an open one stays there.
+    pub(crate) fn followed_by(&self, alloc: Global, next: &Label) -> Result<Self, AllocError>
+        ensures { IfOk result (λ l. l ≡ composed self.now next.now) }
+    {
+        if self.is_open {
+            return self.copy(alloc);
+        }
+        let path = self.path.extended(alloc, next.path())?;
+        let is_open = next.is_open;
+        Ok(Label { path, is_open })
     }
 
     /// The label that allows anything below, too.

@@ -18,11 +18,14 @@
 //! ```
 #![tactic(auto)]
 
-mod aim;
+mod composition;
 mod edge;
 mod edges;
 mod ends;
+mod graph;
 mod label;
+mod listed;
+mod nodes;
 mod path;
 mod renaming;
 mod search;
@@ -36,7 +39,8 @@ pub const MOST_EDGES: usize = 1024;
 /// How many positions the label of a stated edge has at most.
 pub const MOST_POSITIONS: usize = 8;
 
-pub use aim::Aim;
 pub use edge::Edge;
 pub use edges::Edges;
+pub use graph::{Graph, Heir};
 pub use label::{Change, Label};
+pub use nodes::{All, Globals, NodeSet, One};

@@ -179,6 +179,17 @@ impl Path {
         }
     }
 
+    /// The same positions with more behind them.
+    pub(crate) fn extended(&self, alloc: Global, more: &[u8]) -> Result<Self, AllocError>
+        ensures { IfOk result (λ p. p ≡ self.now ++ more.now) }
+    {
+        let mut path = self.copy(alloc)?;
+        for position in more {
+            path = path.pushed(alloc, *position)?;
+        }
+        Ok(path)
+    }
+
     /// The positions with one more behind them.
     pub(crate) fn pushed(self, alloc: Global, position: u8) -> Result<Self, AllocError>
         ensures { IfOk result (λ p. p ≡ self ++ position ∷ []) }

@@ -234,14 +234,6 @@ pub(crate) fn any_agrees(items: &[Edge], n: Node, position: u8) -> bool
 }
 
 impl Edges {
-    /// The place of the first edge from a place on that leads out of a node, or the number of edges if none does.
-    pub fn next_out_of(&self, n: Node, start: usize) -> usize
-        requires { start ≤ length self.now }
-        ensures { IsNext (λ e. same_node e.from n) self.now start result }
-    {
-        next_out_of(self.as_slice(), n, start)
-    }
-
     /// Whether an edge leads out of a global.
     pub fn has_out_of_globals(&self) -> bool
         ensures { result ≡ list_any (λ e. is_global_node e.from) self.now }

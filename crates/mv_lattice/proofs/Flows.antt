@@ -1,9 +1,9 @@
 -- What a turn of the loops over a flow adds.
-use Rattle.std.proofs.Common.{◌≡◌, ℕ, suc, ◌+◌, ◌-◌, ◌<◌, ◌≤◌, List, length, get_or, take, Option, Some, None, refl, sym, ap, subst, arith, slice_get, option_map, ◌∙◌, ◌≢◌, Result, Err, ⊎_elim}
+use Rattle.std.proofs.Common.{◌≡◌, All, ℕ, suc, ◌+◌, ◌-◌, ◌<◌, ◌≤◌, List, length, get_or, take, Option, Some, None, refl, sym, ap, subst, arith, slice_get, option_map, ◌∙◌, ◌≢◌, Result, Err, ⊎_elim}
 use Rattle.std.proofs.lemmas.Bool.{cases_eq}
 use Rattle.std.proofs.lemmas.List.Elements.{All-more}
 use Rattle.std.proofs.lemmas.Option.{slice_get-map, slice_get_read, slice_get_within}
-use Rattle.mv_lattice.specs.Flow.{carried, states_of, IsStated, AimsAtEach}
+use Rattle.mv_lattice.specs.Flow.{carried, states_of, IsStated}
 
 module _ {S : Type 0} (step : ℕ → S → Option S) where
   -- one instruction more
@@ -43,7 +43,11 @@ module _ {K S : Type 0} (inner : K → S) (entries : List (Option K)) (k : ℕ) 
 
 -- of the states that are stated for these blocks, one block more
 module _ {S : Type 0} (P : S → Type 0) (flow : List (Option S)) (blocks : List ℕ) where
-  pub each_some : (i n : ℕ) (v : S) → i < length blocks → n ≡ get_or blocks i 0 → IsStated flow n v → P v → AimsAtEach P flow (take i blocks) → AimsAtEach P flow (take (i + 1) blocks)
+  -- each state that is stated for one of some blocks has P
+  abbrev Each : List ℕ → Type 0
+  Each some = All (λ n. (u : S) → IsStated flow n u → P u) some
+
+  pub each_some : (i n : ℕ) (v : S) → i < length blocks → n ≡ get_or blocks i 0 → IsStated flow n v → P v → Each (take i blocks) → Each (take (i + 1) blocks)
   each_some i n v h at is p before =
       All-more (λ m. (u : S) → IsStated flow m u → P u) blocks i 0 h before
       (λ u st.
@@ -51,7 +55,7 @@ module _ {S : Type 0} (P : S → Type 0) (flow : List (Option S)) (blocks : List
       let same : v ≡ u = cc in
       subst P same p)
 
-  pub each_none : (i n : ℕ) → i < length blocks → n ≡ get_or blocks i 0 → slice_get flow n ≡ Some None → AimsAtEach P flow (take i blocks) → AimsAtEach P flow (take (i + 1) blocks)
+  pub each_none : (i n : ℕ) → i < length blocks → n ≡ get_or blocks i 0 → slice_get flow n ≡ Some None → Each (take i blocks) → Each (take (i + 1) blocks)
   each_none i n h at none before =
       All-more (λ m. (u : S) → IsStated flow m u → P u) blocks i 0 h before
       (λ u st. let st' : IsStated flow n u = subst (λ x. IsStated flow x u) (sym at) st in cc)

@@ -36,10 +36,6 @@ pub record IsFlow {S : Type 0} (IsState : S → Type 0) (g : Cfg) (flow : List (
 abbrev pub IsBelowEach : {S : Type 0} → (S → S → Type 0) → List (Option S) → List ℕ → S → Type 0
 IsBelowEach {S} below flow blocks t = All (λ n. (u : S) → IsStated flow n u → below t u) blocks
 
--- each state that is stated for one of these blocks is aimed at
-abbrev pub AimsAtEach : {S : Type 0} → (S → Type 0) → List (Option S) → List ℕ → Type 0
-AimsAtEach {S} aimed flow blocks = All (λ n. (u : S) → IsStated flow n u → aimed u) blocks
-
 -- the block carries s to a state that is below each one that is stated for a successor
 abbrev pub IsClosedAt : {S : Type 0} → (S → S → Type 0) → (ℕ → S → Option S) → List (Option S) → Block → S → Type 0
 IsClosedAt {S} below step flow b s = (t : S) × ((through step b s ≡ Some t) × IsBelowEach below flow b.successors.items t)

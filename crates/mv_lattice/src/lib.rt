@@ -18,7 +18,7 @@
 ghost use Rattle.std.specs.Prelude.{◌≡◌, ℕ, ◌+◌, ◌-◌, ◌<◌, ◌≤◌, ◌↔◌, Option, length, IsTrue, IfOk, OnOk, IsErrOf, All, [], ◌∷◌};
 ghost use Rattle.mv_cfg.specs.declared.Cfg.{Cfg};
 ghost use Rattle.mv_cfg.specs.Graph.{IsGraph};
-ghost use Rattle.mv_lattice.specs.Flow.{IsFlow, IsClosed, IsClosedAt, IsBelowEach, AimsAtEach, IsStated, carried, states_of};
+ghost use Rattle.mv_lattice.specs.Flow.{IsFlow, IsClosed, IsClosedAt, IsBelowEach, IsStated, carried, states_of};
 ghost use Rattle.mv_lattice.specs.Laws.{IsLawful};
 
 mod search;
@@ -51,12 +51,8 @@ impl From<AllocError> for StepError {
 pub trait Domain {
     type State: PartialEq + Drop;
 
-    /// A state on its way through a block. It may be simpler than the state that it goes for, as long as no need of an
-    /// instruction and none of the states that it is compared with where the block ends tells the two apart.
+    /// A state on its way through a block, in a form of its own.
     type Carried: Drop;
-
-    /// The states with which a state is compared where its block ends.
-    type Aim: Drop;
 
     /// How many instructions the function has.
     ghost size: { Self → ℕ };
@@ -79,11 +75,8 @@ pub trait Domain {
     /// The states that are small enough to be stated by a search.
     ghost is_small: { Self → Self.State → Type 0 };
 
-    /// What is on its way to an aim goes for the state.
-    ghost goes_for: { Self → Self.Aim → Self.Carried → Self.State → Type 0 };
-
-    /// The state is one of those that are aimed at.
-    ghost aims_at: { Self → Self.Aim → Self.State → Type 0 };
+    /// What is on its way goes for the state.
+    ghost goes_for: { Self → Self.Carried → Self.State → Type 0 };
 
     /// An equal state.
     fn copy(&self, alloc: Global, s: &Self::State) -> Result<Self::State, AllocError>
@@ -111,67 +104,37 @@ pub trait Domain {
         ensures least { IfOk result (λ c. (u : Self.State) → is_state self.now u → below self.now a.now u → below self.now b.now u → below self.now c u) }
         ensures begins { IfOk result (λ c. may_begin self.now a.now → may_begin self.now b.now → may_begin self.now c) };
 
-    /// What the instruction at `at` makes of the state, which it takes.
-    ///
-    /// # Errors
-    /// `Need` where a need of the instruction fails; `Memory` if an allocation failed. The state is gone then, so that no
-    /// half-changed one is left.
-    fn step(&self, alloc: Global, s: Self::State, at: usize) -> Result<Self::State, StepError>
-        requires state { is_state self.now s }
-        requires inside { at < size self.now }
-        ensures ok { IfOk result (λ t. steps self.now at s ≡ Option.Some t) }
-        ensures need { IsErrOf result StepError.Need → steps self.now at s ≡ Option.None };
-
-    /// The aim of a block, of which no state is aimed at yet.
-    fn aim(&self, alloc: Global, block: &Block) -> Self::Aim
-        requires order { block.now.first ≤ block.now.last }
-        requires inside { block.now.last < size self.now };
-
-    /// The aim with one more state that is aimed at.
-    fn aim_at(
-        &self,
-        alloc: Global,
-        aim: Self::Aim,
-        u: &Self::State,
-    ) -> Result<Self::Aim, AllocError>
-        requires { is_state self.now u.now }
-        ensures there { IfOk result (λ a. aims_at self.now a u.now) }
-        ensures kept { IfOk result (λ a. (v : Self.State) → aims_at self.now aim v → aims_at self.now a v) };
-
     /// What goes for the state where its block begins, in the memory of what is spent, if that is enough.
     fn enter(
         &self,
         alloc: Global,
-        aim: &Self::Aim,
         s: &Self::State,
         spent: Option<Self::Carried>,
     ) -> Result<Self::Carried, AllocError>
         requires { is_state self.now s.now }
-        ensures { IfOk result (λ c. goes_for self.now aim.now c s.now) };
+        ensures { IfOk result (λ c. goes_for self.now c s.now) };
 
     /// What the instruction at `at` makes of what goes for a state: it goes for what the instruction makes of that state.
     ///
     /// # Errors
     /// `Need` where a need of the instruction fails of the state; `Memory` if an allocation failed.
-    fn pass(
-        &self,
-        alloc: Global,
-        aim: &Self::Aim,
-        c: Self::Carried,
-        at: usize,
-    ) -> Result<Self::Carried, StepError>
-        requires state { (s : Self.State) × (is_state self.now s × goes_for self.now aim.now c s) }
+    fn pass(&self, alloc: Global, c: Self::Carried, at: usize) -> Result<Self::Carried, StepError>
+        requires state { (s : Self.State) × (is_state self.now s × goes_for self.now c s) }
         requires inside { at < size self.now }
-        ensures ok { IfOk result (λ b. (s : Self.State) → is_state self.now s → goes_for self.now aim.now c s
-            → (t : Self.State) × ((steps self.now at s ≡ Option.Some t) × goes_for self.now aim.now b t)) }
-        ensures need { IsErrOf result StepError.Need → (s : Self.State) → is_state self.now s → goes_for self.now aim.now c s → steps self.now at s ≡ Option.None };
+        ensures ok { IfOk result (λ b. (s : Self.State) → is_state self.now s → goes_for self.now c s
+            → (t : Self.State) × ((steps self.now at s ≡ Option.Some t) × goes_for self.now b t)) }
+        ensures need { IsErrOf result StepError.Need → (s : Self.State) → is_state self.now s → goes_for self.now c s → steps self.now at s ≡ Option.None };
 
-    /// Whether what goes for a state says that the state is below one of those that are aimed at.
-    fn is_under(&self, aim: &Self::Aim, c: &Self::Carried, u: &Self::State) -> bool
-        requires carried { (s : Self.State) × (is_state self.now s × goes_for self.now aim.now c.now s) }
+    /// Whether what goes for a state says that the state is below another.
+    fn is_under(&self, c: &Self::Carried, u: &Self::State) -> bool
+        requires carried { (s : Self.State) × (is_state self.now s × goes_for self.now c.now s) }
         requires state { is_state self.now u.now }
-        ensures { (s : Self.State) → is_state self.now s → goes_for self.now aim.now c.now s → aims_at self.now aim.now u.now
-            → (IsTrue result ↔ below self.now s u.now) };
+        ensures { (s : Self.State) → is_state self.now s → goes_for self.now c.now s → (IsTrue result ↔ below self.now s u.now) };
+
+    /// The state for which this goes.
+    fn leave(&self, alloc: Global, c: Self::Carried) -> Result<Self::State, AllocError>
+        requires { (s : Self.State) × (is_state self.now s × goes_for self.now c s) }
+        ensures { IfOk result (λ t. (s : Self.State) → is_state self.now s → goes_for self.now c s → t ≡ s) };
 
     /// Whether the state is small enough to be stated by a search.
     fn fits(&self, s: &Self::State) -> bool
@@ -192,89 +155,44 @@ pub trait HasState<S> {
         ensures { result.now ≡ inner self.now };
 }
 
-/// Carries the state through the instructions from `first` to `last`.
-fn carry<D: Domain>(
-    alloc: Global,
-    d: &D,
-    mut s: D::State,
-    first: usize,
-    last: usize,
-) -> Result<D::State, StepError>
-    requires state { D.is_state d.now s }
-    requires order { first ≤ last }
-    requires inside { last < D.size d.now }
-    ensures state { IfOk result (λ t. D.is_state d.now t) }
-    ensures ok { IfOk result (λ t. carried (D.steps d.now) first (last + 1 - first) s ≡ Option.Some t) }
-    ensures need { IsErrOf result StepError.Need → carried (D.steps d.now) first (last + 1 - first) s ≡ Option.None }
-{
-    for at in first..=last {
-        s = d.step(alloc, s, at)?;
-    }
-    Ok(s)
-}
-
-/// What is aimed at, with each state that is stated for one of the blocks.
-fn aim_at_each<D: Domain, K: HasState<D::State>>(
-    alloc: Global,
-    d: &D,
-    aim: D::Aim,
-    blocks: &[usize],
-    flow: &[Option<K>],
-) -> Result<D::Aim, AllocError>
-    requires states { (k : ℕ) (u : D.State) → IsStated (states_of K.inner flow.now) k u → D.is_state d.now u }
-    requires inside { All (λ n. n < length flow.now) blocks.now }
-    ensures { IfOk result (λ a. AimsAtEach (D.aims_at d.now a) (states_of K.inner flow.now) blocks.now) }
-{
-    let mut all = aim;
-    for n in blocks {
-        if let Some(entry) = &flow[*n] {
-            all = d.aim_at(alloc, all, entry.state())?;
-        }
-    }
-    Ok(all)
-}
-
 /// Carries what goes for a state through the instructions from `first` to `last`.
 fn pass_through<D: Domain>(
     alloc: Global,
     d: &D,
-    aim: &D::Aim,
     mut c: D::Carried,
     first: usize,
     last: usize,
 ) -> Result<D::Carried, StepError>
-    requires state { (s : D.State) × (D.is_state d.now s × D.goes_for d.now aim.now c s) }
+    requires state { (s : D.State) × (D.is_state d.now s × D.goes_for d.now c s) }
     requires order { first ≤ last }
     requires inside { last < D.size d.now }
-    ensures ok { IfOk result (λ b. (s : D.State) → D.is_state d.now s → D.goes_for d.now aim.now c s
-        → (t : D.State) × ((carried (D.steps d.now) first (last + 1 - first) s ≡ Option.Some t) × (D.is_state d.now t × D.goes_for d.now aim.now b t))) }
-    ensures need { IsErrOf result StepError.Need → (s : D.State) → D.is_state d.now s → D.goes_for d.now aim.now c s
+    ensures ok { IfOk result (λ b. (s : D.State) → D.is_state d.now s → D.goes_for d.now c s
+        → (t : D.State) × ((carried (D.steps d.now) first (last + 1 - first) s ≡ Option.Some t) × (D.is_state d.now t × D.goes_for d.now b t))) }
+    ensures need { IsErrOf result StepError.Need → (s : D.State) → D.is_state d.now s → D.goes_for d.now c s
         → carried (D.steps d.now) first (last + 1 - first) s ≡ Option.None }
 {
     for at in first..=last {
-        c = d.pass(alloc, aim, c, at)?;
+        c = d.pass(alloc, c, at)?;
     }
     Ok(c)
 }
 
-/// Whether what goes for a state says that it is below each one that is stated for one of the blocks, at all of which is aimed.
+/// Whether what goes for a state says that it is below each one that is stated for one of the blocks.
 fn is_below_each<D: Domain, K: HasState<D::State>>(
     d: &D,
-    aim: &D::Aim,
     c: &D::Carried,
     blocks: &[usize],
     flow: &[Option<K>],
 ) -> bool
-    requires carried { (s : D.State) × (D.is_state d.now s × D.goes_for d.now aim.now c.now s) }
+    requires carried { (s : D.State) × (D.is_state d.now s × D.goes_for d.now c.now s) }
     requires states { (k : ℕ) (u : D.State) → IsStated (states_of K.inner flow.now) k u → D.is_state d.now u }
     requires inside { All (λ n. n < length flow.now) blocks.now }
-    requires aim { AimsAtEach (D.aims_at d.now aim.now) (states_of K.inner flow.now) blocks.now }
-    ensures { (s : D.State) → D.is_state d.now s → D.goes_for d.now aim.now c.now s
+    ensures { (s : D.State) → D.is_state d.now s → D.goes_for d.now c.now s
         → (IsTrue result ↔ IsBelowEach (D.below d.now) (states_of K.inner flow.now) blocks.now s) }
 {
     for n in blocks {
         if let Some(entry) = &flow[*n] {
-            if !d.is_under(aim, c, entry.state()) {
+            if !d.is_under(c, entry.state()) {
                 return false;
             }
         }
@@ -300,10 +218,9 @@ fn check_block<D: Domain, K: HasState<D::State>>(
     ensures ok { OnOk result (IsClosedAt (D.below d.now) (D.steps d.now) (states_of K.inner flow.now) block.now s.now) }
     ensures need { IsErrOf result StepError.Need → ¬ IsClosedAt (D.below d.now) (D.steps d.now) (states_of K.inner flow.now) block.now s.now }
 {
-    let aim = aim_at_each(alloc, d, d.aim(alloc, block), &block.successors, flow)?;
-    let entered = d.enter(alloc, &aim, s, spent)?;
-    let last = pass_through(alloc, d, &aim, entered, block.first, block.last)?;
-    if is_below_each(d, &aim, &last, &block.successors, flow) {
+    let entered = d.enter(alloc, s, spent)?;
+    let last = pass_through(alloc, d, entered, block.first, block.last)?;
+    if is_below_each(d, &last, &block.successors, flow) {
         Ok(last)
     } else {
         Err(StepError::Need)

@@ -5,7 +5,7 @@ ghost use Rattle.mv_lattice.specs.Flow.{IsAt, IsFlow, IsClosed, IsFlowBelow, thr
 ghost use Rattle.mv_lattice.specs.Search.{Raises, ExceedsAt, FlowsIntoEach, Exceeds, IsVisit, Makes, EndsWith, MeetsLimit, MeetsNeed};
 ghost use Rattle.mv_lattice.specs.Work.{HasLarge, HasChain, AllStated, IsWork, IsCounted, IsNewState, IsRaised, IsHigher, IsLeast, standing, IsSearch};
 
-use crate::{Domain, StepError, carry};
+use crate::{Domain, StepError, pass_through};
 use mv_cfg::{Block, Cfg};
 use std::alloc::{AllocError, Global};
 
@@ -130,7 +130,26 @@ fn raise_each<D: Domain>(
     Ok(())
 }
 
-/// Carries a copy of the state through the block.
+/// Carries the state through the block.
+fn carry<D: Domain>(
+    alloc: Global,
+    d: &D,
+    block: &Block,
+    s: &D::State,
+) -> Result<D::State, StepError>
+    requires state { D.is_state d.now s.now }
+    requires order { block.now.first ≤ block.now.last }
+    requires inside { block.now.last < D.size d.now }
+    ensures state { IfOk result (λ t. D.is_state d.now t) }
+    ensures ok { IfOk result (λ t. through (D.steps d.now) block.now s.now ≡ Option.Some t) }
+    ensures need { IsErrOf result StepError.Need → through (D.steps d.now) block.now s.now ≡ Option.None }
+{
+    let entered = d.enter(alloc, s, None)?;
+    let last = pass_through(alloc, d, entered, block.first, block.last)?;
+    Ok(d.leave(alloc, last)?)
+}
+
+/// What the block makes of the state.
 fn carry_through<D: Domain>(
     alloc: Global,
     d: &D,
@@ -145,9 +164,8 @@ fn carry_through<D: Domain>(
     ensures need { IsErrOf result SolveError.Need → through (D.steps d.now) block.now s.now ≡ Option.None }
     ensures complex { ¬ IsErrOf result SolveError.TooComplex }
 {
-    let t = d.copy(alloc, s)?;
-    match carry(alloc, d, t, block.first, block.last) {
-        Ok(u) => Ok(u),
+    match carry(alloc, d, block, s) {
+        Ok(t) => Ok(t),
         Err(StepError::Need) => Err(SolveError::Need),
         Err(StepError::Memory) => Err(SolveError::Memory),
     }

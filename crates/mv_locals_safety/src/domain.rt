@@ -8,7 +8,6 @@ ghost use Rattle.mv_locals_safety.specs.Domain.{point_in, start_locals, may_stay
 use super::Availabilities;
 use mv_binary_format::{FunctionDefinition, Module};
 use mv_bounds::Bounded;
-use mv_cfg::Block;
 use mv_lattice::{Domain, StepError};
 use mv_move_types::{Availability, Instruction, Token};
 use mv_type_states::Typed;
@@ -199,10 +198,8 @@ impl<'t, 'm> Domain for LocalsDomain<'t, 'm> {
 
     type State = Availabilities;
 
-    /// The state itself is carried, whatever is aimed at.
+    /// The state itself is carried.
     type Carried = Availabilities;
-
-    type Aim = ();
 
     ghost size = { λ d. length d.function.code };
 
@@ -218,9 +215,7 @@ impl<'t, 'm> Domain for LocalsDomain<'t, 'm> {
 
     ghost is_small = { λ d s. ⊤ };
 
-    ghost goes_for = { λ d a c s. c ≡ s };
-
-    ghost aims_at = { λ d a u. ⊤ };
+    ghost goes_for = { λ d c s. c ≡ s };
 
     ghost laws = { λ d. locals_lawful d.home d.function };
 
@@ -242,31 +237,9 @@ impl<'t, 'm> Domain for LocalsDomain<'t, 'm> {
         a.join(alloc, b)
     }
 
-    /// No step takes memory.
-    fn step(
-        &self,
-        _alloc: Global,
-        mut s: Availabilities,
-        at: usize,
-    ) -> Result<Availabilities, StepError>
-        ensures ok { IfOk result (λ t. locals_step self.now.home self.now.function at s ≡ Option.Some t) }
-        ensures need { IsErrOf result StepError.Need → locals_step self.now.home self.now.function at s ≡ Option.None }
-        ensures memory { ¬ IsErrOf result StepError.Memory }
-    {
-        self.change(&mut s, at)?;
-        Ok(s)
-    }
-
-    fn aim(&self, _alloc: Global, _block: &Block) {}
-
-    fn aim_at(&self, _alloc: Global, aim: (), _u: &Availabilities) -> Result<(), AllocError> {
-        Ok(aim)
-    }
-
     fn enter(
         &self,
         alloc: Global,
-        _aim: &(),
         s: &Availabilities,
         spent: Option<Availabilities>,
     ) -> Result<Availabilities, AllocError>
@@ -281,18 +254,23 @@ impl<'t, 'm> Domain for LocalsDomain<'t, 'm> {
         }
     }
 
+    /// No step takes memory.
     fn pass(
         &self,
-        alloc: Global,
-        _aim: &(),
-        c: Availabilities,
+        _alloc: Global,
+        mut c: Availabilities,
         at: usize,
     ) -> Result<Availabilities, StepError> {
-        self.step(alloc, c, at)
+        self.change(&mut c, at)?;
+        Ok(c)
     }
 
-    fn is_under(&self, _aim: &(), c: &Availabilities, u: &Availabilities) -> bool {
+    fn is_under(&self, c: &Availabilities, u: &Availabilities) -> bool {
         c.is_below(u)
+    }
+
+    fn leave(&self, _alloc: Global, c: Availabilities) -> Result<Availabilities, AllocError> {
+        Ok(c)
     }
 
     fn fits(&self, _s: &Availabilities) -> bool {

@@ -1,142 +1,62 @@
 // Calls and returns.
-ghost use Rattle.std.specs.Prelude.{◌≡◌, ◌+◌, ◌++◌, ◌∷◌, [], ◌≤◌, ◌^◌, ◌&&◌, ◌||◌, ◌-◌, length, slice_get, option_map, Err, IfOk, IfSome, OnOk, IsTrue};
+ghost use Rattle.std.specs.Prelude.{◌≡◌, List, ◌+◌, ◌++◌, ◌∷◌, [], ◌≤◌, ◌^◌, ◌&&◌, ◌||◌, ◌-◌, length, slice_get, option_map, Err, IfOk, IfSome, OnOk, IsTrue};
 ghost use Rattle.std.specs.Bool.{then_some};
 ghost use Rattle.std.specs.List.{list_all, list_any};
 ghost use Rattle.mv_move_types.specs.Limits.{most_operands, most_types};
 ghost use Rattle.mv_move_types.specs.declared.borrow.Node.TheVariants.{Glob, Temp};
-ghost use Rattle.mv_edges.specs.Edges.{changed, inherited};
-ghost use Rattle.mv_edges.specs.declared.label.Change.TheVariants.{Kept};
+ghost use Rattle.mv_edges.specs.Edges.{Edge as EdgeRecord};
+ghost use Rattle.mv_edges.specs.Graph.{taken_over};
 ghost use Rattle.mv_move_types.specs.Module.{own_acquires};
 ghost use Rattle.mv_edges.specs.Ascending.{are_ascending};
 ghost use Rattle.mv_edges.specs.Sorted.{sorted};
 ghost use Rattle.mv_borrow_graph.specs.BorrowRules.{call_edges, is_mutable, is_mutable_token, is_reference_token, is_root_node, is_temp, no_edge_out};
 ghost use Rattle.mv_borrow_graph.specs.BorrowRules.{opened_edges, reference_nodes, result_edges, return_edges, without_all};
-ghost use Rattle.mv_borrow_graph.specs.Results.{taken_over};
 ghost use Rattle.mv_borrow_graph.specs.Domain.{Follows, ordered};
 
-use crate::changes::keep;
-use crate::nodes::{
-    any_immutable, any_mutable, are_free, are_free_globals, is_operand, is_root, nodes_of,
-};
+use crate::changes::{keep, taken};
+use crate::nodes::{are_free, are_free_globals, is_operand, is_root, nodes_of};
 use crate::site::Site;
-use mv_edges::{Change, Edge, Edges};
+use mv_edges::{Graph, Heir, NodeSet};
 use mv_lattice::StepError;
 use mv_move_types::{FunctionHandle, Node, Token};
 use std::alloc::{AllocError, Global};
+use std::marker::Model;
 
-/// Takes away the edges at these nodes, from the last node to the first: the edges at operands stand as these do, so that all
-/// of them go from the end.
-#[tactic(auto, using(crate::proofs::Rows::without_last))]
-fn remove_at_all(s: &mut Edges, nodes: &[Node])
-    ensures { s.new ≡ without_all nodes.now s.old }
-{
-    let mut count = nodes.len();
-    while count > 0 {
-        count -= 1;
-        s.remove_at(nodes[count]);
-    }
-}
-
-/// Adds the incoming edges of these nodes, opened, for another node.
-fn add_opened(
-    alloc: Global,
-    nodes: &[Node],
-    to: Node,
-    s: &Edges,
-    edges: &mut Edges,
+/// Adds the heir at a place, if its type is a reference: a mutable one takes over of the mutable arguments, and another of all.
+fn push_heir<'a>(
+    heirs: &mut Vec<Heir<'a>>,
+    mutable: &'a [Node],
+    all: &'a [Node],
+    place: u16,
+    token: Token,
 ) -> Result<(), AllocError>
-    requires { IsTrue (are_ascending edges.old) }
-    ensures { OnOk result (edges.new ≡ sorted (edges.old ++ opened_edges nodes.now to s.now)) }
+    ensures { OnOk result ((es : List EdgeRecord) → taken_over heirs.new.items es ≡ taken_over heirs.old.items es ++ result_edges mutable.now all.now place (token ∷ []) es) }
 {
-    for n in nodes {
-        edges.add_all(s.inherited(alloc, Change::Opened, *n, to)?)?;
-    }
+    let givers = match token {
+        Token::Plain(_) => return Ok(()),
+        Token::Reference(_) => all,
+        Token::MutableReference(_) => mutable,
+    };
+    heirs.push(Heir::new(Node::Temp(place), givers))?;
     Ok(())
 }
 
-/// The incoming edges of these nodes, opened, for one node, if they are asked for; else none.
-fn opened_if(
+/// The results of a call that take over what leads into its arguments. The first result stands at a place.
+fn heirs_of<'a>(
     alloc: Global,
-    asked: bool,
-    nodes: &[Node],
-    to: Node,
-    s: &Edges,
-) -> Result<Edges, AllocError>
-    ensures { IfOk result (λ edges. IsTrue asked → edges ≡ sorted (opened_edges nodes.now to s.now)) }
-{
-    let mut edges = Edges::new(alloc);
-    if asked {
-        add_opened(alloc, nodes, to, s, &mut edges)?;
-    }
-    Ok(edges)
-}
-
-/// Adds the edges that lead into a node among others, for a result at a place.
-#[tactic(auto, using(crate::proofs::Results::added_sorted))]
-fn add_taken_over(
-    alloc: Global,
-    from: &Edges,
-    shared: Node,
-    place: u16,
-    edges: &mut Edges,
-) -> Result<(), AllocError>
-    ensures { OnOk result (edges.new ≡ sorted (edges.old ++ inherited (changed Kept) shared (Temp place) from.now)) }
-{
-    let new = from.inherited(alloc, Change::Kept, shared, Node::Temp(place))?;
-    edges.add_all(new)
-}
-
-/// Adds the edges of a result at a place: a mutable reference's lead into a node among some edges, and another reference's
-/// among others.
-fn add_result(
-    alloc: Global,
-    from_mutable: &Edges,
-    from_all: &Edges,
-    shared: Node,
-    place: u16,
-    token: Token,
-    edges: &mut Edges,
-) -> Result<(), AllocError>
-    requires { IsTrue (are_ascending edges.old) }
-    ensures { OnOk result (edges.new ≡ sorted (edges.old ++ taken_over from_mutable.now from_all.now shared place token)) }
-{
-    match token {
-        Token::Plain(_) => Ok(()),
-        Token::Reference(_) => add_taken_over(alloc, from_all, shared, place, edges),
-        Token::MutableReference(_) => add_taken_over(alloc, from_mutable, shared, place, edges),
-    }
-}
-
-/// The edges of a call's results, the first of which stands at a place. What a result takes over is gathered once for all
-/// results of its kind.
-fn edges_of_results(
-    alloc: Global,
-    mutable: &[Node],
-    all: &[Node],
+    mutable: &'a [Node],
+    all: &'a [Node],
     place: usize,
     results: &[Token],
-    s: &Edges,
-) -> Result<Edges, AllocError>
+) -> Result<Vec<Heir<'a>>, AllocError>
     requires { place + length results.now ≤ 2 ^ 16 }
-    ensures { IfOk result (λ edges. edges ≡ sorted (result_edges mutable.now all.now place results.now s.now)) }
+    ensures { IfOk result (λ heirs. (es : List EdgeRecord) → taken_over heirs.items es ≡ result_edges mutable.now all.now place results.now es) }
 {
-    let shared = Node::Temp(0);
-    let from_mutable = opened_if(alloc, any_mutable(results), mutable, shared, s)?;
-    let from_all = opened_if(alloc, any_immutable(results), all, shared, s)?;
-    let mut edges = Edges::new(alloc);
+    let mut heirs = Vec::new(alloc);
     for (i, token) in results.iter().enumerate() {
-        let at = (place + i) as u16;
-        add_result(
-            alloc,
-            &from_mutable,
-            &from_all,
-            shared,
-            at,
-            *token,
-            &mut edges,
-        )?;
+        push_heir(&mut heirs, mutable, all, (place + i) as u16, *token)?;
     }
-    Ok(edges)
+    Ok(heirs)
 }
 
 /// Ties a call's results to its arguments, which are taken.
@@ -146,14 +66,14 @@ fn tie(
     all: &[Node],
     place: usize,
     results: &[Token],
-    s: &mut Edges,
+    s: &mut Graph,
 ) -> Result<(), AllocError>
     requires { place + length results.now ≤ 2 ^ 16 }
     ensures { OnOk result (s.new ≡ sorted (without_all all.now s.old ++ result_edges mutable.now all.now place results.now s.old)) }
 {
-    let new = edges_of_results(alloc, mutable, all, place, results, s)?;
-    remove_at_all(s, all);
-    s.add_all(new)
+    let heirs = heirs_of(alloc, mutable, all, place, results)?;
+    *s = taken(alloc, s).tied(alloc, all, &heirs)?;
+    Ok(())
 }
 
 /// Ties the results to the arguments, whose types are given, where a need holds.
@@ -163,7 +83,7 @@ fn tie_if(
     place: usize,
     parameters: &[Token],
     results: &[Token],
-    s: &mut Edges,
+    s: &mut Graph,
 ) -> Result<(), StepError>
     requires taken { place + length parameters.now ≤ 2 ^ 16 }
     requires given { place + length results.now ≤ 2 ^ 16 }
@@ -177,6 +97,45 @@ fn tie_if(
     let mutable = nodes_of(alloc, true, place, parameters)?;
     let all = nodes_of(alloc, false, place, parameters)?;
     Ok(tie(alloc, &mutable, &all, place, results, s)?)
+}
+
+/// The operands.
+#[derive(Drop)]
+struct Operands;
+
+impl NodeSet for Operands {
+    ghost use Rattle.mv_borrow_graph.specs.BorrowRules.{is_temp};
+
+    ghost test = { λ s n. is_temp n };
+
+    fn has(&self, node: Node) -> bool {
+        is_operand(node)
+    }
+}
+
+/// The nodes out of which no edge may lead to a result: what the frame and the storage hold, and mutable results.
+#[derive(Drop)]
+struct HoldingAt<'s, 'd, 'm> {
+    site: &'s Site<'d, 'm>,
+}
+
+impl<'s, 'd, 'm> Model for HoldingAt<'s, 'd, 'm> {
+    ghost use Rattle.mv_type_states.specs.TypesHold.{Point};
+
+    ghost Value = { Point };
+
+    ghost view = { λ m. m.site.now };
+}
+
+impl<'s, 'd, 'm> NodeSet for HoldingAt<'s, 'd, 'm> {
+    ghost use Rattle.std.specs.Prelude.{◌||◌, ◌&&◌};
+    ghost use Rattle.mv_borrow_graph.specs.BorrowRules.{is_mutable, is_root_node, is_temp};
+
+    ghost test = { λ p n. is_root_node n || is_temp n && is_mutable p n };
+
+    fn has(&self, node: Node) -> bool {
+        is_root(node) || is_operand(node) && self.site.is_mutable(node)
+    }
 }
 
 impl<'d, 'm> Site<'d, 'm> {
@@ -204,16 +163,9 @@ impl<'d, 'm> Site<'d, 'm> {
         self.stack.len().saturating_sub(count)
     }
 
-    /// Where the first result of a call stands on the stack, if the function is there.
-    pub fn first_result(&self, callee: u16) -> Option<usize> {
-        let handle = self.function_handle(callee)?;
-        let parameters = self.signature(handle.parameters)?;
-        Some(self.first_of(parameters.len()))
-    }
-
     /// Whether no edge leads out of the globals that a function acquires. Where none leads out of any global, it isn't asked
     /// which those are.
-    fn are_acquired_free(&self, callee: u16, s: &Edges) -> bool
+    fn are_acquired_free(&self, callee: u16, s: &Graph) -> bool
         ensures { result ≡ list_all (λ t. no_edge_out (Glob t) s.now) (own_acquires self.now.home callee) }
     {
         if !s.has_out_of_globals() {
@@ -223,7 +175,7 @@ impl<'d, 'm> Site<'d, 'm> {
     }
 
     /// Whether no edge leads out of a call's mutable arguments, or of the globals that the function acquires.
-    fn may_call(&self, place: usize, parameters: &[Token], callee: u16, s: &Edges) -> bool
+    fn may_call(&self, place: usize, parameters: &[Token], callee: u16, s: &Graph) -> bool
         requires { place + length parameters.now ≤ 2 ^ 16 }
         ensures { result ≡ (list_all (λ n. no_edge_out n s.now) (reference_nodes is_mutable_token place parameters.now)
             && list_all (λ t. no_edge_out (Glob t) s.now) (own_acquires self.now.home callee)) }
@@ -232,7 +184,7 @@ impl<'d, 'm> Site<'d, 'm> {
     }
 
     /// Calls a function: its mutable arguments and the globals that it acquires have to be free.
-    pub fn call(&self, alloc: Global, callee: u16, s: &mut Edges) -> Result<(), StepError>
+    pub fn call(&self, alloc: Global, callee: u16, s: &mut Graph) -> Result<(), StepError>
         ensures { Follows result s.new (ordered (call_edges self.now callee s.old)) }
     {
         let Some(handle) = self.function_handle(callee) else {
@@ -251,22 +203,15 @@ impl<'d, 'm> Site<'d, 'm> {
 
     /// Whether an edge keeps a result from being handed out: it leads to it from what the frame or the storage holds, or
     /// from a mutable result.
-    fn holds_result(&self, e: &Edge) -> bool
-        ensures { result ≡ (is_temp e.now.to && (is_root_node e.now.from || is_temp e.now.from && is_mutable self.now e.now.from)) }
-    {
-        is_operand(e.to())
-            && (is_root(e.from()) || is_operand(e.from()) && self.is_mutable(e.from()))
-    }
-
-    /// Whether an edge keeps a result from being handed out.
-    fn any_holds_result(&self, s: &Edges) -> bool
+    #[tactic(auto, using(crate::proofs::Between::to_results))]
+    fn any_holds_result(&self, s: &Graph) -> bool
         ensures { result ≡ list_any (λ e. is_temp e.to && (is_root_node e.from || is_temp e.from && is_mutable self.now e.from)) s.now }
     {
-        s.as_slice().iter().any(|e| self.holds_result(e))
+        s.any_between(&HoldingAt { site: self }, None, &Operands)
     }
 
     /// Hands out the results, into which nothing of the frame may lead.
-    pub fn hand_out(&self, s: &Edges) -> Result<(), StepError>
+    pub fn hand_out(&self, s: &Graph) -> Result<(), StepError>
         requires { IsTrue (are_ascending s.now) }
         ensures after { Follows result s.now (ordered (return_edges self.now s.now)) }
         ensures memory { ¬ (result ≡ Err StepError.Memory) }

@@ -5,7 +5,7 @@ ghost use Rattle.mv_borrow_graph.specs.Domain.{Follows, ordered};
 use crate::changes::lend;
 use crate::nodes::is_free;
 use crate::site::Site;
-use mv_edges::Edges;
+use mv_edges::Graph;
 use mv_lattice::StepError;
 use mv_move_types::{Instruction, Node};
 use std::alloc::Global;
@@ -17,7 +17,7 @@ impl<'d, 'm> Site<'d, 'm> {
         &self,
         alloc: Global,
         definition: u16,
-        s: &mut Edges,
+        s: &mut Graph,
     ) -> Result<(), StepError>
         ensures { Follows result s.new (ordered (edges_after self.now (Instruction.MutBorrowGlobal definition) s.old)) }
     {
@@ -31,7 +31,7 @@ impl<'d, 'm> Site<'d, 'm> {
         &self,
         alloc: Global,
         definition: u16,
-        s: &mut Edges,
+        s: &mut Graph,
     ) -> Result<(), StepError>
         ensures { Follows result s.new (ordered (edges_after self.now (Instruction.ImmBorrowGlobal definition) s.old)) }
     {

@@ -6,27 +6,27 @@ ghost use Rattle.mv_edges.specs.Ascending.{are_ascending};
 ghost use Rattle.mv_borrow_graph.specs.BorrowRules.{edges_after, next_temp};
 ghost use Rattle.mv_borrow_graph.specs.Domain.{Follows, ordered, places_reference};
 
-use crate::changes::{keep, lend, rename};
+use crate::changes::{keep, lend, rename, taken};
 use crate::nodes::is_free;
 use crate::site::Site;
-use mv_edges::{Change, Edges};
+use mv_edges::Graph;
 use mv_lattice::StepError;
 use mv_move_types::{Instruction, Node, Token};
 use std::alloc::{AllocError, Global};
 
 impl<'d, 'm> Site<'d, 'm> {
     /// Adds the edges that lead into a reference, for a copy of it.
-    fn add_copy(&self, alloc: Global, slot: Node, s: &mut Edges) -> Result<(), AllocError>
+    fn add_copy(&self, alloc: Global, slot: Node, s: &mut Graph) -> Result<(), AllocError>
         ensures { OnOk result (s.new ≡ sorted (s.old ++ inherited (λ label. label) slot (next_temp self.now) s.old)) }
     {
-        let new = s.inherited(alloc, Change::Kept, slot, self.next())?;
-        s.add_all(new)
+        *s = taken(alloc, s).shared(alloc, slot, self.next())?;
+        Ok(())
     }
 
     /// Copies a local: the new reference has the edges of its original, and a mutable one is also its child. A value takes no
     /// memory.
     #[tactic(auto, unfolding(crate::specs::BorrowRules::edges_after))]
-    pub fn copy_local(&self, alloc: Global, local: u16, s: &mut Edges) -> Result<(), StepError>
+    pub fn copy_local(&self, alloc: Global, local: u16, s: &mut Graph) -> Result<(), StepError>
         requires { IsTrue (are_ascending s.old) }
         ensures after { Follows result s.new (ordered (edges_after self.now (Instruction.CopyLoc local) s.old)) }
         ensures memory { result ≡ Err StepError.Memory → IsTrue (places_reference self.now.home self.now.function (Instruction.CopyLoc local)) }
@@ -50,7 +50,7 @@ impl<'d, 'm> Site<'d, 'm> {
 
     /// Moves a local: a reference takes its edges along, and a value, which takes no memory, may have none.
     #[tactic(auto, unfolding(crate::specs::BorrowRules::edges_after))]
-    pub fn move_local(&self, alloc: Global, local: u16, s: &mut Edges) -> Result<(), StepError>
+    pub fn move_local(&self, alloc: Global, local: u16, s: &mut Graph) -> Result<(), StepError>
         requires { IsTrue (are_ascending s.old) }
         ensures after { Follows result s.new (ordered (edges_after self.now (Instruction.MoveLoc local) s.old)) }
         ensures memory { result ≡ Err StepError.Memory → IsTrue (places_reference self.now.home self.now.function (Instruction.MoveLoc local)) }
@@ -68,7 +68,7 @@ impl<'d, 'm> Site<'d, 'm> {
 
     /// Stores into a local: a reference takes its edges along, and an overwritten value, which takes no memory, may have none.
     #[tactic(auto, unfolding(crate::specs::BorrowRules::edges_after))]
-    pub fn store_local(&self, alloc: Global, local: u16, s: &mut Edges) -> Result<(), StepError>
+    pub fn store_local(&self, alloc: Global, local: u16, s: &mut Graph) -> Result<(), StepError>
         requires { IsTrue (are_ascending s.old) }
         ensures after { Follows result s.new (ordered (edges_after self.now (Instruction.StLoc local) s.old)) }
         ensures memory { result ≡ Err StepError.Memory → IsTrue (places_reference self.now.home self.now.function (Instruction.StLoc local)) }
@@ -91,7 +91,7 @@ impl<'d, 'm> Site<'d, 'm> {
         &self,
         alloc: Global,
         local: u16,
-        s: &mut Edges,
+        s: &mut Graph,
     ) -> Result<(), StepError>
         ensures { Follows result s.new (ordered (edges_after self.now (Instruction.MutBorrowLoc local) s.old)) }
     {
@@ -101,7 +101,7 @@ impl<'d, 'm> Site<'d, 'm> {
 
     /// Borrows a local: no edge may lead from its value to a mutable reference.
     #[tactic(auto, unfolding(crate::specs::BorrowRules::edges_after))]
-    pub fn borrow_local(&self, alloc: Global, local: u16, s: &mut Edges) -> Result<(), StepError>
+    pub fn borrow_local(&self, alloc: Global, local: u16, s: &mut Graph) -> Result<(), StepError>
         ensures { Follows result s.new (ordered (edges_after self.now (Instruction.ImmBorrowLoc local) s.old)) }
     {
         let own = Node::Own(local);

@@ -6,8 +6,9 @@ ghost use Rattle.std.specs.Bool.{then_some};
 ghost use Rattle.mv_borrow_graph.specs.BorrowRules.{edges_after, is_mutable, no_mutable_from, position_of, top_temp, field_edges};
 ghost use Rattle.mv_borrow_graph.specs.Domain.{Finds, Follows, ordered};
 
-use crate::site::Site;
-use mv_edges::{Change, Edge, Edges};
+use crate::changes::taken;
+use crate::site::{MutableAt, Site};
+use mv_edges::{Graph, One};
 use mv_lattice::StepError;
 use mv_move_types::{FieldHandle, Instruction, Node};
 use std::alloc::Global;
@@ -34,13 +35,10 @@ impl<'d, 'm> Site<'d, 'm> {
     }
 
     /// The new reference to a field stands where its operand stood.
-    fn field_reference(&self, alloc: Global, position: u8, s: &mut Edges) -> Result<(), StepError>
+    fn field_reference(&self, alloc: Global, position: u8, s: &mut Graph) -> Result<(), StepError>
         ensures { Follows result s.new (ordered (Some (field_edges self.now position s.old))) }
     {
-        let top = self.top();
-        let new = s.inherited(alloc, Change::Extended(position), top, top)?;
-        s.remove_at(top);
-        s.add_all(new)?;
+        *s = taken(alloc, s).extended(alloc, position, self.top())?;
         Ok(())
     }
 
@@ -50,7 +48,7 @@ impl<'d, 'm> Site<'d, 'm> {
         &self,
         alloc: Global,
         field: u16,
-        s: &mut Edges,
+        s: &mut Graph,
     ) -> Result<(), StepError>
         ensures { Follows result s.new (ordered (edges_after self.now (Instruction.MutBorrowField field) s.old)) }
     {
@@ -61,30 +59,15 @@ impl<'d, 'm> Site<'d, 'm> {
         self.field_reference(alloc, position, s)
     }
 
-    /// Whether an edge leads to a mutable reference, and agrees with a position.
-    fn is_mutable_at(&self, e: &Edge, position: u8) -> bool
-        ensures { result ≡ (is_mutable self.now e.now.to && agrees position e.now.label) }
-    {
-        self.is_mutable(e.to()) && e.label().agrees(position)
-    }
-
     /// Whether an edge leads from a node to a mutable reference, and agrees with a position.
-    fn leads_to_mutable_at(&self, from: Node, position: u8, s: &Edges) -> bool
+    fn leads_to_mutable_at(&self, from: Node, position: u8, s: &Graph) -> bool
         ensures { result ≡ list_any (λ e. is_mutable self.now e.to && agrees position e.label) (out_of from s.now) }
     {
-        let edges = s.as_slice();
-        let mut place = s.next_out_of(from, 0);
-        while place < edges.len() {
-            if self.is_mutable_at(&edges[place], position) {
-                return true;
-            }
-            place = s.next_out_of(from, place + 1);
-        }
-        false
+        s.any_between(&One(from), Some(position), &MutableAt { site: self })
     }
 
     /// Whether no edge that agrees with a position leads from a node to a mutable reference.
-    fn is_readable_at(&self, node: Node, position: u8, s: &Edges) -> bool
+    fn is_readable_at(&self, node: Node, position: u8, s: &Graph) -> bool
         ensures { result ≡ not (list_any (λ e. is_mutable self.now e.to && agrees position e.label) (out_of node s.now)) }
     {
         !self.leads_to_mutable_at(node, position, s)
@@ -92,7 +75,7 @@ impl<'d, 'm> Site<'d, 'm> {
 
     /// Borrows a field: no edge out of the operand that agrees with the field may lead to a mutable reference.
     #[tactic(auto, unfolding(crate::specs::BorrowRules::edges_after))]
-    pub fn borrow_field(&self, alloc: Global, field: u16, s: &mut Edges) -> Result<(), StepError>
+    pub fn borrow_field(&self, alloc: Global, field: u16, s: &mut Graph) -> Result<(), StepError>
         ensures { Follows result s.new (ordered (edges_after self.now (Instruction.ImmBorrowField field) s.old)) }
     {
         let position = self.position(field)?;
@@ -103,7 +86,7 @@ impl<'d, 'm> Site<'d, 'm> {
     }
 
     /// Makes a mutable reference an immutable one: no edge may lead from it to a mutable one, and none out of it is left.
-    pub fn freeze(&self, s: &mut Edges) -> Result<(), StepError>
+    pub fn freeze(&self, s: &mut Graph) -> Result<(), StepError>
         ensures after { Follows result s.new (ordered (then_some (no_mutable_from self.now (top_temp self.now) s.old) (but_out_of (top_temp self.now) s.old))) }
         ensures memory { ¬ (result ≡ Err StepError.Memory) }
     {

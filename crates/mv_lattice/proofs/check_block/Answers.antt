@@ -11,11 +11,11 @@ pub returns-then-is_below_each-clause-ok : goal.returns-then-is_below_each-claus
 returns-then-is_below_each-clause-ok g c =
     let last = c.in_ok-last.ensures.ok c.args.s.now c.requires.state c.in_ok-entered.ensures in
     let below = c.is_below_each.ensures last.0 last.1.1.0 last.1.1.1 in
-    (last.0, (last.1.0, rw c.deref-2.ensures.value at below.0 c.if-is_below_each.true))
+    (last.0, (last.1.0, rw c.deref.ensures.value at below.0 c.if-is_below_each.true))
 
-pub returns-clause-need : goal.returns-clause-need
-returns-clause-need g c = λ _ closed.
+pub returns-else-is_below_each-clause-need : goal.returns-else-is_below_each-clause-need
+returns-else-is_below_each-clause-need g c = λ _ closed.
     let last = c.in_ok-last.ensures.ok c.args.s.now c.requires.state c.in_ok-entered.ensures in
     let below = c.is_below_each.ensures last.0 last.1.1.0 last.1.1.1 in
     let same : closed.0 ≡ last.0 = cc (last.1.0, closed.1.0) in
-    false≢true (sym c.if-is_below_each.false ∙ below.1 (rw c.deref-2.ensures.value (rw same at closed.1.1)))
+    false≢true (sym c.if-is_below_each.false ∙ below.1 (rw c.deref.ensures.value (rw same at closed.1.1)))

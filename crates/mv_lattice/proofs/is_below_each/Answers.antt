@@ -19,7 +19,7 @@ returns-then-not-is_under g c = λ s is goes.
     let within : n < length c.args.flow.now = c.requires.inside i 0 c.loop-n-test.true in
     let u = c.state.result.now in
     let stated = stated_entry g.K.HasState.inner c.args.flow.now n c.index-flow-n.result within c.index-flow-n.is c.in-Some.entry u c.in-Some.is c.state.ensures in
-    let under = c.is_under.ensures s is goes (c.requires.aim i 0 c.loop-n-test.true u stated) in
+    let under = c.is_under.ensures s is goes in
     (λ e. absurd (false≢true e), λ all. sym c.if-not-is_under.true ∙ under.1 (all i 0 c.loop-n-test.true u stated))
 
 pub loop-n-preserved : goal.loop-n-preserved
@@ -34,7 +34,7 @@ loop-n-preserved g c = λ s is goes.
       | in-Some+else-not-is_under w ↦
           let u = w.state.result.now in
           let stated = stated_entry inner c.args.flow.now n c.index-flow-n.result within c.index-flow-n.is w.in-Some.entry u w.in-Some.is w.state.ensures in
-          let under = w.is_under.ensures s is goes (c.requires.aim i 0 c.loop-n-test.true u stated) in
+          let under = w.is_under.ensures s is goes in
           each_some (below s) states c.args.blocks.now i n u c.loop-n-test.true refl stated (under.0 w.if-not-is_under.false) (c.loop-n.invariant s is goes)
       | in_default w ↦
           each_none (below s) states c.args.blocks.now i n c.loop-n-test.true refl

@@ -16,7 +16,7 @@ loop-at-preserved g c =
     let d = c.args.d.now in
     let at = c.loop-at.at in
     let inside : at < m.size d = omega (arith, c.requires.inside) in
-    let goes = m.goes_for d c.args.aim.now in
+    let goes = m.goes_for d in
     carries_on (m.steps d) (m.is_state d) c.args.first c.args.last at (goes c.args.c) (goes c.loop-at.c) (goes c.in_ok-c.c) (omega arith)
     (λ u t. (g.met.D.Domain.laws d).keeps at u t inside) c.in_ok-c.ensures.ok c.loop-at.invariant
 
@@ -33,7 +33,7 @@ returns-clause-ok g c = λ s is p.
     let d = c.args.d.now in
     let at = c.loop-at.at in
     let inside : at < m.size d = omega (arith, c.requires.inside) in
-    let goes = m.goes_for d c.args.aim.now in
+    let goes = m.goes_for d in
     elim c.loop-at-test.branch [
       | else-loop-at-test w ↦ absurd (omega arith)
       | then-loop-at-test+in_ok-c+else-at-last w ↦

@@ -1,0 +1,7 @@
+use Rattle.std.proofs.Common.{◌≡◌, take, fold}
+use Rattle.mv_edges.specs.Composition.{gone}
+use Rattle.mv_edges.proofs.composition.Composition.remove_each.Given as goal
+
+-- without the edges at the nodes so far
+abbrev pub invariant-loop-n : goal.invariant-loop-n
+invariant-loop-n l = l.self ≡ fold (λ c n. gone n c) l.fn.self (take l.n-index l.nodes)

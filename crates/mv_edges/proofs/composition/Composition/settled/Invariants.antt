@@ -1,0 +1,6 @@
+use Rattle.std.proofs.Common.{◌≡◌, take, flat_map}
+use Rattle.mv_edges.specs.Composition.{bundle_edges}
+use Rattle.mv_edges.proofs.composition.Composition.settled.Given as goal
+
+abbrev pub invariant-loop-bundle : goal.invariant-loop-bundle
+invariant-loop-bundle l = l.items.items ≡ flat_map (bundle_edges l.self.sources l.self.origins) (take l.bundle-index l.self.bundles)

@@ -1,0 +1,8 @@
+use Rattle.std.proofs.Common.{not, rules}
+use Rattle.std.proofs.lemmas.Fn.{filter_same}
+use Rattle.mv_edges.specs.Edges.{same_node}
+use Rattle.mv_edges.specs.Composition.{Bundle}
+use Rattle.mv_edges.proofs.composition.changes.remove_bundles.Goals as goal
+
+pub returns : goal.returns
+returns c = filter_same _ (λ (b : Bundle). not (same_node b.node c.args.n)) _ (λ x b f k. search rules) _ _ c.retain.ensures.filtered

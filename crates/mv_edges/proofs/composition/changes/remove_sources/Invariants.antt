@@ -1,0 +1,6 @@
+use Rattle.std.proofs.Common.{◌≡◌, ◌++◌, map, take, drop}
+use Rattle.mv_edges.specs.Composition.{but_at}
+use Rattle.mv_edges.proofs.composition.changes.remove_sources.Given as goal
+
+abbrev pub invariant-loop-source : goal.invariant-loop-source
+invariant-loop-source l = l.sources ≡ map (but_at l.n) (take l.source-index l.fn.sources) ++ drop l.source-index l.fn.sources

@@ -1,0 +1,6 @@
+use Rattle.std.proofs.Common.{◌≡◌, ◌++◌, map, take, drop, option_map}
+use Rattle.mv_edges.specs.Edges.{renamed_node}
+use Rattle.mv_edges.proofs.composition.changes.rename_sources.Given as goal
+
+abbrev pub invariant-loop-source : goal.invariant-loop-source
+invariant-loop-source l = l.sources ≡ map (option_map (renamed_node l.old l.new)) (take l.source-index l.fn.sources) ++ drop l.source-index l.fn.sources

@@ -1,0 +1,13 @@
+use Rattle.std.proofs.Common.{◌≡◌, ◌≤◌, true, length, take, flat_map}
+use Rattle.std.specs.List.{list_all}
+use Rattle.mv_edges.specs.Composition.{is_numbered}
+use Rattle.mv_edges.specs.Origins.{unnumbered}
+use Rattle.mv_edges.proofs.composition.made.number_sources.Given as goal
+
+abbrev pub invariant-loop-e : goal.invariant-loop-e
+invariant-loop-e l = record {
+  most : length l.sources.items ≤ l.e-index;
+  count : length l.items.items ≡ l.e-index;
+  numbered : list_all (is_numbered (length l.sources.items)) l.items.items ≡ true;
+  edges : flat_map (unnumbered l.sources.items) l.items.items ≡ take l.e-index l.edges;
+}

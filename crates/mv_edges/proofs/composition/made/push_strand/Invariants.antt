@@ -1,0 +1,6 @@
+use Rattle.std.proofs.Common.{◌≡◌, ◌++◌, [], take, flat_map}
+use Rattle.mv_edges.specs.Composition.{numbered, root_edges}
+use Rattle.mv_edges.proofs.composition.made.push_strand.Given as goal
+
+abbrev pub invariant-loop-root : goal.invariant-loop-root
+invariant-loop-root l = l.items.items ≡ l.fn.items.items ++ flat_map (root_edges l.sources l.to l.strand.label) (take l.root-index (numbered [] l.origins l.strand.from))

@@ -1,0 +1,7 @@
+use Rattle.std.proofs.Common.{◌≡◌, ◌++◌, map, take}
+use Rattle.mv_move_types.specs.declared.borrow.Node.TheVariants.{Slot}
+use Rattle.mv_edges.specs.Edges.{an_edge, changed}
+use Rattle.mv_edges.proofs.composition.taken.push_changed.Given as goal
+
+abbrev pub invariant-loop-e : goal.invariant-loop-e
+invariant-loop-e l = l.items.items ≡ l.fn.items.items ++ map (λ e. an_edge e.from (changed l.change e.label) (Slot 0)) (take l.e-index l.strands)

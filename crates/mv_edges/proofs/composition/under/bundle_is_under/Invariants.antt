@@ -1,0 +1,14 @@
+use Rattle.std.proofs.Common.{◌≡◌, ◌-◌, ◌≤◌, true, length, take}
+use Rattle.std.specs.List.{list_all}
+use Rattle.mv_edges.specs.Edges.{edges_leq}
+use Rattle.mv_edges.specs.Composition.{strand_edges}
+use Rattle.mv_edges.proofs.composition.under.bundle_is_under.Given as goal
+
+abbrev pub invariant-loop-place : goal.invariant-loop-place
+invariant-loop-place l = record {
+  within : l.place ≤ length l.bundle.strands;
+  under : list_all (λ strand. edges_leq (strand_edges l.sources l.origins l.bundle.node strand) l.others) (take l.place l.bundle.strands) ≡ true;
+}
+
+abbrev pub decreases-loop-place : goal.decreases-loop-place
+decreases-loop-place l = length l.bundle.strands - l.place

@@ -1,0 +1,7 @@
+use Rattle.std.proofs.Common.{◌≡◌, true, take}
+use Rattle.std.specs.List.{list_all}
+use Rattle.mv_edges.specs.Edges.{same_node}
+use Rattle.mv_edges.proofs.composition.under.run_length.Given as goal
+
+abbrev pub invariant-loop-place : goal.invariant-loop-place
+invariant-loop-place l = list_all (λ strand. same_node strand.from l.origin) (take l.place l.strands) ≡ true

@@ -1,0 +1,8 @@
+use Rattle.std.proofs.Common.{◌≡◌, ◌++◌, take, flat_map}
+use Rattle.mv_edges.specs.Edges.{opened, inherited}
+use Rattle.mv_edges.specs.Sorted.{sorted}
+use Rattle.mv_edges.proofs.listed.add_taken_over.Given as goal
+
+-- what is taken over of the nodes so far is added
+abbrev pub invariant-loop-n : goal.invariant-loop-n
+invariant-loop-n l = l.new ≡ sorted (l.fn.new ++ flat_map (λ n. inherited opened n l.heir.node l.edges) (take l.n-index l.n-items))

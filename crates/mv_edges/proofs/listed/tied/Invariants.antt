@@ -1,0 +1,12 @@
+use Rattle.std.proofs.Common.{◌≡◌, true, take}
+use Rattle.mv_edges.specs.Ascending.{are_ascending}
+use Rattle.mv_edges.specs.Sorted.{sorted}
+use Rattle.mv_edges.specs.Graph.{taken_over}
+use Rattle.mv_edges.proofs.listed.tied.Given as goal
+
+-- what the heirs so far take over
+abbrev pub invariant-loop-heir : goal.invariant-loop-heir
+invariant-loop-heir l = record {
+  ascending : are_ascending l.new ≡ true;
+  taken : l.new ≡ sorted (taken_over (take l.heir-index l.heirs) l.fn.edges);
+}
