@@ -260,6 +260,52 @@ def gathering_from(times):
     return text, certificates + here + state([0, *holding, 1], ahead)
 
 
+def gathered_and_used(times, use):
+    """So many fields are gathered in one reference, which a local holds while this is done."""
+    text, others = gathered(times, "&S; u64", "&u64", f"StLoc 2; {use} MoveLoc 2; Pop; MoveLoc 0; Pop; Ret")
+    return text, others + state([1, 1, 0], [(1, 0, pair, 0) for pair in PAIRS])
+
+
+def gathered_and_moved(times, below, moves):
+    """The reference is copied so often, and then moved to the stack and back."""
+    return gathered_and_used(times, "CopyLoc 2;" * below + "MoveLoc 2; StLoc 2;" * moves + "Pop;" * below)
+
+
+def gathered_and_called(times, calls):
+    """Two copies of the reference are handed to a function that returns one reference for both."""
+    return gathered_and_used(times, "CopyLoc 2; CopyLoc 2; Call with; Pop;" * calls)
+
+
+def lending(times, below):
+    """A local's value is borrowed so often, above so many copies of a reference with 1,024 edges."""
+    return stated("CopyLoc 0;" * below + "ImmBorrowLoc 1; Pop;" * times + "Pop;" * below)
+
+
+def lending_mutably(times, below, each):
+    """A local's value is borrowed mutably, and copies of the reference are released above so many copies of another one with 1,024
+    edges: so many times from one reference, or each time from a new one."""
+    m = Module()
+    begin, end = "MutBorrowLoc 2; StLoc 3;", "MoveLoc 3; Pop;"
+    copied = "CopyLoc 3; Pop;"
+    used = (begin + copied + end) * times if each else begin + copied * times + end
+    code = "CopyLoc 0;" * below + used + "Pop;" * below + "MoveLoc 0; Pop; Ret"
+    m.function("f", "&u64; u64; u64", "", "&mut u64", code, entry=False)
+    return m.bytes(), state([1, 1, 1, 0], [(1, 0, pair, 0) for pair in PAIRS])
+
+
+def lending_below(times, references, calls):
+    """A local's value, to which so many references lead by 17 labels each, is borrowed so often below mutable references to another
+    one: 8 for one of them at each call."""
+    m = Module()
+    m.function("many", "&mut u64", "; ".join(["&mut u64"] * 8), "", "LdU64 0; Abort", entry=False)
+    begin = "".join(f"ImmBorrowLoc 0; StLoc {2 + n};" for n in range(references)) + "Branch next; next: MutBorrowLoc 1;"
+    code = begin + "Call many;" * calls + "ImmBorrowLoc 0; Pop;" * times + "Pop;" * (7 * calls + 1) + "Ret"
+    m.function("f", "u64; u64", "", "; ".join(["&u64"] * references), code, entry=False)
+    paths = [(), *((n,) for n in range(16))]
+    ahead = [(0, 2 + n, path, 0) for n in range(references) for path in paths]
+    return m.bytes(), b"\x01\x01\x00" + state([1, 1, *[0] * references], []) + state([1, 1, *[1] * references], ahead)
+
+
 def tell_dearest(program):
     """What records cost that are dear for their size, beside ordinary ones."""
     ordinary = inputs.all_families(inputs.LARGE, 5).bytes()
@@ -292,16 +338,23 @@ def tell_dearest(program):
         ("950 copies of it", copying(950, 0)),
         ("800 copies of it above 126 others", copying(800, 126)),
         ("1,900 moves of it to the stack and back", moving(1_900, 0)),
-        ("950 moves of it to the stack and back", moving(950, 0)),
-        ("40 moves of it above 125 copies, of 1,900 that fit", moving(40, 125)),
-        ("20 moves of it above 125 copies", moving(20, 125)),
-        ("100 calls with 8 copies of it that return as many, of 4,000 that fit", calling(100, 8)),
-        ("50 calls with 8 copies of it that return as many", calling(50, 8)),
-        ("100 such calls, with 1,024 open labels stated ahead", calling_on(100, 8)),
+        ("1,800 moves of it above 125 copies", moving(1_800, 125)),
+        ("900 moves of it above 125 copies", moving(900, 125)),
+        ("4,000 calls with 8 copies of it that return as many", calling(4_000, 8)),
+        ("2,000 calls with 8 copies of it that return as many", calling(2_000, 8)),
+        ("3,900 such calls, with 1,024 open labels stated ahead", calling_on(3_900, 8)),
         ("256 fields of it at different paths, gathered in one reference by as many calls", gathering(256)),
         ("128 fields of it gathered so", gathering(128)),
         ("256 fields gathered so, with 1,024 open labels stated ahead", gathering_on(256)),
         ("256 fields gathered so of a reference into 61 locals", gathering_from(256)),
+        ("250 fields gathered so, and 1,200 moves of the reference above 120 copies", gathered_and_moved(250, 120, 1_200)),
+        ("250 fields gathered so, and 650 calls with two copies of the reference", gathered_and_called(250, 650)),
+        ("125 fields gathered so, and 650 calls with two copies of the reference", gathered_and_called(125, 650)),
+        ("1,300 borrows of a local above 120 copies", lending(1_300, 120)),
+        ("1,800 copies of a mutable reference above 120 copies of another one", lending_mutably(1_800, 120, False)),
+        ("600 mutable references, each copied, above 120 copies of another one", lending_mutably(600, 120, True)),
+        ("1,500 borrows of a local to which 60 references lead, above 120 mutable ones to another", lending_below(1_500, 60, 17)),
+        ("750 borrows of it", lending_below(750, 60, 17)),
     ):
         tell_one(what, record(1, publish(made)))
     for per_megabyte, each, what, spent, size in sorted(dear, reverse=True):
