@@ -306,6 +306,16 @@ def lending_below(times, references, calls):
     return m.bytes(), b"\x01\x01\x00" + state([1, 1, *[0] * references], []) + state([1, 1, *[1] * references], ahead)
 
 
+def replacing(times, borrows):
+    """A mutable reference is copied, and the copy takes its place, so often; then a local from which a reference leads is borrowed so
+    often."""
+    m = Module()
+    begin = "LdU64 1; StLoc 5; ImmBorrowLoc 2; StLoc 3; MutBorrowLoc 5; StLoc 4;"
+    code = begin + "CopyLoc 4; StLoc 4;" * times + "ImmBorrowLoc 2; Pop;" * borrows + "MoveLoc 4; Pop; MoveLoc 0; Pop; Ret"
+    m.function("f", "&u64; u64; u64", "", "&u64; &mut u64; u64", code, entry=False)
+    return m.bytes(), state([1, 1, 1, 0, 0, 0], [(1, 0, pair, 0) for pair in PAIRS])
+
+
 def tell_dearest(program):
     """What records cost that are dear for their size, beside ordinary ones."""
     ordinary = inputs.all_families(inputs.LARGE, 5).bytes()
@@ -355,6 +365,9 @@ def tell_dearest(program):
         ("600 mutable references, each copied, above 120 copies of another one", lending_mutably(600, 120, True)),
         ("1,500 borrows of a local to which 60 references lead, above 120 mutable ones to another", lending_below(1_500, 60, 17)),
         ("750 borrows of it", lending_below(750, 60, 17)),
+        ("2,000 copies of a mutable reference that take its place", replacing(2_000, 0)),
+        ("1,000 copies that take its place", replacing(1_000, 0)),
+        ("1,300 copies that take its place, and 600 borrows of a local", replacing(1_300, 600)),
     ):
         tell_one(what, record(1, publish(made)))
     for per_megabyte, each, what, spent, size in sorted(dear, reverse=True):

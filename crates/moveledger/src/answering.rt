@@ -1,5 +1,5 @@
 // What is written for a record.
-ghost use Rattle.std.specs.Prelude.{◌≡◌, ◌≢◌, ℕ, List, [], ◌∷◌, ◌++◌, None, Some, Err, IfOk, IfErr, OnOk, MatchOption, codes, decimal, string_bytes};
+ghost use Rattle.std.specs.Prelude.{◌≡◌, ◌≢◌, ℕ, List, [], ◌∷◌, ◌++◌, None, Some, Err, IfOk, IfErr, OnOk, codes, decimal, string_bytes};
 ghost use Rattle.std.specs.Io.{StartsWith};
 ghost use Rattle.std.specs.Io.KnownBytes.{Appends};
 ghost use Rattle.mv_machine.specs.Lines.{Reply as Told, numbered, kind_text, stop_text};
@@ -77,12 +77,6 @@ fn exhausted_text(alloc: Global, stop: Stop, steps: u64) -> Result<String, Alloc
     Ok(text)
 }
 
-// The most digits of a number of 64 bits.
-const MOST_DIGITS: usize = 20;
-
-// The bytes of a line that stand around its text at most: a number's digits, a blank and a line end.
-const NUMBER_ROOM: usize = MOST_DIGITS + 2;
-
 /// Appends a line of the report: the record's number, a blank, the text and a line end.
 fn put_line(line: &mut Vec<u8>, number: u64, text: &[u8]) -> Result<(), AllocError>
     ensures { OnOk result (line.new.items ≡ line.old.items ++ numbered number text.now) }
@@ -95,60 +89,53 @@ fn put_line(line: &mut Vec<u8>, number: u64, text: &[u8]) -> Result<(), AllocErr
     Ok(())
 }
 
-/// A line of the report: the record's number, a blank, the text and a line end.
-fn numbered_line(alloc: Global, number: u64, text: &[u8]) -> Result<Vec<u8>, AllocError>
-    ensures { IfOk result (λ line. line.items ≡ numbered number text.now) }
-{
-    let mut line = Vec::with_capacity(alloc, text.len().saturating_add(NUMBER_ROOM))?;
-    put_line(&mut line, number, text)?;
-    Ok(line)
-}
-
-/// The line of a word, with the blank after it, and a number.
-fn counted_line(alloc: Global, number: u64, word: &str, n: u64) -> Result<Vec<u8>, AllocError>
-    ensures { IfOk result (λ line. line.items ≡ numbered number (word.now ++ decimal n)) }
+/// Appends the line of a word, with the blank after it, and a number.
+fn put_count(line: &mut Vec<u8>, number: u64, word: &str, n: u64) -> Result<(), AllocError>
+    ensures { OnOk result (line.new.items ≡ line.old.items ++ numbered number (word.now ++ decimal n)) }
 {
     let mut digits = Buffer::new();
-    let room = word.len().saturating_add(MOST_DIGITS + NUMBER_ROOM);
-    let mut line = Vec::with_capacity(alloc, room)?;
     line.extend_from_slice(digits.format(number).as_bytes())?;
     line.push(b' ')?;
     line.extend_from_slice(word.as_bytes())?;
     line.extend_from_slice(digits.format(n).as_bytes())?;
     line.push(b'\n')?;
-    Ok(line)
+    Ok(())
 }
 
-/// The line of a run that was had.
-fn ended_line(alloc: Global, number: u64, ending: Ending, steps: u64) -> Result<Vec<u8>, AllocError>
-    ensures { IfOk result (λ line. line.items ≡ numbered number (line_of (told_ending ending steps))) }
+/// Appends the line of a run that was had.
+fn put_ending(
+    alloc: Global,
+    line: &mut Vec<u8>,
+    number: u64,
+    ending: Ending,
+    steps: u64,
+) -> Result<(), AllocError>
+    ensures { OnOk result (line.new.items ≡ line.old.items ++ numbered number (line_of (told_ending ending steps))) }
 {
     match ending {
-        Ending::Returned => counted_line(alloc, number, "returned ", steps),
+        Ending::Returned => put_count(line, number, "returned ", steps),
         Ending::Aborted(kind, n) => {
             let text = aborted_text(alloc, kind, n, steps)?;
-            numbered_line(alloc, number, text.as_bytes())
+            put_line(line, number, text.as_bytes())
         }
         Ending::Exhausted(stop) => {
             let text = exhausted_text(alloc, stop, steps)?;
-            numbered_line(alloc, number, text.as_bytes())
+            put_line(line, number, text.as_bytes())
         }
     }
 }
 
-/// The line of a reply; none where an allocation failed.
-fn reply_line(alloc: Global, number: u64, reply: Reply) -> Result<Option<Vec<u8>>, AllocError>
-    ensures { IfOk result (λ line. MatchOption line (told reply ≡ None) (λ l. (t : Told) × ((told reply ≡ Some t) × (l.items ≡ numbered number (line_of t))))) }
+/// Appends the line of a reply; fails where an allocation failed, here or before.
+fn put_reply(alloc: Global, line: &mut Vec<u8>, number: u64, reply: Reply) -> Result<(), AllocError>
+    ensures { OnOk result ((t : Told) × ((told reply ≡ Some t) × (line.new.items ≡ line.old.items ++ numbered number (line_of t)))) }
 {
-    Ok(match reply {
-        Reply::Published(count) => Some(counted_line(alloc, number, "published ", count)?),
-        Reply::Refused(phase) => Some(counted_line(alloc, number, "refused ", u64::from(phase))?),
-        Reply::Rejected(reason) => {
-            Some(counted_line(alloc, number, "rejected ", u64::from(reason))?)
-        }
-        Reply::Ran(outcome) => Some(ended_line(alloc, number, outcome.ending, outcome.steps)?),
-        Reply::Memory => None,
-    })
+    match reply {
+        Reply::Published(count) => put_count(line, number, "published ", count),
+        Reply::Refused(phase) => put_count(line, number, "refused ", u64::from(phase)),
+        Reply::Rejected(reason) => put_count(line, number, "rejected ", u64::from(reason)),
+        Reply::Ran(outcome) => put_ending(alloc, line, number, outcome.ending, outcome.steps),
+        Reply::Memory => Err(AllocError),
+    }
 }
 
 /// Writes a line of the report: the record's number, a blank, the text and a line end. It is made in the memory of another line.
@@ -185,22 +172,22 @@ fn write_lines<W: Write>(
     Ok(())
 }
 
-/// Writes the line of a reply, after the record's number.
+/// Writes the line of a reply, after the record's number. It is made in the memory of another reply's.
 pub fn write_reply<W: Write>(
     alloc: Global,
     writer: &mut W,
     number: u64,
     reply: Reply,
+    line: &mut Vec<u8>,
 ) -> Result<(), EngineError>
     ensures ok { OnOk result (WritesReply number (told reply) (W.contents writer.old) (W.contents writer.new)) }
     ensures err { IfErr result (λ e. (e ≢ EngineError.Read)
         × WritesReplyPart number (told reply) (W.contents writer.old) (W.contents writer.new)) }
     ensures write { result ≡ Err EngineError.Write → told reply ≢ None }
 {
-    match reply_line(alloc, number, reply)? {
-        Some(line) => write_text(writer, &line),
-        None => Err(EngineError::Memory),
-    }
+    line.clear();
+    put_reply(alloc, line, number, reply)?;
+    write_text(writer, line)
 }
 
 /// Writes the lines of a show or an audit, each after the record's number, or the line of its refusal.
@@ -209,6 +196,7 @@ fn write_report<W: Write>(
     writer: &mut W,
     number: u64,
     report: Result<Lines<'_>, Refusal>,
+    line: &mut Vec<u8>,
 ) -> Result<(), EngineError>
     ensures ok { OnOk result (WritesReply number (told_lines report.entry) (W.contents writer.old) (W.contents writer.new)) }
     ensures err { IfErr result (λ e. (e ≢ EngineError.Read)
@@ -217,7 +205,9 @@ fn write_report<W: Write>(
 {
     match report {
         Ok(lines) => write_lines(alloc, writer, number, lines),
-        Err(Refusal::Phase(phase)) => write_reply(alloc, writer, number, Reply::Refused(phase)),
+        Err(Refusal::Phase(phase)) => {
+            write_reply(alloc, writer, number, Reply::Refused(phase), line)
+        }
         Err(Refusal::Memory) => Err(EngineError::Memory),
     }
 }
@@ -234,7 +224,8 @@ const SHOW: u8 = 3;
 /// The kind of an audit record.
 const AUDIT: u8 = 4;
 
-/// Answers a whole record, and writes its lines. Where an allocation fails, the ledger is as before or as after the record.
+/// Answers a whole record, and writes its lines; that of a reply is made in the memory of another one's. Where an allocation
+/// fails, the ledger is as before or as after the record.
 pub fn answer<W: Write>(
     alloc: Global,
     writer: &mut W,
@@ -242,6 +233,7 @@ pub fn answer<W: Write>(
     number: u64,
     kind: u8,
     payload: &[u8],
+    line: &mut Vec<u8>,
 ) -> Result<(), EngineError>
     ensures ok { OnOk result (IsAnswered number kind payload.now ledger.old ledger.new
         (W.contents writer.old) (W.contents writer.new)) }
@@ -252,18 +244,18 @@ pub fn answer<W: Write>(
         (W.contents writer.old) (W.contents writer.new) }
 {
     if kind == PUBLISH {
-        return write_reply(alloc, writer, number, ledger.publish(payload));
+        return write_reply(alloc, writer, number, ledger.publish(payload), line);
     }
     if kind == RUN {
-        return write_reply(alloc, writer, number, ledger.execute(payload));
+        return write_reply(alloc, writer, number, ledger.execute(payload), line);
     }
     if kind == SHOW {
-        return write_report(alloc, writer, number, ledger.show(payload));
+        return write_report(alloc, writer, number, ledger.show(payload), line);
     }
     if kind == AUDIT {
-        return write_report(alloc, writer, number, ledger.audit(payload));
+        return write_report(alloc, writer, number, ledger.audit(payload), line);
     }
     // For the prover: so the ledger is balanced.
     ledger.is_sound();
-    write_reply(alloc, writer, number, Reply::Refused(1))
+    write_reply(alloc, writer, number, Reply::Refused(1), line)
 }

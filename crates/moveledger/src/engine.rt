@@ -87,15 +87,17 @@ pub fn answer_all<R: Read, W: Write, A: AfterRecord<R, W>>(
         (R.remaining reader.new) (W.contents writer.old) (W.contents writer.new) ledger.old ledger.new }
 {
     let alloc = ledger.allocator();
+    // The line of each reply is made in the memory of the one before it.
+    let mut line = Vec::new(alloc);
     for n in 0..u64::MAX {
         match next_record(alloc, reader)? {
             Next::End => return Ok(n),
             Next::Cut => {
-                write_reply(alloc, writer, n + 1, Reply::Refused(1))?;
+                write_reply(alloc, writer, n + 1, Reply::Refused(1), &mut line)?;
                 return Ok(n + 1);
             }
             Next::Record(kind, payload) => {
-                answer(alloc, writer, ledger, n + 1, kind, &payload)?;
+                answer(alloc, writer, ledger, n + 1, kind, &payload, &mut line)?;
                 after.answered(n + 1, reader, writer)?;
             }
         }

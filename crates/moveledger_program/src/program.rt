@@ -10,9 +10,9 @@ use moveledger::{
     text_to_keep,
 };
 use mv_ledger::Ledger;
-use std::env;
 use std::fs::{self, File, Metadata};
 use std::io::{self, BufReader, BufWriter, ErrorKind, IsTerminal, Read, Write};
+use std::{env, mem};
 
 /// Runs the program, and gives the status that it ends with. A fault has its line on standard error.
 pub fn run(rt: &HostRuntime) -> u8 {
@@ -82,11 +82,13 @@ fn apply(rt: &HostRuntime, path: &str, load: Option<&str>, save: Option<&str>) -
         Ok(ledger) => ledger,
         Err(end) => return end,
     };
-    let end = apply_file(rt, path, &mut ledger);
-    match save {
-        None => end,
-        Some(kept) => save_file(rt, kept, end, &ledger),
+    let mut end = apply_file(rt, path, &mut ledger);
+    if let Some(kept) = save {
+        end = save_file(rt, kept, end, &ledger);
     }
+    // The process ends, which gives back all memory at once: what the ledger holds isn't given back piece by piece before.
+    mem::forget(ledger);
+    end
 }
 
 /// The ledger that a file keeps; else why it isn't loaded, which is printed.

@@ -1,30 +1,20 @@
 -- The entries of a module's tables are read again, and so is the whole module.
-use Rattle.std.proofs.Common.{get_or, ◌≡◌, ℕ, suc, ◌+◌, ◌<◌, ◌≤◌, ◌==◌, nat_lt, Bool, true, false, not, cond, ◌&&◌, ◌||◌, IsTrue, List, [], ◌∷◌, ◌++◌}
-use Rattle.std.proofs.Common.{length, Option, Some, None, refl, sym, ap, subst, ◌∙◌, arith, inl, inr, append_assoc, length-append, sum_by, lit<}
-use Rattle.std.specs.List.{find, list_all, list_any, flat_map, filter}
+use Rattle.mv_binary_format.proofs.Common.{[], ℕ, ◌&&◌, ◌++◌, ◌+◌, ◌<◌, ◌==◌, ◌||◌, ◌∙◌, ◌∷◌, ◌≡◌, ◌≤◌, Bool, IsTrue, List, None, Option, Some, ap, append_assoc, arith, cond, false, get_or}
+use Rattle.mv_binary_format.proofs.Common.{inl, inr, length, length-append, lit<, nat_lt, not, refl, subst, suc, sym, true, and_from, and_parts, cases_Bool, eq-eqb, eqb-true, le-leb}
+use Rattle.mv_binary_format.proofs.Common.{leb-true, lt-ltb, ltb-false, append-nil, sum_by-IsPermutation, none-some, to_le_bytes, w32, filter, find, flat_map, list_all, list_any, sum_by}
+use Rattle.mv_binary_format.proofs.Common.{Module, StandsByForm, uleb, address_text, constant_text, counted, field_handle_text, function_definition_text, function_handle_text}
+use Rattle.mv_binary_format.proofs.Common.{identifier_text, module_handle_text, signature_text, struct_definition_text, struct_handle_text, address_fits, constant_fits, field_handle_fits}
+use Rattle.mv_binary_format.proofs.Common.{function_definition_fits, function_handle_fits, identifier_fits, module_handle_fits, signature_fits, struct_definition_fits, struct_handle_fits}
+use Rattle.mv_binary_format.proofs.Common.{AreBytes, StandAsTexts, Read, address_from, all_from, constant_from, counted_from, field_handle_from, function_definition_from}
+use Rattle.mv_binary_format.proofs.Common.{function_handle_from, identifier_from, index_from, module_handle_from, signature_from, struct_definition_from, struct_handle_from, HasText, Header}
+use Rattle.mv_binary_format.proofs.Common.{IsModuleText, Table, header_text, headers_from, table, tables, content_of, contents_from, entries_of, header_from, is_of, kinds, magic, marks_from}
+use Rattle.mv_binary_format.proofs.Common.{module_from, module_of, version_from, without, all_tables}
 use Rattle.std.specs.Str.{bytes_eq}
-use Rattle.std.proofs.lemmas.List.Sorted.{sum_by-IsPermutation}
 use Rattle.std.proofs.lemmas.List.Concat.{length-flat_map}
-use Rattle.std.proofs.lemmas.List.{append-nil}
 use Rattle.std.proofs.lemmas.Slice.Eq.{bytes_eq-Decides}
-use Rattle.std.proofs.lemmas.Bool.{cases_Bool, and_parts, and_from, leb-true, le-leb, ltb-false, lt-ltb, eqb-true, eq-eqb}
-use Rattle.std.proofs.lemmas.Option.{none-some}
-use Rattle.mv_uleb.specs.Uleb.{uleb}
-use Rattle.mv_uleb.specs.Laws.{StandsByForm}
-use Rattle.mv_move_types.specs.Module.{Module}
-use Rattle.mv_module_text.specs.Parsing.{Read, index_from, counted_from, all_from, module_handle_from, struct_handle_from, function_handle_from}
-use Rattle.mv_module_text.specs.Parsing.{signature_from, constant_from, identifier_from, address_from, struct_definition_from}
-use Rattle.mv_module_text.specs.Parsing.{function_definition_from, field_handle_from}
-use Rattle.mv_module_text.specs.Entries.{counted, module_handle_text, struct_handle_text, function_handle_text, signature_text, constant_text}
-use Rattle.mv_module_text.specs.Entries.{identifier_text, address_text, struct_definition_text, function_definition_text, field_handle_text}
-use Rattle.mv_module_text.specs.Fits.{is_index, module_handle_fits, struct_handle_fits, function_handle_fits, signature_fits, constant_fits}
-use Rattle.mv_module_text.specs.Fits.{identifier_fits, address_fits, struct_definition_fits, function_definition_fits, field_handle_fits}
-use Rattle.mv_module_text.specs.Laws.{AreBytes, StandsByText, StandAsTexts}
-use Rattle.mv_binary_format.specs.ModuleText.{Table, Header, table, tables, header_text, headers_from, HasText, IsModuleText}
-use Rattle.mv_binary_format.specs.Parsing.{kinds, header_from, contents_from, without, is_of, content_of, entries_of, module_from, module_of, marks_from, magic, version_from}
-use Rattle.mv_binary_format.specs.Written.{all_tables}
+use Rattle.mv_module_text.specs.Fits.{is_index}
+use Rattle.mv_module_text.specs.Laws.{StandsByText}
 use Rattle.mv_binary_format.proofs.Versions.{version-sound, version-complete}
-use Rattle.std.specs.Int.{w32, to_le_bytes}
 use Rattle.mv_binary_format.proofs.Binds.{bind_some}
 use Rattle.mv_binary_format.proofs.Taken.{without-none}
 use Rattle.mv_binary_format.proofs.Sums.{SameSums, SameSums-from_permutation, Tells, found-alone, found-none, others-in_all, all-SameSums, empty-SameSums, length-SameSums}

@@ -1,17 +1,10 @@
 -- What stands as a text is read.
-use Rattle.std.proofs.Common.{◌^◌, ◌≡◌, ℕ, suc, ◌+◌, ◌<◌, ◌≤◌, ◌==◌, nat_le, Bool, true, not, ◌&&◌, List, [], ◌∷◌, ◌++◌, length, Some, refl, ap, subst, ◌∙◌, arith, append_assoc, length-append, lit<}
-use Rattle.std.specs.Bool.{then_some}
-use Rattle.std.specs.List.{list_all, flat_map}
+use Rattle.mv_binary_format.proofs.Common.{[], ℕ, ◌&&◌, ◌++◌, ◌+◌, ◌<◌, ◌==◌, ◌^◌, ◌∙◌, ◌∷◌, ◌≡◌, ◌≤◌, Bool, List, Some, ap, append_assoc, arith, length, length-append, lit<, nat_le, not}
+use Rattle.mv_binary_format.proofs.Common.{refl, subst, suc, true, and_from, and_parts, eq-eqb, eqb-true, le-leb, leb-true, then_some, flat_map, list_all, StandsByForm, number_from, uleb}
+use Rattle.mv_binary_format.proofs.Common.{counted, AreBytes, Read, bytes_from, counted_from, entries_from, Header, Table, header_text, headers_from, begins_at, contents_from, header_from}
+use Rattle.mv_binary_format.proofs.Common.{without}
 use Rattle.std.proofs.Math.Seq.{take-append_seam, drop-append_seam}
-use Rattle.std.proofs.lemmas.Bool.{and_parts, and_from, leb-true, le-leb, ltb-true, eqb-true, eq-eqb, ne_eqb}
-use Rattle.mv_uleb.specs.Uleb.{uleb}
-use Rattle.mv_uleb.specs.Parsing.{number_from}
-use Rattle.mv_uleb.specs.Laws.{StandsByForm}
-use Rattle.mv_module_text.specs.Parsing.{Read, bytes_from, entries_from, counted_from}
-use Rattle.mv_module_text.specs.Entries.{counted}
-use Rattle.mv_module_text.specs.Laws.{AreBytes}
-use Rattle.mv_binary_format.specs.ModuleText.{Table, Header, header_text, headers_from}
-use Rattle.mv_binary_format.specs.Parsing.{header_from, without, begins_at, contents_from}
+use Rattle.std.proofs.lemmas.Bool.{ltb-true, ne_eqb}
 use Rattle.mv_binary_format.proofs.Sums.{SameSums, Tells, found-alone, empty-SameSums, length-SameSums}
 use Rattle.mv_binary_format.proofs.Placed.{length-without}
 use Rattle.mv_binary_format.proofs.Sound.{rest-bytes, bytes-behind, has_bytes, header_fits}

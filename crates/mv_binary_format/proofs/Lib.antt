@@ -1,3 +1,4 @@
+pub mod Common
 pub mod Samples
 pub mod Binds
 pub mod Loops

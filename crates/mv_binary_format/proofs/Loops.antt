@@ -1,9 +1,6 @@
 -- Reading one entry after another, as a loop does.
-use Rattle.std.proofs.Common.{◌≡◌, ℕ, zero, suc, ◌+◌, ◌-◌, ◌<◌, ◌≤◌, List, [], ◌∷◌, ◌++◌, Option, Some, None, refl, sym, ap, ◌∙◌, append_assoc, arith}
-use Rattle.std.proofs.lemmas.List.{append-nil}
-use Rattle.mv_move_types.specs.Options.{◌>>=◌}
-use Rattle.mv_module_text.specs.Parsing.{Read, entries_from, counted_from, all_from}
-use Rattle.mv_uleb.specs.Parsing.{number_from}
+use Rattle.mv_binary_format.proofs.Common.{[], ℕ, ◌++◌, ◌+◌, ◌-◌, ◌<◌, ◌∙◌, ◌∷◌, ◌≡◌, ◌≤◌, List, None, Option, Some, ap, append_assoc, arith, refl, suc, sym, zero, append-nil, ◌>>=◌}
+use Rattle.mv_binary_format.proofs.Common.{number_from, Read, all_from, counted_from, entries_from}
 
 -- what was read before, and what is still read
 abbrev pub with_front : {A : Type 0} → List A → Read (List A) → Read (List A)
@@ -57,14 +54,6 @@ none-left each (suc turns) = refl
 pub record AllReads {A : Type 0} (each : List ℕ → Read A) (n i : ℕ) (start : List ℕ) (items : List A) (cur : List ℕ) : Type 0 where
   pub goes : with_before items (all_from each (n - i) cur) ≡ all_from each n start
 
-before-nil : {A : Type 0} (o : Option (List A)) → with_before [] o ≡ o
-before-nil None = refl
-before-nil (Some xs) = refl
-
--- none are read yet
-pub AllReads-start : {A : Type 0} (each : List ℕ → Read A) (n : ℕ) (start : List ℕ) → AllReads each n 0 start [] start
-AllReads-start each n start = let z : n - 0 ≡ n = omega arith in record { goes = rw z (before-nil (all_from each n start)) }
-
 -- one more is read
 pub AllReads-next : {A : Type 0} (each : List ℕ → Read A) (n i : ℕ) (start : List ℕ) (items : List A) (cur : List ℕ) (x : A) (next : List ℕ)
     → i < n → (cur ≡ [] → ⊥) → each cur ≡ Some (x, next) → AllReads each n i start items cur → AllReads each n (i + 1) start (items ++ x ∷ []) next
@@ -81,22 +70,6 @@ AllReads-stops each n i start items [] lt some e g = absurd (some refl)
 AllReads-stops each n i start items (b ∷ bytes) lt some e g =
     let k : n - i ≡ suc (n - (i + 1)) = omega arith in
     let one : with_before items (all_from each (n - i) (b ∷ bytes)) ≡ None = rw (k, e) refl in
-    sym g.goes ∙ one
-
--- no turns are left, and bytes are
-pub AllReads-over : {A : Type 0} (each : List ℕ → Read A) (n i : ℕ) (start : List ℕ) (items : List A) (cur : List ℕ) → n ≤ i → (cur ≡ [] → ⊥)
-    → AllReads each n i start items cur → all_from each n start ≡ None
-AllReads-over each n i start items [] le some g = absurd (some refl)
-AllReads-over each n i start items (b ∷ bytes) le some g =
-    let k : n - i ≡ 0 = omega arith in
-    let one : with_before items (all_from each (n - i) (b ∷ bytes)) ≡ None = rw k refl in
-    sym g.goes ∙ one
-
--- all are read
-pub AllReads-end : {A : Type 0} (each : List ℕ → Read A) (n i : ℕ) (start : List ℕ) (items : List A) (cur : List ℕ) → cur ≡ [] → AllReads each n i start items cur → all_from each n start ≡ Some items
-AllReads-end {A} each n i start items cur none g =
-    let left : all_from each (n - i) cur ≡ Some [] = ap (all_from each (n - i)) none ∙ none-left each (n - i) in
-    let one : with_before items (all_from each (n - i) cur) ≡ Some items = ap (with_before items) left ∙ ap Some (append-nil items) in
     sym g.goes ∙ one
 
 front-nil : {A : Type 0} (o : Read (List A)) → with_front [] o ≡ o

@@ -1,20 +1,11 @@
 -- The module that tables are of: what is read of them are its entries.
-use Rattle.std.proofs.Common.{◌≡◌, ℕ, suc, ◌==◌, nat_le, Bool, true, ◌&&◌, IsTrue, List, [], ◌∷◌, length, Option, Some, None, refl, sym, ap, subst, ◌∙◌, arith}
-use Rattle.std.specs.List.{find, list_all, flat_map, filter}
-use Rattle.std.specs.List.Sorted.{IsPermutation}
-use Rattle.std.proofs.lemmas.List.Sorted.{IsPermutation-refl}
-use Rattle.std.proofs.lemmas.Bool.{and_parts, and_from, eqb-true}
-use Rattle.std.proofs.lemmas.Option.{none-some, some_pair_parts}
-use Rattle.mv_move_types.specs.Module.{Module}
-use Rattle.mv_module_text.specs.Parsing.{Read, all_from, module_handle_from, struct_handle_from, function_handle_from, signature_from, constant_from}
-use Rattle.mv_module_text.specs.Parsing.{identifier_from, address_from, struct_definition_from, function_definition_from, field_handle_from}
-use Rattle.mv_module_text.specs.Entries.{module_handle_text, struct_handle_text, function_handle_text, signature_text, constant_text, identifier_text}
-use Rattle.mv_module_text.specs.Entries.{address_text, struct_definition_text, function_definition_text, field_handle_text}
-use Rattle.mv_module_text.specs.Fits.{is_byte, module_handle_fits, struct_handle_fits, function_handle_fits, signature_fits, constant_fits}
-use Rattle.mv_module_text.specs.Fits.{identifier_fits, address_fits, struct_definition_fits, function_definition_fits, field_handle_fits}
-use Rattle.mv_module_text.specs.Laws.{AreBytes, StandAsTexts}
-use Rattle.mv_binary_format.specs.ModuleText.{Table, table, tables}
-use Rattle.mv_binary_format.specs.Parsing.{without, is_of, content_of, entries_of, module_from}
+use Rattle.mv_binary_format.proofs.Common.{[], ℕ, ◌&&◌, ◌==◌, ◌∙◌, ◌∷◌, ◌≡◌, Bool, IsTrue, List, None, Option, Some, ap, arith, length, nat_le, refl, subst, suc, sym, true, and_from}
+use Rattle.mv_binary_format.proofs.Common.{and_parts, eqb-true, IsPermutation-refl, none-some, some_pair_parts, filter, find, flat_map, list_all, IsPermutation, Module, address_text}
+use Rattle.mv_binary_format.proofs.Common.{constant_text, field_handle_text, function_definition_text, function_handle_text, identifier_text, module_handle_text, signature_text}
+use Rattle.mv_binary_format.proofs.Common.{struct_definition_text, struct_handle_text, address_fits, constant_fits, field_handle_fits, function_definition_fits, function_handle_fits}
+use Rattle.mv_binary_format.proofs.Common.{identifier_fits, is_byte, module_handle_fits, signature_fits, struct_definition_fits, struct_handle_fits, AreBytes, StandAsTexts, Read}
+use Rattle.mv_binary_format.proofs.Common.{address_from, all_from, constant_from, field_handle_from, function_definition_from, function_handle_from, identifier_from, module_handle_from}
+use Rattle.mv_binary_format.proofs.Common.{signature_from, struct_definition_from, struct_handle_from, Table, table, tables, content_of, entries_of, is_of, module_from, without}
 use Rattle.mv_binary_format.proofs.Binds.{bind_some, then_some_parts}
 use Rattle.mv_binary_format.proofs.Sums.{found-in_all, others-in_all}
 use Rattle.mv_binary_format.proofs.Sound.{has_bytes, if_full, kind-taken, if_full-then, bytes-before, bytes-behind}

@@ -1,13 +1,11 @@
 -- The ordered text: its headers and its contents, one table after another.
-use Rattle.std.proofs.Common.{◌≡◌, ℕ, ◌+◌, ◌-◌, ◌<◌, ◌≤◌, nat_lt, cond, List, [], ◌∷◌, ◌++◌, length, flat_map, refl, sym, ap, ◌∙◌, arith, inl, inr, append_assoc, length-append, Result, Ok, Err, IfOk}
-use Rattle.std.proofs.lemmas.List.{append-nil}
+use Rattle.mv_binary_format.proofs.Common.{[], ℕ, ◌++◌, ◌+◌, ◌-◌, ◌<◌, ◌∙◌, ◌∷◌, ◌≡◌, ◌≤◌, Err, IfOk, List, Ok, Result, ap, append_assoc, arith, cond, inl, inr, length, length-append}
+use Rattle.mv_binary_format.proofs.Common.{nat_lt, refl, sym, cases_lt, lt-ltb, append-nil, IsPermutation-refl, flat_map, Module, HasText, Header, IsModuleText, Table, headers_from}
+use Rattle.mv_binary_format.proofs.Common.{ordered_text, tables, AreOf}
 use Rattle.std.proofs.lemmas.List.Elements.{filter-append}
 use Rattle.std.proofs.lemmas.List.Concat.{flat_map-append}
-use Rattle.std.proofs.lemmas.Bool.{cases_lt, lt-ltb, le-ltb}
-use Rattle.std.proofs.lemmas.List.Sorted.{IsPermutation-refl}
-use Rattle.mv_move_types.specs.Module.{Module}
-use Rattle.mv_binary_format.specs.ModuleText.{Table, Header, headers_from, tables, HasText, IsModuleText, ordered_text}
-use Rattle.mv_binary_format.specs.Written.{with_bytes, AreOf}
+use Rattle.std.proofs.lemmas.Bool.{le-ltb}
+use Rattle.mv_binary_format.specs.Written.{with_bytes}
 
 -- the headers of more tables
 headers_from-append : (offset : ℕ) (ts us : List Table) → headers_from offset (ts ++ us) ≡ headers_from offset ts ++ headers_from (offset + length (flat_map (λ t. t.content) ts)) us

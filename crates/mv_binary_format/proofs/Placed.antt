@@ -1,12 +1,7 @@
 -- Contents taken one after another, as a loop does.
-use Rattle.std.proofs.Common.{◌≡◌, ℕ, suc, ◌+◌, ◌<◌, ◌≤◌, Bool, List, [], ◌∷◌, ◌++◌, length, Some, None, refl, sym, ap, ◌∙◌, arith, inl, inr}
-use Rattle.std.specs.List.{find}
-use Rattle.std.proofs.lemmas.List.{append-nil}
-use Rattle.std.proofs.lemmas.Bool.{cases_Bool, le-leb, lt-leb}
-use Rattle.std.proofs.lemmas.Option.{none-some}
-use Rattle.mv_module_text.specs.Parsing.{Read, bytes_from}
-use Rattle.mv_binary_format.specs.ModuleText.{Table, Header}
-use Rattle.mv_binary_format.specs.Parsing.{without, begins_at, contents_from}
+use Rattle.mv_binary_format.proofs.Common.{[], ℕ, ◌++◌, ◌+◌, ◌<◌, ◌∙◌, ◌∷◌, ◌≡◌, ◌≤◌, Bool, List, None, Some, ap, arith, inl, inr, length, refl, suc, sym, cases_Bool, le-leb, append-nil}
+use Rattle.mv_binary_format.proofs.Common.{none-some, find, Read, bytes_from, Header, Table, begins_at, contents_from, without}
+use Rattle.std.proofs.lemmas.Bool.{lt-leb}
 use Rattle.mv_binary_format.proofs.Loops.{with_front, regroup}
 
 -- one less is left

@@ -1,10 +1,6 @@
 -- Texts read by computation.
-use Rattle.std.proofs.Common.{◌≡◌, List, [], ◌∷◌, ◌++◌, Some, refl, ℕ}
+use Rattle.mv_binary_format.proofs.Common.{[], ℕ, ◌++◌, ◌∷◌, ◌≡◌, List, Some, refl, Module, uleb, ordered_text, contents_from, entries_of, header_from, module_from, module_of}
 use Rattle.std.specs.Prelude.{replicate, codes}
-use Rattle.mv_move_types.specs.Module.{Module}
-use Rattle.mv_binary_format.specs.Parsing.{module_of, contents_from, header_from, module_from, entries_of}
-use Rattle.mv_binary_format.specs.ModuleText.{ordered_text}
-use Rattle.mv_uleb.specs.Uleb.{uleb}
 
 one : List ℕ
 one = replicate 15 0 ++ 1 ∷ []

@@ -1,23 +1,12 @@
 -- What is read is a text of the module.
-use Rattle.std.proofs.Common.{◌^◌, ◌≡◌, ℕ, zero, suc, ◌+◌, ◌<◌, ◌≤◌, ◌==◌, nat_lt, nat_le, Bool, true, cond, ◌&&◌, List, [], ◌∷◌, ◌++◌, length, take}
-use Rattle.std.proofs.Common.{drop, Option, Some, None, refl, sym, ap, subst, ◌∙◌, arith, inl, inr, append_assoc, take-append-drop, length-append}
-use Rattle.std.proofs.Common.{lit<}
-use Rattle.std.specs.Bool.{then_some}
+use Rattle.mv_binary_format.proofs.Common.{[], ℕ, ◌&&◌, ◌++◌, ◌+◌, ◌<◌, ◌==◌, ◌^◌, ◌∙◌, ◌∷◌, ◌≡◌, ◌≤◌, Bool, List, None, Option, Some, ap, append_assoc, arith, cond, inl, inr, length}
+use Rattle.mv_binary_format.proofs.Common.{length-append, lit<, nat_le, nat_lt, refl, subst, suc, sym, take, true, zero, and_from, and_parts, cases_Bool, eqb-true, leb-true}
+use Rattle.mv_binary_format.proofs.Common.{IsPermutation-cons, IsPermutation-refl, IsPermutation-trans, none-some, same_Some, some_pair_parts, then_some, find, flat_map, list_all, list_any}
+use Rattle.mv_binary_format.proofs.Common.{IsPermutation, StandsByForm, number_from, uleb, counted, is_byte, AreBytes, Read, bytes_from, counted_from, entries_from, Header, Table}
+use Rattle.mv_binary_format.proofs.Common.{header_text, headers_from, begins_at, content_of, contents_from, header_from, is_of, kinds, marks_from, without}
+use Rattle.std.proofs.Common.{drop, take-append-drop}
 use Rattle.std.proofs.lemmas.List.{length-take-le}
-use Rattle.std.specs.List.{find, list_all, list_any, flat_map}
-use Rattle.std.specs.List.Sorted.{IsPermutation}
-use Rattle.std.proofs.lemmas.List.Sorted.{IsPermutation-refl, IsPermutation-cons, IsPermutation-trans}
-use Rattle.std.proofs.lemmas.Bool.{cases_Bool, and_parts, and_from, leb-true, eqb-true}
-use Rattle.std.proofs.lemmas.Option.{none-some, same_Some, some_pair_parts}
-use Rattle.mv_uleb.specs.Uleb.{uleb}
-use Rattle.mv_uleb.specs.Parsing.{number_from}
-use Rattle.mv_uleb.specs.Laws.{StandsByForm}
-use Rattle.mv_module_text.specs.Parsing.{Read, byte_from, mark_from, bytes_from, entries_from, counted_from}
-use Rattle.mv_module_text.specs.Entries.{counted}
-use Rattle.mv_module_text.specs.Laws.{AreBytes}
-use Rattle.mv_module_text.specs.Fits.{is_byte}
-use Rattle.mv_binary_format.specs.ModuleText.{Table, Header, header_text, headers_from}
-use Rattle.mv_binary_format.specs.Parsing.{marks_from, kinds, header_from, without, begins_at, contents_from, is_of, content_of}
+use Rattle.mv_module_text.specs.Parsing.{byte_from, mark_from}
 use Rattle.mv_binary_format.proofs.Taken.{without-none}
 use Rattle.mv_binary_format.proofs.Binds.{bind_some, then_some_parts}
 use Rattle.mv_binary_format.proofs.Sums.{permutation-without, found-passes, found-in_all, others-in_all}

@@ -1,12 +1,9 @@
 -- Lists with the same elements, told by the sums over them, and what is taken out of them.
-use Rattle.std.proofs.Common.{◌≡◌, ℕ, suc, ◌+◌, Bool, true, false, not, List, [], ◌∷◌, length, Option, Some, None, refl, sym, ap, ◌∙◌, arith, inl, inr}
-use Rattle.std.specs.List.{find, sum_by, list_all}
-use Rattle.std.specs.List.Sorted.{IsPermutation}
-use Rattle.std.proofs.lemmas.List.Sums.{sum_by-cons}
-use Rattle.std.proofs.lemmas.List.Sorted.{sum_by-IsPermutation, IsPermutation-refl, IsPermutation-cons, IsPermutation-trans, IsPermutation-middle}
-use Rattle.std.proofs.lemmas.Bool.{cases_Bool, and_parts, and_from, not-true, both_ways, true_from_ne_false}
-use Rattle.std.proofs.lemmas.Option.{none-some, same_Some}
-use Rattle.mv_binary_format.specs.Parsing.{without}
+use Rattle.mv_binary_format.proofs.Common.{[], ℕ, ◌+◌, ◌∙◌, ◌∷◌, ◌≡◌, Bool, List, None, Option, Some, ap, arith, false, inl, inr, length, not, refl, suc, sym, true, and_from, and_parts}
+use Rattle.mv_binary_format.proofs.Common.{cases_Bool, IsPermutation-cons, IsPermutation-refl, IsPermutation-trans, sum_by-IsPermutation, sum_by-cons, none-some, same_Some, find, list_all}
+use Rattle.mv_binary_format.proofs.Common.{sum_by, IsPermutation, without}
+use Rattle.std.proofs.lemmas.List.Sorted.{IsPermutation-middle}
+use Rattle.std.proofs.lemmas.Bool.{not-true, both_ways, true_from_ne_false}
 
 -- the elements of one list are those of the other, in some order
 pub record SameSums {A : Type 0} (xs ys : List A) : Type 0 where
@@ -14,9 +11,6 @@ pub record SameSums {A : Type 0} (xs ys : List A) : Type 0 where
 
 pub SameSums-from_permutation : {A : Type 0} (xs ys : List A) → IsPermutation xs ys → SameSums xs ys
 SameSums-from_permutation xs ys p = record { same = λ f. sym (sum_by-IsPermutation f xs ys p) }
-
-pub SameSums-trans : {A : Type 0} (xs ys zs : List A) → SameSums xs ys → SameSums ys zs → SameSums xs zs
-SameSums-trans xs ys zs p q = record { same = λ f. p.same f ∙ q.same f }
 
 -- the first that passes, before the others
 pub permutation-without : {A : Type 0} (p : A → Bool) (xs : List A) (x : A) → find p xs ≡ Some x → IsPermutation xs (x ∷ without p xs)

@@ -1,11 +1,12 @@
 -- The first element that passes a test, and the others.
-use Rattle.std.proofs.Common.{◌≡◌, ◌==◌, ℕ, zero, suc, ◌<◌, Bool, true, false, List, [], ◌∷◌, length, get_or, map, Some, None, option_map, refl, sym, ap, ◌∙◌, arith, inl, inr}
-use Rattle.std.specs.List.{find, position, position_or_len, remove}
-use Rattle.std.proofs.lemmas.Bool.{cases_Bool, cases_lt, lt-ltb, eqb-true, eqb-false}
-use Rattle.std.proofs.lemmas.Option.{none-some, slice_get_past}
+use Rattle.mv_binary_format.proofs.Common.{[], ℕ, ◌<◌, ◌==◌, ◌∙◌, ◌∷◌, ◌≡◌, Bool, List, None, Some, ap, arith, false, get_or, inl, inr, length, option_map, refl, suc, sym, true, zero}
+use Rattle.mv_binary_format.proofs.Common.{cases_Bool, cases_lt, eqb-true, lt-ltb, none-some, find, position, without}
+use Rattle.std.proofs.Common.{map}
+use Rattle.std.specs.List.{position_or_len, remove}
+use Rattle.std.proofs.lemmas.Bool.{eqb-false}
+use Rattle.std.proofs.lemmas.Option.{slice_get_past}
 use Rattle.std.proofs.lemmas.List.Folds.{find_at}
 use Rattle.std.proofs.lemmas.List.Quantifiers.{position-Some}
-use Rattle.mv_binary_format.specs.Parsing.{without}
 
 -- a test of what a function gives
 pub find-map : {A B : Type 0} (f : A → B) (p : B → Bool) (xs : List A) → find p (map f xs) ≡ option_map f (find (λ x. p (f x)) xs)

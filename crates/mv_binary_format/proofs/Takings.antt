@@ -1,10 +1,8 @@
 -- What follows of a reading that may take memory.
-use Rattle.std.proofs.Common.{◌≡◌, ℕ, List, length, option_map, Option, Some, None, refl, sym, ap, subst, ◌∙◌, Result, Ok, Err, IfOk}
+use Rattle.mv_binary_format.proofs.Common.{ℕ, ◌∙◌, ◌≡◌, Err, IfOk, List, None, Ok, Option, Result, Some, ap, length, option_map, refl, subst, sym, Phase, Read, all_from, Table, content_of}
+use Rattle.mv_binary_format.proofs.Common.{entries_of, is_of, without}
 use Rattle.mv_move_types.specs.declared.refusal.Refusal.{Refusal}
-use Rattle.mv_move_types.specs.declared.refusal.Refusal.TheVariants.{Phase, Memory}
-use Rattle.mv_module_text.specs.Parsing.{Read, all_from}
-use Rattle.mv_binary_format.specs.ModuleText.{Table}
-use Rattle.mv_binary_format.specs.Parsing.{entries_of, content_of, without, is_of}
+use Rattle.mv_move_types.specs.declared.refusal.Refusal.TheVariants.{Memory}
 use Rattle.mv_binary_format.specs.Outcomes.{Takes, Decides}
 
 -- a part that could not be read refuses the whole

@@ -1,31 +1,22 @@
 -- The version, in its four bytes.
-use Rattle.std.proofs.Common.{◌≡◌, ℕ, ◌<◌, ◌==◌, true, ◌||◌, List, [], ◌∷◌, ◌++◌, length, Some, sym, ap, subst, ◌∙◌, arith, inl, inr}
-use Rattle.std.specs.Bool.{then_some}
-use Rattle.std.specs.Int.{w32, to_le_bytes}
-use Rattle.std.proofs.lemmas.Bool.{cases_Bool, eqb-true}
-use Rattle.std.proofs.lemmas.Option.{some_pair_parts}
-use Rattle.mv_move_types.specs.Options.{◌>>=◌}
+use Rattle.mv_binary_format.proofs.Common.{[], ℕ, ◌++◌, ◌<◌, ◌==◌, ◌||◌, ◌∙◌, ◌∷◌, ◌≡◌, List, Some, ap, arith, inl, inr, length, subst, sym, true, cases_Bool, eqb-true, some_pair_parts}
+use Rattle.mv_binary_format.proofs.Common.{then_some, to_le_bytes, w32, ◌>>=◌, Read, bytes_from, version_from}
 use Rattle.mv_move_types.specs.Numbers.{little_endian}
 use Rattle.mv_move_types.specs.declared.token.Width.TheVariants.{U32}
-use Rattle.mv_module_text.specs.Parsing.{Read, bytes_from, number_of_from}
-use Rattle.mv_binary_format.specs.Parsing.{version_from}
+use Rattle.mv_module_text.specs.Parsing.{number_of_from}
 use Rattle.mv_binary_format.proofs.Binds.{bind_some, then_some_parts}
 use Rattle.mv_binary_format.proofs.Sound.{bytes-sound}
 use Rattle.mv_binary_format.proofs.Complete.{bytes-complete}
 
 -- four bytes of a number below 256
 four : (k : ℕ) → k < 256 → (xs : List ℕ) → length xs ≡ 4 → little_endian xs ≡ k → xs ≡ k ∷ 0 ∷ 0 ∷ 0 ∷ []
-four k lt [] l e = absurd (omega arith)
-four k lt (a ∷ []) l e = absurd (omega arith)
-four k lt (a ∷ b ∷ []) l e = absurd (omega arith)
-four k lt (a ∷ b ∷ c ∷ []) l e = absurd (omega arith)
 four k lt (a ∷ b ∷ c ∷ d ∷ []) l e =
     let ha : a ≡ k = omega arith in
     let hb : b ≡ 0 = omega arith in
     let hc : c ≡ 0 = omega arith in
     let hd : d ≡ 0 = omega arith in
     ap (λ z. z ∷ b ∷ c ∷ d ∷ []) ha ∙ ap (λ z. k ∷ z ∷ c ∷ d ∷ []) hb ∙ ap (λ z. k ∷ 0 ∷ z ∷ d ∷ []) hc ∙ ap (λ z. k ∷ 0 ∷ 0 ∷ z ∷ []) hd
-four k lt (a ∷ b ∷ c ∷ d ∷ x ∷ xs) l e = absurd (omega arith)
+four k lt xs l e = absurd (omega arith)
 
 -- the bytes of each version
 text-by : (v : ℕ) (xs : List ℕ) → (v == 5) || (v == 6) ≡ true → length xs ≡ 4 → little_endian xs ≡ v → xs ≡ to_le_bytes w32 v

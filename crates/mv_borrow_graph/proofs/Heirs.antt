@@ -1,40 +1,12 @@
 -- What a call's results take over, result by result.
-use Rattle.std.proofs.Common.{◌≡◌, ℕ, List, [], ◌∷◌, ◌++◌, length, drop, get_or, ◌+◌, ◌<◌, ◌≤◌, refl, sym, ap, ◌∙◌, arith, append-nil, append_assoc}
+use Rattle.std.proofs.Common.{◌≡◌, ℕ, List, [], ◌∷◌, ◌++◌, length, drop, get_or, ◌+◌, ◌<◌, ◌≤◌, sym, ap, ◌∙◌, arith, append-nil, append_assoc}
 use Rattle.std.proofs.lemmas.List.{drop_more, drop_all}
 use Rattle.mv_move_types.specs.declared.borrow.Node.{Node}
-use Rattle.mv_move_types.specs.declared.borrow.Node.TheVariants.{Temp}
 use Rattle.mv_move_types.specs.declared.token.Token.{Token}
-use Rattle.mv_move_types.specs.declared.token.Token.TheVariants.{Plain, Reference, MutableReference}
-use Rattle.mv_move_types.specs.declared.token.ValueType.{ValueType}
 use Rattle.mv_edges.specs.Edges.{Edge}
 use Rattle.mv_edges.specs.Graph.{Heir, taken_over}
-use Rattle.mv_borrow_graph.specs.BorrowRules.{opened_edges, result_edges}
+use Rattle.mv_borrow_graph.specs.BorrowRules.{result_edges}
 use Rattle.mv_borrow_graph.proofs.Rows.{result_edges-first}
-
--- one heir more
-taken_over-more : (hs : List Heir) (h : Heir) (es : List Edge) → taken_over (hs ++ h ∷ []) es ≡ taken_over hs es ++ (opened_edges h.givers h.node es ++ [])
-taken_over-more [] h es = refl
-taken_over-more (x ∷ hs) h es =
-    ap (λ ys. opened_edges x.givers x.node es ++ ys) (taken_over-more hs h es)
-    ∙ sym (append_assoc (opened_edges x.givers x.node es) (taken_over hs es) (opened_edges h.givers h.node es ++ []))
-
--- a value takes nothing over
-pub nothing_taken : (mutable all : List Node) (k : ℕ) (token : Token) (t : ValueType) (hs : List Heir) → token ≡ Plain t
-    → (es : List Edge) → taken_over hs es ≡ taken_over hs es ++ result_edges mutable all k (token ∷ []) es
-nothing_taken mutable all k token t hs e es = sym (append-nil (taken_over hs es)) ∙ ap (λ x. taken_over hs es ++ result_edges mutable all k (x ∷ []) es) (sym e)
-
--- a reference takes over of all arguments, and a mutable one of the mutable ones
-pub all_taken : (mutable all : List Node) (k : ℕ) (token : Token) (t : ValueType) (hs new : List Heir) → token ≡ Reference t
-    → new ≡ hs ++ record { node = Temp k; givers = all } ∷ []
-    → (es : List Edge) → taken_over new es ≡ taken_over hs es ++ result_edges mutable all k (token ∷ []) es
-all_taken mutable all k token t hs new e is es =
-    ap (λ x. taken_over x es) is ∙ taken_over-more hs (record { node = Temp k; givers = all }) es ∙ ap (λ x. taken_over hs es ++ result_edges mutable all k (x ∷ []) es) (sym e)
-
-pub mutable_taken : (mutable all : List Node) (k : ℕ) (token : Token) (t : ValueType) (hs new : List Heir) → token ≡ MutableReference t
-    → new ≡ hs ++ record { node = Temp k; givers = mutable } ∷ []
-    → (es : List Edge) → taken_over new es ≡ taken_over hs es ++ result_edges mutable all k (token ∷ []) es
-mutable_taken mutable all k token t hs new e is es =
-    ap (λ x. taken_over x es) is ∙ taken_over-more hs (record { node = Temp k; givers = mutable }) es ∙ ap (λ x. taken_over hs es ++ result_edges mutable all k (x ∷ []) es) (sym e)
 
 -- one result more
 pub heirs_more : (mutable all : List Node) (place i : ℕ) (results : List Token) (d : Token) (hs new : List Heir) (es : List Edge) → i < length results

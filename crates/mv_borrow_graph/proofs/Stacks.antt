@@ -22,7 +22,7 @@ use Rattle.mv_edges.specs.Ascending.{are_ascending}
 use Rattle.mv_edges.proofs.Sorting.{sorted-ascending}
 use Rattle.mv_lattice.specs.declared.StepError.{StepError}
 use Rattle.mv_lattice.specs.declared.StepError.TheVariants.{Need, Memory}
-use Rattle.mv_borrow_graph.proofs.Tables.{all_at}
+use Rattle.mv_bounds.proofs.FunctionLemmas.{all_at}
 
 module _ (m : Module) (d : FunctionDefinition) where
   -- the types after an instruction, and before each of those that follow

@@ -1,6 +1,6 @@
 -- How large the entries of a module's tables are.
 use Rattle.std.specs.Prelude.{IfSome, nat_le}
-use Rattle.std.proofs.Common.{◌≡◌, ℕ, zero, suc, ◌≤◌, ◌<◌, Bool, true, false, ◌&&◌, List, [], ◌∷◌, length, slice_get, Option, Some, None, refl, sym, ap, ◌∙◌, subst, arith, option_map, true≢false}
+use Rattle.std.proofs.Common.{◌≡◌, ℕ, ◌≤◌, ◌<◌, true, false, ◌&&◌, List, length, slice_get, Option, Some, None, refl, sym, ap, ◌∙◌, subst, arith, option_map, true≢false}
 use Rattle.std.specs.List.{list_all}
 use Rattle.std.specs.Option.{option_map_or}
 use Rattle.std.proofs.lemmas.Bool.{and_parts, ltb-true, leb-true}
@@ -10,12 +10,7 @@ use Rattle.mv_move_types.specs.Module.{Module, StructDefinition}
 use Rattle.mv_module_text.specs.Fits.{is_index, field_fits, struct_definition_fits, signature_fits, token_fits}
 use Rattle.mv_type_states.specs.TypesHold.{Point}
 use Rattle.mv_bounds.specs.Bounds.{below, InBounds, field_handle_in}
-
--- what holds of all holds of each
-pub all_at : {A : Type 0} (p : A → Bool) (xs : List A) (i : ℕ) (x : A) → list_all p xs ≡ true → slice_get xs i ≡ Some x → p x ≡ true
-all_at p [] i x h e = cc
-all_at p (y ∷ xs) zero x h e = let same : y ≡ x = cc in subst (λ z. p z ≡ true) same (and_parts (p y) (list_all p xs) h).0
-all_at p (y ∷ xs) (suc i) x h e = all_at p xs i x (and_parts (p y) (list_all p xs) h).1 e
+use Rattle.mv_bounds.proofs.FunctionLemmas.{all_at}
 
 -- the position of a field handle fits a byte, since a struct has at most 32 fields
 pub small_position : (p : Point) (m n : Module) (i : ℕ) (found : Option FieldHandle) (h : FieldHandle) → m ≡ p.home → n ≡ m → InBounds m → list_all (struct_definition_fits n.version) n.structs ≡ true

@@ -1,18 +1,11 @@
 -- The graph of the structs of a module.
-use Rattle.std.proofs.Common.{◌≡◌, ◌↔◌, ℕ, zero, suc, ◌==◌, Bool, true, List, [], ◌∷◌, length, map, Option, Some, None, slice_get, Contains, refl, sym, ap, ap₂, ◌∙◌, subst, arith}
-use Rattle.std.specs.List.{list_all, cons_option}
-use Rattle.std.specs.Option.{option_map}
-use Rattle.std.proofs.lemmas.Bool.{and_parts, ltb-true}
-use Rattle.std.proofs.lemmas.Option.{none-some, same_Some, slice_get-map, unwrap_or-slice_get}
-use Rattle.mv_move_types.specs.declared.token.Token.{Token}
-use Rattle.mv_move_types.specs.declared.token.Token.TheVariants.{Plain, Reference, MutableReference}
-use Rattle.mv_move_types.specs.declared.token.ValueType.TheVariants.{OfLeaf, OfStruct}
-use Rattle.mv_move_types.specs.declared.tables.Field.{Field}
-use Rattle.mv_move_types.specs.Module.{Module, StructDefinition}
-use Rattle.mv_bounds.specs.Bounds.{InBounds, token_in, field_in, struct_in}
-use Rattle.mv_bounds.specs.Definitions.{Holds, directly as holds_directly, further as holds_further, defined_by}
-use Rattle.mv_bounds.specs.Cycles.{LeadsTo, IsAcyclic, directly, further}
-use Rattle.mv_bounds.specs.Containment.{held_by, containment, place_of, places_of}
+use Rattle.mv_bounds.proofs.Common.{[], ℕ, ◌==◌, ◌↔◌, ◌∙◌, ◌∷◌, ◌≡◌, Bool, Contains, List, None, Option, Some, ap, ap₂, arith, length, map, refl, subst, suc, sym, true, zero, and_parts}
+use Rattle.mv_bounds.proofs.Common.{ltb-true, none-some, same_Some, slice_get-map, slice_get_within, unwrap_or-slice_get, list_all, slice_get, option_map, Module, StructDefinition, Field, Token}
+use Rattle.mv_bounds.proofs.Common.{Plain, OfLeaf, OfStruct, InBounds, token_in, places_of, IsAcyclic, LeadsTo, directly, further, Holds}
+use Rattle.std.specs.List.{cons_option}
+use Rattle.mv_bounds.specs.Bounds.{field_in, struct_in}
+use Rattle.mv_bounds.specs.Definitions.{directly as holds_directly, further as holds_further, defined_by}
+use Rattle.mv_bounds.specs.Containment.{held_by, containment, place_of}
 use Rattle.mv_bounds.specs.Places.{AreStructPlaces}
 use Rattle.mv_bounds.proofs.HandleLemmas.{find-map}
 
@@ -23,8 +16,7 @@ module _ (m : Module) (bounds : InBounds m) (places : List (Option ℕ)) (p : Ar
   place_same (Plain (OfStruct h)) inside =
       unwrap_or-slice_get places h None ∙ p.each h (ltb-true h (length m.struct_handles) inside)
       ∙ find-map (λ (d : StructDefinition). d.handle) (λ x. x == h) m.structs
-  place_same (Reference t) inside = refl
-  place_same (MutableReference t) inside = refl
+  place_same t inside = refl
 
   held_same : (fields : List Field) → list_all (field_in m) fields ≡ true → places_of places fields ≡ held_by m fields
   held_same [] inside = refl
@@ -105,3 +97,8 @@ pub finite_from_acyclic : (m : Module) (b : Bool) (graph : List (List ℕ)) → 
 finite_from_acyclic m b graph is both =
     let same = subst (λ (g : List (List ℕ)). (b ≡ true) ↔ IsAcyclic g) is both in
     ((λ h i chain. same.0 h i (leads_from_holds m i i chain)), (λ never. same.1 (λ i chain. never i (holds_from_leads m i i chain))))
+
+-- where there is no struct, none holds another one
+pub nothing_held : (m : Module) (i j : ℕ) → length m.structs ≡ 0 → Holds m i j → ⊥
+nothing_held m i j none (holds_directly i' j' d f at has named) = omega (arith, slice_get_within m.structs i d at, none)
+nothing_held m i k none (holds_further i' j k' first others) = nothing_held m i j none first

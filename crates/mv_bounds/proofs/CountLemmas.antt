@@ -1,10 +1,8 @@
 -- Counts of a graph's edges by the node that they lead to, and the nodes that no edge leads to.
-use Rattle.std.proofs.Common.{◌≡◌, ℕ, ◌+◌, ◌<◌, ◌≤◌, true, cond, List, [], ◌∷◌, ◌++◌, length, get_or, set, take, map, refl, sym, ap, ◌∙◌, subst}
-use Rattle.std.proofs.Common.{arith, inl, inr, nat_lt, Vec, Global, get_or-set_same, get_or-set_other}
-use Rattle.std.proofs.lemmas.Bool.{cases_eq, cases_lt, and_from, lt-ltb, le-ltb}
+use Rattle.mv_bounds.proofs.Common.{[], ℕ, ◌++◌, ◌+◌, ◌<◌, ◌∙◌, ◌∷◌, ◌≡◌, ◌≤◌, Global, List, Vec, ap, arith, cond, get_or, get_or-set_other, get_or-set_same, inl, inr, length, map, nat_lt}
+use Rattle.mv_bounds.proofs.Common.{refl, set, subst, sym, take, true, and_from, cases_eq, cases_lt, lt-ltb, list_all-append, are_nodes, edges_to, is_zero, times}
+use Rattle.std.proofs.lemmas.Bool.{le-ltb}
 use Rattle.std.proofs.lemmas.List.{map_more}
-use Rattle.std.proofs.lemmas.List.Folds.{list_all-append}
-use Rattle.mv_bounds.specs.Removal.{times, edges_to, is_zero, are_nodes}
 use Rattle.mv_bounds.proofs.TimesLemmas.{times_push, times_more, is_one, is_none, zero_is_one, other_is_none}
 use Rattle.mv_bounds.proofs.EdgeLemmas.{edges_more}
 

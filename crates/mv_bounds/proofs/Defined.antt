@@ -1,15 +1,11 @@
 -- Handles with one definition each.
-use Rattle.std.proofs.Common.{◌≡◌, ℕ, zero, suc, ◌+◌, ◌<◌, ◌≤◌, Bool, true, false, cond, ◌==◌, ◌&&◌, List, [], ◌∷◌, length, get_or, set, take}
-use Rattle.std.proofs.Common.{count_by, map, slice_get, Result, sym, refl, ap, subst, ◌∙◌, inl, inr, eq-eqb, ne_eqb, length-set, length-take-le}
-use Rattle.std.proofs.Common.{get_or-set_same, get_or-set_other, arith}
+use Rattle.mv_bounds.proofs.Common.{[], ℕ, ◌&&◌, ◌+◌, ◌<◌, ◌==◌, ◌∙◌, ◌∷◌, ◌≡◌, ◌≤◌, Bool, List, Result, ap, arith, cond, count_by, eq-eqb, false, get_or, get_or-set_other, get_or-set_same}
+use Rattle.mv_bounds.proofs.Common.{inl, inr, length, length-set, map, ne_eqb, refl, set, subst, suc, sym, take, true, zero, cases_eq, get_or_read, length-map, length-take-le, IfOk-weaker}
+use Rattle.mv_bounds.proofs.Common.{slice_get, IfOk, defined_once}
 use mir.Val.{bool_byte}
-use Rattle.std.specs.Result.{IfOk}
 use Rattle.std.specs.Option.{option_map_or}
-use Rattle.std.proofs.lemmas.Result.{IfOk-weaker}
-use Rattle.std.proofs.lemmas.Bool.{cases_eq, and_left, and_right}
-use Rattle.std.proofs.lemmas.List.{length-map, get_or_read}
+use Rattle.std.proofs.lemmas.Bool.{and_left, and_right}
 use Rattle.std.proofs.lemmas.List.Sums.{count_by_more_yes, count_by_more_no, count_by-le-length}
-use Rattle.mv_bounds.specs.Definitions.{defined_once}
 
 -- the counts of the numbers below n among the first i items
 pub record Counted (counts items : List ℕ) (n i : ℕ) : Type 0 where

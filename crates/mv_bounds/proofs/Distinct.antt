@@ -1,12 +1,10 @@
 -- Lists whose entries differ.
-use Rattle.std.proofs.Common.{◌≡◌, ℕ, suc, ap₂, ◌≤◌, Bool, true, false, cond, eqb, ◌&&◌, ◌||◌, not, List, [], ◌∷◌, length, map, Result, sym, refl, ap, ◌∙◌, arith, inl, inr, eq-eqb, ne_eqb}
-use Rattle.std.specs.Result.{IfOk}
+use Rattle.mv_bounds.proofs.Common.{[], ℕ, ◌&&◌, ◌∙◌, ◌∷◌, ◌≡◌, ◌≤◌, Bool, List, Result, ap, ap₂, arith, cond, eq-eqb, eqb, false, inl, inr, length, map, ne_eqb, not, refl, suc, sym, true}
+use Rattle.mv_bounds.proofs.Common.{cases_eq, IfOk-weaker, IfOk, all_differ}
+use Rattle.std.proofs.Common.{◌||◌}
 use Rattle.std.specs.List.{list_any}
 use Rattle.std.specs.Set.{distinct_count, unique_keys}
 use Rattle.std.proofs.lemmas.Map.Made.{distinct_count-le}
-use Rattle.std.proofs.lemmas.Result.{IfOk-weaker}
-use Rattle.std.proofs.lemmas.Bool.{cases_eq}
-use Rattle.mv_bounds.specs.Definitions.{all_differ}
 
 -- numbers are equal where the next ones are
 eqb_next : (a b : ℕ) → eqb (suc a) (suc b) ≡ eqb a b

@@ -1,11 +1,8 @@
 -- Edges from nodes that are not removed, and chains of edges.
-use Rattle.std.proofs.Common.{◌≡◌, ℕ, zero, suc, ◌+◌, ◌<◌, Bool, true, false, cond, List, [], ◌∷◌, ◌++◌, length, get_or, set, slice_get, Some, refl}
-use Rattle.std.proofs.Common.{sym, ap, ◌∙◌, subst, arith, Contains, inl, inr, ◌⊎◌, replicate, map, Vec, Global, ◌==◌}
-use Rattle.std.specs.List.{list_all}
-use Rattle.std.proofs.lemmas.Bool.{and_parts, eqb-true, false≢true, cases_eq, cases_lt}
-use Rattle.std.proofs.lemmas.Option.{none-some, same_Some, slice_get_within}
-use Rattle.mv_bounds.specs.Cycles.{IsAcyclic, LeadsTo, directly, further}
-use Rattle.mv_bounds.specs.Removal.{times, edges_to}
+use Rattle.mv_bounds.proofs.Common.{[], ℕ, ◌++◌, ◌+◌, ◌<◌, ◌==◌, ◌∙◌, ◌∷◌, ◌≡◌, Bool, Contains, Global, List, Some, Vec, ap, arith, cond, false, get_or, inl, inr, length, map, refl}
+use Rattle.mv_bounds.proofs.Common.{replicate, set, subst, suc, sym, true, zero, and_parts, cases_eq, cases_lt, eqb-true, false≢true, none-some, same_Some, slice_get_within, list_all}
+use Rattle.mv_bounds.proofs.Common.{slice_get, IsAcyclic, LeadsTo, directly, further, edges_to, times}
+use Rattle.std.proofs.Common.{◌⊎◌}
 use Rattle.mv_bounds.proofs.TimesLemmas.{times_of, contains_from_times}
 
 -- a node that is removed takes its edges with it

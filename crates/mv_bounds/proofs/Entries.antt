@@ -1,10 +1,10 @@
 -- Entries of a list, one after another.
-use Rattle.std.proofs.Common.{◌≡◌, ℕ, ◌+◌, ◌<◌, Bool, true, false, List, length, get_or, take, Some, None, inl, inr, arith, slice_get, ◌∙◌, ap, sym, ◌&&◌, [], ◌∷◌, ◌++◌, map, ap₂, Bor, refl}
-use Rattle.std.specs.List.{list_all}
+use Rattle.mv_bounds.proofs.Common.{[], ℕ, ◌&&◌, ◌++◌, ◌+◌, ◌<◌, ◌∙◌, ◌∷◌, ◌≡◌, Bool, Bor, List, None, Some, ap, ap₂, arith, false, get_or, inl, inr, length, map, refl, sym, take, true}
+use Rattle.mv_bounds.proofs.Common.{take_more, none-some, slice_get_read, slice_get_within, list_all, slice_get}
 use Rattle.std.specs.Slice.{IsItemAt}
-use Rattle.std.proofs.lemmas.List.{map-append, take_more}
+use Rattle.std.proofs.lemmas.List.{map-append}
 use Rattle.std.proofs.lemmas.List.Folds.{list_all_more, list_all_at}
-use Rattle.std.proofs.lemmas.Option.{slice_get_within, slice_get_cases, slice_get_past, slice_get_read, none-some, get_or_from_slice_get}
+use Rattle.std.proofs.lemmas.Option.{slice_get_cases, slice_get_past, get_or_from_slice_get}
 
 -- one entry more passes
 pub all_pass_more : {A : Type 0} (p : A → Bool) (xs : List A) (i : ℕ) (x : A) → Some x ≡ slice_get xs i → list_all p (take i xs) ≡ true → p x ≡ true → list_all p (take (i + 1) xs) ≡ true

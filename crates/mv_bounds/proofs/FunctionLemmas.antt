@@ -1,14 +1,10 @@
 -- What a function's index leads to.
-use Rattle.std.proofs.Common.{◌≡◌, ℕ, ◌+◌, zero, suc, ◌<◌, Bool, true, List, [], ◌∷◌, ◌++◌, length, length-append, slice_get, Option, Some, None, IsSome, IfSome, refl, sym, subst, arith, option_map}
-use Rattle.std.specs.List.{list_all}
-use Rattle.std.proofs.lemmas.Bool.{and_parts, ltb-true}
-use Rattle.std.proofs.lemmas.Option.{none-some}
-use Rattle.mv_move_types.specs.declared.token.Token.{Token}
-use Rattle.mv_move_types.specs.declared.tables.FunctionHandle.{FunctionHandle}
+use Rattle.mv_bounds.proofs.Common.{[], ℕ, ◌++◌, ◌+◌, ◌<◌, ◌∷◌, ◌≡◌, Bool, IfSome, List, None, Option, Some, arith, length, length-append, refl, subst, suc, sym, true, zero, and_parts}
+use Rattle.mv_bounds.proofs.Common.{ltb-true, none-some, list_all, slice_get, option_map, FunctionDefinition, Module, FunctionHandle, Token, InBounds, function_in, IsDefined}
+use Rattle.std.proofs.Common.{IsSome}
 use Rattle.mv_move_types.specs.Options.{◌>>=◌}
-use Rattle.mv_move_types.specs.Module.{Module, FunctionDefinition, parameter_tokens, result_tokens, local_tokens, local_type}
-use Rattle.mv_bounds.specs.Bounds.{InBounds, function_in, function_handle_in, local_count}
-use Rattle.mv_bounds.specs.Functions.{IsDefined}
+use Rattle.mv_move_types.specs.Module.{parameter_tokens, result_tokens, local_tokens, local_type}
+use Rattle.mv_bounds.specs.Bounds.{function_handle_in, local_count}
 
 -- what holds of all holds of each
 pub all_at : {A : Type 0} (p : A → Bool) (xs : List A) (i : ℕ) (x : A) → list_all p xs ≡ true → slice_get xs i ≡ Some x → p x ≡ true

@@ -1,15 +1,9 @@
 -- The first definition of each handle.
-use Rattle.std.proofs.Common.{◌≡◌, ℕ, suc, ◌+◌, ◌<◌, ◌≤◌, ◌==◌, Bool, true, false, cond, List, [], ◌∷◌, length, map, take, set, Option, Some, None}
-use Rattle.std.proofs.Common.{option_map, get_or, IfSome, refl, sym, ap, ◌∙◌, arith, inl, inr, length-set, get_or-set_same, get_or-set_other, eq-eqb}
-use Rattle.std.proofs.Common.{ne_eqb}
-use Rattle.std.specs.List.{list_all}
-use Rattle.std.proofs.lemmas.Bool.{and_parts, ltb-true, cases_eq, cases_lt}
+use Rattle.mv_bounds.proofs.Common.{[], ℕ, ◌+◌, ◌<◌, ◌==◌, ◌∙◌, ◌∷◌, ◌≡◌, ◌≤◌, Bool, IfSome, List, None, Option, Some, ap, arith, cond, eq-eqb, false, get_or, get_or-set_other}
+use Rattle.mv_bounds.proofs.Common.{get_or-set_same, inl, inr, length, length-set, map, ne_eqb, refl, set, suc, sym, take, true, and_parts, cases_eq, cases_lt, ltb-true, none-some}
+use Rattle.mv_bounds.proofs.Common.{same_Some, list_all, option_map, FunctionDefinition, Module, find_index, InBounds, function_in, ArePlaces}
 use Rattle.std.proofs.lemmas.List.{get_or_past}
-use Rattle.std.proofs.lemmas.Option.{none-some, same_Some}
-use Rattle.mv_move_types.specs.Options.{find_index}
-use Rattle.mv_move_types.specs.Module.{Module, FunctionDefinition}
-use Rattle.mv_bounds.specs.Bounds.{InBounds, function_in}
-use Rattle.mv_bounds.specs.Places.{ArePlaces, AreFunctionPlaces}
+use Rattle.mv_bounds.specs.Places.{AreFunctionPlaces}
 use Rattle.mv_bounds.proofs.PlaceLemmas.{find-none, find-here, find-kept}
 
 -- whether a definition is a handle's

@@ -1,8 +1,8 @@
 -- The place of the first entry that passes a test, and entries of two lists one after the other.
-use Rattle.std.proofs.Common.{sym, ◌≡◌, ℕ, zero, suc, ◌+◌, ◌<◌, Bool, true, false, cond, List, [], ◌∷◌, ◌++◌, length, take, Option, Some, None}
-use Rattle.std.proofs.Common.{option_map, get_or, slice_get, add-one, refl, ap, ◌∙◌, subst, arith}
-use Rattle.std.proofs.lemmas.List.{length-take-le, get_or-take, take-take}
-use Rattle.mv_move_types.specs.Options.{find_index}
+use Rattle.mv_bounds.proofs.Common.{[], ℕ, ◌++◌, ◌+◌, ◌<◌, ◌∙◌, ◌∷◌, ◌≡◌, Bool, List, None, Option, Some, ap, arith, cond, false, get_or, length, refl, subst, suc, sym, take, true, zero}
+use Rattle.mv_bounds.proofs.Common.{length-take-le, slice_get, option_map, find_index}
+use Rattle.std.proofs.Common.{add-one}
+use Rattle.std.proofs.lemmas.List.{get_or-take, take-take}
 
 -- the first that passes stands at the index, where those before it fail
 pub find-first : {A : Type 0} (p : A → Bool) (xs : List A) (k : ℕ) (x : A) → k < length xs → x ≡ get_or xs k x → find_index p (take k xs) ≡ None → p x ≡ true → find_index p xs ≡ Some k

@@ -1,8 +1,6 @@
 -- Edges are taken away, target by target.
-use Rattle.std.proofs.Common.{◌≡◌, ℕ, ◌+◌, ◌<◌, ◌≤◌, true, List, [], ◌∷◌, ◌++◌, length, get_or, set, take, refl, sym, ap, ◌∙◌, arith, inl, inr, nat_lt, length-set, get_or-set_same, get_or-set_other}
-use Rattle.std.proofs.lemmas.Bool.{cases_eq, and_from, lt-ltb}
-use Rattle.std.proofs.lemmas.List.Folds.{list_all-append}
-use Rattle.mv_bounds.specs.Removal.{times, is_zero, Released}
+use Rattle.mv_bounds.proofs.Common.{[], ℕ, ◌++◌, ◌+◌, ◌<◌, ◌∙◌, ◌∷◌, ◌≡◌, ◌≤◌, List, ap, arith, get_or, get_or-set_other, get_or-set_same, inl, inr, length, length-set, nat_lt, refl, set}
+use Rattle.mv_bounds.proofs.Common.{sym, take, true, and_from, cases_eq, lt-ltb, list_all-append, Released, is_zero, times}
 use Rattle.mv_bounds.proofs.TimesLemmas.{times_push, times_more, times_take, is_one, is_none, zero_is_one, other_is_none}
 
 -- a target that is no node

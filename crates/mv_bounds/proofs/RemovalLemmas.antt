@@ -1,14 +1,9 @@
 -- Nodes are removed from a graph one by one, and all of them where no node leads to itself.
-use Rattle.std.proofs.Common.{◌≡◌, ◌↔◌, ℕ, zero, suc, ◌+◌, ◌<◌, ◌≤◌, ◌==◌, Bool, true, false, cond, List, [], ◌∷◌, ◌++◌, length, get_or, set}
-use Rattle.std.proofs.Common.{slice_get, Some, replicate, refl, sym, ap, ◌∙◌, subst, arith, inl, inr, nat_lt, length-set, get_or-set_same}
-use Rattle.std.proofs.Common.{get_or-set_other}
-use Rattle.std.specs.List.{list_all}
-use Rattle.std.proofs.lemmas.Bool.{cases_eq, and_parts, and_from, ltb-true, true_from_ne_false, false≢true}
+use Rattle.mv_bounds.proofs.Common.{[], ℕ, ◌++◌, ◌+◌, ◌<◌, ◌==◌, ◌↔◌, ◌∙◌, ◌∷◌, ◌≡◌, ◌≤◌, Bool, List, Some, ap, arith, cond, false, get_or, get_or-set_other, get_or-set_same, inl, inr}
+use Rattle.mv_bounds.proofs.Common.{length, length-set, nat_lt, refl, replicate, set, subst, suc, sym, true, zero, and_from, and_parts, cases_eq, false≢true, ltb-true, list_all-append}
+use Rattle.mv_bounds.proofs.Common.{slice_get_within, list_all, slice_get, IsAcyclic, LeadsTo, directly, further, Released, Removal, are_nodes, as_number, edges_to, is_zero, times}
+use Rattle.std.proofs.lemmas.Bool.{true_from_ne_false}
 use Rattle.std.proofs.lemmas.List.{length-replicate, get_or-replicate}
-use Rattle.std.proofs.lemmas.List.Folds.{list_all-append}
-use Rattle.std.proofs.lemmas.Option.{slice_get_within}
-use Rattle.mv_bounds.specs.Cycles.{LeadsTo, IsAcyclic, directly, further}
-use Rattle.mv_bounds.specs.Removal.{as_number, times, edges_to, is_zero, are_nodes, Released, Removal}
 use Rattle.mv_bounds.proofs.TimesLemmas.{times_push, is_one, is_none, zero_is_one, other_is_none, is_zero_at_most}
 use Rattle.mv_bounds.proofs.EdgeLemmas.{edges_removed, removed_before, one_before, unmarked_edges, last_edge, begins_within, none_remains, HasBefore, EndsBy}
 

@@ -1,8 +1,7 @@
 -- How often a node stands in a list.
-use Rattle.std.proofs.Common.{◌≡◌, ℕ, zero, suc, ◌+◌, ◌<◌, ◌≤◌, ◌==◌, Bool, true, false, List, [], ◌∷◌, ◌++◌, length, get_or, take, drop, refl, sym, ap, ◌∙◌, arith, Contains, eq-eqb, ne_eqb}
-use Rattle.std.proofs.lemmas.Bool.{eqb-true}
-use Rattle.std.proofs.lemmas.List.{take_more, take-append-drop}
-use Rattle.mv_bounds.specs.Removal.{as_number, times, is_zero}
+use Rattle.mv_bounds.proofs.Common.{[], ℕ, ◌++◌, ◌+◌, ◌<◌, ◌==◌, ◌∙◌, ◌∷◌, ◌≡◌, ◌≤◌, Bool, Contains, List, ap, arith, drop, eq-eqb, false, get_or, length, ne_eqb, refl, suc, sym, take, true}
+use Rattle.mv_bounds.proofs.Common.{zero, eqb-true, take_more, as_number, is_zero, times}
+use Rattle.std.proofs.lemmas.List.{take-append-drop}
 
 pub times-append : (j : ℕ) (xs ys : List ℕ) → times j (xs ++ ys) ≡ times j xs + times j ys
 times-append j [] ys = omega arith

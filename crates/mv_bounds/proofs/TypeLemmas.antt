@@ -1,16 +1,12 @@
 -- Types are one exactly where their numbers are equal.
-use Rattle.std.proofs.Common.{◌≡◌, ℕ, ◌+◌, ◌*◌, ◌<◌, Bool, false, eqb, List, [], ◌∷◌, map, refl, sym, ap, ap₂, ◌&&◌, ◌∙◌, arith, inl, inr, eq-eqb, ne_eqb}
-use Rattle.std.specs.Cmp.Lexicographic.{pointwise}
-use Rattle.std.proofs.lemmas.Bool.{cases_eq}
-use Rattle.mv_move_types.specs.declared.token.Width.TheVariants.{U8, U16, U32, U64, U128}
+use Rattle.mv_bounds.proofs.Common.{[], ℕ, ◌&&◌, ◌*◌, ◌+◌, ◌<◌, ◌∙◌, ◌∷◌, ◌≡◌, Bool, List, ap, ap₂, arith, eq-eqb, eqb, false, inl, inr, map, ne_eqb, refl, sym, cases_eq, pointwise}
+use Rattle.mv_bounds.proofs.Common.{same_tokens, Token, MutableReference, Plain, Reference, OfLeaf, OfStruct, token_code}
 use Rattle.mv_move_types.specs.declared.token.LeafKind.{LeafKind}
-use Rattle.mv_move_types.specs.declared.token.LeafKind.TheVariants.{Boolean, Number, Address, Signer}
+use Rattle.mv_move_types.specs.declared.token.LeafKind.TheVariants.{Number}
+use Rattle.mv_move_types.specs.declared.token.Width.TheVariants.{U8}
 use Rattle.mv_move_types.specs.declared.token.ValueType.{ValueType}
-use Rattle.mv_move_types.specs.declared.token.ValueType.TheVariants.{OfLeaf, OfStruct}
-use Rattle.mv_move_types.specs.declared.token.Token.{Token}
-use Rattle.mv_move_types.specs.declared.token.Token.TheVariants.{Plain, Reference, MutableReference}
-use Rattle.mv_move_types.specs.Tokens.{kind_code, same_value_type, same_token, same_tokens}
-use Rattle.mv_bounds.specs.Codes.{value_code, token_code}
+use Rattle.mv_move_types.specs.Tokens.{kind_code, same_value_type, same_token}
+use Rattle.mv_bounds.specs.Codes.{value_code}
 
 -- two pairs of numbers of which both are equal or neither
 same_test : (a b x y : ℕ) → (a ≡ b → x ≡ y) → (x ≡ y → a ≡ b) → eqb a b ≡ eqb x y
@@ -21,14 +17,8 @@ same_test a b x y there back = elim (cases_eq x y) [
 
 -- a leaf's number is small
 kind_small : (kind : LeafKind) → kind_code kind < 256
-kind_small Boolean = omega arith
-kind_small Address = omega arith
-kind_small Signer = omega arith
 kind_small (Number U8) = omega arith
-kind_small (Number U16) = omega arith
-kind_small (Number U32) = omega arith
-kind_small (Number U64) = omega arith
-kind_small (Number U128) = omega arith
+kind_small kind = omega arith
 
 -- a small number is none of a struct's
 leaf_is_no_struct : (k h : ℕ) → k < 256 → eqb k (256 + h) ≡ false
@@ -87,7 +77,6 @@ tokens_by_code (MutableReference a) (MutableReference b) = same_rest (value_code
 -- lists of types are one where their numbers are, one by one
 pub lists_by_code : (same : ℕ → ℕ → Bool) → ((x y : ℕ) → same x y ≡ eqb x y) → (xs ys : List Token) → pointwise same (map token_code xs) (map token_code ys) ≡ same_tokens xs ys
 lists_by_code same each [] [] = refl
-lists_by_code same each [] (y ∷ ys) = refl
-lists_by_code same each (x ∷ xs) [] = refl
 lists_by_code same each (x ∷ xs) (y ∷ ys) =
     ap₂ (λ a b. a && b) (each (token_code x) (token_code y) ∙ tokens_by_code x y) (lists_by_code same each xs ys)
+lists_by_code same each xs ys = refl

@@ -1,22 +1,14 @@
 -- A state that is carried from place to place becomes what the rule makes of it, one instruction after another.
-use Rattle.std.proofs.Common.{◌≡◌, ℕ, ◌+◌, ◌-◌, ◌<◌, suc, true, cond, List, [], ◌∷◌, length, Option, Some, None, is_some, option_and_then, slice_get, nat_le, IsTrue, refl, subst, arith}
-use Rattle.std.specs.Option.{option_map_or}
-use Rattle.std.proofs.lemmas.Bool.{false≢true}
-use Rattle.mv_move_types.specs.declared.instruction.Instruction.{Instruction}
-use Rattle.mv_move_types.specs.Options.{◌>>=◌}
-use Rattle.mv_move_types.specs.Module.{Module, FunctionDefinition}
-use Rattle.mv_cfg.specs.declared.Block.{Block}
-use Rattle.mv_cfg.specs.declared.Cfg.{Cfg}
-use Rattle.mv_cfg.specs.Blocks.{BasicBlock, blocks}
+use Rattle.mv_certificate.proofs.Common.{[], ℕ, ◌+◌, ◌-◌, ◌<◌, ◌∷◌, ◌≡◌, IsTrue, List, None, Option, Some, arith, cond, is_some, length, nat_le, refl, slice_get, subst, suc, true}
+use Rattle.mv_certificate.proofs.Common.{false≢true, option_map_or, FunctionDefinition, Module, ◌>>=◌, Instruction, BasicBlock, blocks, IsFlowGraph, basic_block_of, Block, Cfg, list_all-at}
+use Rattle.mv_certificate.proofs.Common.{types_before, Types, function_is_typed, block_at, Rule, instructions_of, through}
+use Rattle.std.proofs.Common.{option_and_then}
 use Rattle.mv_cfg.specs.Graph.{IsBlock}
-use Rattle.mv_cfg.specs.FlowGraph.{IsFlowGraph, basic_block_of}
-use Rattle.mv_type_states.specs.TypeRules.{Types, types_after}
-use Rattle.mv_type_states.specs.TypesHold.{types_through, block_is_typed, function_is_typed}
-use Rattle.mv_type_states.specs.Sound.{types_each, types_before}
-use Rattle.mv_type_states.proofs.Stacks.{list_all-at}
+use Rattle.mv_type_states.specs.TypeRules.{types_after}
+use Rattle.mv_type_states.specs.TypesHold.{types_through, block_is_typed}
+use Rattle.mv_type_states.specs.Sound.{types_each}
 use Rattle.mv_lattice.specs.Flow.{carried}
-use Rattle.mv_borrow_graph.specs.Laws.Standing.{Stands, Stands-head, Stands-tail, Stands-range, Stands-types, length-range, some-height, typed_some, block_at}
-use Rattle.mv_certificate.specs.Certificate.{Rule, through, instructions_of}
+use Rattle.mv_borrow_graph.specs.Laws.Standing.{Stands, Stands-head, Stands-tail, Stands-range, Stands-types, length-range, some-height, typed_some}
 
 -- both are there and related, or neither is
 abbrev pub Alike : {S T : Type 0} → (S → T → Type 0) → Option S → Option T → Type 0

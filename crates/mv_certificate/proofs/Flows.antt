@@ -1,23 +1,16 @@
 -- A flow over the graph of a function's code is closed exactly where the rule's flow holds.
-use Rattle.std.proofs.Common.{◌≡◌, ℕ, ◌+◌, ◌<◌, ◌≤◌, zero, suc, Bool, true, false, List, [], ◌∷◌, length, map, zip, Option, Some, None, slice_get}
-use Rattle.std.proofs.Common.{Contains, All, IsTrue, refl, ap, sym, ◌∙◌, subst, arith, eq-eqb}
-use Rattle.std.specs.List.{list_all}
-use Rattle.std.specs.Option.{option_map_or}
-use Rattle.std.proofs.lemmas.Bool.{and_parts, and_from, false≢true, ne_eqb}
-use Rattle.std.proofs.lemmas.List.Elements.{All-contains, All-contains_itself, All-cons}
-use Rattle.std.proofs.lemmas.Option.{none-some, same_Some, slice_get_within}
-use Rattle.mv_move_types.specs.Module.{Module, FunctionDefinition}
-use Rattle.mv_cfg.specs.declared.Block.{Block}
-use Rattle.mv_cfg.specs.declared.Cfg.{Cfg}
-use Rattle.mv_cfg.specs.Blocks.{BasicBlock, blocks}
-use Rattle.mv_cfg.specs.Graph.{at_entry, along}
-use Rattle.mv_cfg.specs.FlowGraph.{IsFlowGraph, basic_block_of, first_of}
-use Rattle.mv_type_states.specs.TypeRules.{Types}
-use Rattle.mv_type_states.specs.TypesHold.{function_is_typed}
+use Rattle.mv_certificate.proofs.Common.{[], ℕ, ◌+◌, ◌<◌, ◌∙◌, ◌∷◌, ◌≡◌, ◌≤◌, Bool, Contains, IsTrue, List, None, Option, Some, ap, arith, eq-eqb, false, length, map, refl, slice_get, subst}
+use Rattle.mv_certificate.proofs.Common.{suc, sym, true, zero, and_from, and_parts, false≢true, All-contains, none-some, same_Some, slice_get_within, list_all, option_map_or}
+use Rattle.mv_certificate.proofs.Common.{FunctionDefinition, Module, BasicBlock, blocks, IsFlowGraph, basic_block_of, along, at_entry, Block, Cfg, IsClosed, IsFlow, IsStated, Types}
+use Rattle.mv_certificate.proofs.Common.{function_is_typed, block_at, Rule, flow_holds, instructions_of, through}
+use Rattle.std.proofs.Common.{zip, All}
+use Rattle.std.proofs.lemmas.Bool.{ne_eqb}
+use Rattle.std.proofs.lemmas.List.Elements.{All-contains_itself, All-cons}
+use Rattle.mv_cfg.specs.FlowGraph.{first_of}
 use Rattle.mv_cfg.proofs.Tiling.{Tiles, blocks-tile}
-use Rattle.mv_lattice.specs.Flow.{IsFlow, IsClosed, IsClosedAt, IsStated, through as carried_through}
-use Rattle.mv_certificate.specs.Certificate.{Rule, through, instructions_of, stated_at, flows_into, block_holds, flow_holds}
-use Rattle.mv_borrow_graph.specs.Laws.Standing.{tiles_after, block_at}
+use Rattle.mv_lattice.specs.Flow.{IsClosedAt, through as carried_through}
+use Rattle.mv_certificate.specs.Certificate.{stated_at, flows_into, block_holds}
+use Rattle.mv_borrow_graph.specs.Laws.Standing.{tiles_after}
 use Rattle.mv_certificate.proofs.Carried.{Alike, DoAlike, Ends, block_alike}
 use Rattle.mv_certificate.proofs.Marks.{block_of, at_below}
 

@@ -1,20 +1,12 @@
 -- What is read of a function, and of the functions one after another.
-use Rattle.std.proofs.Common.{◌≡◌, ℕ, zero, suc, add-one, ◌+◌, ◌<◌, ◌≤◌, List, [], ◌∷◌, ◌++◌, length, map, flat_map, take, drop, get_or, refl, ap}
-use Rattle.std.proofs.Common.{sym, ◌∙◌, subst, arith, Some, None, slice_get, append_assoc, append-nil}
-use Rattle.std.proofs.lemmas.List.{take_all, take_more, drop_all}
-use Rattle.std.proofs.lemmas.Option.{none-some, same_Some, some_pair_parts, get_or_from_slice_get}
-use Rattle.std.proofs.lemmas.Grind.{flat_map-append}
-use Rattle.mv_move_types.specs.Module.{Module, FunctionDefinition}
-use Rattle.mv_bounds.specs.Bounds.{local_count}
-use Rattle.mv_module_text.specs.Laws.{AreBytes}
-use Rattle.mv_cfg.specs.declared.Block.{Block}
-use Rattle.mv_cfg.specs.declared.Cfg.{Cfg}
-use Rattle.mv_cfg.specs.FlowGraph.{IsFlowGraph}
-use Rattle.mv_certificate.specs.Certificate.{Stated, Certificate}
-use Rattle.mv_certificate.specs.Shape.{StatedFits, AllStatedFit}
-use Rattle.mv_certificate.specs.CertificateText.{stated_text, certificate_text, IsCertificateText}
-use Rattle.mv_certificate.specs.Parsing.{stated_from}
-use Rattle.mv_certificate.specs.Reads.{IsFunctionRead, IsReadAt, IsUnreadAt}
+use Rattle.mv_certificate.proofs.Common.{[], ℕ, ◌++◌, ◌+◌, ◌<◌, ◌∙◌, ◌∷◌, ◌≡◌, ◌≤◌, List, None, Some, ap, append-nil, append_assoc, arith, drop, flat_map, get_or, length, map, refl}
+use Rattle.mv_certificate.proofs.Common.{slice_get, subst, suc, sym, take, zero, flat_map-append, take_all, take_more, none-some, same_Some, some_pair_parts, FunctionDefinition, Module}
+use Rattle.mv_certificate.proofs.Common.{AreBytes, local_count, IsFlowGraph, Block, Cfg, Certificate, Stated, IsCertificateText, certificate_text, stated_text, stated_from, IsUnreadAt}
+use Rattle.mv_certificate.proofs.Common.{AllStatedFit, StatedFits}
+use Rattle.std.proofs.Common.{add-one}
+use Rattle.std.proofs.lemmas.List.{drop_all}
+use Rattle.std.proofs.lemmas.Option.{get_or_from_slice_get}
+use Rattle.mv_certificate.specs.Reads.{IsFunctionRead, IsReadAt}
 use Rattle.mv_certificate.proofs.Texts.{stated-parts}
 use Rattle.mv_certificate.proofs.Marks.{stated-fits, at_below}
 use Rattle.mv_certificate.proofs.States.{fit-length, fit-at}

@@ -1,37 +1,18 @@
 -- What is stated of a function holds exactly where the flow over its graph is closed.
-use Rattle.std.proofs.Common.{◌≡◌, ◌↔◌, ◌-◌, ◌&&◌, ℕ, zero, suc, Bool, true, false, List, [], ◌∷◌, ◌++◌, length, replicate, map, Option, Some, None}
-use Rattle.std.proofs.Common.{IsSome, IfSome, Err, IsErrOf, option_map, slice_get, slice_set, IsTrue, refl, ap, sym, ◌∙◌, subst, arith, ◌⊎◌, inl, inr}
-use Rattle.std.specs.Bool.{then_some}
-use Rattle.std.specs.Option.{option_map_or}
-use Rattle.std.proofs.lemmas.Bool.{and_parts, and_from, false≢true}
-use Rattle.std.proofs.lemmas.Option.{none-some, same_Some}
-use Rattle.mv_move_types.specs.declared.borrow.Availability.{Availability}
-use Rattle.mv_move_types.specs.declared.borrow.Availability.TheVariants.{Unavailable, Available, Maybe}
-use Rattle.mv_move_types.specs.declared.token.Token.{Token}
-use Rattle.mv_move_types.specs.declared.tables.FunctionHandle.{FunctionHandle}
-use Rattle.mv_move_types.specs.declared.instruction.Instruction.{Instruction}
-use Rattle.mv_move_types.specs.declared.instruction.Instruction.TheVariants.{Ret, CopyLoc, MoveLoc, StLoc, MutBorrowLoc, ImmBorrowLoc}
-use Rattle.mv_move_types.specs.declared.refusal.Refusal.{Refusal}
-use Rattle.mv_move_types.specs.declared.refusal.Refusal.TheVariants.{Phase, Memory}
-use Rattle.mv_move_types.specs.Refusals.{IsRefusedIn}
-use Rattle.mv_move_types.specs.Options.{◌>>=◌}
-use Rattle.mv_move_types.specs.Module.{Module, FunctionDefinition, local_tokens, parameter_tokens, local_type}
-use Rattle.mv_edges.specs.Edges.{Edge, edges_leq}
-use Rattle.mv_edges.specs.Ascending.{are_ascending}
-use Rattle.mv_cfg.specs.declared.Cfg.{Cfg}
-use Rattle.mv_cfg.specs.FlowGraph.{IsFlowGraph}
-use Rattle.mv_type_states.specs.TypeRules.{Types}
-use Rattle.mv_type_states.specs.TypesHold.{Point, function_is_typed}
-use Rattle.mv_type_states.specs.Sound.{types_before}
+use Rattle.mv_certificate.proofs.Common.{[], ℕ, ◌&&◌, ◌++◌, ◌-◌, ◌∙◌, ◌∷◌, ◌≡◌, Bool, Err, IsTrue, List, None, Option, Some, ap, arith, false, inl, inr, length, map, option_map, refl}
+use Rattle.mv_certificate.proofs.Common.{slice_get, subst, suc, sym, true, zero, and_from, and_parts, false≢true, none-some, same_Some, then_some, option_map_or, FunctionDefinition, Module}
+use Rattle.mv_certificate.proofs.Common.{local_tokens, ◌>>=◌, IsRefusedIn, Availability, Available, Maybe, Unavailable, Instruction, Refusal, Memory, Phase, FunctionHandle, Token}
+use Rattle.mv_certificate.proofs.Common.{IsFlowGraph, Cfg, are_ascending, Edge, edges_leq, IsClosed, IsFlow, types_before, Types, Point, function_is_typed, IsOfLocals, edges_after, ordered}
+use Rattle.mv_certificate.proofs.Common.{Certificate, Known, Stated, flow_holds, EdgesHoldAt, LocalsHoldAt}
+use Rattle.std.proofs.Common.{◌↔◌, replicate, IsSome, IfSome, IsErrOf, slice_set, ◌⊎◌}
+use Rattle.mv_move_types.specs.declared.instruction.Instruction.TheVariants.{Ret, StLoc}
+use Rattle.mv_move_types.specs.Module.{parameter_tokens, local_type}
 use Rattle.mv_lattice.specs.declared.StepError.{StepError}
 use Rattle.mv_lattice.specs.declared.StepError.TheVariants.{Need}
-use Rattle.mv_lattice.specs.Flow.{IsFlow, IsClosed}
 use Rattle.mv_locals_safety.specs.LocalsRules.{locals_after, locals_leq, may_overwrite, may_leave, has_drop}
-use Rattle.mv_locals_safety.specs.Domain.{IsOfLocals, locals_step, point_in, start_locals}
-use Rattle.mv_borrow_graph.specs.BorrowRules.{edges_after}
-use Rattle.mv_borrow_graph.specs.Domain.{edges_step, point_at, ordered}
-use Rattle.mv_certificate.specs.Certificate.{Known, known_at_start, Stated, Certificate, each_function, flow_holds, locals_hold, edges_hold}
-use Rattle.mv_certificate.specs.Functions.{LocalsHoldAt, EdgesHoldAt}
+use Rattle.mv_locals_safety.specs.Domain.{locals_step, point_in, start_locals}
+use Rattle.mv_borrow_graph.specs.Domain.{edges_step, point_at}
+use Rattle.mv_certificate.specs.Certificate.{known_at_start, each_function, locals_hold, edges_hold}
 use Rattle.mv_certificate.proofs.Carried.{Alike, DoAlike}
 use Rattle.mv_certificate.proofs.Flows.{holds_from_closed, closed_from_holds}
 use Rattle.mv_certificate.proofs.SameEdges.{SameEdges, SameEdges-self, Alike-ordered, rule_alike, leq_same}
@@ -52,17 +33,12 @@ module _ (m : Module) (d : FunctionDefinition) (types : Types) where
   -- nor does what may be overwritten
   overwrite_free : (t : Token) (a : Availability) → may_overwrite (point_in m d) t a ≡ may_overwrite point t a
   overwrite_free t Unavailable = refl
-  overwrite_free t Available = refl
-  overwrite_free t Maybe = refl
+  overwrite_free t a = refl
 
   -- the rules for locals read no types
   types_free : (i : Instruction) (s : List Availability) → locals_after (point_in m d) i s ≡ locals_after point i s
   unfolding locals_after
-  types_free (CopyLoc l) s = refl
-  types_free (MoveLoc l) s = refl
   types_free (StLoc l) s = λ j. local_type m d l >>= λ t. slice_get s l >>= λ a. then_some (overwrite_free t a j) (slice_set s l Available)
-  types_free (MutBorrowLoc l) s = refl
-  types_free (ImmBorrowLoc l) s = refl
   types_free Ret s = λ j. local_tokens m d >>= λ ts. then_some (leave_free ts s j) s
   types_free _ s = refl
 

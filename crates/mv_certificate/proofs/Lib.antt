@@ -1,3 +1,4 @@
+pub mod Common
 pub mod Loops
 pub mod Texts
 pub mod Marks

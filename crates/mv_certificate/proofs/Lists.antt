@@ -1,9 +1,7 @@
 -- The texts of the elements of a list, written one after another.
-use Rattle.std.proofs.Common.{◌≡◌, ℕ, ◌+◌, ◌<◌, ◌≤◌, List, [], ◌∷◌, ◌++◌, length, map, flat_map, take, get_or, ap, sym, ◌∙◌, append_assoc, append-nil}
-use Rattle.std.proofs.lemmas.List.{take_more, take_all, map_more}
-use Rattle.std.proofs.lemmas.Grind.{flat_map-append}
-use Rattle.mv_uleb.specs.Uleb.{uleb}
-use Rattle.mv_module_text.specs.Entries.{counted}
+use Rattle.mv_certificate.proofs.Common.{[], ℕ, ◌++◌, ◌+◌, ◌<◌, ◌∙◌, ◌∷◌, ◌≡◌, ◌≤◌, List, ap, append-nil, append_assoc, flat_map, get_or, length, map, sym, take, flat_map-append, take_all}
+use Rattle.mv_certificate.proofs.Common.{take_more, uleb, counted}
+use Rattle.std.proofs.lemmas.List.{map_more}
 
 -- one more is written
 pub text-next : {A : Type 0} (text : A → List ℕ) (xs : List A) (i : ℕ) (d x : A) (start out new : List ℕ) → i < length xs → x ≡ get_or xs i d

@@ -1,19 +1,15 @@
 -- Reading the parts of a certificate one after another.
-use Rattle.std.proofs.Common.{◌≡◌, ℕ, ◌-◌, ◌+◌, ◌<◌, ◌≤◌, zero, List, [], ◌∷◌, ◌++◌, length, map, drop, get_or, drop-cons, Bool, true, false}
-use Rattle.std.proofs.Common.{true≢false, Option, Some, None, option_map, arith, refl, ap, suc, sym, subst, ◌∙◌, append_assoc, append-nil}
+use Rattle.mv_certificate.proofs.Common.{[], ℕ, ◌++◌, ◌+◌, ◌-◌, ◌<◌, ◌∙◌, ◌∷◌, ◌≡◌, ◌≤◌, Bool, List, None, Option, Some, ap, append-nil, append_assoc, arith, drop, false, get_or, length}
+use Rattle.mv_certificate.proofs.Common.{map, option_map, refl, subst, suc, sym, true, true≢false, zero, and_from, and_parts, then_some, FunctionDefinition, Module, ◌>>=◌, number_from}
+use Rattle.mv_certificate.proofs.Common.{ReadsOn, ReadsOn-next, counted_from, entries_from, are_ascending, Edge, Label, extended, opened, Known, Stated, block_from, edge_from, edges_from}
+use Rattle.mv_certificate.proofs.Common.{label_from, openness_from, stated_from}
+use Rattle.std.proofs.Common.{drop-cons}
 use Rattle.std.specs.Prelude.{if◌then◌else◌}
-use Rattle.std.specs.Bool.{then_some}
-use Rattle.std.proofs.lemmas.Bool.{and_parts, and_from}
 use Rattle.std.proofs.lemmas.List.{drop-map}
-use Rattle.mv_uleb.specs.Parsing.{number_from}
-use Rattle.mv_move_types.specs.Options.{◌>>=◌}
-use Rattle.mv_move_types.specs.Module.{Module, FunctionDefinition}
-use Rattle.mv_module_text.specs.Parsing.{Read, entries_from, counted_from}
-use Rattle.mv_module_text.proofs.Entries.{after, ReadsOn, ReadsOn-next, ReadsOn-stops, ReadsOn-end}
-use Rattle.mv_edges.specs.Edges.{Label, Edge, extended, opened}
-use Rattle.mv_edges.specs.Ascending.{edge_before, are_ascending}
-use Rattle.mv_certificate.specs.Certificate.{Known, Stated}
-use Rattle.mv_certificate.specs.Parsing.{openness_from, label_from, edge_from, edges_from, block_from, stated_from}
+use Rattle.std.proofs.lemmas.Bool.{false_from_ne_true}
+use Rattle.mv_module_text.specs.Parsing.{Read}
+use Rattle.mv_module_text.proofs.Entries.{after, ReadsOn-stops, ReadsOn-end}
+use Rattle.mv_edges.specs.Ascending.{edge_before}
 
 -- an entry that can't be read
 entries_from-none : {A : Type 0} (each : List ℕ → Read A) (k : ℕ) (cur : List ℕ) → each cur ≡ None → entries_from each (suc k) cur ≡ None
@@ -84,13 +80,8 @@ ascending-front (a ∷ b ∷ xs) ys h =
     let p = and_parts (edge_before a b) (are_ascending (b ∷ (xs ++ ys))) h in
     and_from (edge_before a b) (are_ascending (b ∷ xs)) p.0 (ascending-front (b ∷ xs) ys p.1)
 
--- no edges after those that don't ascend make them ascend
-refuted : (b : Bool) → (b ≡ true → ⊥) → b ≡ false
-refuted true h = absurd (h refl)
-refuted false h = refl
-
 not_ascending : (xs ys : List Edge) → are_ascending xs ≡ false → are_ascending (xs ++ ys) ≡ false
-not_ascending xs ys h = refuted (are_ascending (xs ++ ys)) (λ t. true≢false (sym (ascending-front xs ys t) ∙ h))
+not_ascending xs ys h = false_from_ne_true (are_ascending (xs ++ ys)) (λ t. true≢false (sym (ascending-front xs ys t) ∙ h))
 
 -- edges of which the first don't ascend
 test_fails : (items : List Edge) (o : Read (List Edge)) → are_ascending items ≡ false

@@ -1,20 +1,11 @@
 -- The blocks of a function's code are those of its flow graph, with their marks.
-use Rattle.std.proofs.Common.{◌≡◌, ℕ, ◌<◌, zero, suc, List, [], ◌∷◌, length, map, get_or, refl, ap, sym, ◌∙◌, subst, arith, Option, Some, None, is_some, option_map, IsTrue, slice_get, lt-ltb}
-use Rattle.std.specs.List.{list_all}
-use Rattle.std.proofs.lemmas.Bool.{and_from}
-use Rattle.std.proofs.lemmas.List.{length-map}
-use Rattle.std.proofs.lemmas.Option.{none-some, same_Some, slice_get-map}
-use Rattle.mv_move_types.specs.declared.instruction.Instruction.{Instruction}
-use Rattle.mv_move_types.specs.Module.{Module, FunctionDefinition}
-use Rattle.mv_module_text.specs.Laws.{AreBytes}
-use Rattle.mv_module_text.specs.Fits.{is_byte}
-use Rattle.mv_cfg.specs.declared.Block.{Block}
-use Rattle.mv_cfg.specs.declared.Cfg.{Cfg}
-use Rattle.mv_cfg.specs.Blocks.{BasicBlock, blocks, IsReached}
-use Rattle.mv_cfg.specs.FlowGraph.{IsFlowGraph, basic_block_of}
-use Rattle.mv_certificate.specs.Certificate.{Known, Stated}
-use Rattle.mv_certificate.specs.Shape.{StatedFits}
+use Rattle.mv_certificate.proofs.Common.{ℕ, ◌∙◌, ◌≡◌, IsTrue, List, None, Option, Some, ap, is_some, length, map, option_map, refl, slice_get, subst, sym}
+use Rattle.mv_certificate.proofs.Common.{length-map, none-some, same_Some, slice_get-map, list_all, FunctionDefinition, Module, Instruction, BasicBlock, blocks}
+use Rattle.mv_certificate.proofs.Common.{IsFlowGraph, basic_block_of, Block, Cfg, Known, Stated, StatedFits}
+use Rattle.mv_cfg.specs.Blocks.{IsReached}
 use Rattle.mv_certificate.proofs.Texts.{block_fits}
+pub use Rattle.mv_binary_format.proofs.Back.{all-are_bytes as all-bytes}
+pub use Rattle.mv_cfg.proofs.Graphs.{element_at as at_below}
 
 -- what a mapped option holds
 abbrev pub Comes : {A B : Type 0} → (A → B) → Option A → B → Type 0
@@ -51,16 +42,6 @@ stated-fits m d g ks fg marks ok = record {
   fits = ok;
 }
 
--- the numbers of bytes
-pub all-bytes : (bytes : List ℕ) → ((k : ℕ) → get_or bytes k 0 < 256) → AreBytes bytes
-all-bytes [] h = refl
-all-bytes (b ∷ bytes) h = and_from (is_byte b) (list_all is_byte bytes) (lt-ltb b 256 (h 0)) (all-bytes bytes (λ k. h (suc k)))
-
 -- what stands at a place
 abbrev pub At : {A : Type 0} → List A → ℕ → Type 0
 At {A} xs i = (x : A) × (slice_get xs i ≡ Some x)
-
-pub at_below : {A : Type 0} (xs : List A) (i : ℕ) → i < length xs → At xs i
-at_below [] i lt = absurd (omega arith)
-at_below (x ∷ xs) zero lt = (x, refl)
-at_below (x ∷ xs) (suc i) lt = at_below xs i (omega arith)

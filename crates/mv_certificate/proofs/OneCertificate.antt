@@ -1,23 +1,11 @@
 -- No bytes are texts of two certificates of one module.
-use Rattle.std.proofs.Common.{◌≡◌, ℕ, zero, suc, ◌≤◌, List, [], ◌∷◌, ◌++◌, length, map, flat_map, arith, refl, ap, sym, ◌∙◌, Option, Some, None, is_some, true, slice_get, nat_le}
-use Rattle.std.specs.Option.{option_map_or}
-use Rattle.std.specs.List.{list_all}
+use Rattle.mv_certificate.proofs.Common.{[], ℕ, ◌++◌, ◌∙◌, ◌∷◌, ◌≡◌, ◌≤◌, List, None, Option, Some, ap, arith, flat_map, is_some, length, map, nat_le, refl, slice_get, suc, sym, true, zero}
+use Rattle.mv_certificate.proofs.Common.{and_parts, leb-true, same_Some, slice_get_within, some_pair_parts, list_all, option_map_or, FunctionDefinition, Module, ◌>>=◌, FunctionHandle, Token}
+use Rattle.mv_certificate.proofs.Common.{local_count, blocks, Certificate, Stated, IsCertificateText, certificate_text, stated_text, stated_from, AllStatedFit, StatedFits}
 use Rattle.std.proofs.lemmas.List.{length-append}
-use Rattle.std.proofs.lemmas.Bool.{and_parts, leb-true}
-use Rattle.std.proofs.lemmas.Option.{same_Some, some_pair_parts, slice_get_within}
-use Rattle.mv_move_types.specs.declared.token.Token.{Token}
-use Rattle.mv_move_types.specs.declared.tables.FunctionHandle.{FunctionHandle}
-use Rattle.mv_move_types.specs.Options.{◌>>=◌}
-use Rattle.mv_move_types.specs.Module.{Module, FunctionDefinition}
 use Rattle.mv_module_text.specs.Fits.{signature_fits, token_fits}
-use Rattle.mv_bounds.specs.Bounds.{local_count}
 use Rattle.mv_binary_format.specs.ModuleText.{HasText}
 use Rattle.mv_binary_format.proofs.Fitting.{few_structs}
-use Rattle.mv_cfg.specs.Blocks.{blocks}
-use Rattle.mv_certificate.specs.Certificate.{Stated, Certificate}
-use Rattle.mv_certificate.specs.Shape.{StatedFits, AllStatedFit}
-use Rattle.mv_certificate.specs.CertificateText.{stated_text, certificate_text, IsCertificateText}
-use Rattle.mv_certificate.specs.Parsing.{stated_from}
 use Rattle.mv_certificate.proofs.Marks.{at_below}
 use Rattle.mv_certificate.proofs.Whole.{stated-whole, same_marks, same_bools}
 

@@ -1,11 +1,7 @@
 -- Which phase refuses a certificate.
-use Rattle.std.proofs.Common.{◌≡◌, sym, subst, IsTrue}
-use Rattle.mv_move_types.specs.declared.refusal.Refusal.{Refusal}
-use Rattle.mv_move_types.specs.declared.refusal.Refusal.TheVariants.{Phase, Memory}
-use Rattle.mv_move_types.specs.Refusals.{IsRefusedIn}
-use Rattle.mv_move_types.specs.Module.{Module}
+use Rattle.mv_certificate.proofs.Common.{◌≡◌, IsTrue, subst, sym, Module, IsRefusedIn, Refusal, Memory, Phase, Certificate, all_edges_hold, all_locals_hold}
 use Rattle.mv_acquires.specs.Acquires.{AcquiresHold}
-use Rattle.mv_certificate.specs.Certificate.{Certificate, all_locals_hold, all_edges_hold, certificate_holds}
+use Rattle.mv_certificate.specs.Certificate.{certificate_holds}
 use Rattle.mv_certificate.specs.Answers.{FailsCertificate, bad_locals, bad_borrows, bad_acquires, IsRefusedByCertificate}
 
 -- a refusal in phase 10, 11 or 12 is one of the certificate

@@ -1,18 +1,14 @@
 -- The rules for borrows depend on which edges there are, and not on their order.
-use Rattle.std.proofs.Common.{◌≡◌, Bool, true, List, Option, Some, None, Contains, refl, ap, sym, subst}
+use Rattle.mv_certificate.proofs.Common.{◌≡◌, Bool, Contains, List, None, Option, Some, ap, refl, subst, sym, true, none-some, same_Some, Instruction, Edge, Label, edges_leq, extended}
+use Rattle.mv_certificate.proofs.Common.{opened, Point, edges_after, ordered}
 use Rattle.std.specs.Cmp.{both_ways}
-use Rattle.std.proofs.lemmas.Option.{none-some, same_Some}
-use Rattle.mv_move_types.specs.declared.instruction.Instruction.{Instruction}
-use Rattle.mv_edges.specs.Edges.{Label, Edge, same_label, label_leq, extended, opened, agrees, edges_leq}
+use Rattle.mv_edges.specs.Edges.{same_label, label_leq, agrees}
 use Rattle.mv_edges.specs.Equality.{same_label_decides}
 use Rattle.mv_edges.specs.Related.{edges_related}
 use Rattle.mv_edges.specs.Sorted.{sorted}
 use Rattle.mv_edges.proofs.Changes.{IsKept}
 use Rattle.mv_edges.proofs.Related.{related_from_contains, related-transitive}
 use Rattle.mv_edges.proofs.Sorting.{contains-sorted}
-use Rattle.mv_type_states.specs.TypesHold.{Point}
-use Rattle.mv_borrow_graph.specs.BorrowRules.{edges_after}
-use Rattle.mv_borrow_graph.specs.Domain.{ordered}
 use Rattle.mv_borrow_graph.specs.Laws.Rising.{Below, after_below}
 use Rattle.mv_certificate.proofs.Carried.{Alike}
 

@@ -1,26 +1,9 @@
 -- What is stated of a function is a flow over its graph.
-use Rattle.std.proofs.Common.{◌≡◌, ℕ, ◌<◌, zero, suc, List, [], ◌∷◌, length, map, refl, ap, sym, ◌∙◌, subst, arith, Option, Some, None, is_some}
-use Rattle.std.proofs.Common.{option_map, IsTrue, true, false, ◌&&◌, ◌==◌, slice_get, nat_le, true≢false}
-use Rattle.std.specs.List.{list_all}
-use Rattle.std.specs.Option.{option_map_or}
-use Rattle.std.proofs.lemmas.Bool.{and_parts, eqb-true}
-use Rattle.std.proofs.lemmas.List.{length-map}
-use Rattle.std.proofs.lemmas.List.Elements.{All-contains}
-use Rattle.std.proofs.lemmas.Option.{none-some, same_Some, slice_get-map, slice_get_within}
-use Rattle.mv_move_types.specs.declared.borrow.Availability.{Availability}
-use Rattle.mv_move_types.specs.declared.token.Token.{Token}
-use Rattle.mv_move_types.specs.Module.{Module, FunctionDefinition, local_tokens}
-use Rattle.mv_edges.specs.Edges.{Edge}
-use Rattle.mv_edges.specs.Ascending.{are_ascending}
-use Rattle.mv_cfg.specs.declared.Cfg.{Cfg}
-use Rattle.mv_cfg.specs.Blocks.{blocks}
-use Rattle.mv_cfg.specs.Graph.{IsGraph, IsReached as IsReachedBlock, at_entry, along}
-use Rattle.mv_cfg.specs.FlowGraph.{IsFlowGraph, basic_block_of}
-use Rattle.mv_type_states.proofs.Stacks.{list_all-at}
-use Rattle.mv_lattice.specs.Flow.{IsFlow, IsStated}
-use Rattle.mv_locals_safety.specs.Domain.{IsOfLocals}
-use Rattle.mv_certificate.specs.Certificate.{Known, Stated, Certificate}
-use Rattle.mv_certificate.specs.Shape.{StatedFits, AllStatedFit, edge_fits, known_fits}
+use Rattle.mv_certificate.proofs.Common.{[], ℕ, ◌&&◌, ◌<◌, ◌==◌, ◌∙◌, ◌∷◌, ◌≡◌, IsTrue, List, None, Option, Some, ap, arith, false, is_some, length, map, nat_le, option_map, refl, slice_get}
+use Rattle.mv_certificate.proofs.Common.{subst, suc, sym, true, true≢false, zero, and_parts, eqb-true, length-map, All-contains, none-some, same_Some, slice_get-map, slice_get_within}
+use Rattle.mv_certificate.proofs.Common.{list_all, option_map_or, FunctionDefinition, Module, local_tokens, Availability, Token, blocks, IsFlowGraph, basic_block_of, along, at_entry, Cfg}
+use Rattle.mv_certificate.proofs.Common.{are_ascending, Edge, IsFlow, IsStated, list_all-at, IsOfLocals, Certificate, Known, Stated, AllStatedFit, StatedFits, edge_fits, known_fits}
+use Rattle.mv_cfg.specs.Graph.{IsGraph, IsReached as IsReachedBlock}
 use Rattle.mv_certificate.specs.Reads.{FitsAt}
 use Rattle.mv_certificate.proofs.Texts.{block_fits}
 use Rattle.mv_certificate.proofs.Marks.{comes, at_below}

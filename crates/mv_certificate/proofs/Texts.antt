@@ -1,31 +1,17 @@
 -- What is read of a certificate is what was written: availabilities, nodes, labels, edges and states.
-use Rattle.std.proofs.Common.{◌≡◌, ℕ, suc, List, [], ◌∷◌, ◌++◌, length, map, flat_map, arith, refl, ap, sym, ◌∙◌, subst, append_assoc, Option, Some}
-use Rattle.std.proofs.Common.{None, IsTrue, is_some, Bool, true, false, cond, eqb, ◌==◌, ◌&&◌, nat_le, nat_lt, inl, inr, eq-eqb}
-use Rattle.std.specs.Option.{option_map_or}
-use Rattle.std.specs.List.{list_all}
-use Rattle.std.proofs.lemmas.List.Concat.{flat_map_single}
-use Rattle.std.proofs.lemmas.Bool.{and_parts, and_from, le-leb}
-use Rattle.std.proofs.lemmas.Option.{none-some, same_Some, some_pair_parts}
-use Rattle.mv_uleb.specs.Uleb.{uleb}
-use Rattle.mv_uleb.specs.Parsing.{number_from}
-use Rattle.mv_move_types.specs.declared.borrow.Availability.{Availability}
-use Rattle.mv_move_types.specs.declared.borrow.Availability.TheVariants.{Unavailable, Available, Maybe}
-use Rattle.mv_move_types.specs.declared.borrow.Node.{Node}
-use Rattle.mv_move_types.specs.declared.borrow.Node.TheVariants.{Slot, Own, Glob, Temp}
-use Rattle.mv_move_types.specs.declared.token.Token.{Token}
-use Rattle.mv_move_types.specs.Module.{Module, FunctionDefinition, local_tokens}
-use Rattle.mv_edges.specs.Edges.{Label, Edge}
-use Rattle.mv_edges.specs.Ascending.{are_ascending}
-use Rattle.mv_module_text.specs.Entries.{counted}
+use Rattle.mv_certificate.proofs.Common.{[], ℕ, ◌&&◌, ◌++◌, ◌==◌, ◌∙◌, ◌∷◌, ◌≡◌, Bool, IsTrue, List, None, Option, Some, ap, append_assoc, arith, cond, eq-eqb, false, flat_map, inl, inr}
+use Rattle.mv_certificate.proofs.Common.{is_some, length, map, nat_le, nat_lt, refl, subst, suc, sym, true, and_from, and_parts, le-leb, flat_map_single, none-some, same_Some}
+use Rattle.mv_certificate.proofs.Common.{some_pair_parts, list_all, option_map_or, FunctionDefinition, Module, local_tokens, Availability, Available, Maybe, Unavailable, Node, Glob, Own}
+use Rattle.mv_certificate.proofs.Common.{Slot, Temp, Token, number_from, uleb, counted, AreBytes, counted_from, entries_from, are_ascending, Edge, Label, Known, Stated, availability_code}
+use Rattle.mv_certificate.proofs.Common.{edge_text, known_text, node_text, stated_text, availability_from, block_from, edge_from, edges_from, known_from, label_from, node_from}
+use Rattle.mv_certificate.proofs.Common.{openness_from, stated_from, edge_fits, known_fits}
+use Rattle.std.proofs.Common.{eqb}
 use Rattle.mv_module_text.specs.Fits.{is_index}
-use Rattle.mv_module_text.specs.Laws.{AreBytes}
-use Rattle.mv_module_text.specs.Parsing.{index_from, byte_from, mark_from, entries_from, counted_from}
-use Rattle.mv_module_text.proofs.Texts.{Front, Parts, on_bind, then_some-parts, Front-from, Front-join, Front-as, number-front, index-parts, byte-front, mark-front, entries-front, counted-parts}
+use Rattle.mv_module_text.specs.Parsing.{index_from, byte_from, mark_from}
+use Rattle.mv_module_text.proofs.Texts.{Front, Parts, on_bind, then_some-parts, Front-from, Front-join, Front-as, number-front, index-parts, byte-front, mark-front, entries-front}
+use Rattle.mv_module_text.proofs.Texts.{counted-parts}
 use Rattle.mv_module_text.proofs.Tokens.{cond-parts}
-use Rattle.mv_certificate.specs.Certificate.{Known, Stated}
-use Rattle.mv_certificate.specs.Shape.{edge_fits, known_fits}
-use Rattle.mv_certificate.specs.CertificateText.{availability_code, node_text, edge_text, known_text, stated_text}
-use Rattle.mv_certificate.specs.Parsing.{availability_of, availability_from, node_of, node_from, openness_of, openness_from, label_from, edge_from, edges_from, known_from, block_from, stated_from}
+use Rattle.mv_certificate.specs.Parsing.{availability_of, node_of, openness_of}
 
 -- an availability's byte alone
 abbrev pub availability_text : Availability → List ℕ

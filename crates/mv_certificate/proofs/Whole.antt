@@ -1,37 +1,17 @@
 -- The text of what fits is read: availabilities, nodes, labels, edges and states.
-use Rattle.std.proofs.Common.{◌≡◌, ℕ, suc, ◌≤◌, List, [], ◌∷◌, ◌++◌, length, map, flat_map, arith, refl, ap, sym, ◌∙◌, append_assoc, Option, Some}
-use Rattle.std.proofs.Common.{None, IsTrue, is_some, Bool, true, false, ◌==◌, ◌&&◌, not, nat_le, nat_lt, slice_get, option_map}
-use Rattle.std.specs.Bool.{then_some}
-use Rattle.std.specs.Option.{option_map_or}
-use Rattle.std.specs.List.{list_all}
-use Rattle.std.proofs.lemmas.List.Concat.{flat_map_single}
-use Rattle.std.proofs.lemmas.List.{length-map}
-use Rattle.std.proofs.lemmas.Bool.{and_parts, and_from, le-leb, leb-true, ltb-true, eqb-true, false≢true}
-use Rattle.std.proofs.lemmas.Option.{slice_get_within, slice_get-map}
-use Rattle.mv_uleb.specs.Uleb.{uleb}
-use Rattle.mv_uleb.specs.Parsing.{number_from}
-use Rattle.mv_move_types.specs.declared.borrow.Availability.{Availability}
-use Rattle.mv_move_types.specs.declared.borrow.Availability.TheVariants.{Unavailable, Available, Maybe}
-use Rattle.mv_move_types.specs.declared.borrow.Node.{Node}
-use Rattle.mv_move_types.specs.declared.borrow.Node.TheVariants.{Slot, Own, Glob, Temp}
-use Rattle.mv_move_types.specs.declared.token.Token.{Token}
-use Rattle.mv_move_types.specs.Options.{◌>>=◌}
-use Rattle.mv_move_types.specs.Module.{Module, FunctionDefinition, local_tokens}
-use Rattle.mv_bounds.specs.Bounds.{local_count}
+use Rattle.mv_certificate.proofs.Common.{[], ℕ, ◌&&◌, ◌++◌, ◌==◌, ◌∙◌, ◌∷◌, ◌≡◌, ◌≤◌, Bool, IsTrue, List, None, Option, Some, ap, append_assoc, arith, false, flat_map, is_some, length, map}
+use Rattle.mv_certificate.proofs.Common.{nat_le, nat_lt, option_map, refl, slice_get, suc, sym, true, and_from, and_parts, eqb-true, false≢true, le-leb, leb-true, length-map}
+use Rattle.mv_certificate.proofs.Common.{flat_map_single, slice_get-map, slice_get_within, then_some, list_all, option_map_or, FunctionDefinition, Module, local_tokens, ◌>>=◌, Availability}
+use Rattle.mv_certificate.proofs.Common.{Unavailable, Node, Glob, Own, Slot, Temp, Token, number_from, uleb, counted, counted_from, entries_from, local_count, blocks}
+use Rattle.mv_certificate.proofs.Common.{IsFlowGraph, basic_block_of, Block, Cfg, are_ascending, Edge, Known, Stated, availability_code, edge_text, known_text, node_text, stated_text}
+use Rattle.mv_certificate.proofs.Common.{availability_from, block_from, edge_from, edges_from, known_from, label_from, node_from, openness_from, stated_from, StatedFits, edge_fits}
+use Rattle.mv_certificate.proofs.Common.{known_fits}
+use Rattle.std.proofs.Common.{not}
+use Rattle.std.proofs.lemmas.Bool.{ltb-true}
 use Rattle.mv_borrow_graph.specs.BorrowRules.{is_mutable_token, is_reference_token}
-use Rattle.mv_edges.specs.Edges.{Edge, same_node}
-use Rattle.mv_edges.specs.Ascending.{are_ascending}
-use Rattle.mv_cfg.specs.declared.Block.{Block}
-use Rattle.mv_cfg.specs.declared.Cfg.{Cfg}
-use Rattle.mv_cfg.specs.Blocks.{blocks}
-use Rattle.mv_cfg.specs.FlowGraph.{IsFlowGraph, basic_block_of}
-use Rattle.mv_module_text.specs.Entries.{counted}
-use Rattle.mv_module_text.specs.Parsing.{entries_from, counted_from}
+use Rattle.mv_edges.specs.Edges.{same_node}
 use Rattle.mv_module_text.proofs.Texts.{Whole, number-whole, index-whole, entries-whole, counted-whole}
-use Rattle.mv_certificate.specs.Certificate.{Known, Stated}
-use Rattle.mv_certificate.specs.Shape.{is_typed_local, is_source, is_target, edge_fits, known_fits, StatedFits}
-use Rattle.mv_certificate.specs.CertificateText.{availability_code, node_text, edge_text, known_text, stated_text}
-use Rattle.mv_certificate.specs.Parsing.{availability_from, node_from, openness_from, label_from, edge_from, edges_from, known_from, block_from, stated_from}
+use Rattle.mv_certificate.specs.Shape.{is_typed_local, is_source, is_target}
 use Rattle.mv_certificate.proofs.Texts.{availability_text, any, node_fits, is_small, path_fits, openness_text, label_text, label_fits, edge_as, edges_fit, block_fits}
 
 -- a step that gives something
@@ -41,8 +21,7 @@ bind_is o f x e = ap (λ z. z >>= f) e
 -- an availability, a node, a position, positions, an openness and a label are read where their texts stand
 availability-whole : Whole availability_from availability_text any
 availability-whole rest Unavailable ok = refl
-availability-whole rest Available ok = refl
-availability-whole rest Maybe ok = refl
+availability-whole rest a ok = refl
 
 node-whole : Whole node_from node_text node_fits
 node-whole rest (Slot l) ok = rw (index-whole rest l ok) refl
@@ -90,9 +69,7 @@ module _ (m : Module) (d : FunctionDefinition) (few : length m.structs ≤ 65536
   -- and one to which it may
   target_fits : (n : Node) → is_target m d n ≡ true → node_fits n ≡ true
   target_fits (Slot l) h = local_small is_reference_token l h
-  target_fits (Own l) h = absurd (false≢true h)
-  target_fits (Glob t) h = absurd (false≢true h)
-  target_fits (Temp k) h = absurd (false≢true h)
+  target_fits n h = absurd (false≢true h)
 
   -- an edge, by its parts
   edge-read : (bytes one two rest : List ℕ) (e : Edge) → node_from bytes ≡ Some (e.from, one) → node_from one ≡ Some (e.to, two) → label_from two ≡ Some (e.label, rest) → edge_fits m d e ≡ true

@@ -1,33 +1,20 @@
 -- In a module whose indices are in bounds branches lead into the code.
-use Rattle.std.proofs.Common.{◌≡◌, ℕ, ◌<◌, Bool, true, false, ◌&&◌, List, [], ◌∷◌, length, get_or, slice_get, Some, All, refl, subst, arith, zero, suc}
+use Rattle.std.proofs.Common.{◌≡◌, ℕ, ◌<◌, Bool, true, ◌&&◌, List, [], ◌∷◌, length, get_or, slice_get, Some, All, arith, zero, suc}
 use Rattle.std.specs.List.{list_all}
-use Rattle.std.proofs.lemmas.Bool.{ltb-true}
+use Rattle.std.proofs.lemmas.Bool.{and_parts, ltb-true}
 use Rattle.std.proofs.lemmas.List.Elements.{All-nil, All-cons}
-use Rattle.std.proofs.lemmas.Option.{none-some, same_Some}
 use Rattle.mv_move_types.specs.declared.instruction.Instruction.{Instruction}
 use Rattle.mv_move_types.specs.declared.instruction.Instruction.TheVariants.{BrTrue, BrFalse, Branch}
 use Rattle.mv_move_types.specs.Module.{Module, FunctionDefinition}
 use Rattle.mv_move_types.specs.Flow.{targets}
 use Rattle.mv_bounds.specs.Bounds.{InBounds, below, instruction_in, function_in, local_count}
 use Rattle.mv_cfg.specs.Steps.{BranchesInside}
-
-and_left : (a b : Bool) → (a && b) ≡ true → a ≡ true
-and_left true b e = refl
-and_left false b e = cc
-
-and_right : (a b : Bool) → (a && b) ≡ true → b ≡ true
-and_right true b e = e
-and_right false b e = cc
+use Rattle.mv_bounds.proofs.FunctionLemmas.{all_at as passes_at}
 
 all_at : {A : Type 0} (p : A → Bool) (xs : List A) → list_all p xs ≡ true → (k : ℕ) (d : A) → k < length xs → p (get_or xs k d) ≡ true
 all_at p [] e k d h = absurd (omega arith)
-all_at p (x ∷ xs) e zero d h = and_left (p x) (list_all p xs) e
-all_at p (x ∷ xs) e (suc k) d h = all_at p xs (and_right (p x) (list_all p xs) e) k d (omega arith)
-
-passes_at : {A : Type 0} (p : A → Bool) (xs : List A) → list_all p xs ≡ true → (k : ℕ) (x : A) → slice_get xs k ≡ Some x → p x ≡ true
-passes_at p [] e k x at = absurd (none-some x at)
-passes_at p (y ∷ ys) e zero x at = subst (λ z. p z ≡ true) (same_Some y x at) (and_left (p y) (list_all p ys) e)
-passes_at p (y ∷ ys) e (suc k) x at = passes_at p ys (and_right (p y) (list_all p ys) e) k x at
+all_at p (x ∷ xs) e zero d h = (and_parts (p x) (list_all p xs) e).0
+all_at p (x ∷ xs) e (suc k) d h = all_at p xs (and_parts (p x) (list_all p xs) e).1 k d (omega arith)
 
 targets-inside : (m : Module) (locals size : ℕ) (c : Instruction) → instruction_in m locals size c ≡ true → All (λ t. t < size) (targets c)
 targets-inside m locals size (BrTrue t) e = All-cons (λ u. u < size) t [] (ltb-true t size e) (All-nil (λ u. u < size))
@@ -37,7 +24,7 @@ targets-inside m locals size c e = All-nil (λ u. u < size)
 
 pub branches-inside : (m : Module) (f : ℕ) (d : FunctionDefinition) → InBounds m → slice_get m.functions f ≡ Some d → BranchesInside d.code
 branches-inside m f d bounds at k c h =
-    let here : function_in m d ≡ true = passes_at (function_in m) m.functions bounds.functions f d at in
+    let here : function_in m d ≡ true = passes_at (function_in m) m.functions f d bounds.functions at in
     let code : list_all (instruction_in m (local_count m d) (length d.code)) d.code ≡ true =
-    and_right (below d.handle m.function_handles && below d.locals m.signatures && list_all (λ i. below i m.structs) d.acquires) (list_all (instruction_in m (local_count m d) (length d.code)) d.code) here in
+    (and_parts (below d.handle m.function_handles && below d.locals m.signatures && list_all (λ i. below i m.structs) d.acquires) (list_all (instruction_in m (local_count m d) (length d.code)) d.code) here).1 in
     targets-inside m (local_count m d) (length d.code) (get_or d.code k c) (all_at (instruction_in m (local_count m d) (length d.code)) d.code code k c h)

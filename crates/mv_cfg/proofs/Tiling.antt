@@ -5,15 +5,12 @@
 --   next-from_inside       control goes on to the next instruction there
 use Rattle.std.proofs.Common.{◌≡◌, ℕ, ◌+◌, ◌-◌, ◌<◌, ◌≤◌, Bool, true, false, cond, ◌||◌, List, [], ◌∷◌, ◌++◌, length, get_or, slice_get, Some}
 use Rattle.std.proofs.Common.{Contains, refl, sym, ap, ◌∙◌, subst, arith, zero, suc, ⊎_elim, ◌≢◌}
-use Rattle.std.proofs.lemmas.Bool.{cases_eq, cases_lt}
+use Rattle.std.proofs.lemmas.Bool.{cases_eq, cases_lt, false_from_ne_true}
 use Rattle.std.proofs.lemmas.List.{get_or_default}
 use Rattle.std.proofs.lemmas.List.Elements.{Contains-append_right}
 use Rattle.std.proofs.lemmas.Option.{none-some, same_Some, slice_get_within}
 use Rattle.mv_move_types.specs.declared.instruction.Instruction.{Instruction}
-use Rattle.mv_move_types.specs.declared.instruction.Exit.{Exit}
-use Rattle.mv_move_types.specs.declared.instruction.Exit.TheVariants.{Next, Fork, Jump, Leave}
-use Rattle.mv_move_types.specs.Instructions.{exit_of}
-use Rattle.mv_move_types.specs.Flow.{ends_block, exit_ends_block, exit_successors, successors}
+use Rattle.mv_move_types.specs.Flow.{ends_block}
 use Rattle.mv_cfg.specs.Blocks.{BasicBlock, blocks, blocks_at, block_between, starts_from, is_target}
 use Rattle.mv_cfg.specs.Steps.{starts}
 use Rattle.mv_cfg.proofs.Beginnings.{IsAscending, ascending-at, ascending-before, starts_from-target, blocks_at-get, length-blocks_at}
@@ -83,10 +80,6 @@ ascending-between low high xs k n up h after before (j, hj, e) =
     (cases_eq j k))
     (cases_lt j k)
 
-never_true : (b : Bool) → (b ≡ true → ⊥) → b ≡ false
-never_true true h = absurd (h refl)
-never_true false h = refl
-
 -- before its last instruction a block goes on: nothing ends it there, and no branch leads to the next instruction
 pub inside-block : (code : List Instruction) (k : ℕ) (s : BasicBlock) → slice_get (blocks code) k ≡ Some s → (i : ℕ) (c : Instruction) → s.first ≤ i
     → i < s.last → slice_get code i ≡ Some c → (ends_block c ≡ false) × (is_target code (i + 1) ≡ false)
@@ -99,16 +92,6 @@ inside-block code k s at i c from before read =
     let bounds = ascending-at 0 (length code) (starts code) k (starts-ascending code) h in
     let high : get_or (starts code) (suc k) (length code) ≤ length code = bounds.1.1 in
     let none : Contains (starts code) (i + 1) → ⊥ = ascending-between 0 (length code) (starts code) k (i + 1) (starts-ascending code) h (omega arith) (omega arith) in (
-      never_true (ends_block c) (λ e. none (starts_from-after code 0 true code i (i + 1) c read e (omega arith) (omega arith))),
-      never_true (is_target code (i + 1)) (λ e. none (starts_from-target code 0 true code (i + 1) (omega arith) (omega arith) e)),
+      false_from_ne_true (ends_block c) (λ e. none (starts_from-after code 0 true code i (i + 1) c read e (omega arith) (omega arith))),
+      false_from_ne_true (is_target code (i + 1)) (λ e. none (starts_from-target code 0 true code (i + 1) (omega arith) (omega arith) e)),
     )
-
--- where nothing ends the block control goes on to the next instruction
-pub next-from_inside : (i : ℕ) (c : Instruction) → ends_block c ≡ false → successors i c ≡ (i + 1) ∷ []
-next-from_inside i c e = only_next (exit_of c) e
-  where
-    only_next : (x : Exit) → exit_ends_block x ≡ false → exit_successors i x ≡ (i + 1) ∷ []
-    only_next Next e = refl
-    only_next (Fork t) e = cc
-    only_next (Jump t) e = cc
-    only_next Leave e = cc

@@ -1,15 +1,9 @@
--- What leads from some nodes to others among composed edges, by way of each origin.
-use Rattle.std.proofs.Common.{◌≡◌, ℕ, zero, suc, ◌<◌, cond, inl, inr, Bool, true, false, not, ◌&&◌, ◌||◌, List, [], ◌∷◌, ◌++◌, length, flat_map, filter, slice_get, Option, Some, None, eqb, ◌==◌, refl, sym, ◌∙◌, ap, subst, true≢false, eqb-true, arith}
-use Rattle.std.specs.List.{list_any}
-use Rattle.std.specs.Option.{option_map_or}
-use Rattle.std.proofs.lemmas.Bool.{and_parts, and_from, or_cases, or_left, or_right, false_from_ne_true}
-use Rattle.std.proofs.lemmas.List.Folds.{list_any-append}
-use Rattle.std.proofs.lemmas.Option.{slice_get_within}
-use Rattle.mv_move_types.specs.declared.borrow.Node.{Node}
-use Rattle.mv_move_types.specs.declared.borrow.Node.TheVariants.{Slot, Own, Glob, Temp}
-use Rattle.mv_edges.specs.Edges.{Label, Edge, same_node, out_of, an_edge}
-use Rattle.mv_edges.specs.Composition.{Bundle, Composition, composed, numbered, root_edges, strand_edges, bundle_edges, edges_of, agrees_if, any_between, is_here, comes_from, any_agrees_alone, any_is_here, any_strand, any_through}
-use Rattle.mv_edges.specs.Equality.{same_node_decides}
+-- Where edges lead from some nodes to others among composed ones: by which strands.
+use Rattle.mv_edges.proofs.Common.{[], ℕ, ◌&&◌, ◌++◌, ◌<◌, ◌==◌, ◌||◌, ◌∙◌, ◌∷◌, ◌≡◌, ◌≤◌, Bool, List, None, Option, Some, ap, arith, cond, eqb, false, filter, flat_map, get_or, length, not}
+use Rattle.mv_edges.proofs.Common.{refl, slice_get, subst, suc, sym, take, true, true≢false, zero, eqb-true, false_from_ne_true, or_parts, take_all, list_any-append, list_any_at, list_any}
+use Rattle.mv_edges.proofs.Common.{option_map_or, Node, Glob, Own, Slot, Temp, Bundle, Composition, agrees_if, any_between, bundle_edges, composed, edges_of, is_here, numbered, root_edges}
+use Rattle.mv_edges.proofs.Common.{strand_edges, strand_passes, Edge, Label, an_edge, lets_pass, Agreeing, Always, Never}
+use Rattle.mv_edges.specs.Composition.{comes_from}
 use Rattle.mv_edges.proofs.Comparisons.{agrees_first}
 
 -- a list with an element isn't empty
@@ -31,25 +25,29 @@ module _ {A : Type 0} where
   list_any-flat_map q f [] = refl
   list_any-flat_map q f (x ∷ xs) = list_any-append q (f x) (flat_map f xs) ∙ ap (λ b. list_any q (f x) || b) (list_any-flat_map q f xs)
 
-  -- some element passes
-  record Found (p : A → Bool) (xs : List A) : Type 0 where
-    pub place : ℕ
-    pub element : A
-    pub at : slice_get xs place ≡ Some element
-    pub passes : p element ≡ true
+  -- where none passes, this one doesn't
+  list_any-at : (p : A → Bool) (xs : List A) (k : ℕ) (x : A) → list_any p xs ≡ false → slice_get xs k ≡ Some x → p x ≡ false
+  list_any-at p [] k x none at = cc
+  list_any-at p (y ∷ ys) zero x none at = let same : y ≡ x = cc in subst (λ z. p z ≡ false) same (or_parts (p y) (list_any p ys) none).0
+  list_any-at p (y ∷ ys) (suc k) x none at = list_any-at p ys k x (or_parts (p y) (list_any p ys) none).1 at
 
-  found : (p : A → Bool) (xs : List A) → list_any p xs ≡ true → Found p xs
-  found p [] h = absurd (true≢false (sym h))
-  found p (x ∷ xs) h =
-      elim (or_cases (p x) (list_any p xs) h) [
-        | inl g ↦ record { place = 0; element = x; at = refl; passes = g }
-        | inr g ↦ let rest = found p xs g in record { place = suc rest.place; element = rest.element; at = rest.at; passes = rest.passes }
-      ]
+  list_any-none : (p : A → Bool) → ((x : A) → p x ≡ false) → (xs : List A) → list_any p xs ≡ false
+  list_any-none p none [] = refl
+  list_any-none p none (x ∷ xs) = (λ i. none x i || list_any-none p none xs i)
 
-  any_from : (p : A → Bool) (xs : List A) (k : ℕ) (x : A) → slice_get xs k ≡ Some x → p x ≡ true → list_any p xs ≡ true
-  any_from p [] k x e h = cc
-  any_from p (y ∷ ys) zero x e h = let same : y ≡ x = cc in or_left (p y) (list_any p ys) (subst (λ z. p z ≡ true) (sym same) h)
-  any_from p (y ∷ ys) (suc k) x e h = or_right (p y) (list_any p ys) (any_from p ys k x e h)
+  -- a test of them all
+  list_any-both : (t : Bool) (p : A → Bool) (xs : List A) → list_any (λ x. t && p x) xs ≡ (t && list_any p xs)
+  list_any-both true p xs = refl
+  list_any-both false p xs = list_any-none (λ x. false && p x) (λ x. refl) xs
+
+pub list_any-filter : {A : Type 0} (p q : A → Bool) (xs : List A) → list_any p (filter q xs) ≡ list_any (λ x. q x && p x) xs
+list_any-filter p q [] = refl
+list_any-filter p q (x ∷ xs) = by_case (q x) (list_any-filter p q xs)
+  where
+    by_case : (b : Bool) → list_any p (filter q xs) ≡ list_any (λ y. q y && p y) xs
+        → list_any p (cond b (x ∷ filter q xs) (filter q xs)) ≡ ((b && p x) || list_any (λ y. q y && p y) xs)
+    by_case true e = ap (λ b. p x || b) e
+    by_case false e = e
 
 -- whether a composed label agrees is a matter of the first label, if that has positions or is open, and else of the second one
 agrees-composed : (position : Option ℕ) (first second : Label)
@@ -77,211 +75,111 @@ agrees-composed (Some f) first second =
     by_case false [] = refl
     by_case false (x ∷ xs) = by_length (length (x ∷ xs) == 0) (eqb x f) (not_empty x xs)
 
--- how an edge of one root and a strand passes, or none
-module _ (from to : Node → Bool) (position : Option ℕ) (sources : List (Option Node)) where
+module _ (from : Node → Bool) (position : Option ℕ) (sources : List (Option Node)) where
+  abbrev agrees_alone : Edge → Bool
+  agrees_alone r = comes_from sources from r && (not (is_here r.label) && agrees_if position r.label)
+
+  abbrev has_none : Edge → Bool
+  has_none r = comes_from sources from r && is_here r.label
+
+  abbrev root_passes : Label → Edge → Bool
+  root_passes label r = comes_from sources from r && agrees_if position (composed r.label label)
+
+  -- roots let a strand pass where one of them agrees alone, or one has no label, and the strand's agrees
+  roots_pass : (label : Label) (roots : List Edge) → list_any (root_passes label) roots ≡ (list_any agrees_alone roots || list_any has_none roots && agrees_if position label)
+  roots_pass label [] = refl
+  roots_pass label (r ∷ rs) =
+      (λ i. (comes_from sources from r && agrees-composed position r.label label i) || roots_pass label rs i)
+      ∙ spread (comes_from sources from r) (is_here r.label) (agrees_if position r.label) (agrees_if position label) (list_any agrees_alone rs) (list_any has_none rs)
+    where
+      spread : (f h a b as' hs : Bool) → ((f && (not h && a || h && b)) || (as' || hs && b)) ≡ ((f && (not h && a) || as') || (f && h || hs) && b)
+      spread false h a b as' hs = refl
+      spread true true a true true hs = refl
+      spread true true a true false hs = refl
+      spread true true a false as' true = refl
+      spread true true a false as' false = refl
+      spread true false true b as' hs = refl
+      spread true false false b as' hs = refl
+
+  pub always_pass : (roots : List Edge) → list_any agrees_alone roots ≡ true → (label : Label) → lets_pass position Always label ≡ list_any (root_passes label) roots
+  always_pass roots alone label = sym (roots_pass label roots ∙ ap (λ b. b || list_any has_none roots && agrees_if position label) alone)
+
+  pub agreeing_pass : (roots : List Edge) → list_any agrees_alone roots ≡ false → list_any has_none roots ≡ true
+      → (label : Label) → lets_pass position Agreeing label ≡ list_any (root_passes label) roots
+  agreeing_pass roots alone here label = sym (roots_pass label roots ∙ (λ i. alone i || here i && agrees_if position label))
+
+  pub never_pass : (roots : List Edge) → list_any agrees_alone roots ≡ false → list_any has_none roots ≡ false
+      → (label : Label) → lets_pass position Never label ≡ list_any (root_passes label) roots
+  never_pass roots alone here label = sym (roots_pass label roots ∙ (λ i. alone i || here i && agrees_if position label))
+
+module _ (c : Composition) (from to : Node → Bool) (position : Option ℕ) where
   abbrev passes : Edge → Bool
   passes e = from e.from && (agrees_if position e.label && to e.to)
 
-  abbrev alone : Edge → Bool
-  alone r = comes_from sources from r && (not (is_here r.label) && agrees_if position r.label)
-
-  abbrev plain : Edge → Bool
-  plain r = comes_from sources from r && is_here r.label
-
-  any_root : (n : Node) (label : Label) (r : Edge) → list_any passes (root_edges sources n label r) ≡ (to n && (alone r || plain r && agrees_if position label))
-  any_root n label r = by_source (numbered None sources r.from)
+  any_root : (n : Node) (label : Label) (r : Edge) → list_any passes (root_edges c.sources n label r) ≡ (to n && (comes_from c.sources from r && agrees_if position (composed r.label label)))
+  any_root n label r = by_source (numbered None c.sources r.from)
     where
-      table : (t f h a b : Bool) → (f && ((not h && a || h && b) && t) || false) ≡ (t && (f && (not h && a) || (f && h) && b))
-      table true true true true true = refl
-      table true true true true false = refl
-      table true true true false true = refl
-      table true true true false false = refl
-      table true true false true true = refl
-      table true true false true false = refl
-      table true true false false true = refl
-      table true true false false false = refl
-      table true false h a b = refl
-      table false true true true true = refl
-      table false true true true false = refl
-      table false true true false true = refl
-      table false true true false false = refl
-      table false true false true true = refl
-      table false true false true false = refl
-      table false true false false true = refl
-      table false true false false false = refl
-      table false false h a b = refl
+      none : (t b : Bool) → false ≡ (t && (false && b))
+      none true b = refl
+      none false b = refl
 
-      none : (t h a b : Bool) → false ≡ (t && (false && (not h && a) || (false && h) && b))
-      none true h a b = refl
-      none false h a b = refl
+      one : (t f b : Bool) → (f && (b && t) || false) ≡ (t && (f && b))
+      one true true true = refl
+      one true true false = refl
+      one true false b = refl
+      one false true true = refl
+      one false true false = refl
+      one false false b = refl
 
       by_source : (o : Option Node) → list_any passes (option_map_or (λ m. an_edge m (composed r.label label) n ∷ []) o [])
-          ≡ (to n && (option_map_or from o false && (not (is_here r.label) && agrees_if position r.label) || (option_map_or from o false && is_here r.label) && agrees_if position label))
-      by_source None = none (to n) (is_here r.label) (agrees_if position r.label) (agrees_if position label)
-      by_source (Some m) =
-          ap (λ b. from m && (b && to n) || false) (agrees-composed position r.label label)
-          ∙ table (to n) (from m) (is_here r.label) (agrees_if position r.label) (agrees_if position label)
+          ≡ (to n && (option_map_or from o false && agrees_if position (composed r.label label)))
+      by_source None = none (to n) (agrees_if position (composed r.label label))
+      by_source (Some m) = one (to n) (from m) (agrees_if position (composed r.label label))
 
-  any_roots : (n : Node) (label : Label) (roots : List Edge)
-      → list_any (λ r. list_any passes (root_edges sources n label r)) roots
-      ≡ (to n && (any_agrees_alone sources from position roots || any_is_here sources from roots && agrees_if position label))
-  any_roots n label [] = nothing (to n)
-    where
-      nothing : (t : Bool) → false ≡ (t && (false || false && agrees_if position label))
-      nothing true = refl
-      nothing false = refl
-  any_roots n label (r ∷ rs) = (λ i. any_root n label r i || any_roots n label rs i)
-      ∙ spread (to n) (alone r) (plain r) (any_agrees_alone sources from position rs) (any_is_here sources from rs) (agrees_if position label)
-    where
-      spread : (t a h as' hs b : Bool) → (t && (a || h && b) || t && (as' || hs && b)) ≡ (t && ((a || as') || (h || hs) && b))
-      spread false a h as' hs b = refl
-      spread true true h as' hs b = refl
-      spread true false true true hs true = refl
-      spread true false true false hs true = refl
-      spread true false true true true false = refl
-      spread true false true true false false = refl
-      spread true false true false true false = refl
-      spread true false true false false false = refl
-      spread true false false as' hs b = refl
+  any_strand : (n : Node) (d : Edge) → list_any passes (strand_edges c.sources c.origins n d) ≡ (to n && strand_passes c from position d)
+  any_strand n d =
+      list_any-flat_map passes (root_edges c.sources n d.label) (numbered [] c.origins d.from)
+      ∙ list_any-alike (λ r. list_any passes (root_edges c.sources n d.label r)) (λ r. to n && (comes_from c.sources from r && agrees_if position (composed r.label d.label))) (any_root n d.label) (numbered [] c.origins d.from)
+      ∙ list_any-both (to n) (λ r. comes_from c.sources from r && agrees_if position (composed r.label d.label)) (numbered [] c.origins d.from)
 
-  any_strand_edge : (origins : List (List Edge)) (n : Node) (d : Edge) → list_any passes (strand_edges sources origins n d)
-      ≡ (to n && (any_agrees_alone sources from position (numbered [] origins d.from) || any_is_here sources from (numbered [] origins d.from) && agrees_if position d.label))
-  any_strand_edge origins n d = list_any-flat_map passes (root_edges sources n d.label) (numbered [] origins d.from) ∙ any_roots n d.label (numbered [] origins d.from)
+  any_bundle : (b : Bundle) → list_any passes (bundle_edges c.sources c.origins b) ≡ (to b.node && list_any (strand_passes c from position) b.strands)
+  any_bundle b =
+      list_any-flat_map passes (strand_edges c.sources c.origins b.node) b.strands
+      ∙ list_any-alike (λ d. list_any passes (strand_edges c.sources c.origins b.node d)) (λ d. to b.node && strand_passes c from position d) (any_strand b.node) b.strands
+      ∙ list_any-both (to b.node) (strand_passes c from position) b.strands
 
-pub list_any-filter : {A : Type 0} (p q : A → Bool) (xs : List A) → list_any p (filter q xs) ≡ list_any (λ x. q x && p x) xs
-list_any-filter p q [] = refl
-list_any-filter p q (x ∷ xs) = by_case (q x) (list_any-filter p q xs)
-  where
-    by_case : (b : Bool) → list_any p (filter q xs) ≡ list_any (λ y. q y && p y) xs
-        → list_any p (cond b (x ∷ filter q xs) (filter q xs)) ≡ ((b && p x) || list_any (λ y. q y && p y) xs)
-    by_case true e = ap (λ b. p x || b) e
-    by_case false e = e
+  -- an edge leads from some nodes to others where a strand of one of the others passes
+  pub by_bundles : any_between from position to (edges_of c) ≡ list_any (λ (b : Bundle). to b.node && list_any (strand_passes c from position) b.strands) c.bundles
+  by_bundles =
+      list_any-flat_map passes (bundle_edges c.sources c.origins) c.bundles
+      ∙ list_any-alike (λ b. list_any passes (bundle_edges c.sources c.origins b)) (λ (b : Bundle). to b.node && list_any (strand_passes c from position) b.strands) any_bundle c.bundles
 
-module _ (c : Composition) (from to : Node → Bool) (position : Option ℕ) where
-  abbrev lone : Node → Bool
-  lone n = any_agrees_alone c.sources from position (numbered [] c.origins n)
+  abbrev leads : Bundle → Bool
+  leads b = to b.node && list_any (strand_passes c from position) b.strands
 
-  abbrev bare : Node → Bool
-  bare n = any_is_here c.sources from (numbered [] c.origins n)
+  -- as far as a loop over bundles has come
+  pub none_by : (i : ℕ) → length c.bundles ≤ i → list_any leads (take i c.bundles) ≡ false → any_between from position to (edges_of c) ≡ false
+  none_by i end none = by_bundles ∙ ap (list_any leads) (sym (take_all i c.bundles end)) ∙ none
 
-  abbrev reached : Bundle → Edge → Bool
-  reached b d = to b.node && (lone d.from || bare d.from && agrees_if position d.label)
-
-  -- some edge passes where some strand of some bundle does
-  by_strands : any_between from position to (edges_of c) ≡ list_any (λ (b : Bundle). list_any (reached b) b.strands) c.bundles
-  by_strands =
-      list_any-flat_map (λ e. from e.from && (agrees_if position e.label && to e.to)) (bundle_edges c.sources c.origins) c.bundles
-      ∙ list_any-alike (λ b. list_any (λ e. from e.from && (agrees_if position e.label && to e.to)) (bundle_edges c.sources c.origins b)) (λ (b : Bundle). list_any (reached b) b.strands)
-      (λ b. list_any-flat_map (λ e. from e.from && (agrees_if position e.label && to e.to)) (strand_edges c.sources c.origins b.node) b.strands
-      ∙ list_any-alike (λ d. list_any (λ e. from e.from && (agrees_if position e.label && to e.to)) (strand_edges c.sources c.origins b.node d)) (reached b)
-      (any_strand_edge from to position c.sources c.origins b.node) b.strands) c.bundles
-
-  -- a strand from an origin that agrees
-  from_origin : (o : ℕ) (asked : Option ℕ) (b : Bundle) → list_any (λ d. agrees_if asked d.label) (out_of (Glob o) b.strands) ≡ list_any (λ d. same_node d.from (Glob o) && agrees_if asked d.label) b.strands
-  from_origin o asked b = list_any-filter (λ d. agrees_if asked d.label) (λ d. same_node d.from (Glob o)) b.strands
-
-  -- an origin with such roots is one of those that are there
-  inside : (n : Node) (roots : List Edge → Bool) → roots [] ≡ false → roots (numbered [] c.origins n) ≡ true → (o : ℕ) × ((o < length c.origins) × (n ≡ Glob o))
-  inside (Slot l) roots none h = absurd (true≢false (sym h ∙ none))
-  inside (Own l) roots none h = absurd (true≢false (sym h ∙ none))
-  inside (Temp k) roots none h = absurd (true≢false (sym h ∙ none))
-  inside (Glob o) roots none h = by_place (slice_get c.origins o) refl h
-    where
-      by_place : (x : Option (List Edge)) → slice_get c.origins o ≡ x → roots (option_map_or (λ y. y) x []) ≡ true → (k : ℕ) × ((k < length c.origins) × (Glob o ≡ Glob k))
-      by_place None e g = absurd (true≢false (sym g ∙ none))
-      by_place (Some rs) e g = (o, (slice_get_within c.origins o rs e, refl))
-
-  pub through_some : any_between from position to (edges_of c) ≡ true → (o : ℕ) × ((o < length c.origins) × (any_through c from position to (Glob o) ≡ true))
-  through_some h =
-      let in_bundle = found (λ (b : Bundle). list_any (reached b) b.strands) c.bundles (sym by_strands ∙ h) in
-      let b = in_bundle.element in
-      let in_strands = found (reached b) b.strands in_bundle.passes in
-      let d = in_strands.element in
-      let parts = and_parts (to b.node) (lone d.from || bare d.from && agrees_if position d.label) in_strands.passes in
-      elim (or_cases (lone d.from) (bare d.from && agrees_if position d.label) parts.1) [
-        | inl alone ↦
-            let at = inside d.from (any_agrees_alone c.sources from position) refl alone in
-            let there : any_strand (Glob at.0) None to c.bundles ≡ true = strand None at.0 in_bundle.place b in_bundle.at in_strands.place d in_strands.at parts.0 at.1.1 refl in (
-              at.0,
-              (
-                at.1.0,
-                or_left (lone (Glob at.0) && any_strand (Glob at.0) None to c.bundles) (bare (Glob at.0) && any_strand (Glob at.0) position to c.bundles)
-                    (and_from (lone (Glob at.0)) (any_strand (Glob at.0) None to c.bundles) (subst (λ n. lone n ≡ true) at.1.1 alone) there),
-              ),
-            )
-        | inr both ↦
-            let here = and_parts (bare d.from) (agrees_if position d.label) both in
-            let at = inside d.from (any_is_here c.sources from) refl here.0 in
-            let there : any_strand (Glob at.0) position to c.bundles ≡ true = strand position at.0 in_bundle.place b in_bundle.at in_strands.place d in_strands.at parts.0 at.1.1 here.1 in (
-              at.0,
-              (
-                at.1.0,
-                or_right (lone (Glob at.0) && any_strand (Glob at.0) None to c.bundles) (bare (Glob at.0) && any_strand (Glob at.0) position to c.bundles)
-                    (and_from (bare (Glob at.0)) (any_strand (Glob at.0) position to c.bundles) (subst (λ n. bare n ≡ true) at.1.1 here.0) there),
-              ),
-            )
-      ]
-    where
-      strand : (asked : Option ℕ) (o : ℕ) (k : ℕ) (b : Bundle) → slice_get c.bundles k ≡ Some b → (j : ℕ) (d : Edge) → slice_get b.strands j ≡ Some d → to b.node ≡ true
-          → d.from ≡ Glob o → agrees_if asked d.label ≡ true → any_strand (Glob o) asked to c.bundles ≡ true
-      strand asked o k b at j d there goes is agree =
-          any_from (λ (x : Bundle). to x.node && list_any (λ e. agrees_if asked e.label) (out_of (Glob o) x.strands)) c.bundles k b at
-          (and_from (to b.node) (list_any (λ e. agrees_if asked e.label) (out_of (Glob o) b.strands)) goes
-          (from_origin o asked b ∙ any_from (λ e. same_node e.from (Glob o) && agrees_if asked e.label) b.strands j d there
-          (and_from (same_node d.from (Glob o)) (agrees_if asked d.label) ((same_node_decides d.from (Glob o)).1 is) agree)))
-
-  pub through_one : (o : ℕ) → any_through c from position to (Glob o) ≡ true → any_between from position to (edges_of c) ≡ true
-  through_one o h =
-      elim (or_cases (lone (Glob o) && any_strand (Glob o) None to c.bundles) (bare (Glob o) && any_strand (Glob o) position to c.bundles) h) [
-        | inl g ↦
-            let parts = and_parts (lone (Glob o)) (any_strand (Glob o) None to c.bundles) g in
-            reach None parts.1 (λ d is agree. or_left (lone d.from) (bare d.from && agrees_if position d.label) (subst (λ n. lone n ≡ true) (sym is) parts.0))
-        | inr g ↦
-            let parts = and_parts (bare (Glob o)) (any_strand (Glob o) position to c.bundles) g in
-            reach position parts.1 (λ d is agree. or_right (lone d.from) (bare d.from && agrees_if position d.label)
-            (and_from (bare d.from) (agrees_if position d.label) (subst (λ n. bare n ≡ true) (sym is) parts.0) agree))
-      ]
-    where
-      reach : (asked : Option ℕ) → any_strand (Glob o) asked to c.bundles ≡ true
-          → ((d : Edge) → d.from ≡ Glob o → agrees_if asked d.label ≡ true → (lone d.from || bare d.from && agrees_if position d.label) ≡ true)
-          → any_between from position to (edges_of c) ≡ true
-      reach asked g passes =
-          let in_bundle = found (λ (x : Bundle). to x.node && list_any (λ e. agrees_if asked e.label) (out_of (Glob o) x.strands)) c.bundles g in
-          let b = in_bundle.element in
-          let parts = and_parts (to b.node) (list_any (λ e. agrees_if asked e.label) (out_of (Glob o) b.strands)) in_bundle.passes in
-          let in_strands = found (λ e. same_node e.from (Glob o) && agrees_if asked e.label) b.strands (sym (from_origin o asked b) ∙ parts.1) in
-          let d = in_strands.element in
-          let both = and_parts (same_node d.from (Glob o)) (agrees_if asked d.label) in_strands.passes in
-          by_strands ∙ any_from (λ (x : Bundle). list_any (reached x) x.strands) c.bundles in_bundle.place b in_bundle.at
-          (any_from (reached b) b.strands in_strands.place d in_strands.at
-          (and_from (to b.node) (lone d.from || bare d.from && agrees_if position d.label) parts.0
-          (passes d ((same_node_decides d.from (Glob o)).0 both.0) both.1)))
-
-  -- where none of the origins leads so, no edge does
-  pub through_none : ((k : ℕ) → k < length c.origins → any_through c from position to (Glob k) ≡ false) → any_between from position to (edges_of c) ≡ false
-  through_none none = false_from_ne_true (any_between from position to (edges_of c)) (λ h. let at = through_some h in true≢false (sym at.1.1 ∙ none at.0 at.1.0))
+  pub passes_by : (i : ℕ) (b : Bundle) → i < length c.bundles → b ≡ get_or c.bundles i b → leads b ≡ true → any_between from position to (edges_of c) ≡ true
+  passes_by i b inside at h = by_bundles ∙ list_any_at leads c.bundles i b inside (subst (λ x. leads x ≡ true) at h)
 
   -- where no source is one of the nodes, no edge leads from one
-  module _ (none : list_any (λ source. option_map_or from source false) c.sources ≡ false) where
-    no_source : (n : Node) → option_map_or from (numbered None c.sources n) false ≡ false
-    no_source (Slot l) = refl
-    no_source (Own l) = refl
-    no_source (Temp k) = refl
-    no_source (Glob i) = by_place (slice_get c.sources i) refl
-      where
-        by_place : (x : Option (Option Node)) → slice_get c.sources i ≡ x → option_map_or from (option_map_or (λ y. y) x None) false ≡ false
-        by_place None e = refl
-        by_place (Some s) e =
-            false_from_ne_true (option_map_or from s false) (λ h. true≢false (sym (any_from (λ source. option_map_or from source false) c.sources i s e h) ∙ none))
+  pub sourceless : list_any (λ source. option_map_or from source false) c.sources ≡ false → any_between from position to (edges_of c) ≡ false
+  sourceless none =
+      by_bundles
+      ∙ list_any-none (λ (b : Bundle). to b.node && list_any (strand_passes c from position) b.strands)
+      (λ b. ap (λ x. to b.node && x) (list_any-none (strand_passes c from position) (λ d. list_any-none (λ r. comes_from c.sources from r && agrees_if position (composed r.label d.label)) (λ r. ap (λ x. x && agrees_if position (composed r.label d.label)) (no_source r.from)) (numbered [] c.origins d.from)) b.strands) ∙ neither (to b.node))
+      c.bundles
+    where
+      neither : (t : Bool) → (t && false) ≡ false
+      neither true = refl
+      neither false = refl
 
-    no_lone : (roots : List Edge) → any_agrees_alone c.sources from position roots ≡ false
-    no_lone [] = refl
-    no_lone (r ∷ rs) = (λ i. no_source r.from i && (not (is_here r.label) && agrees_if position r.label) || no_lone rs i)
-
-    no_bare : (roots : List Edge) → any_is_here c.sources from roots ≡ false
-    no_bare [] = refl
-    no_bare (r ∷ rs) = (λ i. no_source r.from i && is_here r.label || no_bare rs i)
-
-    pub sourceless : any_between from position to (edges_of c) ≡ false
-    sourceless =
-        through_none (λ k h. (λ i. no_lone (numbered [] c.origins (Glob k)) i && any_strand (Glob k) None to c.bundles || no_bare (numbered [] c.origins (Glob k)) i && any_strand (Glob k) position to c.bundles))
+      no_source : (n : Node) → option_map_or from (numbered None c.sources n) false ≡ false
+      no_source (Glob i) = by_place (slice_get c.sources i) refl
+        where
+          by_place : (x : Option (Option Node)) → slice_get c.sources i ≡ x → option_map_or from (option_map_or (λ y. y) x None) false ≡ false
+          by_place None e = refl
+          by_place (Some s) e = list_any-at (λ source. option_map_or from source false) c.sources i s none e
+      no_source n = refl

@@ -1,19 +1,11 @@
 -- What changes of composed edges keep: each root leads from one of the sources, and each strand from one of the origins.
-use Rattle.std.proofs.Common.{◌≡◌, ℕ, ◌+◌, ◌<◌, ◌≤◌, Bool, true, false, not, List, [], ◌∷◌, ◌++◌, length, map, filter, flat_map, cond, take, drop, get_or, Option, option_map, Vec}
-use Rattle.std.proofs.Common.{refl, sym, ap, ◌∙◌, true≢false, arith}
-use Rattle.std.proofs.lemmas.Bool.{and_parts, and_from, lt-ltb, ltb-true}
-use Rattle.std.proofs.lemmas.List.{length-map, length-append, get_or_default, with_items_is}
+use Rattle.mv_edges.proofs.Common.{[], ℕ, ◌++◌, ◌+◌, ◌<◌, ◌∙◌, ◌∷◌, ◌≡◌, ◌≤◌, Bool, List, Option, ap, arith, cond, drop, false, filter, flat_map, get_or, length, map, not, option_map, refl}
+use Rattle.mv_edges.proofs.Common.{sym, take, true, true≢false, set, and_from, and_parts, lt-ltb, ltb-true, get_or_default, length-append, list_all-append, list_all-map, list_all}
+use Rattle.mv_edges.proofs.Common.{with_items, Node, Glob, Own, Slot, Temp, Bundle, Composition, but_at, is_below_count, is_live, is_numbered, is_whole, strands_at, Edge, an_edge, changed}
+use Rattle.mv_edges.proofs.Common.{renamed_node, same_node, sorted, Change}
+use Rattle.std.proofs.Common.{Vec}
+use Rattle.std.proofs.lemmas.List.{length-map, with_items_is}
 use Rattle.std.proofs.lemmas.List.Edits.{map_over_more}
-use Rattle.std.proofs.lemmas.List.Folds.{list_all-append, list_all-map}
-use Rattle.std.proofs.Math.ListN.{set}
-use Rattle.std.specs.List.{list_all}
-use Rattle.std.specs.Vec.{with_items}
-use Rattle.mv_move_types.specs.declared.borrow.Node.{Node}
-use Rattle.mv_move_types.specs.declared.borrow.Node.TheVariants.{Slot, Own, Glob, Temp}
-use Rattle.mv_edges.specs.declared.label.Change.{Change}
-use Rattle.mv_edges.specs.Edges.{Edge, same_node, an_edge, renamed_node, changed}
-use Rattle.mv_edges.specs.Sorted.{sorted}
-use Rattle.mv_edges.specs.Composition.{Bundle, Composition, is_below_count, is_numbered, is_whole, but_at, strands_at}
 use Rattle.mv_edges.proofs.Insertion.{all_contains, all_from_contains}
 use Rattle.mv_edges.proofs.Sorting.{contains-sorted}
 
@@ -32,10 +24,8 @@ changed_in_place f v before after e g = with_items_is v after (ap length e ∙ l
 -- ---- numbers
 
 below_more : (k m : ℕ) (n : Node) → k ≤ m → is_below_count k n ≡ true → is_below_count m n ≡ true
-below_more k m (Slot l) le h = absurd (true≢false (sym h))
-below_more k m (Own l) le h = absurd (true≢false (sym h))
 below_more k m (Glob i) le h = lt-ltb i m (omega (arith, ltb-true i k h))
-below_more k m (Temp l) le h = absurd (true≢false (sym h))
+below_more k m n le h = absurd (true≢false (sym h))
 
 -- whether all roots lead from sources below a count, and whether all strands lead from origins below one
 abbrev pub roots_below : ℕ → List (List Edge) → Bool
@@ -82,6 +72,16 @@ pub severed_whole : (n : Node) (c : Composition) (sources : List (Option Node)) 
     → is_whole (record { sources = sources; origins = c.origins; bundles = c.bundles }) ≡ true
 severed_whole n c sources e h = with_sources c sources (omega (arith, ap length e, length-map c.sources (but_at n))) h
 
+-- all of some are as all are
+module _ {A : Type 0} (p q : A → Bool) where
+  all_filter : (xs : List A) → list_all p xs ≡ true → list_all p (filter q xs) ≡ true
+  all_filter [] h = refl
+  all_filter (x ∷ xs) h = let parts = and_parts (p x) (list_all p xs) h in by_case (q x) (filter q xs) (all_filter xs parts.1) parts.0
+    where
+      by_case : (t : Bool) (ys : List A) → list_all p ys ≡ true → p x ≡ true → list_all p (cond t (x ∷ ys) ys) ≡ true
+      by_case true ys g k = and_from (p x) (list_all p ys) k g
+      by_case false ys g k = g
+
 pub gone_whole : (n : Node) (c : Composition) (sources : List (Option Node)) (bundles : List Bundle) → sources ≡ map (but_at n) c.sources
     → bundles ≡ filter (λ (b : Bundle). not (same_node b.node n)) c.bundles → is_whole c ≡ true
     → is_whole (record { sources = sources; origins = c.origins; bundles = bundles }) ≡ true
@@ -90,14 +90,6 @@ gone_whole n c sources bundles e g h =
     let q = λ (b : Bundle). not (same_node b.node n) in
     with_bundles (record { sources = sources; origins = c.origins; bundles = c.bundles }) bundles
     (ap (list_all p) g ∙ all_filter p q c.bundles (strands_numbered c h)) (severed_whole n c sources e h)
-  where
-    by_case : (t : Bool) (p : Bundle → Bool) (b : Bundle) (bs : List Bundle) → p b ≡ true → list_all p bs ≡ true → list_all p (cond t (b ∷ bs) bs) ≡ true
-    by_case true p b bs h g = and_from (p b) (list_all p bs) h g
-    by_case false p b bs h g = g
-
-    all_filter : (p q : Bundle → Bool) (bs : List Bundle) → list_all p bs ≡ true → list_all p (filter q bs) ≡ true
-    all_filter p q [] h = refl
-    all_filter p q (b ∷ bs) h = let parts = and_parts (p b) (list_all p bs) h in by_case (q b) p b (filter q bs) parts.0 (all_filter p q bs parts.1)
 
 pub moved_whole : (old new : Node) (c : Composition) (sources : List (Option Node)) (bundles : List Bundle) → sources ≡ map (option_map (renamed_node old new)) c.sources
     → bundles ≡ map (λ (b : Bundle). record { node = renamed_node old new b.node; strands = b.strands }) c.bundles → is_whole c ≡ true
@@ -126,13 +118,16 @@ with_origin_whole roots c origins e g h =
 -- ---- strands taken over
 
 -- what leads from numbered origins does so with its label changed, in its order
-pub taken_numbered : (k : ℕ) (change : Change) (nodes : List Node) (bundles : List Bundle) (strands : List Edge)
-    → strands ≡ sorted (map (λ (e : Edge). an_edge e.from (changed change e.label) (Slot 0)) (flat_map (λ n. strands_at n bundles) nodes))
-    → strands_below k bundles ≡ true → list_all (is_numbered k) strands ≡ true
-taken_numbered k change nodes bundles strands e h =
+pub taken_numbered : (k : ℕ) (change : Change) (nodes : List Node) (c : Composition) (all left strands : List Edge)
+    → all ≡ map (λ (e : Edge). an_edge e.from (changed change e.label) (Slot 0)) (flat_map (λ n. strands_at n c.bundles) nodes)
+    → left ≡ filter (is_live c) all → strands ≡ sorted left
+    → strands_below k c.bundles ≡ true → list_all (is_numbered k) strands ≡ true
+taken_numbered k change nodes c all left strands are live is h =
+    let bundles = c.bundles in
     let changes : Edge → Edge = λ e. an_edge e.from (changed change e.label) (Slot 0) in
-    let all = flat_map (λ n. strands_at n bundles) nodes in
-    ap (list_all (is_numbered k)) e ∙ all_sorted (map changes all) (list_all-map (is_numbered k) changes all ∙ at_nodes nodes)
+    let at_all = flat_map (λ n. strands_at n bundles) nodes in
+    ap (list_all (is_numbered k)) is
+    ∙ all_sorted left (ap (list_all (is_numbered k)) live ∙ all_filter (is_numbered k) (is_live c) all (ap (list_all (is_numbered k)) are ∙ list_all-map (is_numbered k) changes at_all ∙ at_nodes nodes))
   where
     all_sorted : (es : List Edge) → list_all (is_numbered k) es ≡ true → list_all (is_numbered k) (sorted es) ≡ true
     all_sorted es h = all_from_contains (is_numbered k) (sorted es) (λ e c. all_contains (is_numbered k) es e h ((contains-sorted es e).0 c))
@@ -147,8 +142,8 @@ taken_numbered k change nodes bundles strands e h =
         let parts = and_parts (list_all (is_numbered k) b.strands) (strands_below k bs) h in
         by_case (same_node b.node n) b.strands (strands_at n bs) parts.0 (at_node n bs parts.1)
 
-    at_nodes : (ns : List Node) → list_all (is_numbered k) (flat_map (λ n. strands_at n bundles) ns) ≡ true
+    at_nodes : (ns : List Node) → list_all (is_numbered k) (flat_map (λ n. strands_at n c.bundles) ns) ≡ true
     at_nodes [] = refl
     at_nodes (n ∷ ns) =
-        list_all-append (is_numbered k) (strands_at n bundles) (flat_map (λ n. strands_at n bundles) ns)
-        ∙ and_from (list_all (is_numbered k) (strands_at n bundles)) (list_all (is_numbered k) (flat_map (λ n. strands_at n bundles) ns)) (at_node n bundles h) (at_nodes ns)
+        list_all-append (is_numbered k) (strands_at n c.bundles) (flat_map (λ n. strands_at n c.bundles) ns)
+        ∙ and_from (list_all (is_numbered k) (strands_at n c.bundles)) (list_all (is_numbered k) (flat_map (λ n. strands_at n c.bundles) ns)) (at_node n c.bundles h) (at_nodes ns)

@@ -3,16 +3,10 @@
 --   IsRising p       an edge above one that passes p passes it, too
 --   IsKeeping h      h keeps the order of edges
 --   IsLabelRising p, IsLabelKeeping h      the same of labels
-use Rattle.std.proofs.Common.{◌≡◌, ℕ, inl, inr, Bool, true, false, not, ◌&&◌, ◌||◌, List, [], ◌∷◌, ◌++◌, length, map, filter, flat_map, Contains, eqb}
-use Rattle.std.proofs.Common.{refl, sym, ap, ◌∙◌, subst, true≢false, eqb-true, eq-eqb}
-use Rattle.std.specs.List.{list_any}
-use Rattle.std.proofs.lemmas.Bool.{and_parts, and_from, cond_both, cond-true, false_from_ne_true}
-use Rattle.std.proofs.lemmas.List.Elements.{Contains-append_cases, Contains-append_left, Contains-append_right}
-use Rattle.mv_move_types.specs.Paths.{begins}
-use Rattle.mv_move_types.specs.declared.borrow.Node.{Node}
-use Rattle.mv_edges.specs.Edges.{Label, Edge, same_node, extended, opened, agrees, label_leq, out_of, into, but_out_of, without, renamed_node, renamed, inherited}
-use Rattle.mv_edges.specs.Related.{edge_related, edges_related}
-use Rattle.mv_edges.specs.Sorted.{sorted}
+use Rattle.mv_edges.proofs.Common.{[], ℕ, ◌&&◌, ◌++◌, ◌||◌, ◌∙◌, ◌∷◌, ◌≡◌, Bool, Contains, List, ap, eqb, false, filter, flat_map, inl, inr, length, map, not, refl, subst, sym, true}
+use Rattle.mv_edges.proofs.Common.{true≢false, and_from, and_parts, cond-true, cond_both, eq-eqb, eqb-true, false_from_ne_true, Contains-append_cases, Contains-append_left}
+use Rattle.mv_edges.proofs.Common.{Contains-append_right, list_any, begins, Node, Edge, Label, agrees, but_out_of, extended, inherited, into, label_leq, opened, out_of, renamed}
+use Rattle.mv_edges.proofs.Common.{renamed_node, same_node, without, edge_related, edges_related, sorted}
 use Rattle.mv_edges.proofs.Comparisons.{agrees_first}
 use Rattle.mv_edges.proofs.Insertion.{contains_cases, contains_here, contains_there, contains_none}
 use Rattle.mv_edges.proofs.Sorting.{contains-sorted, any_passes}
@@ -154,9 +148,6 @@ module _ (le : Label → Label → Bool) where
 
   -- ---- the changes that the rules make
 
-  pub related-out_of : (n : Node) (es fs : List Edge) → edges_related le es fs ≡ true → edges_related le (out_of n es) (out_of n fs) ≡ true
-  related-out_of n = related-filter (λ e. same_node e.from n) (nodes_rise (λ from _. same_node from n))
-
   pub related-into : (n : Node) (es fs : List Edge) → edges_related le es fs ≡ true → edges_related le (into n es) (into n fs) ≡ true
   related-into n = related-filter (λ e. same_node e.to n) (nodes_rise (λ _ to. same_node to n))
 
@@ -179,7 +170,8 @@ module _ (le : Label → Label → Bool) where
   abbrev inherited_edge : (Label → Label) → Node → Edge → Edge
   inherited_edge h new e = record { from = e.from; label = h e.label; to = new }
 
-  pub related-inherited : (h : Label → Label) → IsLabelKeeping le h → (old new : Node) (es fs : List Edge) → edges_related le es fs ≡ true → edges_related le (inherited h old new es) (inherited h old new fs) ≡ true
+  pub related-inherited : (h : Label → Label) → IsLabelKeeping le h → (old new : Node) (es fs : List Edge) → edges_related le es fs ≡ true
+      → edges_related le (inherited h old new es) (inherited h old new fs) ≡ true
   related-inherited h keeps old new es fs below =
       related-map (inherited_edge h new)
       (λ a b g. let nodes = related_parts le a b g in related_from le (inherited_edge h new a) (inherited_edge h new b) nodes.from refl (keeps a.label b.label nodes.label)) (into old es) (into old fs)

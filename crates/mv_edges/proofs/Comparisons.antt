@@ -1,18 +1,13 @@
 -- Comparisons of lists of numbers and of edges, by the words of the definitions.
-use Rattle.std.proofs.Common.{◌≡◌, ℕ, Bool, true, false, cond, not, ne_eqb, ◌&&◌, ◌||◌, eqb, ltb, List, [], ◌∷◌, Ordering, Less, Equal, Greater}
-use Rattle.std.proofs.Common.{nat_cmp, is_lt, bytes_eq, slice_get, refl, sym, ap, ◌∙◌, arith, true≢false}
-use Rattle.std.specs.Bool.{beq}
+use Rattle.mv_edges.proofs.Common.{[], ℕ, ◌&&◌, ◌||◌, ◌∙◌, ◌∷◌, ◌≡◌, Bool, List, ap, arith, cond, eqb, false, ltb, ne_eqb, not, refl, slice_get, sym, true, true≢false, and_from, and_parts}
+use Rattle.mv_edges.proofs.Common.{ltb-true, beq, nat_eq_equiv, bytes_decides, option_map_or, bytes_eq, begins, edge_before, edge_order, list_before, nodes_code, Edge, Label, agrees}
+use Rattle.mv_edges.proofs.Common.{an_edge, same_node, same_node_decides}
+use Rattle.std.proofs.Common.{Ordering, Less, Equal, Greater, nat_cmp, is_lt}
 use Rattle.std.specs.Ordering.{ordering_then, bool_cmp, is_eq}
-use Rattle.std.specs.Option.{option_map_or}
-use Rattle.std.specs.Cmp.{nat_eq_equiv}
-use Rattle.std.specs.Cmp.Lexicographic.{slice_cmp, bytes_decides}
+use Rattle.std.specs.Cmp.Lexicographic.{slice_cmp}
 use Rattle.std.specs.List.{starts_with}
-use Rattle.std.proofs.lemmas.Bool.{and_parts, and_from, ltb-true}
-use Rattle.mv_move_types.specs.Paths.{begins}
-use Rattle.mv_edges.specs.Edges.{Edge, Label, agrees, same_node, an_edge}
-use Rattle.mv_edges.specs.Ascending.{list_before, nodes_code, edge_before, edge_order}
 use Rattle.mv_edges.proofs.EdgeOrder.{edge_strict, same_edges}
-use Rattle.mv_edges.specs.Equality.{beq_decides, same_node_decides}
+use Rattle.mv_edges.specs.Equality.{beq_decides}
 
 -- `starts_with`
 pub starts_with_begins : (xs ys : List ℕ) → starts_with eqb ys xs ≡ begins xs ys
@@ -61,13 +56,11 @@ list_order_same (x ∷ xs) (y ∷ ys) =
 -- one comparison after another
 then_before : (o r : Ordering) → is_lt (ordering_then o r) ≡ (is_lt o || is_eq o && is_lt r)
 then_before Less r = refl
-then_before Equal r = refl
-then_before Greater r = refl
+then_before o r = refl
 
 then_same : (o r : Ordering) → is_eq (ordering_then o r) ≡ (is_eq o && is_eq r)
 then_same Less r = refl
-then_same Equal r = refl
-then_same Greater r = refl
+then_same o r = refl
 
 bool_before : (c a b : Bool) → (c && is_lt (bool_cmp a b)) ≡ (c && not a && b)
 bool_before true true true = refl

@@ -1,22 +1,11 @@
 -- What becomes of the edges of a composition where it is changed.
-use Rattle.std.proofs.Common.{◌≡◌, ℕ, ◌<◌, Bool, true, false, cond, not, ◌&&◌, List, [], ◌∷◌, ◌++◌, length, map, filter, flat_map, slice_get}
-use Rattle.std.proofs.Common.{Option, None, Some, zero, suc, refl, sym, ap, ◌∙◌, arith, append-nil, append_assoc}
-use Rattle.std.specs.Prelude.{option_map}
-use Rattle.std.specs.Option.{option_map_or}
-use Rattle.std.specs.List.{list_all}
-use Rattle.std.proofs.lemmas.Bool.{and_parts, ltb-true}
-use Rattle.std.proofs.lemmas.Grind.{flat_map-append}
-use Rattle.std.proofs.lemmas.List.{map-append}
+use Rattle.mv_edges.proofs.Common.{[], ℕ, ◌&&◌, ◌++◌, ◌<◌, ◌∙◌, ◌∷◌, ◌≡◌, Bool, List, None, Option, Some, ap, append-nil, append_assoc, arith, cond, false, filter, flat_map, length, map}
+use Rattle.mv_edges.proofs.Common.{not, option_map, refl, slice_get, suc, sym, true, zero, and_parts, ltb-true, flat_map-append, map-append, flat_map-map, list_all, option_map_or, Node}
+use Rattle.mv_edges.proofs.Common.{Glob, Own, Slot, Temp, Bundle, Composition, bundle_edges, but_at, composed, edges_of, gone, is_below_count, is_numbered, is_whole, moved, numbered}
+use Rattle.mv_edges.proofs.Common.{root_edges, severed, strand_edges, with_bundle, Edge, Label, an_edge, but_out_of, changed, extended, here, inherited, into, opened, renamed, renamed_node}
+use Rattle.mv_edges.proofs.Common.{same_node, without, Change, Extended, Kept, Opened}
 use Rattle.std.proofs.lemmas.List.Elements.{filter-append}
-use Rattle.std.proofs.lemmas.List.Folds.{flat_map-map}
 use Rattle.std.proofs.lemmas.Option.{slice_get-map}
-use Rattle.mv_move_types.specs.declared.borrow.Node.{Node}
-use Rattle.mv_move_types.specs.declared.borrow.Node.TheVariants.{Slot, Own, Glob, Temp}
-use Rattle.mv_edges.specs.declared.label.Change.{Change}
-use Rattle.mv_edges.specs.declared.label.Change.TheVariants.{Kept, Extended, Opened}
-use Rattle.mv_edges.specs.Edges.{Label, Edge, same_node, here, an_edge, changed, extended, opened, but_out_of, without, renamed_node, renamed, into, inherited}
-use Rattle.mv_edges.specs.Composition.{Bundle, Composition, composed, numbered, is_below_count, is_numbered, root_edges, strand_edges, bundle_edges, edges_of, is_whole}
-use Rattle.mv_edges.specs.Composition.{but_at, severed, gone, moved, with_bundle, lent}
 
 -- ---- labels
 
@@ -119,14 +108,12 @@ module _ (k : List Edge → List Edge) (o : IsPiecewise k) where
 
 -- what stands under a number of a changed list
 pub numbered-map : {A B : Type 0} (h : A → B) (none : A) (all : List A) (m : Node) → numbered (h none) (map h all) m ≡ h (numbered none all m)
-numbered-map h none all (Slot l) = refl
-numbered-map h none all (Own l) = refl
-numbered-map h none all (Temp k) = refl
 numbered-map {A} {B} h none all (Glob i) = ap (λ o. option_map_or (λ x. x) o (h none)) (slice_get-map h all i) ∙ by_case (slice_get all i)
   where
     by_case : (o : Option A) → option_map_or (λ x. x) (option_map h o) (h none) ≡ h (option_map_or (λ x. x) o none)
     by_case None = refl
     by_case (Some x) = refl
+numbered-map h none all n = refl
 
 -- ---- no edges out of a node
 
@@ -240,15 +227,13 @@ edges_of-with_bundle b c =
 
 -- what stands under a number is not another where more is put behind
 pub numbered-append : {A : Type 0} (none : A) (all more : List A) (m : Node) → is_below_count (length all) m ≡ true → numbered none (all ++ more) m ≡ numbered none all m
-numbered-append none all more (Slot l) h = refl
-numbered-append none all more (Own l) h = refl
-numbered-append none all more (Temp k) h = refl
 numbered-append {A} none all more (Glob i) h = ap (λ o. option_map_or (λ x. x) o none) (in_front all i (ltb-true i (length all) h))
   where
     in_front : (xs : List A) (k : ℕ) → k < length xs → slice_get (xs ++ more) k ≡ slice_get xs k
     in_front [] k g = absurd (omega (arith, g))
     in_front (x ∷ xs) zero g = refl
     in_front (x ∷ xs) (suc k) g = in_front xs k (omega (arith, g))
+numbered-append none all more n h = refl
 
 -- and what is put there stands under the next number
 pub numbered_next : {A : Type 0} (none : A) (all : List A) (x : A) → numbered none (all ++ x ∷ []) (Glob (length all)) ≡ x
@@ -260,15 +245,13 @@ numbered_next {A} none all x = ap (λ o. option_map_or (λ y. y) o none) (at_end
 
 -- each of the lists under numbers passes a test that all pass
 pub numbered_all : (p : Edge → Bool) (origins : List (List Edge)) (m : Node) → list_all (λ roots. list_all p roots) origins ≡ true → list_all p (numbered [] origins m) ≡ true
-numbered_all p origins (Slot l) h = refl
-numbered_all p origins (Own l) h = refl
-numbered_all p origins (Temp k) h = refl
 numbered_all p origins (Glob i) h = at origins i h
   where
     at : (all : List (List Edge)) (k : ℕ) → list_all (λ roots. list_all p roots) all ≡ true → list_all p (option_map_or (λ x. x) (slice_get all k) []) ≡ true
     at [] k g = refl
     at (roots ∷ all) zero g = (and_parts (list_all p roots) (list_all (λ rs. list_all p rs) all) g).0
     at (roots ∷ all) (suc k) g = at all k (and_parts (list_all p roots) (list_all (λ rs. list_all p rs) all) g).1
+numbered_all p origins n h = refl
 
 -- a bundle's edges are the same where there are more sources and origins
 pub bundle_edges-append : (sources more : List (Option Node)) (origins others : List (List Edge)) (b : Bundle)
@@ -281,6 +264,14 @@ bundle_edges-append sources more origins others b h g =
     ∙ flat_map_passing (is_numbered (length sources)) (root_edges (sources ++ more) b.node s.label) (root_edges sources b.node s.label)
     (λ root there. ap (λ o. option_map_or (λ from. an_edge from (composed root.label s.label) b.node ∷ []) o []) (numbered-append None sources more root.from there))
     (numbered [] origins s.from) (numbered_all (is_numbered (length sources)) origins s.from h)) b.strands g
+
+-- the bundle of a node that is lent by the source of this number, the only one of its origin
+abbrev pub lent : Node → Node → Composition → Composition
+lent from to c = record {
+  sources = c.sources ++ Some from ∷ [];
+  origins = c.origins ++ (an_edge (Glob (length c.sources)) here (Slot 0) ∷ []) ∷ [];
+  bundles = c.bundles ++ record { node = to; strands = an_edge (Glob (length c.origins)) here (Slot 0) ∷ [] } ∷ [];
+}
 
 pub edges_of-lent : (from to : Node) (c : Composition) → is_whole c ≡ true → edges_of (lent from to c) ≡ edges_of c ++ an_edge from here to ∷ []
 edges_of-lent from to c whole =

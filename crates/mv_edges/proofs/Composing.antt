@@ -1,19 +1,9 @@
 -- Labels that stand one behind the other, and lists of edges that are made of such.
-use Rattle.std.proofs.Common.{◌≡◌, ℕ, zero, suc, inl, inr, ◌+◌, ◌-◌, ◌<◌, ◌≤◌, Bool, true, false, ◌&&◌, ◌||◌, List, [], ◌∷◌, ◌++◌, length, take, drop, get_or, flat_map, eqb, bytes_eq}
-use Rattle.std.proofs.Common.{Option, Some, None, append-nil, take-append-drop, refl, sym, ap, ◌∙◌, subst, arith, true≢false}
+use Rattle.mv_edges.proofs.Common.{[], ℕ, ◌&&◌, ◌++◌, ◌+◌, ◌-◌, ◌<◌, ◌||◌, ◌∙◌, ◌∷◌, ◌≡◌, ◌≤◌, Bool, List, None, Option, Some, ap, append-nil, arith, drop, eqb, false, flat_map, get_or, inl}
+use Rattle.mv_edges.proofs.Common.{inr, length, refl, subst, suc, sym, take, take-append-drop, true, true≢false, zero, and_from, and_parts, cases_Bool, false_from_ne_true, drop_more}
+use Rattle.mv_edges.proofs.Common.{take_all, list_all-append, beq, nat_eq_equiv, list_all, list_any, option_map_or, bytes_eq, begins, Node, composed, numbered, root_edges, strand_edges}
+use Rattle.mv_edges.proofs.Common.{Edge, Label, an_edge, edge_leq, edges_leq, here, label_leq, opened, same_node, same_node_decides}
 use Rattle.std.specs.Prelude.{if◌then◌else◌}
-use Rattle.std.specs.Bool.{beq}
-use Rattle.std.specs.Cmp.{nat_eq_equiv}
-use Rattle.std.specs.List.{list_all, list_any}
-use Rattle.std.specs.Option.{option_map_or}
-use Rattle.std.proofs.lemmas.Bool.{false_from_ne_true, and_parts, and_from, cases_Bool}
-use Rattle.std.proofs.lemmas.List.{take_all, drop_more}
-use Rattle.std.proofs.lemmas.List.Folds.{list_all-append}
-use Rattle.mv_move_types.specs.Paths.{begins}
-use Rattle.mv_move_types.specs.declared.borrow.Node.{Node}
-use Rattle.mv_edges.specs.Edges.{Label, Edge, same_node, here, opened, an_edge, label_leq, edge_leq, edges_leq}
-use Rattle.mv_edges.specs.Equality.{same_node_decides}
-use Rattle.mv_edges.specs.Composition.{composed, numbered, root_edges, strand_edges}
 use Rattle.mv_edges.proofs.Insertion.{all_contains}
 use Rattle.mv_edges.proofs.Order.{LabelBelow, same, prefix, label_below, label_leq_prefix, begins-transitive, begins-append}
 use Rattle.mv_edges.proofs.Related.{related_parts, related_from, passing, list_any_from}
@@ -167,11 +157,6 @@ module _ (sources : List (Option Node)) (to : Node) (root : Edge) (others : List
         and-true : (b : Bool) → (b && true) ≡ b
         and-true true = refl
         and-true false = refl
-
-    -- one whose source is there has one with each strand
-    pub there_under : (run : List Edge) → list_all one_under run ≡ list_all under_with run
-    there_under [] = refl
-    there_under (strand ∷ run) = ap (λ b. b && list_all one_under run) (sym (with_one strand)) ∙ ap (λ b. under_with strand && b) (there_under run)
 
     pub covered_under : (run : List Edge) → list_any (edge_leq (an_edge from (composed root.label (opened here)) to)) others ≡ true → true ≡ list_all under_with run
     covered_under [] h = refl

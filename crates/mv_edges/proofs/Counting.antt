@@ -1,13 +1,10 @@
 -- Comparisons that a search by halves takes.
-use Rattle.std.proofs.Common.{◌≡◌, ℕ, zero, suc, ◌+◌, ◌-◌, ◌/◌, ◌^◌, ◌<◌, ◌≤◌, arith}
-use Rattle.mv_edges.specs.Counts.{IsWithin, IsCounted, counted}
+use Rattle.mv_edges.proofs.Common.{ℕ, ◌+◌, ◌-◌, ◌/◌, ◌<◌, ◌≡◌, ◌≤◌, arith, suc, zero, IsCounted, IsWithin, counted}
+use Rattle.std.proofs.Common.{◌^◌}
 
 -- what is left fits fewer halvings, by those that are counted already
 abbrev pub Spends : ℕ → ℕ → ℕ → ℕ → Type 0
 Spends left edges old new = (r : ℕ) → edges < 2 ^ r → (s : ℕ) × ((left < 2 ^ s) × (new + s ≤ old + r))
-
-pub spends_start : (left edges count : ℕ) → left ≤ edges → Spends left edges count count
-spends_start left edges count h r g = (r, (omega (arith, h, g), omega arith))
 
 twice : (t : ℕ) → 2 ^ suc t ≡ 2 ^ t + 2 ^ t
 twice t = grind arith
@@ -33,10 +30,6 @@ lower_half low high h = omega (arith, h)
 
 pub upper_half : (low high : ℕ) → low < high → (high - (low + (high - low) / 2 + 1)) + (high - (low + (high - low) / 2 + 1)) ≤ high - low
 upper_half low high h = omega (arith, h)
-
--- one search more
-pub within_more : (edges n old count next : ℕ) → IsWithin edges n old count → IsWithin edges 1 count next → IsWithin edges (n + 1) old next
-within_more edges n old count next f g r h = let a = f r h in let b = g r h in grind (arith, a, b)
 
 -- fewer searches than allowed
 pub within_fewer : (edges n m old new : ℕ) → n ≤ m → IsWithin edges n old new → IsWithin edges m old new

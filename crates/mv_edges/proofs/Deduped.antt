@@ -1,15 +1,12 @@
 -- What a sort and a `dedup` make of edges.
-use Rattle.std.proofs.Common.{◌≡◌, zero, suc, ◌+◌, Bool, true, false, List, [], ◌∷◌, get_or, refl, sym, ◌∙◌, subst, arith, true≢false}
+use Rattle.mv_edges.proofs.Common.{[], ◌+◌, ◌∙◌, ◌∷◌, ◌≡◌, Bool, List, arith, false, get_or, refl, subst, suc, sym, true, true≢false, zero, and_from, cond_both, false_from_ne_true}
+use Rattle.mv_edges.proofs.Common.{are_ascending, edge_before, Edge, same_edge, same_edge_decides, sorted}
 use Rattle.std.specs.List.{dedup, dedup_from}
 use Rattle.std.specs.List.Sorted.{IsPermutation, IsSortedBy}
 use Rattle.std.specs.Cmp.{IsStrictWeakOrder}
-use Rattle.std.proofs.lemmas.Bool.{cond_both, and_from, false_from_ne_true}
 use Rattle.std.proofs.lemmas.List.Kept.{Contains-dedup, Contains-from_dedup}
 use Rattle.std.proofs.lemmas.List.Sorted.{Contains-permutation, IsPermutation-sym}
-use Rattle.mv_edges.specs.Edges.{Edge, same_edge}
-use Rattle.mv_edges.specs.Ascending.{edge_before, are_ascending}
-use Rattle.mv_edges.specs.Sorted.{sorted}
-use Rattle.mv_edges.specs.Equality.{same_edge_decides, same_edge_equiv}
+use Rattle.mv_edges.specs.Equality.{same_edge_equiv}
 use Rattle.mv_edges.proofs.EdgeOrder.{edge_strict}
 use Rattle.mv_edges.proofs.Insertion.{asymmetric}
 use Rattle.mv_edges.proofs.Sorting.{contains-sorted, ascending-sorted, same_edges_from_contains}

@@ -1,10 +1,6 @@
 -- The order of edges is strict and total.
-use Rattle.std.proofs.Common.{◌≡◌, ℕ, Bool, true, false, not, ◌&&◌, ◌||◌, List, [], ◌++◌, bytes_eq, drop, refl, sym, ap, ◌∙◌, true≢false}
-use Rattle.std.specs.Cmp.Lexicographic.{bytes_decides}
-use Rattle.mv_move_types.specs.declared.borrow.Node.{Node}
-use Rattle.mv_move_types.specs.declared.borrow.Node.TheVariants.{Slot, Own, Glob, Temp}
-use Rattle.mv_edges.specs.Edges.{Edge}
-use Rattle.mv_edges.specs.Ascending.{list_before, node_code, nodes_code, edge_before}
+use Rattle.mv_edges.proofs.Common.{[], ℕ, ◌&&◌, ◌++◌, ◌||◌, ◌∙◌, ◌≡◌, Bool, List, ap, drop, false, not, refl, sym, true, true≢false, bytes_decides, bytes_eq, Node, Glob, Own, Slot, Temp}
+use Rattle.mv_edges.proofs.Common.{edge_before, list_before, node_code, nodes_code, Edge}
 use Rattle.mv_edges.proofs.Insertion.{IsStrictOrder}
 use Rattle.mv_edges.proofs.Lexicographic.{IsStrictUpTo, list_before_strict, key_then, then_strict}
 
@@ -40,9 +36,6 @@ by_label = key_then (λ e. e.label.path) list_before bytes_eq bytes_decides list
 abbrev by_nodes : Edge → Edge → Bool
 by_nodes = key_then nodes_code list_before bytes_eq bytes_decides list_before_strict by_label
 
-SameParts : Edge → Edge → Type 0
-SameParts a b = (nodes_code a ≡ nodes_code b) × ((a.label.path ≡ b.label.path) × (a.label.is_open ≡ b.label.is_open))
-
 by_nodes_strict : IsStrictUpTo by_nodes (λ a b. (nodes_code a ≡ nodes_code b) × ((a.label.path ≡ b.label.path) × (a.label.is_open ≡ b.label.is_open)))
 by_nodes_strict =
     then_strict nodes_code list_before bytes_eq bytes_decides list_before_strict by_label (λ a b. (a.label.path ≡ b.label.path) × (a.label.is_open ≡ b.label.is_open))
@@ -67,18 +60,7 @@ same_start (Slot i) (Slot j) xs ys h = record { node = cc; rest = cc }
 same_start (Own i) (Own j) xs ys h = record { node = cc; rest = cc }
 same_start (Glob i) (Glob j) xs ys h = record { node = cc; rest = cc }
 same_start (Temp i) (Temp j) xs ys h = record { node = cc; rest = cc }
-same_start (Slot i) (Own j) xs ys h = cc
-same_start (Slot i) (Glob j) xs ys h = cc
-same_start (Slot i) (Temp j) xs ys h = cc
-same_start (Own i) (Slot j) xs ys h = cc
-same_start (Own i) (Glob j) xs ys h = cc
-same_start (Own i) (Temp j) xs ys h = cc
-same_start (Glob i) (Slot j) xs ys h = cc
-same_start (Glob i) (Own j) xs ys h = cc
-same_start (Glob i) (Temp j) xs ys h = cc
-same_start (Temp i) (Slot j) xs ys h = cc
-same_start (Temp i) (Own j) xs ys h = cc
-same_start (Temp i) (Glob j) xs ys h = cc
+same_start m n xs ys h = cc
 
 pub same_edges : (a b : Edge) → nodes_code a ≡ nodes_code b → a.label.path ≡ b.label.path → a.label.is_open ≡ b.label.is_open → a ≡ b
 same_edges a b h p o =

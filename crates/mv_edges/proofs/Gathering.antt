@@ -1,21 +1,13 @@
 -- Edges as compositions: each from the number of its source, in the list of the node that it leads to.
-use Rattle.std.proofs.Common.{◌≡◌, ℕ, zero, suc, ◌+◌, ◌<◌, ◌≤◌, inl, inr, Bool, true, false, ◌&&◌, List, [], ◌∷◌, ◌++◌, length, map, flat_map, take, get_or, set, slice_get, nat_lt, Option, Some, None, Contains}
-use Rattle.std.proofs.Common.{refl, sym, ap, ◌∙◌, subst, arith, append-nil, append_assoc}
-use Rattle.std.specs.List.{list_all}
-use Rattle.std.proofs.lemmas.Bool.{and_parts, and_from, ltb-true, lt-ltb}
-use Rattle.std.specs.Option.{option_map_or}
-use Rattle.std.proofs.lemmas.List.{map-append, length-append, get_or-take, length-take}
-use Rattle.std.proofs.lemmas.Option.{slice_get_within, slice_get-get_or, same_Some}
-use Rattle.std.proofs.lemmas.Grind.{flat_map-append}
-use Rattle.std.proofs.lemmas.List.Folds.{list_all-append, list_all-map, flat_map-map}
-use Rattle.std.proofs.lemmas.List.Elements.{Contains-append_cases, Contains-append_left, Contains-append_right}
-use Rattle.mv_move_types.specs.declared.borrow.Node.{Node}
-use Rattle.mv_move_types.specs.declared.borrow.Node.TheVariants.{Slot, Own, Glob, Temp}
-use Rattle.mv_edges.specs.Edges.{Label, Edge, here, an_edge}
-use Rattle.mv_edges.specs.Ascending.{are_ascending}
-use Rattle.mv_edges.specs.Sorted.{sorted}
-use Rattle.mv_edges.specs.Composition.{Bundle, Composition, is_whole, edges_of, composed, numbered, is_below_count, is_numbered, root_edges, bundle_edges}
-use Rattle.mv_edges.specs.Origins.{unnumbered, led_to, led_into, bundle_of, bundles_from}
+use Rattle.mv_edges.proofs.Common.{[], ℕ, ◌&&◌, ◌++◌, ◌+◌, ◌<◌, ◌∙◌, ◌∷◌, ◌≡◌, ◌≤◌, Bool, Contains, List, None, Option, Some, ap, append-nil, append_assoc, arith, false, flat_map, get_or}
+use Rattle.mv_edges.proofs.Common.{inl, inr, length, map, refl, slice_get, subst, suc, sym, take, true, zero, set, and_from, and_parts, lt-ltb, ltb-true, flat_map-append, get_or-take}
+use Rattle.mv_edges.proofs.Common.{length-append, map-append, Contains-append_cases, Contains-append_left, Contains-append_right, flat_map-map, list_all-append, list_all-map}
+use Rattle.mv_edges.proofs.Common.{slice_get-get_or, slice_get_within, list_all, option_map_or, Node, Glob, Own, Slot, Temp, are_ascending, Bundle, Composition, bundle_edges, composed}
+use Rattle.mv_edges.proofs.Common.{edges_of, is_below_count, is_numbered, is_whole, numbered, root_edges, Edge, Label, an_edge, here, bundle_of, bundles_from, led_into, led_to, unnumbered}
+use Rattle.mv_edges.proofs.Common.{sorted}
+use Rattle.std.proofs.Common.{nat_lt}
+use Rattle.std.proofs.lemmas.List.{length-take}
+use Rattle.std.proofs.lemmas.Option.{same_Some}
 use Rattle.mv_edges.proofs.Insertion.{contains_here, contains_there, contains_cases, contains_none, all_contains, all_from_contains, all_weaker}
 use Rattle.mv_edges.proofs.Sorting.{contains-sorted, ascending-sorted, sorted-ascending, sorted_alike, sorted-append_swap, sorted-append_sorted}
 use Rattle.mv_edges.proofs.Composing.{a_label}
@@ -87,11 +79,9 @@ unnumbered_kept s t e h g = by_node e.from g
   where
     by_node : (n : Node) → is_below_count (length s) n ≡ true
         → option_map_or (λ from. an_edge from (composed e.label here) e.to ∷ []) (numbered None t n) [] ≡ option_map_or (λ from. an_edge from (composed e.label here) e.to ∷ []) (numbered None s n) []
-    by_node (Slot l) k = refl
-    by_node (Own l) k = refl
-    by_node (Temp l) k = refl
     by_node (Glob i) k =
         ap (λ o. option_map_or (λ from. an_edge from (composed e.label here) e.to ∷ []) (option_map_or (λ x. x) o None) []) (same_place s t i h (ltb-true i (length s) k))
+    by_node n k = refl
 
 all_kept : (s t : List (Option Node)) (es : List Edge) → take (length s) t ≡ s → list_all (is_numbered (length s)) es ≡ true → flat_map (unnumbered t) es ≡ flat_map (unnumbered s) es
 all_kept s t [] h g = refl
@@ -120,10 +110,8 @@ unnumbered_more s t es before i e h all was at =
     ∙ ap (λ xs. before ++ (xs ++ [])) one
 
 below_more : (n m : ℕ) (node : Node) → n ≤ m → is_below_count n node ≡ true → is_below_count m node ≡ true
-below_more n m (Slot l) h g = g
-below_more n m (Own l) h g = g
-below_more n m (Temp l) h g = g
 below_more n m (Glob i) h g = let less = ltb-true i n g in lt-ltb i m (omega (arith, less, h))
+below_more n m k h g = g
 
 all_numbered : (n m : ℕ) (es : List Edge) → n ≤ m → list_all (is_numbered n) es ≡ true → list_all (is_numbered m) es ≡ true
 all_numbered n m es h all = all_weaker (is_numbered n) (is_numbered m) (λ e g. below_more n m e.from h g) es all

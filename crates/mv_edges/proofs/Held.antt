@@ -1,15 +1,11 @@
 -- What is known of a graph is a list in its order: what changes of composed edges make of it.
-use Rattle.std.proofs.Common.{◌≡◌, ℕ, Bool, true, false, not, ◌&&◌, List, [], ◌∷◌, ◌++◌, length, flat_map, Option, Some, None, refl, sym, ap, ◌∙◌}
-use Rattle.std.specs.Prelude.{◌==◌}
-use Rattle.std.specs.List.{list_any}
-use Rattle.mv_move_types.specs.declared.borrow.Node.{Node}
-use Rattle.mv_edges.specs.Edges.{Edge, same_node, is_global_node, here, agrees, extended, opened, out_of, but_out_of, inherited, without, renamed, an_edge, edges_leq}
-use Rattle.mv_edges.specs.Sorted.{sorted}
-use Rattle.mv_edges.specs.Composition.{Composition, edges_of, gone, severed, moved, lent, is_whole, any_between, agrees_if}
-use Rattle.mv_edges.specs.Graph.{Heir, without_each, taken_over}
+use Rattle.mv_edges.proofs.Common.{[], ℕ, ◌&&◌, ◌++◌, ◌==◌, ◌∙◌, ◌∷◌, ◌≡◌, Bool, List, None, Option, Some, ap, false, flat_map, length, not, refl, sym, true, list_any, Node, Composition}
+use Rattle.mv_edges.proofs.Common.{agrees_if, any_between, edges_of, gone, is_whole, moved, severed, Edge, agrees, an_edge, but_out_of, edges_leq, extended, here, inherited, is_global_node}
+use Rattle.mv_edges.proofs.Common.{opened, out_of, renamed, same_node, without, Heir, taken_over, without_each, sorted}
 use Rattle.mv_edges.proofs.Between.{any_at_all, list_any-alike, list_any-filter}
-use Rattle.mv_edges.proofs.Composed.{edges_of-gone, edges_of-severed, edges_of-moved, edges_of-lent}
-use Rattle.mv_edges.proofs.Settled.{sorted-append, sorted-sorted, sorted-without, sorted-but_out_of, sorted-renamed, sorted-inherited, sorted-inherited_all, sorted-flat_map_alike, any-sorted, leq-sorted}
+use Rattle.mv_edges.proofs.Composed.{edges_of-gone, edges_of-severed, edges_of-moved, lent, edges_of-lent}
+use Rattle.mv_edges.proofs.Settled.{sorted-append, sorted-sorted, sorted-without, sorted-but_out_of, sorted-renamed, sorted-inherited, sorted-inherited_all, sorted-flat_map_alike}
+use Rattle.mv_edges.proofs.Settled.{any-sorted, leq-sorted}
 
 -- ---- changes
 

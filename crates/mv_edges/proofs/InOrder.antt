@@ -1,12 +1,7 @@
 -- What becomes of a list of edges where references are copied, borrowed from and handed on.
-use Rattle.std.proofs.Common.{◌≡◌, ℕ, true, List, [], ◌∷◌, ◌++◌, length, take, get_or, ◌+◌, ◌-◌, ◌<◌, ◌≤◌, flat_map, refl, sym, ap, ◌∙◌, subst, arith, append-nil}
-use Rattle.std.proofs.lemmas.List.{take_more, flat_map_more}
-use Rattle.mv_move_types.specs.declared.borrow.Node.{Node}
-use Rattle.mv_edges.specs.declared.label.Change.TheVariants.{Kept, Extended, Opened}
-use Rattle.mv_edges.specs.Edges.{Edge, changed, extended, opened, inherited, without}
-use Rattle.mv_edges.specs.Ascending.{are_ascending}
-use Rattle.mv_edges.specs.Sorted.{sorted}
-use Rattle.mv_edges.specs.Graph.{Heir, taken_over, without_each}
+use Rattle.mv_edges.proofs.Common.{[], ℕ, ◌++◌, ◌+◌, ◌-◌, ◌<◌, ◌∙◌, ◌∷◌, ◌≡◌, ◌≤◌, List, ap, append-nil, arith, flat_map, get_or, length, refl, subst, sym, take, true, take_more, Node}
+use Rattle.mv_edges.proofs.Common.{are_ascending, Edge, changed, extended, inherited, opened, without, Heir, taken_over, without_each, sorted, Extended, Kept, Opened}
+use Rattle.std.proofs.lemmas.List.{flat_map_more}
 use Rattle.mv_edges.proofs.Passed.{without-swap}
 use Rattle.mv_edges.proofs.Sorting.{sorted-ascending, ascending-sorted, sorted-append_swap, sorted-append_sorted}
 

@@ -1,11 +1,8 @@
 -- Insertion into ascending lists, for any strict order.
-use Rattle.std.proofs.Common.{◌≡◌, ℕ, zero, suc, ◌+◌, ◌-◌, ◌<◌, ◌⊎◌, inl, inr, Bool, true, false, cond, ◌&&◌, List, [], ◌∷◌, ◌++◌, length, get_or}
-use Rattle.std.proofs.Common.{take, drop, slice_get, Contains, filter, None, Some, refl, sym, ap, ◌∙◌, subst, arith, true≢false}
-use Rattle.std.specs.List.{list_all}
-use Rattle.std.proofs.lemmas.Bool.{and_parts, and_from, cond_both, cond-true, cond-false, false_from_ne_true}
-use Rattle.std.proofs.lemmas.List.{get_or_default}
-use Rattle.std.proofs.lemmas.Option.{slice_get-get_or}
-use Rattle.std.proofs.lemmas.List.Elements.{Contains-append_cases, Contains-append_left, Contains-append_right}
+use Rattle.mv_edges.proofs.Common.{[], ℕ, ◌&&◌, ◌++◌, ◌+◌, ◌-◌, ◌<◌, ◌∙◌, ◌∷◌, ◌≡◌, ◌⊎◌, Bool, Contains, List, Some, ap, arith, cond, drop, false, filter, get_or, inl, inr, length, refl}
+use Rattle.mv_edges.proofs.Common.{slice_get, subst, suc, sym, take, true, true≢false, zero, and_from, and_parts, cond-true, cond_both, false_from_ne_true, get_or_default}
+use Rattle.mv_edges.proofs.Common.{Contains-append_cases, Contains-append_left, Contains-append_right, list_all}
+use Rattle.std.proofs.lemmas.Bool.{cond-false}
 
 and-true : (b : Bool) → (b && true) ≡ b
 and-true true = refl
@@ -271,9 +268,3 @@ module _ {X : Type 0} where
     pub ascend-push_some : (xs : List X) (e l : X) → slice_get xs (length xs - 1) ≡ Some l → ascend_by xs ≡ true → ascend_by (xs ++ e ∷ []) ≡ lt l e
     ascend-push_some [] e l h a = cc
     ascend-push_some (x ∷ xs) e l h a = ascend-push_at (x ∷ xs) e l (length (x ∷ xs) - 1) (omega arith) h a
-
-    pub ascend-push_none : (xs : List X) (e : X) → slice_get xs (length xs - 1) ≡ None → ascend_by (xs ++ e ∷ []) ≡ true
-    ascend-push_none [] e h = refl
-    ascend-push_none (x ∷ xs) e h =
-        let some = slice_get-get_or (x ∷ xs) (length (x ∷ xs) - 1) x (omega arith) in
-        cc (some, h)

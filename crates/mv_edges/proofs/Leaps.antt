@@ -1,14 +1,9 @@
 -- Up to which nodes no edge is at a node, from an edge on that isn't.
 --   Early xs ys, Late xs ys      one list of numbers comes before another, or doesn't, number by number
-use Rattle.std.proofs.Common.{◌≡◌, ℕ, ◌+◌, ◌-◌, ◌<◌, ◌≤◌, ◌⊎◌, inl, inr, max, true, false, ◌&&◌, List, [], ◌∷◌, ◌++◌, refl, sym, ap, ◌∙◌, subst, arith, true≢false, eqb, ltb}
+use Rattle.mv_edges.proofs.Common.{[], ℕ, ◌&&◌, ◌++◌, ◌+◌, ◌-◌, ◌<◌, ◌∙◌, ◌∷◌, ◌≡◌, ◌≤◌, ◌⊎◌, List, ap, arith, eqb, false, inl, inr, ltb, max, refl, subst, sym, true, true≢false, and_cases}
+use Rattle.mv_edges.proofs.Common.{both_ways, cases_lt, eq-eqb, false_from_ne_true, ltb-false, or_parts, Node, Glob, Own, Slot, Temp, edge_height, height, list_before, node_code, nodes_code}
+use Rattle.mv_edges.proofs.Common.{Edge, is_global_node, same_node, same_node_decides, FailUpTo}
 use Rattle.std.specs.Prelude.{⊤}
-use Rattle.std.proofs.lemmas.Bool.{cases_lt, false_from_ne_true, or_parts, and_cases, ltb-false, eq-eqb, both_ways}
-use Rattle.mv_move_types.specs.declared.borrow.Node.{Node}
-use Rattle.mv_move_types.specs.declared.borrow.Node.TheVariants.{Slot, Own, Glob, Temp}
-use Rattle.mv_edges.specs.Edges.{Edge, is_global_node, same_node}
-use Rattle.mv_edges.specs.Ascending.{list_before, node_code, height, edge_height, nodes_code}
-use Rattle.mv_edges.specs.Sought.{FailUpTo}
-use Rattle.mv_edges.specs.Equality.{same_node_decides}
 use Rattle.mv_edges.proofs.EdgeOrder.{same_start}
 use Rattle.mv_edges.proofs.Lexicographic.{before_cases}
 
@@ -58,9 +53,7 @@ index (Temp k) = k
 
 pub node_numbers : (n : Node) → node_code n ≡ kind n ∷ index n ∷ []
 node_numbers (Slot l) = refl
-node_numbers (Own l) = refl
-node_numbers (Glob t) = refl
-node_numbers (Temp k) = refl
+node_numbers n = refl
 
 edge_numbers : (e : Edge) → nodes_code e ≡ edge_height e ∷ kind e.from ∷ index e.from ∷ kind e.to ∷ index e.to ∷ []
 edge_numbers e = ap (λ xs. edge_height e ∷ xs ++ node_code e.to) (node_numbers e.from) ∙ ap (λ xs. edge_height e ∷ kind e.from ∷ index e.from ∷ xs) (node_numbers e.to)
@@ -71,16 +64,12 @@ node_from_numbers n m k j =
 
 low_kind : (n : Node) → kind n ≤ 3
 low_kind (Slot l) = omega arith
-low_kind (Own l) = omega arith
-low_kind (Glob t) = omega arith
-low_kind (Temp k) = omega arith
+low_kind n = omega arith
 
 -- what is higher than another node is an operand
 high_node : (n : Node) → 0 < height n → (kind n ≡ 3) × (index n + 1 ≡ height n)
-high_node (Slot l) h = absurd (omega (arith, h))
-high_node (Own l) h = absurd (omega (arith, h))
-high_node (Glob t) h = absurd (omega (arith, h))
 high_node (Temp k) h = (refl, refl)
+high_node n h = absurd (omega (arith, h))
 
 -- ---- edges out of a node
 
@@ -126,16 +115,16 @@ high_source e n h g =
     let high = high_node e.from (omega (arith, same, g)) in
     (high.0, high.1 ∙ from)
 
-abbrev numbers : Edge → List ℕ
+abbrev pub numbers : Edge → List ℕ
 numbers e = edge_height e ∷ kind e.from ∷ index e.from ∷ kind e.to ∷ index e.to ∷ []
 
 late_edge : (x : Edge) (nodes : List ℕ) → list_before (nodes_code x) nodes ≡ false → Late (numbers x) nodes
 late_edge x nodes h = late (numbers x) nodes (ap (λ xs. list_before xs nodes) (sym (edge_numbers x)) ∙ h)
 
-early_edge : (x : Edge) (nodes : List ℕ) → list_before (nodes_code x) nodes ≡ true → Early (numbers x) nodes
+pub early_edge : (x : Edge) (nodes : List ℕ) → list_before (nodes_code x) nodes ≡ true → Early (numbers x) nodes
 early_edge x nodes h = early (numbers x) nodes (ap (λ xs. list_before xs nodes) (sym (edge_numbers x)) ∙ h)
 
-late_edges : (x e : Edge) → list_before (nodes_code x) (nodes_code e) ≡ false → Late (numbers x) (numbers e)
+pub late_edges : (x e : Edge) → list_before (nodes_code x) (nodes_code e) ≡ false → Late (numbers x) (numbers e)
 late_edges x e h = late_edge x (numbers e) (ap (list_before (nodes_code x)) (sym (edge_numbers e)) ∙ h)
 
 -- the first nodes of an edge out of a node
@@ -249,16 +238,12 @@ lower_nodes x e n later low =
 -- ---- edges out of globals
 
 global_kind : (n : Node) → is_global_node n ≡ true → kind n ≡ 2
-global_kind (Slot l) h = absurd (true≢false (sym h))
-global_kind (Own l) h = absurd (true≢false (sym h))
 global_kind (Glob t) h = refl
-global_kind (Temp k) h = absurd (true≢false (sym h))
+global_kind n h = absurd (true≢false (sym h))
 
 other_kind : (n : Node) → is_global_node n ≡ false → kind n ≡ 2 → ⊥
-other_kind (Slot l) h e = omega (arith, e)
-other_kind (Own l) h e = omega (arith, e)
 other_kind (Glob t) h e = true≢false h
-other_kind (Temp k) h e = omega (arith, e)
+other_kind n h e = omega (arith, e)
 
 global_first_numbers : (hx a b c d he a' b' c' d' : ℕ) → a ≡ 2 → Late (hx ∷ a ∷ b ∷ c ∷ d ∷ []) (he ∷ a' ∷ b' ∷ c' ∷ d' ∷ []) → Early (hx ∷ a ∷ b ∷ c ∷ d ∷ []) (he ∷ 2 ∷ 0 ∷ 0 ∷ 0 ∷ []) → ⊥
 global_first_numbers hx a b c d he a' b' c' d' two from before = grind arith

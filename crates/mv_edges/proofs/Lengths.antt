@@ -1,7 +1,5 @@
 -- The length of the longest list.
-use Rattle.std.proofs.Common.{◌≡◌, ℕ, ◌+◌, ◌<◌, ◌≤◌, max, List, [], ◌∷◌, ◌++◌, length, get_or, take, Contains, sym, ap, ◌∙◌, arith, inl, inr}
-use Rattle.std.proofs.lemmas.List.{take_more}
-use Rattle.mv_edges.specs.Edges.{Edge, longest}
+use Rattle.mv_edges.proofs.Common.{[], ℕ, ◌++◌, ◌+◌, ◌<◌, ◌∙◌, ◌∷◌, ◌≡◌, ◌≤◌, Contains, List, ap, arith, get_or, inl, inr, length, max, sym, take, take_more, Edge, longest}
 use Rattle.mv_edges.proofs.Insertion.{contains_cases}
 
 pub longest-append : (es fs : List Edge) → longest (es ++ fs) ≡ max (longest es) (longest fs)

@@ -1,14 +1,8 @@
 -- What is lent again, by the origin of what was lent before.
-use Rattle.std.proofs.Common.{◌≡◌, ℕ, Bool, true, false, not, List, [], ◌∷◌, ◌++◌, length, get_or, Option, Some, None, ◌<◌, refl, sym, ap, ◌∙◌, eqb-true, arith, true≢false}
-use Rattle.std.specs.Prelude.{◌==◌}
-use Rattle.std.specs.Option.{option_map_or}
-use Rattle.std.proofs.lemmas.Bool.{and_parts}
-use Rattle.std.proofs.lemmas.Option.{slice_get-get_or}
-use Rattle.mv_move_types.specs.declared.borrow.Node.{Node}
-use Rattle.mv_move_types.specs.declared.borrow.Node.TheVariants.{Slot, Glob}
-use Rattle.mv_edges.specs.Edges.{Label, Edge, same_node, here, an_edge}
-use Rattle.mv_edges.specs.Composition.{Composition, composed, numbered, root_edges, strand_edges, bundle_edges, edges_of, with_bundle, is_here, is_birth}
-use Rattle.mv_edges.specs.Equality.{same_node_decides}
+use Rattle.mv_edges.proofs.Common.{[], ℕ, ◌++◌, ◌<◌, ◌==◌, ◌∙◌, ◌∷◌, ◌≡◌, Bool, List, None, Option, Some, ap, arith, false, get_or, length, not, refl, sym, true, true≢false, and_parts}
+use Rattle.mv_edges.proofs.Common.{eqb-true, slice_get-get_or, option_map_or, Node, Glob, Slot, Composition, bundle_edges, composed, edges_of, is_here, numbered, root_edges, strand_edges}
+use Rattle.mv_edges.proofs.Common.{with_bundle, Edge, Label, an_edge, here, same_node, same_node_decides}
+use Rattle.mv_edges.specs.Composition.{is_birth}
 use Rattle.mv_edges.proofs.Composed.{edges_of-with_bundle}
 
 -- a label without a position that isn't open

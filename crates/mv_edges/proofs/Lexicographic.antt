@@ -1,7 +1,8 @@
 -- The order of lists of numbers, and one order after another.
-use Rattle.std.proofs.Common.{◌≡◌, ℕ, ◌<◌, ◌⊎◌, inl, inr, Bool, true, false, ◌&&◌, ◌||◌, eqb, ltb, List, [], ◌∷◌, refl, sym, ap, ◌∙◌, subst, arith, true≢false, Decides}
-use Rattle.std.proofs.lemmas.Bool.{and_parts, and_from, and_cases, and_right, or_cases, or_parts, or_from, or_left, or_right, ltb-true, ltb-false, eqb-true, lt-ltb, le-ltb, eq-eqb, both_ways}
-use Rattle.mv_edges.specs.Ascending.{list_before}
+use Rattle.mv_edges.proofs.Common.{[], ℕ, ◌&&◌, ◌<◌, ◌||◌, ◌∙◌, ◌∷◌, ◌≡◌, ◌⊎◌, Bool, List, ap, arith, eqb, false, inl, inr, ltb, refl, subst, sym, true, true≢false, and_cases, and_from}
+use Rattle.mv_edges.proofs.Common.{and_parts, both_ways, eq-eqb, eqb-true, le-ltb, lt-ltb, ltb-false, ltb-true, or_cases, or_left, or_parts, or_right, list_before}
+use Rattle.std.proofs.Common.{Decides}
+use Rattle.std.proofs.lemmas.Bool.{and_right, or_from}
 
 -- a strict order whose ties are what is the same
 pub record IsStrictUpTo {X : Type 0} (lt : X → X → Bool) (Same : X → X → Type 0) : Type 0 where

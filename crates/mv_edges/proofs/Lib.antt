@@ -1,3 +1,4 @@
+pub mod Common
 pub mod Between
 pub mod Bundles
 pub mod Changes
@@ -16,6 +17,7 @@ pub mod Lengths
 pub mod Lent
 pub mod Lexicographic
 pub mod Moved
+pub mod Noted
 pub mod Order
 pub mod Passed
 pub mod Ranges

@@ -1,15 +1,8 @@
 -- Edges into one node ascend by their sources and labels, so that they still ascend where they lead to another one.
-use Rattle.std.proofs.Common.{◌≡◌, ℕ, ◌+◌, ◌<◌, ◌≤◌, ◌⊎◌, inl, inr, max, Bool, true, false, ◌&&◌, List, [], ◌∷◌, ◌++◌, map, filter, cond, drop, bytes_eq, refl, sym, ap, ◌∙◌, subst, arith, true≢false}
+use Rattle.mv_edges.proofs.Common.{[], ℕ, ◌&&◌, ◌++◌, ◌+◌, ◌<◌, ◌∙◌, ◌∷◌, ◌≡◌, ◌≤◌, ◌⊎◌, Bool, List, ap, arith, cond, drop, false, filter, inl, inr, map, max, refl, subst, sym, true}
+use Rattle.mv_edges.proofs.Common.{true≢false, and_from, and_parts, or_cases, or_left, or_right, bytes_decides, list_all, bytes_eq, Node, Glob, Own, Slot, Temp, are_ascending, edge_before}
+use Rattle.mv_edges.proofs.Common.{height, label_before, list_before, node_code, Edge, Label, an_edge, changed, inherited, into, same_node, same_node_decides, Kept}
 use Rattle.std.proofs.Math.Nat.{eq-or-lt_of_le}
-use Rattle.std.proofs.lemmas.Bool.{and_parts, and_from, or_cases, or_left, or_right}
-use Rattle.std.specs.Cmp.Lexicographic.{bytes_decides}
-use Rattle.mv_move_types.specs.declared.borrow.Node.{Node}
-use Rattle.mv_move_types.specs.declared.borrow.Node.TheVariants.{Slot, Own, Glob, Temp}
-use Rattle.std.specs.List.{list_all}
-use Rattle.mv_edges.specs.Edges.{Label, Edge, same_node, into, inherited, an_edge, changed}
-use Rattle.mv_edges.specs.declared.label.Change.TheVariants.{Kept}
-use Rattle.mv_edges.specs.Equality.{same_node_decides}
-use Rattle.mv_edges.specs.Ascending.{list_before, node_code, height, label_before, edge_before, are_ascending}
 use Rattle.mv_edges.proofs.EdgeOrder.{same_start}
 use Rattle.mv_edges.proofs.Sorting.{ascending-filter}
 use Rattle.mv_edges.proofs.Leaps.{kind, index, node_numbers}
@@ -20,10 +13,8 @@ abbrev Stands : ℕ → ℕ → ℕ → Type 0
 Stands k i h = ((k < 3) × (h ≡ 0)) ⊎ ((k ≡ 3) × (h ≡ i + 1))
 
 stands : (n : Node) → Stands (kind n) (index n) (height n)
-stands (Slot l) = inl (omega arith, refl)
-stands (Own l) = inl (omega arith, refl)
-stands (Glob t) = inl (omega arith, refl)
 stands (Temp k) = inr (refl, refl)
+stands n = inl (omega arith, refl)
 
 -- one kind and index come before others
 abbrev Before : ℕ → ℕ → ℕ → ℕ → Type 0

@@ -1,21 +1,13 @@
 -- The order of labels, edges and lists of edges.
-use Rattle.std.proofs.Common.{◌≡◌, ℕ, ◌↔◌, ◌⊎◌, inl, inr, true, ◌&&◌, List, [], ◌∷◌, ◌++◌, Contains, eqb, bytes_eq, refl, sym, ◌∙◌, subst, true≢false, eqb-true, eq-eqb}
-use Rattle.std.specs.Bool.{beq}
-use Rattle.std.proofs.lemmas.Bool.{and_parts, and_from, or_cases, or_left, or_right}
-use Rattle.std.proofs.lemmas.List.Elements.{Contains-append_cases, Contains-append_left, Contains-append_right}
-use Rattle.mv_move_types.specs.Paths.{begins}
-use Rattle.mv_edges.specs.Edges.{Label, Edge, same_label, label_leq, edge_leq, edges_leq}
-use Rattle.mv_edges.specs.Sorted.{sorted}
-use Rattle.mv_edges.specs.Joins.{IsJoin}
+use Rattle.mv_edges.proofs.Common.{[], ℕ, ◌&&◌, ◌++◌, ◌↔◌, ◌∙◌, ◌∷◌, ◌≡◌, ◌⊎◌, Contains, List, eqb, inl, inr, refl, subst, sym, true, true≢false, and_from, and_parts, eq-eqb, eqb-true}
+use Rattle.mv_edges.proofs.Common.{or_cases, or_left, or_right, Contains-append_cases, Contains-append_left, Contains-append_right, beq, bytes_eq, begins, Edge, Label, edge_leq, edges_leq}
+use Rattle.mv_edges.proofs.Common.{label_leq, IsJoin, sorted}
+use Rattle.mv_edges.specs.Edges.{same_label}
 use Rattle.mv_edges.specs.Equality.{same_label_decides}
 use Rattle.mv_edges.proofs.Sorting.{contains-sorted}
 use Rattle.mv_edges.proofs.Related.{Passing, partner, edges_related_from, related_from, related_from_contains, related-transitive}
 
 -- ---- prefixes
-
-pub begins_itself : (xs : List ℕ) → begins xs xs ≡ true
-begins_itself [] = refl
-begins_itself (x ∷ xs) = and_from (eqb x x) (begins xs xs) (eq-eqb x x refl) (begins_itself xs)
 
 pub begins-transitive : (xs ys zs : List ℕ) → begins xs ys ≡ true → begins ys zs ≡ true → begins xs zs ≡ true
 begins-transitive [] ys zs h g = refl

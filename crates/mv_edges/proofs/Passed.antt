@@ -1,17 +1,11 @@
 -- What is found by leaps.
-use Rattle.std.proofs.Common.{◌≡◌, ℕ, zero, suc, ◌+◌, ◌-◌, ◌<◌, ◌≤◌, ◌&&◌, ◌||◌, inl, inr, Bool, true, false, cond, not, List, [], ◌∷◌, ◌++◌, length}
-use Rattle.std.proofs.Common.{get_or, take, drop, filter, Contains, None, Some, slice_get, map, eqb, ltb, refl, sym, ap, ◌∙◌, subst, arith}
-use Rattle.std.proofs.Common.{true≢false, append-nil, ne_eqb, take-append-drop}
-use Rattle.std.specs.List.{list_all, list_any}
-use Rattle.std.proofs.lemmas.Bool.{cases_lt, cases_Bool, false_from_ne_true, lt-ltb, le-ltb, or_left, and_from, and_parts}
-use Rattle.std.proofs.lemmas.List.{get_or_default, map-append, take_all, take_more, get_or-take, length-take-le}
+use Rattle.mv_edges.proofs.Common.{[], ℕ, ◌&&◌, ◌++◌, ◌+◌, ◌-◌, ◌<◌, ◌||◌, ◌∙◌, ◌∷◌, ◌≡◌, ◌≤◌, Bool, Contains, List, None, Some, ap, append-nil, arith, cond, drop, eqb, false, filter}
+use Rattle.mv_edges.proofs.Common.{get_or, inl, inr, length, ltb, map, ne_eqb, not, refl, slice_get, subst, suc, sym, take, take-append-drop, true, true≢false, zero, and_from, and_parts}
+use Rattle.mv_edges.proofs.Common.{cases_Bool, cases_lt, false_from_ne_true, le-ltb, lt-ltb, or_left, get_or-take, get_or_default, length-take-le, take_all, take_more, list_any-append}
+use Rattle.mv_edges.proofs.Common.{get_or_from_slice_get, slice_get-get_or, list_all, list_any, Node, are_ascending, edge_before, edge_height, height, list_before, nodes_code, Edge}
+use Rattle.mv_edges.proofs.Common.{but_out_of, into, out_of, same_node, without, ComeBefore, FailUpTo}
 use Rattle.std.proofs.lemmas.List.Elements.{filter_more}
-use Rattle.std.proofs.lemmas.List.Folds.{list_any-append}
-use Rattle.std.proofs.lemmas.Option.{slice_get-get_or, get_or_from_slice_get}
-use Rattle.mv_move_types.specs.declared.borrow.Node.{Node}
-use Rattle.mv_edges.specs.Edges.{Edge, same_node, without, but_out_of, out_of, into}
-use Rattle.mv_edges.specs.Ascending.{list_before, nodes_code, edge_before, height, edge_height, are_ascending}
-use Rattle.mv_edges.specs.Sought.{IsNext, FailUpTo, ComeBefore}
+use Rattle.mv_edges.specs.Sought.{IsNext}
 use Rattle.mv_edges.proofs.Lexicographic.{irreflexive, total, list_before_strict}
 use Rattle.mv_edges.proofs.EdgeOrder.{edge_strict}
 use Rattle.mv_edges.proofs.Insertion.{all_contains, all_from_contains}
@@ -103,6 +97,10 @@ any_found p (e ∷ es) found next =
       | inr h ↦ le-ltb found (length (e ∷ es)) h ∙ ap (λ ys. not (eqb (length ys) 0)) (sym (none_found p (e ∷ es) found next h))
     ]
 
+-- none does where none of those up to their end does
+pub none_pass : (p : Edge → Bool) (es : List Edge) (place : ℕ) → filter p (take place es) ≡ [] → length es ≤ place → list_any p es ≡ false
+none_pass p es place none end = any_passes p es ∙ ap (λ ys. not (eqb (length ys) 0)) (ap (filter p) (sym (take_all place es end)) ∙ none)
+
 -- ---- a loop over those that pass
 
 -- none of those so far passes another test
@@ -126,16 +124,6 @@ none_of_all p q es place none within end = sym none ∙ ap (λ xs. list_any q (f
 -- one does
 pub one_of_all : (p q : Edge → Bool) (es : List Edge) (place : ℕ) (e : Edge) → place < length es → e ≡ get_or es place e → p e ≡ true → q e ≡ true → true ≡ list_any q (filter p es)
 one_of_all p q es place e inside at h g = sym (any_filter p q es ∙ list_any_from (λ x. p x && q x) es e (place, inside, sym at) (and_from (p e) (q e) h g))
-
--- what is made of those so far
-pub mapped_more : (p : Edge → Bool) (h : Edge → Edge) (es items after : List Edge) (place next : ℕ) (e y : Edge)
-    → items ≡ map h (filter p (take place es)) → place < length es → e ≡ get_or es place e → p e ≡ true → after ≡ items ++ y ∷ [] → y ≡ h e
-    → IsNext p es (place + 1) next
-    → after ≡ map h (filter p (take next es))
-mapped_more p h es items after place next e y was inside at passes new is found =
-    let there = filter_more p es place e inside ∙ ap (λ b. filter p (take place es) ++ cond b (get_or es place e ∷ []) []) (subst (λ x. p x ≡ true) at passes) in
-    let whole = ap (map h) (found.skipped ∙ there) ∙ map-append h (filter p (take place es)) (get_or es place e ∷ []) in
-    new ∙ ap (λ xs. xs ++ y ∷ []) was ∙ ap (λ z. map h (filter p (take place es)) ++ z ∷ []) (is ∙ ap h at) ∙ sym whole
 
 -- and of all
 pub mapped_all : (p : Edge → Bool) (h : Edge → Edge) (es items : List Edge) (place : ℕ) → items ≡ map h (filter p (take place es)) → place ≤ length es → length es ≤ place → items ≡ map h (filter p es)

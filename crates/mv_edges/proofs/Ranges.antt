@@ -1,13 +1,8 @@
 -- Where, among ascending edges, those between two nodes stand.
-use Rattle.std.proofs.Common.{◌≡◌, ℕ, zero, suc, inl, inr, ◌+◌, ◌<◌, Bool, true, false, not, ◌&&◌, ◌||◌, List, [], ◌∷◌, ◌++◌, length, take, drop, get_or, slice_get, Some}
-use Rattle.std.proofs.Common.{refl, sym, ap, ◌∙◌, subst, true≢false, bytes_eq, take-append-drop}
-use Rattle.std.specs.List.{list_all, list_any}
-use Rattle.std.proofs.lemmas.Bool.{and_parts, and_from, or_cases, or_left, false_from_ne_true}
-use Rattle.std.proofs.lemmas.List.{take_more, drop_more}
-use Rattle.std.proofs.lemmas.List.Folds.{list_any-append}
-use Rattle.mv_edges.specs.Edges.{Label, Edge, same_node, here, an_edge, label_leq, edge_leq}
-use Rattle.mv_edges.specs.Ascending.{list_before, node_code, nodes_code, label_before, edge_before, are_ascending}
-use Rattle.mv_edges.specs.Equality.{same_node_decides}
+use Rattle.mv_edges.proofs.Common.{[], ℕ, ◌&&◌, ◌++◌, ◌+◌, ◌<◌, ◌||◌, ◌∙◌, ◌∷◌, ◌≡◌, Bool, List, Some, ap, drop, false, get_or, inl, inr, length, not, refl, slice_get, subst, suc, sym, take}
+use Rattle.mv_edges.proofs.Common.{take-append-drop, true, true≢false, zero, and_from, and_parts, false_from_ne_true, or_cases, or_left, drop_more, take_more, list_any-append, list_all}
+use Rattle.mv_edges.proofs.Common.{list_any, bytes_eq, are_ascending, edge_before, label_before, list_before, node_code, nodes_code, Edge, Label, an_edge, edge_leq, here, label_leq}
+use Rattle.mv_edges.proofs.Common.{same_node, same_node_decides}
 use Rattle.mv_edges.proofs.EdgeOrder.{edge_strict, same_start}
 use Rattle.mv_edges.proofs.Lexicographic.{irreflexive, total}
 use Rattle.mv_edges.proofs.Insertion.{all_contains, all_weaker}

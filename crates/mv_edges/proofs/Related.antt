@@ -1,11 +1,6 @@
 -- Edges and lists of edges by a relation of labels: its laws, which the order of edges and their likeness share.
-use Rattle.std.proofs.Common.{◌≡◌, inl, inr, Bool, true, ◌&&◌, List, [], ◌∷◌, Contains, refl, sym, ◌∙◌, subst, true≢false}
-use Rattle.std.specs.List.{list_any}
-use Rattle.std.proofs.lemmas.Bool.{and_parts, and_from, or_cases}
-use Rattle.std.proofs.lemmas.List.Folds.{list_any_at}
-use Rattle.mv_edges.specs.Edges.{Label, Edge, same_node}
-use Rattle.mv_edges.specs.Related.{edge_related, edges_related}
-use Rattle.mv_edges.specs.Equality.{same_node_decides}
+use Rattle.mv_edges.proofs.Common.{[], ◌&&◌, ◌∙◌, ◌∷◌, ◌≡◌, Bool, Contains, List, inl, inr, refl, subst, sym, true, true≢false, and_from, and_parts, or_cases, list_any_at, list_any, Edge}
+use Rattle.mv_edges.proofs.Common.{Label, same_node, same_node_decides, edge_related, edges_related}
 use Rattle.mv_edges.proofs.Insertion.{contains_here, contains_there, all_contains, all_from_contains}
 
 -- an edge of a list that passes a test

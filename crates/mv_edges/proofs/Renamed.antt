@@ -1,10 +1,6 @@
 -- Edges at a node, taken out, renamed and put back.
-use Rattle.std.proofs.Common.{◌≡◌, ◌↔◌, inl, inr, Bool, true, false, not, ◌&&◌, cond, List, ◌++◌, Contains, refl, sym, ap, ◌∙◌, subst}
-use Rattle.std.proofs.lemmas.Bool.{cases_Bool, and_parts, and_from}
-use Rattle.std.proofs.lemmas.List.Elements.{Contains-append_cases, Contains-append_left, Contains-append_right}
-use Rattle.mv_move_types.specs.declared.borrow.Node.{Node}
-use Rattle.mv_edges.specs.Edges.{Edge, same_node, out_of, into, without, renamed_node, renamed}
-use Rattle.mv_edges.specs.Sorted.{sorted}
+use Rattle.mv_edges.proofs.Common.{◌&&◌, ◌++◌, ◌↔◌, ◌∙◌, ◌≡◌, Bool, Contains, List, ap, cond, false, inl, inr, not, refl, subst, sym, true, and_from, and_parts, cases_Bool}
+use Rattle.mv_edges.proofs.Common.{Contains-append_cases, Contains-append_left, Contains-append_right, Node, Edge, into, out_of, renamed, renamed_node, same_node, without, sorted}
 use Rattle.mv_edges.proofs.Sorting.{sorted_alike, sorted-append_sorted}
 use Rattle.mv_edges.proofs.Changes.{contains-filter, contains_from_filter, contains-map, contains_from_map}
 

@@ -1,15 +1,10 @@
 -- What a search finds.
-use Rattle.std.proofs.Common.{◌≡◌, ℕ, zero, suc, ◌<◌, ◌≤◌, min, inl, inr, Bool, true, false, List, [], ◌∷◌, ◌++◌, length, take, drop, Contains, eqb}
-use Rattle.std.proofs.Common.{Some, Result, Ok, Err, IfOk, IfErr, slice_get, refl, sym, ap, ◌∙◌, subst, arith, true≢false, eqb-true, take-append-drop}
-use Rattle.std.specs.List.{list_all, list_any}
+use Rattle.mv_edges.proofs.Common.{[], ℕ, ◌++◌, ◌<◌, ◌∙◌, ◌∷◌, ◌≡◌, ◌≤◌, Bool, Contains, IfErr, List, Some, ap, arith, drop, eqb, false, inl, inr, length, refl, slice_get, subst, suc, sym}
+use Rattle.mv_edges.proofs.Common.{take, take-append-drop, true, true≢false, zero, and_parts, cases_lt, eqb-true, false_from_ne_true, Contains-append_cases, list_all, list_any, begins}
+use Rattle.mv_edges.proofs.Common.{edge_before, Edge, edge_leq, label_leq, longest, opened_at, same_edge, same_edge_decides}
+use Rattle.std.proofs.Common.{min, Result, Ok, Err, IfOk}
 use Rattle.std.specs.Result.{is_ok}
-use Rattle.std.proofs.lemmas.Bool.{and_parts, cases_lt, false_from_ne_true}
-use Rattle.std.proofs.lemmas.List.Elements.{Contains-append_cases}
-use Rattle.mv_move_types.specs.Paths.{begins}
-use Rattle.mv_edges.specs.Edges.{Edge, same_edge, label_leq, edge_leq, longest, opened_at}
-use Rattle.mv_edges.specs.Ascending.{edge_before}
 use Rattle.mv_edges.proofs.EdgeOrder.{edge_strict}
-use Rattle.mv_edges.specs.Equality.{same_edge_decides}
 use Rattle.mv_edges.proofs.Insertion.{contains_here, contains_there, all_contains}
 use Rattle.mv_edges.proofs.Lengths.{longest_above}
 use Rattle.mv_edges.proofs.Order.{begins-append, same, prefix, label_below, label_leq_prefix, edge_leq_itself}

@@ -1,17 +1,12 @@
 -- The order in which edges stand is nothing to what is asked of them, and to what is made of them where that is put in order.
-use Rattle.std.proofs.Common.{◌≡◌, inl, inr, Bool, true, false, not, ◌&&◌, List, [], ◌∷◌, ◌++◌, length, map, filter, flat_map, Contains, eqb, refl, sym, ap, ◌∙◌}
-use Rattle.std.proofs.Common.{subst, true≢false}
-use Rattle.std.specs.List.{list_any, list_all}
-use Rattle.std.proofs.lemmas.Bool.{false_from_ne_true}
+use Rattle.mv_edges.proofs.Common.{[], ◌&&◌, ◌++◌, ◌∙◌, ◌∷◌, ◌≡◌, Bool, Contains, List, ap, false, filter, flat_map, inl, inr, map, not, refl, subst, sym, true, true≢false}
+use Rattle.mv_edges.proofs.Common.{false_from_ne_true, Contains-append_cases, Contains-append_left, Contains-append_right, list_all, list_any, Node, Edge, Label, but_out_of, edge_leq}
+use Rattle.mv_edges.proofs.Common.{edges_leq, inherited, into, renamed, renamed_node, same_node, without, sorted}
 use Rattle.std.proofs.lemmas.List.Concat.{flat_map_single}
-use Rattle.std.proofs.lemmas.List.Elements.{Contains-append_cases, Contains-append_left, Contains-append_right}
-use Rattle.mv_move_types.specs.declared.borrow.Node.{Node}
-use Rattle.mv_edges.specs.Edges.{Label, Edge, same_node, edge_leq, edges_leq, out_of, into, but_out_of, without, renamed_node, renamed, inherited}
-use Rattle.mv_edges.specs.Sorted.{sorted}
 use Rattle.mv_edges.proofs.Insertion.{contains_cases, contains_here, contains_there, contains_none, all_contains, all_from_contains}
 use Rattle.mv_edges.proofs.Related.{passing, list_any_from}
 use Rattle.mv_edges.proofs.Changes.{contains-filter, contains_from_filter}
-use Rattle.mv_edges.proofs.Sorting.{contains-sorted, sorted_alike, sorted-ascending, ascending-sorted, ascending-filter, sorted-append_swap, sorted-append_sorted, any_passes}
+use Rattle.mv_edges.proofs.Sorting.{contains-sorted, sorted_alike, sorted-ascending, ascending-sorted, ascending-filter, sorted-append_swap, sorted-append_sorted}
 
 -- ---- what is made of the edges
 
@@ -79,9 +74,6 @@ sorted-but_out_of n = sorted-filter (λ e. not (same_node e.from n))
 pub sorted-without : (n : Node) (es : List Edge) → without n (sorted es) ≡ sorted (without n es)
 sorted-without n = sorted-filter (λ e. not (same_node e.from n) && not (same_node e.to n))
 
-pub sorted-out_of : (n : Node) (es : List Edge) → out_of n (sorted es) ≡ sorted (out_of n es)
-sorted-out_of n = sorted-filter (λ e. same_node e.from n)
-
 pub sorted-into : (n : Node) (es : List Edge) → into n (sorted es) ≡ sorted (into n es)
 sorted-into n = sorted-filter (λ e. same_node e.to n)
 
@@ -115,23 +107,6 @@ all-sorted q es =
     same_truth (list_all q (sorted es)) (list_all q es)
     (λ h. all_from_contains q es (λ e c. all_contains q (sorted es) e h ((contains-sorted es e).1 c)))
     (λ h. all_from_contains q (sorted es) (λ e c. all_contains q es e h ((contains-sorted es e).0 c)))
-
-pub any_out-sorted : (q : Edge → Bool) (n : Node) (es : List Edge) → list_any q (out_of n (sorted es)) ≡ list_any q (out_of n es)
-any_out-sorted q n es = ap (list_any q) (sorted-out_of n es) ∙ any-sorted q (out_of n es)
-
--- whether none passes
-pub none_passes-sorted : (p : Edge → Bool) (es : List Edge) → eqb (length (filter p (sorted es))) 0 ≡ eqb (length (filter p es)) 0
-none_passes-sorted p es =
-    sym (not_not (eqb (length (filter p (sorted es))) 0))
-    ∙ ap not (sym (any_passes p (sorted es)) ∙ any-sorted p es ∙ any_passes p es)
-    ∙ not_not (eqb (length (filter p es)) 0)
-  where
-    not_not : (b : Bool) → not (not b) ≡ b
-    not_not true = refl
-    not_not false = refl
-
-pub none_out-sorted : (n : Node) (es : List Edge) → eqb (length (out_of n (sorted es))) 0 ≡ eqb (length (out_of n es)) 0
-none_out-sorted n = none_passes-sorted (λ e. same_node e.from n)
 
 pub leq-sorted : (es us : List Edge) → edges_leq (sorted es) us ≡ edges_leq es us
 leq-sorted es us = all-sorted (λ a. list_any (edge_leq a) us) es

@@ -1,17 +1,10 @@
 -- Edges in their order.
-use Rattle.std.proofs.Common.{◌≡◌, ℕ, ◌+◌, ◌-◌, ◌<◌, ◌≤◌, ◌↔◌, ◌⊎◌, inl, inr, zero, suc, Bool, true, false, cond, ◌&&◌, ◌||◌, List, [], ◌∷◌, ◌++◌}
-use Rattle.std.proofs.Common.{length, get_or, take, drop, slice_get, Contains, filter, None, Some, eqb, not, insert, refl, sym, arith}
-use Rattle.std.proofs.Common.{take-append-drop, append_assoc, append-nil, ap, ◌∙◌, subst, ne_eqb}
-use Rattle.std.specs.List.{list_all, list_any}
-use Rattle.std.proofs.lemmas.Bool.{and_parts, and_from}
-use Rattle.std.proofs.lemmas.List.{drop_more, drop_all}
-use Rattle.std.proofs.lemmas.List.Folds.{list_all-append}
-use Rattle.std.proofs.lemmas.Option.{slice_get-get_or}
-use Rattle.std.proofs.lemmas.List.Elements.{Contains-append_cases, Contains-append_left, Contains-append_right}
-use Rattle.mv_move_types.specs.declared.borrow.Node.{Node}
-use Rattle.mv_edges.specs.Edges.{Edge, same_node, without}
-use Rattle.mv_edges.specs.Ascending.{edge_before, are_ascending}
-use Rattle.mv_edges.specs.Sorted.{inserted, sorted}
+use Rattle.mv_edges.proofs.Common.{[], ℕ, ◌&&◌, ◌++◌, ◌+◌, ◌-◌, ◌<◌, ◌||◌, ◌↔◌, ◌∙◌, ◌∷◌, ◌≡◌, ◌≤◌, ◌⊎◌, Bool, Contains, List, None, Some, ap, append-nil, append_assoc, arith, cond, drop}
+use Rattle.mv_edges.proofs.Common.{eqb, false, filter, get_or, inl, inr, length, ne_eqb, not, refl, slice_get, subst, suc, sym, take, take-append-drop, true, zero, and_from, and_parts}
+use Rattle.mv_edges.proofs.Common.{drop_more, Contains-append_cases, Contains-append_left, Contains-append_right, list_all-append, slice_get-get_or, list_all, list_any, Node, are_ascending}
+use Rattle.mv_edges.proofs.Common.{edge_before, Edge, same_node, without, inserted, sorted}
+use Rattle.std.proofs.Common.{insert}
+use Rattle.std.proofs.lemmas.List.{drop_all}
 use Rattle.mv_edges.proofs.Insertion as insertion
 use Rattle.mv_edges.proofs.Insertion.{inserted_by, sorted_by, ascend_by}
 use Rattle.mv_edges.proofs.EdgeOrder.{edge_strict}
@@ -88,21 +81,10 @@ sorted-append_sorted es fs =
       λ c. elim (Contains-append_cases es fs z c) [ inl d ↦ Contains-append_left es (sorted fs) z d | inr d ↦ Contains-append_right es (sorted fs) z ((contains-sorted fs z).1 d) ],
     ))
 
--- one more of those that are to be put in their places was
-pub sorted-more : (edges rest total next : List Edge) (x : Edge) → next ≡ sorted (edges ++ x ∷ []) → sorted (edges ++ x ∷ rest) ≡ total → sorted (next ++ rest) ≡ total
-sorted-more edges rest total next x put was =
-    ap (λ es. sorted (es ++ rest)) put ∙ sorted-append_swap (sorted (edges ++ x ∷ [])) rest ∙ sorted-append_sorted rest (edges ++ x ∷ [])
-    ∙ sorted-append_swap rest (edges ++ x ∷ []) ∙ ap sorted (append_assoc edges (x ∷ []) rest) ∙ was
-
 -- a list of no length
 pub none-left : (es : List Edge) → length es ≡ 0 → es ≡ []
 none-left [] h = refl
 none-left (x ∷ es) h = absurd (omega (arith, h))
-
--- all of them were
-pub sorted-all : (edges rest total : List Edge) → are_ascending edges ≡ true → length rest ≡ 0 → sorted (edges ++ rest) ≡ total → edges ≡ total
-sorted-all edges [] total h none was = sym (sorted-ascending edges h) ∙ ap sorted (sym (append-nil edges)) ∙ was
-sorted-all edges (x ∷ rest) total h none was = absurd (omega (arith, none))
 
 -- of two ascending lists, the head of the left one comes first
 pub sorted_left_first : (a b : Edge) (es fs : List Edge) → are_ascending (a ∷ es) ≡ true → are_ascending (b ∷ fs) ≡ true → edge_before a b ≡ true
@@ -158,9 +140,6 @@ ascending-without n es h = ascending-filter (λ e. not (same_node e.from n) && n
 
 pub ascending-push_some : (es : List Edge) (e l : Edge) → slice_get es (length es - 1) ≡ Some l → are_ascending es ≡ true → are_ascending (es ++ e ∷ []) ≡ edge_before l e
 ascending-push_some es e l g h = ascending_is (es ++ e ∷ []) ∙ insertion.ascend-push_some edge_before es e l g (to_by es h)
-
-pub ascending-push_none : (es : List Edge) (e : Edge) → slice_get es (length es - 1) ≡ None → are_ascending (es ++ e ∷ []) ≡ true
-ascending-push_none es e g = from_by (es ++ e ∷ []) (insertion.ascend-push_none edge_before es e g)
 
 -- the first edge comes before the others, which ascend
 pub ascending_above : (e : Edge) (es : List Edge) → are_ascending (e ∷ es) ≡ true → list_all (edge_before e) es ≡ true

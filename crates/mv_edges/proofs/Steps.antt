@@ -1,33 +1,24 @@
 -- What becomes of composed edges where references are copied and borrowed from, and of graphs in general.
-use Rattle.std.proofs.Common.{◌≡◌, ℕ, Bool, true, false, not, ◌&&◌, cond, List, [], ◌∷◌, ◌++◌, map, flat_map, None, refl, sym, ap, ◌∙◌, append-nil, true≢false}
-use Rattle.std.proofs.lemmas.Bool.{or_parts}
-use Rattle.mv_move_types.specs.declared.borrow.Node.{Node}
-use Rattle.mv_move_types.specs.declared.borrow.Node.TheVariants.{Slot}
-use Rattle.mv_edges.specs.declared.label.Change.TheVariants.{Kept, Extended}
-use Rattle.mv_edges.specs.declared.label.Change.{Change}
-use Rattle.mv_edges.specs.Edges.{Label, Edge, same_node, changed, extended, into, but_out_of, inherited, without, an_edge}
-use Rattle.mv_edges.specs.Sorted.{sorted}
-use Rattle.mv_edges.specs.Composition.{Bundle, Composition, bundle_edges, edges_of, gone, with_bundle, strands_at, any_between}
+use Rattle.mv_edges.proofs.Common.{[], ℕ, ◌&&◌, ◌++◌, ◌∙◌, ◌∷◌, ◌≡◌, Bool, List, None, ap, append-nil, cond, false, flat_map, map, not, refl, sym, true, true≢false, or_parts, Node, Bundle}
+use Rattle.mv_edges.proofs.Common.{Composition, any_between, bundle_edges, edges_of, gone, with_bundle, Edge, Label, but_out_of, changed, extended, inherited, into, same_node, without}
+use Rattle.mv_edges.proofs.Common.{sorted, Change, Extended, Kept}
 use Rattle.mv_edges.proofs.Sorting.{sorted-append_sorted}
 use Rattle.mv_edges.proofs.Composed.{edges_of-gone, edges_of-with_bundle, bundle_edges-severed}
-use Rattle.mv_edges.proofs.Taken.{edges-taken}
 use Rattle.mv_edges.proofs.Settled.{sorted-filter}
 
 -- what a node takes over of one
-taken_of : (change : Change) (n to : Node) (c : Composition) (b : Bundle) → b.node ≡ to
-    → b.strands ≡ sorted (map (λ e. an_edge e.from (changed change e.label) (Slot 0)) (flat_map (λ m. strands_at m c.bundles) (n ∷ [])))
+taken_of : (change : Change) (n to : Node) (c : Composition) (b : Bundle) → sorted (bundle_edges c.sources c.origins b) ≡ sorted (flat_map (λ m. inherited (changed change) m to (edges_of c)) (n ∷ []))
     → sorted (bundle_edges c.sources c.origins b) ≡ sorted (inherited (changed change) n to (edges_of c))
-taken_of change n to c b is strands = edges-taken change (n ∷ []) to c b is strands ∙ ap sorted (append-nil (inherited (changed change) n to (edges_of c)))
+taken_of change n to c b taken = taken ∙ ap sorted (append-nil (inherited (changed change) n to (edges_of c)))
 
 -- a copy
-pub shared_edges : (old new : Node) (c after : Composition) (b : Bundle) → b.node ≡ new
-    → b.strands ≡ sorted (map (λ e. an_edge e.from (changed Kept e.label) (Slot 0)) (flat_map (λ m. strands_at m c.bundles) (old ∷ [])))
-    → after ≡ with_bundle b c
+pub shared_edges : (old new : Node) (c after : Composition) (b : Bundle)
+    → sorted (bundle_edges c.sources c.origins b) ≡ sorted (flat_map (λ m. inherited (changed Kept) m new (edges_of c)) (old ∷ [])) → after ≡ with_bundle b c
     → sorted (edges_of after) ≡ sorted (edges_of c ++ inherited (λ label. label) old new (edges_of c))
-shared_edges old new c after b is strands e =
+shared_edges old new c after b taken e =
     ap (λ x. sorted (edges_of x)) e ∙ ap sorted (edges_of-with_bundle b c)
     ∙ sym (sorted-append_sorted (edges_of c) (bundle_edges c.sources c.origins b))
-    ∙ ap (λ x. sorted (edges_of c ++ x)) (taken_of Kept old new c b is strands)
+    ∙ ap (λ x. sorted (edges_of c ++ x)) (taken_of Kept old new c b taken)
     ∙ sorted-append_sorted (edges_of c) (inherited (changed Kept) old new (edges_of c))
 
 -- where no edge leads from a node to itself, what it takes over of itself doesn't lead out of it
@@ -52,13 +43,13 @@ no_loop h n (e ∷ es) none =
     by_case true false free is ih = ap (λ b. cond (not b) (new ∷ but_out_of n rest) (but_out_of n rest)) is ∙ ap (λ xs. new ∷ xs) ih
 
 -- a reference to a field
-pub extended_edges : (f : ℕ) (n : Node) (c after : Composition) (b : Bundle) → any_between (λ m. same_node m n) None (λ m. same_node m n) (edges_of c) ≡ false → b.node ≡ n
-    → b.strands ≡ sorted (map (λ e. an_edge e.from (changed (Extended f) e.label) (Slot 0)) (flat_map (λ m. strands_at m c.bundles) (n ∷ [])))
+pub extended_edges : (f : ℕ) (n : Node) (c after : Composition) (b : Bundle) → any_between (λ m. same_node m n) None (λ m. same_node m n) (edges_of c) ≡ false
+    → sorted (bundle_edges c.sources c.origins b) ≡ sorted (flat_map (λ m. inherited (changed (Extended f)) m n (edges_of c)) (n ∷ []))
     → after ≡ with_bundle b (gone n c)
     → sorted (edges_of after) ≡ sorted (without n (edges_of c) ++ inherited (extended f) n n (edges_of c))
-extended_edges f n c after b free is strands e =
+extended_edges f n c after b free given e =
     let new = bundle_edges c.sources c.origins b in
-    let taken : sorted new ≡ sorted (inherited (extended f) n n (edges_of c)) = taken_of (Extended f) n n c b is strands in
+    let taken : sorted new ≡ sorted (inherited (extended f) n n (edges_of c)) = taken_of (Extended f) n n c b given in
     let left : sorted (but_out_of n new) ≡ sorted (inherited (extended f) n n (edges_of c)) =
     sym (sorted-filter (λ x. not (same_node x.from n)) new) ∙ ap (but_out_of n) taken
     ∙ sorted-filter (λ x. not (same_node x.from n)) (inherited (extended f) n n (edges_of c))

@@ -1,13 +1,8 @@
 -- The edges of what a node takes over of the strands that lead into others.
-use Rattle.std.proofs.Common.{◌≡◌, Bool, true, false, cond, List, [], ◌∷◌, map, flat_map, Option, None, Some, refl, sym, ap, ◌∙◌}
-use Rattle.std.specs.Option.{option_map_or}
-use Rattle.std.proofs.lemmas.List.Folds.{flat_map-map}
-use Rattle.mv_move_types.specs.declared.borrow.Node.{Node}
-use Rattle.mv_move_types.specs.declared.borrow.Node.TheVariants.{Slot}
-use Rattle.mv_edges.specs.declared.label.Change.{Change}
-use Rattle.mv_edges.specs.Edges.{Label, Edge, same_node, an_edge, changed, inherited}
-use Rattle.mv_edges.specs.Sorted.{sorted}
-use Rattle.mv_edges.specs.Composition.{Bundle, Composition, composed, numbered, root_edges, strand_edges, bundle_edges, edges_of, strands_at}
+use Rattle.mv_edges.proofs.Common.{[], ◌++◌, ◌∙◌, ◌∷◌, ◌≡◌, Bool, List, None, Option, Some, ap, cond, false, filter, flat_map, map, not, refl, sym, true, true≢false, flat_map-map}
+use Rattle.mv_edges.proofs.Common.{option_map_or, Node, Slot, Bundle, Composition, bundle_edges, composed, edges_of, is_live, numbered, root_edges, strand_edges, strands_at, Edge, Label}
+use Rattle.mv_edges.proofs.Common.{an_edge, changed, inherited, same_node, sorted, Change}
+use Rattle.mv_edges.specs.Composition.{is_spent}
 use Rattle.mv_edges.proofs.Settled.{sorted-flat_map}
 use Rattle.mv_edges.proofs.Composed.{composed-changed, inherited_piecewise, flat_map_piecewise, flat_map_alike, through, strands_through, strands_nothing}
 
@@ -64,15 +59,35 @@ module _ (change : Change) (to : Node) where
         sym (through (flat_map edges_taken) (flat_map_piecewise edges_taken) (λ n. strands_at n bundles) (λ n. flat_map edges_taken (strands_at n bundles)) (λ n. refl) nodes)
         ∙ flat_map_alike (λ n. flat_map edges_taken (strands_at n bundles)) (λ n. inherited (changed change) n to (flat_map (bundle_edges sources origins) bundles)) (strands_at-taken bundles) nodes
 
--- a bundle of the strands at some nodes has the edges that lead into these, with the change made to them
-pub edges-taken : (change : Change) (nodes : List Node) (to : Node) (c : Composition) (b : Bundle) → b.node ≡ to
-    → b.strands ≡ sorted (map (λ e. an_edge e.from (changed change e.label) (Slot 0)) (flat_map (λ n. strands_at n c.bundles) nodes))
-    → sorted (bundle_edges c.sources c.origins b) ≡ sorted (flat_map (λ n. inherited (changed change) n to (edges_of c)) nodes)
-edges-taken change nodes to c b at is =
-    ap (λ n. sorted (flat_map (strand_edges c.sources c.origins n) b.strands)) at
-    ∙ ap (λ es. sorted (flat_map (strand_edges c.sources c.origins to) es)) is
-    ∙ sorted-flat_map (strand_edges c.sources c.origins to) (map (taken_strand change to) strands)
-    ∙ ap sorted (flat_map-map (strand_edges c.sources c.origins to) (taken_strand change to) strands ∙ all_strands-taken change to c.sources c.origins c.bundles nodes)
+-- no edge comes by way of a spent origin
+spent_edges : (sources : List (Option Node)) (to : Node) (label : Label) (roots : List Edge) → is_spent sources roots ≡ true → flat_map (root_edges sources to label) roots ≡ []
+spent_edges sources to label [] h = absurd (true≢false (sym h))
+spent_edges sources to label (r ∷ s ∷ rs) h = absurd (true≢false (sym h))
+spent_edges sources to label (r ∷ []) h = by_source (numbered None sources r.from) h
   where
-    strands : List Edge
-    strands = flat_map (λ n. strands_at n c.bundles) nodes
+    by_source : (o : Option Node) → option_map_or (λ m. false) o true ≡ true → (option_map_or (λ from. an_edge from (composed r.label label) to ∷ []) o [] ++ []) ≡ []
+    by_source None g = refl
+    by_source (Some m) g = absurd (true≢false (sym g))
+
+-- so strands from there are taken away with no edge
+live_edges : (to : Node) (c : Composition) (ds : List Edge) → flat_map (strand_edges c.sources c.origins to) (filter (is_live c) ds) ≡ flat_map (strand_edges c.sources c.origins to) ds
+live_edges to c [] = refl
+live_edges to c (d ∷ ds) = by_case (is_spent c.sources (numbered [] c.origins d.from)) refl (live_edges to c ds)
+  where
+    by_case : (b : Bool) → is_spent c.sources (numbered [] c.origins d.from) ≡ b
+        → flat_map (strand_edges c.sources c.origins to) (filter (is_live c) ds) ≡ flat_map (strand_edges c.sources c.origins to) ds
+        → flat_map (strand_edges c.sources c.origins to) (cond (not b) (d ∷ filter (is_live c) ds) (filter (is_live c) ds)) ≡ flat_map (strand_edges c.sources c.origins to) (d ∷ ds)
+    by_case true is rest = rest ∙ ap (λ es. es ++ flat_map (strand_edges c.sources c.origins to) ds) (sym (spent_edges c.sources to d.label (numbered [] c.origins d.from) is))
+    by_case false is rest = ap (λ es. strand_edges c.sources c.origins to d ++ es) rest
+
+-- a bundle of the strands at some nodes has the edges that lead into these, with the change made to them
+pub edges-taken : (change : Change) (nodes : List Node) (to : Node) (c : Composition) (all left strands : List Edge)
+    → all ≡ map (λ e. an_edge e.from (changed change e.label) (Slot 0)) (flat_map (λ n. strands_at n c.bundles) nodes)
+    → left ≡ filter (is_live c) all → strands ≡ sorted left
+    → sorted (flat_map (strand_edges c.sources c.origins to) strands) ≡ sorted (flat_map (λ n. inherited (changed change) n to (edges_of c)) nodes)
+edges-taken change nodes to c all left strands are live is =
+    ap (λ es. sorted (flat_map (strand_edges c.sources c.origins to) es)) (is ∙ ap sorted live)
+    ∙ sorted-flat_map (strand_edges c.sources c.origins to) (filter (is_live c) all)
+    ∙ ap sorted (live_edges to c all)
+    ∙ ap (λ es. sorted (flat_map (strand_edges c.sources c.origins to) es)) are
+    ∙ ap sorted (flat_map-map (strand_edges c.sources c.origins to) (taken_strand change to) (flat_map (λ n. strands_at n c.bundles) nodes) ∙ all_strands-taken change to c.sources c.origins c.bundles nodes)

@@ -1,21 +1,10 @@
 -- What becomes of composed edges where nodes are taken, and heirs take over what leads into others.
-use Rattle.std.proofs.Common.{◌≡◌, ℕ, ◌+◌, ◌<◌, Bool, true, false, cond, not, ◌&&◌, ◌||◌, List, [], ◌∷◌, ◌++◌, length, take, get_or, map, flat_map, fold, None}
-use Rattle.std.proofs.Common.{refl, sym, ap, ◌∙◌, subst, append-nil, true≢false}
-use Rattle.std.specs.List.{list_all, list_any}
-use Rattle.std.proofs.lemmas.Bool.{and_parts, or_parts}
-use Rattle.std.proofs.lemmas.Grind.{flat_map-append}
-use Rattle.std.proofs.lemmas.List.{take_more}
-use Rattle.std.proofs.lemmas.List.Folds.{list_any-append, list_all-append}
-use Rattle.mv_move_types.specs.declared.borrow.Node.{Node}
-use Rattle.mv_move_types.specs.declared.borrow.Node.TheVariants.{Slot}
-use Rattle.mv_edges.specs.declared.label.Change.TheVariants.{Opened}
-use Rattle.mv_edges.specs.Edges.{Label, Edge, same_node, an_edge, changed, opened, but_out_of, into, inherited}
-use Rattle.mv_edges.specs.Sorted.{sorted}
-use Rattle.mv_edges.specs.Composition.{Bundle, Composition, bundle_edges, edges_of, but_at, gone, is_numbered, strands_at, any_between}
-use Rattle.mv_edges.specs.Graph.{Heir, taken_over, without_each}
+use Rattle.mv_edges.proofs.Common.{[], ℕ, ◌&&◌, ◌++◌, ◌+◌, ◌<◌, ◌||◌, ◌∙◌, ◌∷◌, ◌≡◌, Bool, List, None, ap, append-nil, cond, false, flat_map, fold, get_or, length, map, not, refl, subst}
+use Rattle.mv_edges.proofs.Common.{sym, take, true, true≢false, and_parts, or_parts, flat_map-append, take_more, list_all-append, list_any-append, list_all, list_any, Node, Bundle}
+use Rattle.mv_edges.proofs.Common.{Composition, any_between, bundle_edges, but_at, edges_of, gone, is_numbered, Edge, Label, an_edge, but_out_of, inherited, into, opened, same_node, Heir}
+use Rattle.mv_edges.proofs.Common.{taken_over, without_each, sorted}
 use Rattle.mv_edges.proofs.Composed.{edges_of-gone, bundle_edges-severed, filter_piecewise, through}
 use Rattle.mv_edges.proofs.Settled.{any-sorted, sorted-append}
-use Rattle.mv_edges.proofs.Taken.{edges-taken}
 
 -- whether an edge leads out of a node
 abbrev any_out : Node → List Edge → Bool
@@ -127,17 +116,16 @@ tied_edges taken heirs bs c left after free given is_left is =
 -- one more heir's
 pub heirs_more : (heirs : List Heir) (i : ℕ) (d heir : Heir) (c : Composition) (bs new : List Bundle) (b : Bundle) (node : Node) (givers : List Node)
     → i < length heirs → heir ≡ get_or heirs i d → node ≡ heir.node → givers ≡ heir.givers → new ≡ bs ++ b ∷ []
-    → b.node ≡ node
-    → b.strands ≡ sorted (map (λ e. an_edge e.from (changed Opened e.label) (Slot 0)) (flat_map (λ n. strands_at n c.bundles) givers))
+    → sorted (bundle_edges c.sources c.origins b) ≡ sorted (flat_map (λ n. inherited opened n node (edges_of c)) givers)
     → sorted (flat_map (bundle_edges c.sources c.origins) bs) ≡ sorted (taken_over (take i heirs) (edges_of c))
     → sorted (flat_map (bundle_edges c.sources c.origins) new) ≡ sorted (taken_over (take (i + 1) heirs) (edges_of c))
-heirs_more heirs i d heir c bs new b node givers h is_heir is_node is_givers is at strands before =
+heirs_more heirs i d heir c bs new b node givers h is_heir is_node is_givers is taken before =
     let inherits : Heir → List Edge = λ x. flat_map (λ n. inherited opened n x.node (edges_of c)) x.givers in
     let f : Bundle → List Edge = bundle_edges c.sources c.origins in
     let same : flat_map (λ n. inherited opened n node (edges_of c)) givers ≡ inherits heir = λ k. flat_map (λ n. inherited opened n (is_node k) (edges_of c)) (is_givers k) in
     ap (λ xs. sorted (flat_map f xs)) is
     ∙ ap sorted (flat_map-append f bs (b ∷ []) ∙ ap (λ es. flat_map f bs ++ es) (append-nil (f b)))
-    ∙ sorted-append (flat_map f bs) (taken_over (take i heirs) (edges_of c)) (f b) (inherits heir) before (edges-taken Opened givers node c b at strands ∙ ap sorted same)
+    ∙ sorted-append (flat_map f bs) (taken_over (take i heirs) (edges_of c)) (f b) (inherits heir) before (taken ∙ ap sorted same)
     ∙ ap sorted
     (ap (λ es. taken_over (take i heirs) (edges_of c) ++ es) (sym (append-nil (inherits heir)))
     ∙ sym (flat_map-append inherits (take i heirs) (heir ∷ []))

@@ -6,7 +6,7 @@ use Rattle.std.specs.List.{list_all, list_any}
 use Rattle.std.specs.Option.{option_map_or}
 use Rattle.mv_move_types.specs.declared.borrow.Node.{Node}
 use Rattle.mv_move_types.specs.declared.borrow.Node.TheVariants.{Slot, Own, Glob, Temp}
-use Rattle.mv_edges.specs.Edges.{Label, Edge, same_node, here, an_edge, renamed_node, agrees, out_of}
+use Rattle.mv_edges.specs.Edges.{Label, Edge, same_node, an_edge, renamed_node, agrees}
 
 -- what leads into a node: strands, each from an origin, which is the global of the origin's number
 pub record Bundle : Type 0 where
@@ -90,17 +90,19 @@ moved old new c = record {
 abbrev pub with_bundle : Bundle → Composition → Composition
 with_bundle b c = record { sources = c.sources; origins = c.origins; bundles = c.bundles ++ b ∷ [] }
 
--- the bundle of a node that is lent by the source of this number, the only one of its origin
-abbrev pub lent : Node → Node → Composition → Composition
-lent from to c = record {
-  sources = c.sources ++ Some from ∷ [];
-  origins = c.origins ++ (an_edge (Glob (length c.sources)) here (Slot 0) ∷ []) ∷ [];
-  bundles = c.bundles ++ record { node = to; strands = an_edge (Glob (length c.origins)) here (Slot 0) ∷ [] } ∷ [];
-}
-
 -- the strands of the bundles at a node
 abbrev pub strands_at : Node → List Bundle → List Edge
 strands_at n bundles = flat_map (λ (b : Bundle). if same_node b.node n then b.strands else []) bundles
+
+-- whether an origin has one root alone, whose source is gone, so that no edge comes by way of it any more
+abbrev pub is_spent : List (Option Node) → List Edge → Bool
+is_spent sources [] = false
+is_spent sources (r ∷ []) = option_map_or (λ m. false) (numbered None sources r.from) true
+is_spent sources (r ∷ s ∷ rs) = false
+
+-- whether edges may come by way of a strand's origin
+abbrev pub is_live : Composition → Edge → Bool
+is_live c strand = not (is_spent c.sources (numbered [] c.origins strand.from))
 
 -- ---- queries
 
@@ -121,23 +123,13 @@ is_here label = not label.is_open && (length label.path == 0)
 abbrev pub comes_from : List (Option Node) → (Node → Bool) → Edge → Bool
 comes_from sources from root = option_map_or from (numbered None sources root.from) false
 
--- whether one of the roots from these nodes agrees by its own label
-abbrev pub any_agrees_alone : List (Option Node) → (Node → Bool) → Option ℕ → List Edge → Bool
-any_agrees_alone sources from position roots = list_any (λ r. comes_from sources from r && (not (is_here r.label) && agrees_if position r.label)) roots
+-- whether an origin's edges by a strand with this label have one from these nodes that agrees
+abbrev pub origin_passes : Composition → (Node → Bool) → Option ℕ → Label → Node → Bool
+origin_passes c from position label origin = list_any (λ r. comes_from c.sources from r && agrees_if position (composed r.label label)) (numbered [] c.origins origin)
 
--- whether one of the roots from these nodes has no label of its own, so that its strands say whether it agrees
-abbrev pub any_is_here : List (Option Node) → (Node → Bool) → List Edge → Bool
-any_is_here sources from roots = list_any (λ r. comes_from sources from r && is_here r.label) roots
-
--- whether one of the strands from an origin to these nodes agrees
-abbrev pub any_strand : Node → Option ℕ → (Node → Bool) → List Bundle → Bool
-any_strand origin position to bundles = list_any (λ (b : Bundle). to b.node && list_any (λ d. agrees_if position d.label) (out_of origin b.strands)) bundles
-
--- whether an edge by way of an origin is sought
-abbrev pub any_through : Composition → (Node → Bool) → Option ℕ → (Node → Bool) → Node → Bool
-any_through c from position to origin =
-    any_agrees_alone c.sources from position (numbered [] c.origins origin) && any_strand origin None to c.bundles
-    || any_is_here c.sources from (numbered [] c.origins origin) && any_strand origin position to c.bundles
+-- whether a strand's edges have such a one
+abbrev pub strand_passes : Composition → (Node → Bool) → Option ℕ → Edge → Bool
+strand_passes c from position strand = origin_passes c from position strand.label strand.from
 
 -- whether these roots are one, which leads from a source at a node, without a label
 abbrev pub is_birth : List (Option Node) → Node → List Edge → Bool

@@ -6,6 +6,7 @@ pub mod Equality
 pub mod Graph
 pub mod Joins
 pub mod Origins
+pub mod Passing
 pub mod Positions
 pub mod Related
 pub mod Sorted

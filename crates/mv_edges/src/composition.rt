@@ -3,6 +3,7 @@ ghost use Rattle.std.specs.Prelude.{◌≡◌, length, slice_get, option_copied,
 
 mod changes;
 mod made;
+mod passing;
 mod queries;
 mod steps;
 mod taken;

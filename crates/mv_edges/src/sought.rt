@@ -39,7 +39,7 @@ fn advanced(items: &[Edge], start: usize, place: usize, stride: usize, nodes: &[
 
 /// A place behind another one, of the edges between which each comes before these nodes. It is the last such place, and is found
 /// in as many comparisons as its distance has binary digits, twice.
-fn leap(items: &[Edge], start: usize, nodes: &[u32; 5]) -> usize
+pub(crate) fn leap(items: &[Edge], start: usize, nodes: &[u32; 5]) -> usize
     requires inside { start < length items.now }
     requires ascend { IsTrue (are_ascending items.now) }
     ensures order { start < result }

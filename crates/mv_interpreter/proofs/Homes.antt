@@ -1,21 +1,14 @@
 -- The modules and structs that a store has at a place: a struct's name stands for its module's own definition, at one place and one index.
 use Rattle.std.proofs.Common.{◌≡◌, ℕ, true, false, List, Option, Some, sym, ap, ap₂, ◌∙◌, subst}
-use Rattle.std.specs.Prelude.{slice_get}
-use Rattle.std.specs.Option.{option_map_or}
+use Rattle.std.specs.{Prelude.slice_get, Option.option_map_or}
 use Rattle.std.proofs.lemmas.Option.{same_Some}
-use Rattle.mv_move_types.specs.declared.tables.Field.{Field}
-use Rattle.mv_move_types.specs.Names.{ModuleName, StructName, same_module}
-use Rattle.mv_move_types.specs.Module.{Module, StructDefinition, name_at, name_of_struct, own_name}
-use Rattle.mv_move_types.specs.Named.{is_struct, definition_of}
-use Rattle.mv_move_types.specs.Options.{find_index}
-use Rattle.mv_move_types.specs.Published.{PublishedModule}
-use Rattle.mv_bounds.specs.Bounds.{InBounds}
-use Rattle.mv_bounds.specs.Definitions.{WellDefined}
+use Rattle.mv_move_types.specs.{declared.tables.Field.Field, Names.ModuleName, Names.StructName, Names.same_module, Named.is_struct, Named.definition_of, Options.find_index}
+use Rattle.mv_move_types.specs.{Published.PublishedModule}
+use Rattle.mv_move_types.specs.Module.{Module, StructDefinition, name_at, own_name}
+use Rattle.mv_bounds.specs.{Bounds.InBounds, Definitions.WellDefined}
 use Rattle.mv_linker.specs.Link.{IsStore, IsPublishable, tables_in, have_one_name}
 use Rattle.mv_module_text.proofs.Texts.{on_bind}
-use Rattle.mv_linker.proofs.Found.{one_place}
-use Rattle.mv_linker.proofs.NameLemmas.{same_module-same}
-use Rattle.mv_linker.proofs.OwnDefinitions.{own-definition, own_name-some}
+use Rattle.mv_linker.proofs.{Found.one_place, NameLemmas.same_module-same, OwnDefinitions.own-definition, OwnDefinitions.own_name-some}
 use Rattle.mv_interpreter.specs.Owned.{IsOwn}
 use Rattle.mv_interpreter.proofs.Lists.{mapped_at, All-at}
 
@@ -52,15 +45,12 @@ module _ (published : List PublishedModule) (store : IsStore published) where
       on_bind (slice_get m.structs i) _ name e1 (λ d d_is e2.
       on_bind (slice_get (tables_in published) q) _ name g (λ n n_is g1.
       on_bind (slice_get n.structs j) _ name g1 (λ f f_is g2.
-      one m n d f m_is n_is e2 g2 (own_of_store published p m store m_is i d d_is) (own_of_store published q n store n_is j f f_is)))))
-    where
-      one : (m n : Module) (d f : StructDefinition) → slice_get (tables_in published) p ≡ Some m → slice_get (tables_in published) q ≡ Some n
-          → name_of_struct m d ≡ Some name → name_of_struct n f ≡ Some name → IsOwn (tables_in published) m i d → IsOwn (tables_in published) n j f → (p ≡ q) × (i ≡ j)
-      one m n d f m_is n_is e2 g2 left right =
-          let first : left.name ≡ name = same_Some left.name name (sym left.named ∙ e2) in
-          let second : right.name ≡ name = same_Some right.name name (sym right.named ∙ g2) in
-          let names : left.name ≡ right.name = first ∙ sym second in
-          let found : (m, d.fields) ≡ (n, f.fields) = same_Some (m, d.fields) (n, f.fields) (sym left.definition ∙ ap (definition_of (tables_in published)) names ∙ right.definition) in
-          let modules : m ≡ n = ap (λ (x : Module × List Field). x.0) found in
-          let indices : i ≡ j = same_Some i j (sym left.index ∙ ap₂ (λ (x : Module) (y : StructName). find_index (is_struct x y) x.structs) modules names ∙ right.index) in
-          (place_of p q m m_is (n_is ∙ ap Some (sym modules)), indices)
+      let left : IsOwn (tables_in published) m i d = own_of_store published p m store m_is i d d_is in
+      let right : IsOwn (tables_in published) n j f = own_of_store published q n store n_is j f f_is in
+      let first : left.name ≡ name = same_Some left.name name (sym left.named ∙ e2) in
+      let second : right.name ≡ name = same_Some right.name name (sym right.named ∙ g2) in
+      let names : left.name ≡ right.name = first ∙ sym second in
+      let found : (m, d.fields) ≡ (n, f.fields) = same_Some (m, d.fields) (n, f.fields) (sym left.definition ∙ ap (definition_of (tables_in published)) names ∙ right.definition) in
+      let modules : m ≡ n = ap (λ (x : Module × List Field). x.0) found in
+      let indices : i ≡ j = same_Some i j (sym left.index ∙ ap₂ (λ (x : Module) (y : StructName). find_index (is_struct x y) x.structs) modules names ∙ right.index) in
+      (place_of p q m m_is (n_is ∙ ap Some (sym modules)), indices)))))

@@ -241,10 +241,6 @@ module _ {S : Type 0} (g : Cfg) (s : S) (has : 0 < length g.blocks.items) where
   first_mark : IsAt (first_waiting g s) 0 true
   first_mark = set_same (replicate (length g.blocks.items) false) 0 true (omega (arith, length-replicate (length g.blocks.items) false))
 
-  pub first_entry : {IsState : S → Type 0} (below : S → S → Type 0) → IsState s → (start : S) → start ≡ s → ((a : S) → IsState a → below a a)
-      → (u : S) × (IsStated (first_states g s) 0 u × below start u)
-  first_entry below valid start same reflexive = (s, (first_at, subst (λ x. below x s) (sym same) (reflexive s valid)))
-
   pub first_least : (below : S → S → Type 0) {step : ℕ → S → Option S} → (flow : List (Option S)) → IsClosed below step g s flow → IsFlowBelow below (first_states g s) flow
   first_least below flow closed k u v e ev =
       let is = first_only k u e in

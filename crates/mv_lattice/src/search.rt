@@ -30,6 +30,20 @@ impl From<AllocError> for SolveError {
     }
 }
 
+impl From<StepError> for SolveError {
+    ghost use Rattle.mv_lattice.specs.declared.StepError.TheVariants.{Need as StepNeed};
+    ghost use Rattle.mv_lattice.specs.declared.search.SolveError.TheVariants.{Need, TooComplex};
+
+    ghost from_gives = { λ e why. (why ≡ Need → e ≡ StepNeed) × ¬ (why ≡ TooComplex) };
+
+    fn from(e: StepError) -> Self {
+        match e {
+            StepError::Need => SolveError::Need,
+            StepError::Memory => SolveError::Memory,
+        }
+    }
+}
+
 /// How often a block is visited at most.
 const VISITS: u16 = 256;
 
@@ -130,25 +144,6 @@ fn raise_each<D: Domain>(
     Ok(())
 }
 
-/// Carries the state through the block.
-fn carry<D: Domain>(
-    alloc: Global,
-    d: &D,
-    block: &Block,
-    s: &D::State,
-) -> Result<D::State, StepError>
-    requires state { D.is_state d.now s.now }
-    requires order { block.now.first ≤ block.now.last }
-    requires inside { block.now.last < D.size d.now }
-    ensures state { IfOk result (λ t. D.is_state d.now t) }
-    ensures ok { IfOk result (λ t. through (D.steps d.now) block.now s.now ≡ Option.Some t) }
-    ensures need { IsErrOf result StepError.Need → through (D.steps d.now) block.now s.now ≡ Option.None }
-{
-    let entered = d.enter(alloc, s, None)?;
-    let last = pass_through(alloc, d, entered, block.first, block.last)?;
-    Ok(d.leave(alloc, last)?)
-}
-
 /// What the block makes of the state.
 fn carry_through<D: Domain>(
     alloc: Global,
@@ -164,11 +159,9 @@ fn carry_through<D: Domain>(
     ensures need { IsErrOf result SolveError.Need → through (D.steps d.now) block.now s.now ≡ Option.None }
     ensures complex { ¬ IsErrOf result SolveError.TooComplex }
 {
-    match carry(alloc, d, block, s) {
-        Ok(t) => Ok(t),
-        Err(StepError::Need) => Err(SolveError::Need),
-        Err(StepError::Memory) => Err(SolveError::Memory),
-    }
+    let entered = d.enter(alloc, s, None)?;
+    let last = pass_through(alloc, d, entered, block.first, block.last)?;
+    Ok(d.leave(alloc, last)?)
 }
 
 /// Carries the state of a block through it, and lets what comes out flow into its successors.

@@ -5,25 +5,20 @@
 -- Read first specs/Counting (Held and Kept count values) and of mv_machine proofs/Effects (what an instruction does to values),
 -- RuleEffects (`rule-ends`: each instruction's rule is one of these ten) and Runs (`run-keeps`: what every step keeps a run keeps), then:
 --   Own                            `run-own`: values are made by their own module's code
---   Counts, Keys, Stored, Frames   `kept-append`, `kept-with`, `kept-root`: counts in values, in the storage, in frames and states
---   Tags, Packs, Declared, Scarce  `packed-kept`, `declared-by`, `scarce-all`: what abilities say of a struct's values; which have a tally
---   Keeps, Conserved               `effect-balances`, `run-conserves`: an effect balances what is held against what is made and unmade
+--   Counts, Stored                 `kept-append`, `kept-with`: counts in values and in the storage
+--   Packs, Declared                `packed-kept`, `declared-by`: what abilities say of a struct's values
+--   Keeps, Conserved               `kept-root`, `effect-balances`, `run-conserves`: an effect balances what is held against what is made and unmade
 --   Typed, Admitted                `fine-kept`, `admitted-entry`: what the store and admission give a run to begin with
---   Tallied, Ended                 `returned-balanced`, `bundle-balanced`, `counts-tallied`: the ledger's tallies stay balanced
+--   Tallied, Ended                 `scarce-all`, `returned-balanced`, `bundle-balanced`, `counts-tallied`: which structs have a tally; the tallies stay balanced
 --   Worked                         the words at work
-pub mod Common
 pub mod Own
 pub mod Counts
-pub mod Keys
 pub mod Stored
-pub mod Frames
-pub mod Tags
 pub mod Packs
 pub mod Keeps
 pub mod Conserved
 pub mod Admitted
 pub mod Declared
-pub mod Scarce
 pub mod Tallied
 pub mod Typed
 pub mod Ended

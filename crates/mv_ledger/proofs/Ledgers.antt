@@ -1,19 +1,7 @@
 -- What a ledger holds stays as it has to where a bundle is published, and where a run was had.
-use Rattle.std.proofs.Common.{◌≡◌, ℕ, ◌+◌, ◌<◌, ◌≤◌, List, [], length, refl, Result, Ok, Err, sym, ◌∙◌, subst, arith}
-use Rattle.std.specs.Prelude.{All, OnOk, OnErr, IfOk}
-use Rattle.std.proofs.lemmas.List.Elements.{All-nil}
-use Rattle.mv_move_types.specs.declared.refusal.Refusal.{Refusal}
-use Rattle.mv_move_types.specs.Published.{PublishedModule}
-use Rattle.mv_machine.specs.Flat.{FlatEntry}
-use Rattle.mv_linker.specs.Link.{IsStore, tables_in}
-use Rattle.mv_frames.specs.Counters.{AreSameCounts, IsClear}
-use Rattle.mv_frames.specs.declared.counters.Count.{Count}
-use Rattle.mv_interpreter.specs.Runs.{IsFineWords}
-use Rattle.mv_ledger.specs.declared.tallies.Tally.{Tally}
-use Rattle.mv_ledger.specs.View.{state_of, view_of, all_of, IsLedger, AreSized, IsNamed, IsSmall, AreScarce, AreCountable}
-use Rattle.mv_ledger.specs.Judging.{IsAcceptedBy}
-use Rattle.mv_ledger.specs.Tallying.{AddsTallies}
-use Rattle.mv_ledger.specs.Accepted.SoundLedger.{IsSoundLedger}
+use Rattle.mv_ledger.proofs.Common.{[], ◌+◌, ◌<◌, ◌∙◌, ◌≡◌, ◌≤◌, Err, List, Ok, Result, arith, length, refl, subst, sym, ℕ, All-nil, All, IfOk, OnErr, OnOk, PublishedModule, Refusal, AreSameCounts}
+use Rattle.mv_ledger.proofs.Common.{IsClear, Count, FlatEntry, IsStore, tables_in, IsFineWords, IsSoundLedger, IsAcceptedBy, AddsTallies, AreCountable, AreScarce, AreSized, IsLedger, IsNamed}
+use Rattle.mv_ledger.proofs.Common.{IsSmall, all_of, state_of, view_of, Tally}
 use Rattle.mv_ledger.proofs.Runs.Countable.{none-countable}
 use Rattle.mv_ledger.proofs.Bundles.Staying.{stored-stays}
 use Rattle.mv_ledger.proofs.Accepted.Sound.{empty_sound}
@@ -47,8 +35,7 @@ still-clear counters counted counts clear d = counts d ∙ clear d
 
 -- a ledger with other counters that are clear
 with_counters : (published : List PublishedModule) (stored : List FlatEntry) (tallies : List (List Tally)) (counters counted : List (List Count)) (runs : ℕ) → IsClear counted
-    → AreCountable counted tallies → IsLedger published stored tallies counters runs
-    → IsLedger published stored tallies counted runs
+    → AreCountable counted tallies → IsLedger published stored tallies counters runs → IsLedger published stored tallies counted runs
 with_counters published stored tallies counters counted runs clear countable is = record {
   few = is.few;
   sized = is.sized;
@@ -89,10 +76,9 @@ ledger-published (Err e) old new stored before after counters counted runs room 
 
 -- a ledger whose storage and tallies a run changed
 pub ledger-run : (published : List PublishedModule) (old new : List FlatEntry) (before after : List (List Tally)) (counters counted : List (List Count)) (runs : ℕ)
-    → All (IsFineWords (tables_in published)) new → length after ≡ length before
-    → AreScarce (tables_in published) after → All (IsNamed (tables_in published)) (all_of after) → (All (IsSmall runs) (all_of before) → All (IsSmall (runs + 1)) (all_of after)) → runs < 4294967296
-    → IsSoundLedger (state_of (view_of published new (all_of after) (runs + 1))) → IsClear counted → AreCountable counted after → IsLedger published old before counters runs
-    → IsLedger published new after counted (runs + 1)
+    → All (IsFineWords (tables_in published)) new → length after ≡ length before → AreScarce (tables_in published) after → All (IsNamed (tables_in published)) (all_of after)
+    → (All (IsSmall runs) (all_of before) → All (IsSmall (runs + 1)) (all_of after)) → runs < 4294967296 → IsSoundLedger (state_of (view_of published new (all_of after) (runs + 1)))
+    → IsClear counted → AreCountable counted after → IsLedger published old before counters runs → IsLedger published new after counted (runs + 1)
 ledger-run published old new before after counters counted runs fine placed scarce named small few sound clear countable is = record {
   few = is.few;
   sized = is.sized;
@@ -129,8 +115,7 @@ ledger-kept published old new before after counters counted runs p placed scarce
 
 -- a bundle that was accepted leaves what a sound ledger holds sound
 pub sound-published : (r : Result ℕ Refusal) (old new : List PublishedModule) (payload : List ℕ) (stored : List FlatEntry) (before after : List Tally) (runs : ℕ) → OnOk r (IsStore new)
-    → IfOk r (λ n. IsAcceptedBy n old payload new)
-    → OnOk r (AddsTallies old new before after) → All (IsFineWords (tables_in old)) stored → IsSoundLedger (state_of (view_of old stored before runs))
+    → IfOk r (λ n. IsAcceptedBy n old payload new) → OnOk r (AddsTallies old new before after) → All (IsFineWords (tables_in old)) stored → IsSoundLedger (state_of (view_of old stored before runs))
     → OnOk r (IsSoundLedger (state_of (view_of new stored after runs)))
 sound-published (Ok count) old new payload stored before after runs whole accepted tallies fine sound =
     sound_with old new payload stored before after runs count accepted (stored-stays count old new payload stored sound.store whole accepted fine) tallies whole sound

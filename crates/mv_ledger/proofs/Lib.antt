@@ -4,6 +4,7 @@
 --   Phases, Replying, Ledgers             which phase is answered, what is replied, and that what a ledger holds stays as it has to
 --   SavedOnce, SavedFails                 one ledger to a text, and one reason where there is none
 pub mod Common
+pub mod Lists
 pub mod Spelling
 pub mod Ledgers
 pub mod Phases

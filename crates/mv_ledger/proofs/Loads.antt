@@ -6,7 +6,6 @@
 --   BodyTallies     Reading the tallies of all modules: how far it has come, and what stays.
 --   BodyEntries     The text of a stored value is read as its key and leaves, and what is read is such a text.
 --   LeafKinds       The leaves of a fine value are of the kinds that its struct says, and its text is theirs.
---   Decoded         Leaves of the kinds that a struct's values have are those of such a value.
 --   BodyLookups     Stored values that were put one after the other: what stands under each key, and which stand under one struct's keys.
 --   BodyGroups      The texts of stored values by ascending key, after their number, are read as what they are put into.
 --   BodyKeyed       The structs with key, by place of their module and index: each stands once among them.
@@ -14,14 +13,11 @@
 --   BodyStorage     The text of what is stored is read as its words, and what is read is such a text.
 --   BodyLaws        What follows the modules in the text of a saved ledger is read as its tallies' counts and its storage, and nothing else is.
 --   LoadedTallies   Tallies whose counts were read are of the same structs.
---   Insides         How many values of a struct are stored is known from how many values of each struct are stored under a key.
---   Counted         Counts of the values of structs, as they are made and changed.
 --   Adding          Counts with more values of structs: what is added to them one after the other.
 --   CountedStructs  The values that are stored, counted one after the other under their structs, and then struct by struct at any depth.
 --   CountedStorage  How many values of a struct are stored, at any depth, from how many values are stored of each struct with key.
 --   TalliesCounted  Tallies against the counts of what is stored.
 --   Loaded          From its parts, which ledger bytes are loaded as, and why they are not.
-pub mod Common
 pub mod LoadedHead
 pub mod Grouping
 pub mod LoadedModules
@@ -29,7 +25,6 @@ pub mod BodyReading
 pub mod BodyTallies
 pub mod BodyEntries
 pub mod LeafKinds
-pub mod Decoded
 pub mod BodyLookups
 pub mod BodyGroups
 pub mod BodyKeyed
@@ -37,8 +32,6 @@ pub mod BodyValues
 pub mod BodyStorage
 pub mod BodyLaws
 pub mod LoadedTallies
-pub mod Insides
-pub mod Counted
 pub mod Adding
 pub mod CountedStructs
 pub mod CountedStorage

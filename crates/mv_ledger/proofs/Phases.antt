@@ -1,24 +1,10 @@
 -- Each refusal is the first phase that an offer fails, and what a bundle is refused for.
-use Rattle.std.proofs.Common.{◌≡◌, ℕ, ◌≤◌, List, length, Some, ◌⊎◌, inl, inr, sym, subst}
-use Rattle.mv_move_types.specs.declared.refusal.Refusal.{Refusal}
-use Rattle.mv_move_types.specs.declared.refusal.Refusal.TheVariants.{Phase, Memory}
-use Rattle.mv_move_types.specs.Refusals.{IsRefusedIn}
-use Rattle.mv_move_types.specs.Module.{Module}
-use Rattle.mv_move_types.specs.Published.{PublishedModule, with_modules}
-use Rattle.mv_bounds.specs.Bounds.{InBounds}
-use Rattle.mv_bounds.specs.Definitions.{WellDefined}
+use Rattle.mv_ledger.proofs.Common.{◌≡◌, ◌≤◌, ◌⊎◌, List, Some, inl, inr, length, subst, sym, ℕ, Module, PublishedModule, with_modules, IsRefusedIn, Refusal, Memory, Phase, InBounds, WellDefined}
+use Rattle.mv_ledger.proofs.Common.{FailsTypes, IsRefusedByTypes, IsSound, endless, ill_signed, ill_typed, unable, LedgerState, Offer, Publish, Certificate, IsCertificateText, MayJoin, tables_in}
+use Rattle.mv_ledger.proofs.Common.{IsRefused, failing, IsAcceptedBy, IsRefusedBy, AllPass, FailsAt, IsRefusedAmong, IsRefusedOffer, Spells, in_linking, in_offer, in_room, no_acquires, no_bounds}
+use Rattle.mv_ledger.proofs.Common.{no_certificate, no_edges, no_flow, no_locals, no_text, not_able, not_defined, not_signed, not_typed, IsShaped}
 use Rattle.mv_bounds.specs.Answers.{IsRefusedByBounds, FailsBounds, out_of_bounds, ill_defined}
-use Rattle.mv_type_states.specs.Sound.{IsSound, IsRefusedByTypes, FailsTypes, ill_signed, unable, endless, ill_typed}
-use Rattle.mv_certificate.specs.Certificate.{Certificate}
-use Rattle.mv_certificate.specs.CertificateText.{IsCertificateText}
 use Rattle.mv_certificate.specs.Answers.{IsRefusedByCertificate, FailsCertificate, bad_locals, bad_borrows, bad_acquires}
-use Rattle.mv_machine.specs.Ledger.{Offer, LedgerState, Publish}
-use Rattle.mv_linker.specs.Link.{MayJoin, tables_in}
-use Rattle.mv_ledger.specs.RecordText.{IsShaped}
-use Rattle.mv_ledger.specs.Publishing.{Spells, FailsAt, no_text, no_bounds, not_defined, not_signed, not_able, no_flow, not_typed, no_certificate}
-use Rattle.mv_ledger.specs.Publishing.{no_locals, no_edges, no_acquires, IsRefusedOffer, IsRefusedAmong, AllPass, in_offer, in_linking, in_room}
-use Rattle.mv_ledger.specs.Exact.{IsRefused, failing}
-use Rattle.mv_ledger.specs.Judging.{IsAcceptedBy, IsRefusedBy}
 
 -- a phase is no want of memory
 pub phase-no-memory : (e : Refusal) (n : ℕ) → e ≡ Phase n → e ≡ Memory → ⊥

@@ -1,38 +1,49 @@
 -- What the ledger's calls reply, from what their parts say.
-use Rattle.std.specs.Prelude.{is_some}
-use Rattle.std.proofs.Common.{◌≡◌, ℕ, ◌+◌, true, false, List, [], ◌∷◌, length, map, Option, Some, None, Ok, Err, refl, sym, ap, ◌∙◌, subst, arith}
-use Rattle.mv_move_types.specs.declared.refusal.Refusal.TheVariants.{Phase}
-use Rattle.mv_move_types.specs.Published.{PublishedModule, with_modules}
-use Rattle.mv_machine.specs.State.{Storage}
-use Rattle.mv_machine.specs.Flat.{FlatEntry, storage_of}
-use Rattle.mv_machine.specs.Lines.{Tallied, Reply as Told, Published as ToldPublished, Refused as ToldRefused, Rejected as ToldRejected}
-use Rattle.mv_machine.specs.Lines.{Returned as ToldReturned, Aborted as ToldAborted, Exhausted as ToldExhausted, Told as ToldLines}
-use Rattle.mv_machine.specs.Ledger.{Offer, LedgerState, RunRequest, Publish, Run, BadRun, Bad, AreRead, with_bundle, tally_of, scarce_structs}
-use Rattle.mv_linker.specs.Link.{IsStore, tables_in}
-use Rattle.mv_ledger.specs.declared.tallies.Tally.{Tally}
-use Rattle.mv_ledger.specs.declared.executing.Call.{Call}
-use Rattle.mv_ledger.specs.declared.executing.Barred.TheVariants.{Rejected as BarredRejected}
-use Rattle.mv_ledger.specs.View.{LedgerView, state_of, view_of, tallied}
-use Rattle.mv_ledger.specs.RecordText.{IsShaped, IsShapeless}
-use Rattle.mv_ledger.specs.Answering.{AnswersRecord, Replies}
-use Rattle.mv_ledger.specs.Changes.{IsKept, RunsTo, Leaves}
-use Rattle.mv_ledger.specs.Publishing.{Spells, AllPass}
-use Rattle.mv_ledger.specs.Exact.{IsAccepted, IsRefused, no_bundle, failing}
-use Rattle.mv_ledger.specs.Judging.{IsAcceptedBy, IsRefusedBy}
-use Rattle.mv_ledger.specs.Running.{IsAdmitted, IsSettled}
-use Rattle.mv_ledger.specs.Tallying.{AddsTallies}
-use Rattle.mv_ledger.specs.Accepted.SoundLedger.{IsSoundLedger}
+use Rattle.mv_ledger.proofs.Common.{[], ◌+◌, ◌∙◌, ◌∷◌, ◌≡◌, Err, List, None, Ok, Option, Result, Some, ap, arith, false, map, refl, subst, sym, true, ℕ, is_some, PublishedModule, with_modules}
+use Rattle.mv_ledger.proofs.Common.{Phase, FlatEntry, storage_of, Answers, AreRead, Bad, BadRun, LedgerState, Offer, Publish, Run, RunRequest, admitted, attempted, modules_of, scarce_structs}
+use Rattle.mv_ledger.proofs.Common.{settled, tally_of, with_bundle, ToldAborted, ToldExhausted, ToldPublished, ToldRefused, ToldRejected, Told, ToldReturned, Tallied, FunctionCall, run, Storage}
+use Rattle.mv_ledger.proofs.Common.{IsStore, tables_in, call_of, IsSoundLedger, AnswersRecord, Replies, Leaves, RunsTo, IsAccepted, IsRefused, failing, no_bundle, IsAcceptedBy, IsRefusedBy}
+use Rattle.mv_ledger.proofs.Common.{AllPass, Spells, IsShaped, IsShapeless, IsAdmission, IsAdmitted, IsSettled, AddsTallies, LedgerView, state_of, tallied, view_of, Rejected, BarredRejected, Call}
+use Rattle.mv_ledger.proofs.Common.{Tally}
+use Rattle.mv_ledger.specs.Changes.{IsKept}
 use Rattle.mv_ledger.proofs.Bundles.Verifying.{as-many}
-use Rattle.mv_ledger.proofs.Runs.AdmissionsAnswered.{answered-rejected, answered-run}
 use Rattle.mv_ledger.proofs.Accepted.Sound.{published_sound, attempted_sound}
 use Rattle.mv_ledger.proofs.Accepted.Records.{asked_fits, answers_record}
+
+-- ---- what the machine's ledger answers to a run record: a rejection, or what the admitted call settles
+
+module _ (published : List PublishedModule) (stored new : List FlatEntry) (before after : List Tally) (runs : ℕ) (r : RunRequest) where
+  -- the ledger before a run, and after it
+  abbrev old_state : LedgerState
+  old_state = state_of (view_of published stored before runs)
+
+  abbrev new_state : LedgerState
+  new_state = state_of (view_of published new after (runs + 1))
+
+  -- a run that is not admitted is rejected for that reason, and nothing changes
+  pub answered-rejected : (reason : ℕ) → IsAdmitted published runs r (Err (Rejected reason)) → Answers Spells old_state (Run r) (ToldRejected reason) old_state
+  answered-rejected reason h = by_admission (admitted old_state r) (h old_state refl refl)
+    where
+      by_admission : (a : Result FunctionCall ℕ) → IsAdmission r.budget a (Err (Rejected reason)) → attempted old_state r.budget a ≡ Some (ToldRejected reason, old_state)
+      by_admission (Ok call) e = absurd e
+      by_admission (Err own) e = ap (λ (n : ℕ). Some (ToldRejected n, old_state)) (sym e)
+
+  -- a call that is admitted is answered by what it settles
+  pub answered-run : (call : Call) (reply : Told) → IsAdmitted published runs r (Ok call) → IsSettled published call (Some reply) stored new before after
+      → Answers Spells old_state (Run r) reply new_state
+  answered-run call reply h settles = by_admission (admitted old_state r) (h old_state refl refl)
+    where
+      by_admission : (a : Result FunctionCall ℕ) → IsAdmission r.budget a (Ok call) → attempted old_state r.budget a ≡ Some (reply, new_state)
+      by_admission (Ok asked) e =
+          subst (λ (f : FunctionCall). settled old_state (run (modules_of old_state) old_state.storage f r.budget) ≡ Some (reply, new_state)) e.0
+          (subst (λ (b : ℕ). settled old_state (run (modules_of old_state) old_state.storage (call_of call.function call.arguments.items) b) ≡ Some (reply, new_state)) e.1 (settles runs))
+      by_admission (Err reason) e = absurd e
 
 -- what passed was read from its text, one module for each offer
 read_as : (offers : List Offer) (bundle : List PublishedModule) → AllPass offers bundle → AreRead Spells offers bundle
 read_as [] [] h = tt
-read_as [] (p ∷ ps) h = h
-read_as (o ∷ os) [] h = h
 read_as (o ∷ os) (p ∷ ps) h = (h.0, h.1, h.2.1.text, read_as os ps h.3)
+read_as _ _ h = h
 
 same_state : (a b : List PublishedModule) (c d : Storage) (e f : List Tallied) (n : ℕ) → a ≡ b → c ≡ d → e ≡ f
     → (let s : LedgerState = record { published = a; storage = c; tallies = e; runs = n } in s) ≡ record { published = b; storage = d; tallies = f; runs = n }
@@ -55,31 +66,24 @@ module _ (old new : List PublishedModule) (payload : List ℕ) (stored : List Fl
   -- which is sound
   pub sound_with : (count : ℕ) → IsAcceptedBy count old payload new → storage_of (tables_in new) stored ≡ storage_of (tables_in old) stored → AddsTallies old new before after → IsStore new
       → IsSoundLedger (state_of first) → IsSoundLedger (state_of second)
-  sound_with count accepted same tallies whole sound = with_bundle_of (accepted (state_of first) refl)
-    where
-      with_bundle_of : (bundle : List PublishedModule) × (IsAccepted (state_of first) payload bundle × (count ≡ length bundle) × (new ≡ with_modules old bundle)) → IsSoundLedger (state_of second)
-      with_bundle_of b =
-          let a : IsAccepted (state_of first) payload b.0 = b.1.0 in
-          subst IsSoundLedger (sym (with_it b.0 b.1.2 same tallies)) (published_sound (state_of first) a.sender a.offers b.0 sound (subst IsStore b.1.2 whole) a.published)
+  sound_with count accepted same tallies whole sound =
+      let b = accepted (state_of first) refl in
+      let a : IsAccepted (state_of first) payload b.0 = b.1.0 in
+      subst IsSoundLedger (sym (with_it b.0 b.1.2 same tallies)) (published_sound (state_of first) a.sender a.offers b.0 sound (subst IsStore b.1.2 whole) a.published)
 
   pub published_replies : (count : ℕ) → IsAcceptedBy count old payload new → storage_of (tables_in new) stored ≡ storage_of (tables_in old) stored → AddsTallies old new before after → IsStore new
-      → IsSoundLedger (state_of first)
-      → Replies 1 payload (Some (ToldPublished count)) first second
-  published_replies count accepted same tallies whole sound = with_bundle_of (accepted (state_of first) refl)
-    where
-      with_bundle_of : (bundle : List PublishedModule) × (IsAccepted (state_of first) payload bundle × (count ≡ length bundle) × (new ≡ with_modules old bundle))
-          → Replies 1 payload (Some (ToldPublished count)) first second
-      with_bundle_of b =
-          let bundle : List PublishedModule = b.0 in
-          let a : IsAccepted (state_of first) payload bundle = b.1.0 in
-          let all : AllPass a.offers bundle = a.published.0 in
-          let state : state_of second ≡ with_bundle (state_of first) bundle = with_it bundle b.1.2 same tallies in
-          record {
-            answers = answers_record 1 payload (Publish a.sender a.offers) (ToldPublished count) (state_of first) (state_of second) a.asked
-                (bundle, read_as a.offers bundle all, b.1.1 ∙ as-many a.offers bundle all, state) (sound_with count accepted same tallies whole sound);
-            leaves = (refl, refl);
-            rightly = λ kind. (bundle, (a, b.1.1, state));
-          }
+      → IsSoundLedger (state_of first) → Replies 1 payload (Some (ToldPublished count)) first second
+  published_replies count accepted same tallies whole sound =
+      let b = accepted (state_of first) refl in
+      let a : IsAccepted (state_of first) payload b.0 = b.1.0 in
+      let all : AllPass a.offers b.0 = a.published.0 in
+      let state : state_of second ≡ with_bundle (state_of first) b.0 = with_it b.0 b.1.2 same tallies in
+      record {
+        answers = answers_record 1 payload (Publish a.sender a.offers) (ToldPublished count) (state_of first) (state_of second) a.asked
+            (b.0, read_as a.offers b.0 all, b.1.1 ∙ as-many a.offers b.0 all, state) (sound_with count accepted same tallies whole sound);
+        leaves = (refl, refl);
+        rightly = λ kind. (b.0, (a, b.1.1, state));
+      }
 
   same_view : new ≡ old → after ≡ before → second ≡ first
   same_view p q = rw (p, q) refl
@@ -130,13 +134,10 @@ module _ (published : List PublishedModule) (payload : List ℕ) (stored : List 
     same_had p q = rw (p, q) refl
 
     leaves_for : (t : Told) → RunsTo (Some t) stored new tallies after → Leaves t held holds
-    leaves_for (ToldPublished n) h = absurd h
-    leaves_for (ToldRefused phase) h = absurd h
-    leaves_for (ToldRejected reason) h = absurd h
     leaves_for (ToldReturned steps) h = tt
     leaves_for (ToldAborted kind n steps) h = same_had h.0 h.1
     leaves_for (ToldExhausted stop steps) h = same_had h.0 h.1
-    leaves_for (ToldLines lines) h = absurd h
+    leaves_for _ h = absurd h
 
     -- a run that was had leaves a sound ledger
     sound_had : (t : Told) → IsSettled published call (Some t) stored new tallies after → IsSoundLedger (state_of holds)

@@ -1,29 +1,11 @@
 -- Bytes are loaded as one ledger at most, and none that are loaded have a reason against them: what passes fails in no phase.
-use Rattle.std.proofs.Common.{◌≡◌, ℕ, true, List, [], ◌∷◌, ◌++◌, map, refl, sym, ap, ◌∙◌, subst, ap₂, IsTrue}
-use Rattle.std.specs.List.{list_all}
-use Rattle.std.proofs.lemmas.Bool.{and_parts}
-use Rattle.std.proofs.lemmas.List.Folds.{list_all-append}
-use Rattle.mv_move_types.specs.Module.{Module}
-use Rattle.mv_move_types.specs.Published.{PublishedModule}
-use Rattle.mv_module_text.specs.Laws.{AreBytes}
-use Rattle.mv_binary_format.specs.Laws.{IsReadByText}
-use Rattle.mv_bounds.specs.Bounds.{InBounds}
-use Rattle.mv_bounds.specs.Definitions.{WellDefined}
-use Rattle.mv_signatures.specs.Signatures.{WellSigned}
-use Rattle.mv_abilities.specs.Abilities.{AbilitiesHold}
-use Rattle.mv_cfg.specs.Blocks.{FlowHolds}
+use Rattle.mv_ledger.proofs.Common.{[], ◌++◌, ◌∙◌, ◌∷◌, ◌≡◌, IsTrue, List, ap, ap₂, map, refl, subst, sym, true, ℕ, and_parts, list_all-append, list_all, Module, PublishedModule, IsReadByText}
+use Rattle.mv_ledger.proofs.Common.{InBounds, WellDefined, WellSigned, FlowHolds, AcquiresHold, AbilitiesHold, AreBytes, LedgerState, Offer, Certificate, all_edges_hold, all_locals_hold}
+use Rattle.mv_ledger.proofs.Common.{IsCertificateText, AreLinked, AreTallied, FailsLoad, HasHead, IsLoaded, no_body, no_head, no_links, no_module, no_tallies, AllPass, FailsAmong, FailsAt, Passes}
+use Rattle.mv_ledger.proofs.Common.{Spells, no_acquires, no_bounds, no_certificate, no_edges, no_flow, no_locals, no_text, not_able, not_defined, not_signed, not_typed, offered, offer_fits}
+use Rattle.mv_ledger.proofs.Common.{EachLoadIsOne, EachSecondFormComesBack, NoLoadFails, Form, IsSavedText, Second, body_text, saved_text}
 use Rattle.mv_type_states.specs.TypesHold.{TypesHold}
-use Rattle.mv_acquires.specs.Acquires.{AcquiresHold}
-use Rattle.mv_certificate.specs.Certificate.{Certificate, all_locals_hold, all_edges_hold}
-use Rattle.mv_certificate.specs.CertificateText.{IsCertificateText}
 use Rattle.mv_certificate.proofs.OneCertificate.{one-certificate}
-use Rattle.mv_machine.specs.Ledger.{Offer, LedgerState}
-use Rattle.mv_ledger.specs.RecordText.{offer_fits}
-use Rattle.mv_ledger.specs.Publishing.{Spells, Passes, FailsAt, no_text, no_bounds, not_defined, not_signed, not_able, no_flow, not_typed}
-use Rattle.mv_ledger.specs.Publishing.{no_certificate, no_locals, no_edges, no_acquires, offered, AllPass, FailsAmong}
-use Rattle.mv_ledger.specs.SavedText.{Form, Second, body_text, saved_text, IsSavedText}
-use Rattle.mv_ledger.specs.Loading.{HasHead, AreLinked, AreTallied, IsLoaded, FailsLoad, no_head, no_module, no_links, no_body, no_tallies}
-use Rattle.mv_ledger.specs.SavedLaws.{EachLoadIsOne, EachSecondFormComesBack, NoLoadFails}
 use Rattle.mv_ledger.proofs.Spelling.{OffersAreBytes, text_bytes, offers_bytes, module-one}
 use Rattle.mv_ledger.proofs.Saves.Saved.{heads-one, ledgers-one}
 
@@ -77,23 +59,19 @@ module _ (reads : IsReadByText) (o : Offer) (m : Module) (c : Certificate) (are 
 -- the modules that passed with these texts
 pub passed-one : IsReadByText → (os : List Offer) (ps qs : List PublishedModule) → OffersAreBytes os → AllPass os ps → AllPass os qs → ps ≡ qs
 passed-one reads [] [] [] are a b = refl
-passed-one reads [] [] (q ∷ qs) are a b = absurd b
-passed-one reads [] (p ∷ ps) qs are a b = absurd a
-passed-one reads (o ∷ os) [] qs are a b = absurd a
-passed-one reads (o ∷ os) (p ∷ ps) [] are a b = absurd b
 passed-one reads (o ∷ os) (p ∷ ps) (q ∷ qs) are a b =
     let text : p.text ≡ q.text = a.0 ∙ sym b.0 in
     let certificate : p.certificate ≡ q.certificate = a.1 ∙ sym b.1 in
     let tables : p.tables ≡ q.tables = module-one reads o.text p.tables q.tables are.0 a.2.1.text b.2.1.text in
     let here : p ≡ q = λ i. record { text = text i; certificate = certificate i; tables = tables i } in
     ap₂ (λ (x : PublishedModule) (xs : List PublishedModule). x ∷ xs) here (passed-one reads os ps qs are.1 a.3 b.3)
+passed-one _ _ _ _ _ a b = absurd (search)
 
 -- one of the offers that passed
 passes_at : (before : List Offer) (o : Offer) (after : List Offer) (ps : List PublishedModule) → AllPass (before ++ o ∷ after) ps → (m : Module) × (c : Certificate) × Passes o m c
-passes_at [] o after [] all = absurd all
 passes_at [] o after (p ∷ ps) all = (p.tables, all.2.0, all.2.1)
-passes_at (b ∷ before) o after [] all = absurd all
 passes_at (b ∷ before) o after (p ∷ ps) all = passes_at before o after ps all.3
+passes_at _ _ _ _ all = absurd all
 
 -- none of offers that passed fails
 none_fails : IsReadByText → (os : List Offer) (ps : List PublishedModule) (phase : ℕ) → IsTrue (list_all offer_fits os) → AllPass os ps → FailsAmong os phase → ⊥

@@ -1,34 +1,10 @@
 -- Texts that can be told from what follows them: numbers, bytes after their number, modules and lists, leaves and values.
-use Rattle.std.proofs.Common.{◌≡◌, ℕ, zero, suc, ◌+◌, ◌/◌, ◌%◌, ◌^◌, ◌<◌, Bool, true, false, cond, List, [], ◌∷◌, ◌++◌, length, flat_map, refl, sym}
-use Rattle.std.proofs.Common.{ap, ap₂, ◌∙◌, subst, arith, append_assoc, nat_lt, ltb-true, IsTrue}
-use Rattle.std.specs.List.{AllByRecursion}
-use Rattle.std.specs.Option.{option_map_or}
-use Rattle.std.proofs.lemmas.Bool.{and_parts}
-use Rattle.std.proofs.lemmas.Option.{same_Some, some_pair_parts}
-use Rattle.mv_uleb.specs.Uleb.{uleb, uleb_in}
-use Rattle.mv_move_types.specs.declared.token.LeafKind.{LeafKind}
-use Rattle.mv_move_types.specs.declared.token.LeafKind.TheVariants.{Boolean, Number, Address, Signer}
-use Rattle.mv_move_types.specs.declared.token.ValueType.TheVariants.{OfLeaf, OfStruct}
-use Rattle.mv_move_types.specs.declared.token.Token.{Token}
-use Rattle.mv_move_types.specs.declared.token.Token.TheVariants.{Plain, Reference, MutableReference}
-use Rattle.mv_move_types.specs.declared.tables.Field.{Field}
-use Rattle.mv_move_types.specs.Tokens.{width_bits, same_kind}
-use Rattle.mv_move_types.specs.Names.{StructName, same_struct}
-use Rattle.mv_move_types.specs.Module.{Module, struct_name}
-use Rattle.mv_move_types.specs.Named.{definition_of}
-use Rattle.mv_module_text.specs.Entries.{counted, address_text}
-use Rattle.mv_module_text.specs.Fits.{address_fits}
-use Rattle.mv_module_text.specs.Parsing.{Read, number_of_from, address_from}
-use Rattle.mv_module_text.proofs.Texts.{Whole}
-use Rattle.mv_module_text.proofs.Numbers.{number_of-whole}
-use Rattle.mv_module_text.proofs.Addresses.{address-whole}
-use Rattle.mv_machine.specs.Value.{Value, Leaf, Struct, Ref, Values, NoMore, More}
-use Rattle.mv_machine.specs.Typed.{leaf_fits, is_of_type, are_of_types, is_of_struct}
-use Rattle.mv_machine.specs.Ledger.{Offer}
-use Rattle.mv_linker.proofs.NameLemmas.{same_struct-is}
-use Rattle.mv_interpreter.proofs.Typing.Tests.{same_kind-is}
-use Rattle.mv_ledger.specs.RecordText.{leaf_bytes, sized, offer_text}
-use Rattle.mv_ledger.specs.SavedText.{leaves_text, leaves_of_fields}
+use Rattle.mv_ledger.proofs.Common.{[], ◌%◌, ◌++◌, ◌+◌, ◌/◌, ◌<◌, ◌^◌, ◌∙◌, ◌∷◌, ◌≡◌, Bool, IsTrue, List, ap, append_assoc, ap₂, arith, cond, false, flat_map, length, refl, subst, suc, sym, true}
+use Rattle.mv_ledger.proofs.Common.{zero, ℕ, and_parts, ltb-true, same_Some, some_pair_parts, AllByRecursion, option_map_or, nat_lt, Module, struct_name, definition_of, StructName, same_struct}
+use Rattle.mv_ledger.proofs.Common.{same_kind, width_bits, Field, LeafKind, Address, Boolean, Number, Signer, Token, MutableReference, Plain, Reference, OfLeaf, OfStruct, uleb_in, address-whole}
+use Rattle.mv_ledger.proofs.Common.{number_of-whole, Whole, address_text, counted, address_fits, Read, address_from, number_of_from, Offer, are_of_types, is_of_struct, is_of_type, leaf_fits, Leaf}
+use Rattle.mv_ledger.proofs.Common.{More, NoMore, Ref, Struct, Value, Values, same_struct-is, same_kind-is, leaf_bytes, offer_text, sized, leaves_of_fields, leaves_text}
+use Rattle.mv_uleb.specs.Uleb.{uleb}
 use Rattle.mv_ledger.proofs.Bundles.Heirs.{tested}
 
 -- of two things with the property, whose texts stand at the front of the same bytes, one is the other, and so are the bytes after them
@@ -80,14 +56,13 @@ uleb-one m n x y e = in-one 9 m n x y e
 -- as many bytes at the front
 pub bytes-one : (a b x y : List ℕ) → length a ≡ length b → a ++ x ≡ b ++ y → (a ≡ b) × (x ≡ y)
 bytes-one [] [] x y l e = (refl, e)
-bytes-one [] (d ∷ b) x y l e = absurd (omega (arith, l))
-bytes-one (c ∷ a) [] x y l e = absurd (omega (arith, l))
 bytes-one (c ∷ a) (d ∷ b) x y l e =
     let first : c ≡ d = cc in
     let rest : a ++ x ≡ b ++ y = cc in
     let few : length a ≡ length b = omega (arith, l) in
     let ih = bytes-one a b x y few rest in
     (ap₂ (λ (h : ℕ) (t : List ℕ). h ∷ t) first ih.0, ih.1)
+bytes-one _ _ x y l e = absurd (omega (arith, l))
 
 -- bytes after their number
 pub sized-one : IsOne sized
@@ -106,13 +81,12 @@ module _ {A : Type 0} (P : A → Type 0) (text : A → List ℕ) (one : IsOneOn 
   -- as many things one after another
   pub entries-one : (vs ws : List A) (x y : List ℕ) → length vs ≡ length ws → AllByRecursion P vs → AllByRecursion P ws → flat_map text vs ++ x ≡ flat_map text ws ++ y → (vs ≡ ws) × (x ≡ y)
   entries-one [] [] x y l p q e = (refl, e)
-  entries-one [] (w ∷ ws) x y l p q e = absurd (omega (arith, l))
-  entries-one (v ∷ vs) [] x y l p q e = absurd (omega (arith, l))
   entries-one (v ∷ vs) (w ∷ ws) x y l p q e =
       let first = one v w (flat_map text vs ++ x) (flat_map text ws ++ y) p.0 q.0 (in_parts (text v) (flat_map text vs) x (text w) (flat_map text ws) y e) in
       let few : length vs ≡ length ws = omega (arith, l) in
       let ih = entries-one vs ws x y few p.1 q.1 first.1 in
       (ap₂ (λ (h : A) (t : List A). h ∷ t) first.0 ih.0, ih.1)
+  entries-one _ _ x y l p q e = absurd (omega (arith, l))
 
   -- things after their number
   pub counted-one : IsOneOn (AllByRecursion P) (counted text)
@@ -153,8 +127,7 @@ module _ (modules : List Module) where
 
   -- fields of one struct
   defined-one : (s r : StructName) (fs gs : Values) (x y : List ℕ) → s ≡ r → IsTrue (has_fields s fs) → IsTrue (has_fields r gs)
-      → ((m : Module) (types : List Field) → are_of_types modules m types fs ≡ true → are_of_types modules m types gs ≡ true → (fs ≡ gs) × (x ≡ y))
-      → (Struct s fs ≡ Struct r gs) × (x ≡ y)
+      → ((m : Module) (types : List Field) → are_of_types modules m types fs ≡ true → are_of_types modules m types gs ≡ true → (fs ≡ gs) × (x ≡ y)) → (Struct s fs ≡ Struct r gs) × (x ≡ y)
   defined-one s r fs gs x y same p q go =
       let d = tested (λ (d : Module × List Field). are_of_types modules d.0 d.1 fs) (definition_of modules s) p in
       let c = tested (λ (d : Module × List Field). are_of_types modules d.0 d.1 gs) (definition_of modules r) q in

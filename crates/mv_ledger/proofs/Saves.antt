@@ -1,28 +1,21 @@
 -- The proofs of saving: the sections of the structs with key, the leaves of their values, and the whole text.
 --   LayoutParts   Of what the fields of structs are made, and the kinds of their leaves.
---   PartKinds     The kinds of the leaves of parts, as they are put one after the other.
 --   KeyedIndices  The structs of a module that have key, as they are found one after the other.
---   KeyedDefined  Each struct with key is defined where it says.
 --   Coding        Leaves that are coded one after the other.
 --   Sections      Sections of structs: empty ones, and one with one value more.
 --   Filling       What is stored, as it is put into the sections of its structs.
 --   Written       The parts of a saved ledger, as they are written one after the other.
 --   SavedStored   A saved storage can be told from what follows it, in both forms.
 --   Saved         A ledger has one text of each form, and a text is of one ledger.
---   SavedLimits   A ledger is within the limits of a saved one.
 --   SavedLoads    What is saved of a sound ledger is loaded, what is loaded is sound, and what is loaded is saved as it was.
 --   SavedRows     Texts of worked ledgers, by computation: an empty one, and one with a coin of 7, whose module has 99 bytes.
-pub mod Common
 pub mod LayoutParts
-pub mod PartKinds
 pub mod KeyedIndices
-pub mod KeyedDefined
 pub mod Coding
 pub mod Sections
 pub mod Filling
 pub mod Written
 pub mod SavedStored
 pub mod Saved
-pub mod SavedLimits
 pub mod SavedLoads
 mod SavedRows

@@ -1,29 +1,12 @@
 -- A payload is read to its end exactly where it has the shape of its kind.
-use Rattle.std.proofs.Common.{◌≡◌, ℕ, ◌≤◌, ◌^◌, ◌<◌, List, [], ◌++◌, length, map, flat_map, append-nil, append_assoc, arith, refl, ap, sym, ◌∙◌}
-use Rattle.std.proofs.Common.{subst, Option, Some, None, IsTrue, Bool, ◌&&◌, nat_le, nat_lt, leb-true, le-leb, lt-ltb, ltb-true}
-use Rattle.std.specs.Bool.{then_some}
-use Rattle.std.specs.List.{list_all}
-use Rattle.std.proofs.lemmas.Bool.{and_parts, and_from}
-use Rattle.std.proofs.lemmas.List.{length-map}
-use Rattle.std.proofs.lemmas.List.Folds.{list_all-map, flat_map-map}
-use Rattle.std.proofs.lemmas.Option.{none-some, same_Some}
-use Rattle.mv_uleb.specs.Uleb.{uleb}
-use Rattle.mv_uleb.specs.Parsing.{number_from}
-use Rattle.mv_move_types.specs.Options.{◌>>=◌}
-use Rattle.mv_module_text.specs.Entries.{address_text, counted, identifier_text}
-use Rattle.mv_module_text.specs.Fits.{is_byte, address_fits, identifier_fits}
-use Rattle.mv_module_text.specs.Laws.{AreBytes}
-use Rattle.mv_module_text.specs.Parsing.{bytes_from, counted_from, identifier_from, address_from}
-use Rattle.mv_module_text.proofs.Texts.{Front, Parts, Whole, on_bind, then_some-parts, Front-join, Front-as, number-front, number-whole, bytes-front}
-use Rattle.mv_module_text.proofs.Texts.{bytes-whole, bytes_after, counted-parts, counted-whole}
+use Rattle.mv_ledger.proofs.Common.{[], ◌++◌, ◌<◌, ◌^◌, ◌∙◌, ◌≡◌, ◌≤◌, Bool, IsTrue, List, None, Option, Some, ap, append-nil, append_assoc, arith, flat_map, le-leb, leb-true, length, lt-ltb, map}
+use Rattle.mv_ledger.proofs.Common.{refl, subst, sym, ℕ, and_from, and_parts, ltb-true, length-map, flat_map-map, list_all-map, none-some, same_Some, then_some, list_all, ◌&&◌, nat_le, nat_lt}
+use Rattle.mv_ledger.proofs.Common.{◌>>=◌, number_from, uleb, address-parts, address-whole, Front, Front-as, Front-join, Parts, Whole, bytes-front, bytes-whole, bytes_after, counted-parts}
+use Rattle.mv_ledger.proofs.Common.{counted-whole, number-front, number-whole, on_bind, then_some-parts, address_text, counted, identifier_text, address_fits, identifier_fits, is_byte, AreBytes}
+use Rattle.mv_ledger.proofs.Common.{address_from, bytes_from, counted_from, identifier_from, Audit, Offer, Publish, Request, Run, RunRequest, Show, Value, arg_value, Arg, argument_from}
+use Rattle.mv_ledger.proofs.Common.{bundle_from, offer_from, offers_from, run_from, sized_from, IsShaped, IsShapeless, argument_fits, argument_text, offer_fits, offer_text, publish_fits}
+use Rattle.mv_ledger.proofs.Common.{publish_text, run_fits, run_text, sized}
 use Rattle.mv_module_text.proofs.Handles.{identifier-parts, identifier-whole}
-use Rattle.mv_module_text.proofs.Addresses.{address-parts, address-whole}
-use Rattle.mv_machine.specs.Value.{Value}
-use Rattle.mv_machine.specs.Ledger.{Offer, RunRequest, Request, Publish, Run, Show, Audit, BadRun, Bad}
-use Rattle.mv_interpreter.specs.declared.Arg.{Arg}
-use Rattle.mv_interpreter.specs.Runs.{arg_value}
-use Rattle.mv_ledger.specs.RecordText.{sized, offer_text, offer_fits, publish_text, publish_fits, run_text, run_fits, argument_text, argument_fits, IsShaped, IsShapeless}
-use Rattle.mv_ledger.specs.Payloads.{sized_from, offer_from, offers_from, bundle_from, argument_from, run_from}
 use Rattle.mv_ledger.proofs.ShapesOfArguments.{arg_text, arg_fits, argument-parts, argument-whole, args_of}
 
 -- so few bytes
@@ -56,21 +39,18 @@ offer-parts bytes rest v ok e =
     on_bind (sized_from 1048576 t.1) _ (v, rest) e1 (λ c c_is e2.
     let p = sized-parts 65536 (omega arith) bytes t.1 t.0 ok t_is in
     let q = sized-parts 1048576 (omega arith) t.1 c.1 c.0 p.0.left c_is in
-    let r = and_parts (nat_le (length c.0) 1048576) (list_all is_byte c.0) q.1 in
     Front-as offer_text offer_fits bytes c.1 rest (record { text = t.0; certificate = c.0 }) v e2
     (Front-join (sized t.0) (sized c.0) bytes t.1 c.1 p.0 q.0)
-    (and_from (sized_fits 65536 t.0 && nat_le (length c.0) 1048576) (list_all is_byte c.0)
-    (and_from (sized_fits 65536 t.0) (nat_le (length c.0) 1048576) p.1 r.0) r.1)))
+    (grind (arith, p.1, q.1))))
 
 -- they are read
 pub offer-whole : Whole offer_from offer_text offer_fits
 offer-whole rest v ok =
-    let p = and_parts (sized_fits 65536 v.text && nat_le (length v.certificate) 1048576) (list_all is_byte v.certificate) ok in
-    let q = and_parts (sized_fits 65536 v.text) (nat_le (length v.certificate) 1048576) p.0 in
-    let well : IsTrue (sized_fits 1048576 v.certificate) = and_from (nat_le (length v.certificate) 1048576) (list_all is_byte v.certificate) q.1 p.1 in
+    let text : IsTrue (sized_fits 65536 v.text) = grind arith in
+    let well : IsTrue (sized_fits 1048576 v.certificate) = grind arith in
     ap offer_from (append_assoc (sized v.text) (sized v.certificate) rest)
     ∙ ap (λ r. r >>= λ text. sized_from 1048576 text.1 >>= λ certificate. Some (record { text = text.0; certificate = certificate.0 }, certificate.1))
-    (sized-whole 65536 (omega arith) (sized v.certificate ++ rest) v.text q.0)
+    (sized-whole 65536 (omega arith) (sized v.certificate ++ rest) v.text text)
     ∙ ap (λ r. r >>= λ certificate. Some (record { text = v.text; certificate = certificate.0 }, certificate.1))
     (sized-whole 1048576 (omega arith) rest v.certificate well)
 
@@ -91,12 +71,9 @@ bundle-parts bytes rest v ok e =
     let p = address-parts bytes s.1 s.0 ok s_is in
     let t = then_some-parts (nat_le 1 (length c.0)) c o e3 in
     let q = counted-parts 16 offer_from offer_text offer_fits (omega arith) offer-parts s.1 c.1 c.0 p.0.left c_is in
-    let r = and_parts (nat_le (length c.0) 16) (list_all offer_fits c.0) q.1 in
     Front-as bundle_text bundle_fits bytes c.1 rest (s.0, c.0) v (ap (λ z. Some ((s.0, z.0), z.1)) t.1 ∙ e2)
     (Front-join (address_text s.0) (counted offer_text c.0) bytes s.1 c.1 p.0 q.0)
-    (and_from (address_fits s.0 && nat_le 1 (length c.0) && nat_le (length c.0) 16) (list_all offer_fits c.0)
-    (and_from (address_fits s.0 && nat_le 1 (length c.0)) (nat_le (length c.0) 16)
-    (and_from (address_fits s.0) (nat_le 1 (length c.0)) p.1 t.0) r.0) r.1))))
+    (grind (arith, p.1, t.0, q.1)))))
 
 -- they are read
 abbrev with_sender : Option (ℕ × List ℕ) → Option ((ℕ × List Offer) × List ℕ)
@@ -110,32 +87,29 @@ some_offers o = o >>= λ offers. then_some (nat_le 1 (length offers.0)) offers
 
 bundle-whole : Whole bundle_from bundle_text bundle_fits
 bundle-whole rest v ok =
-    let p = and_parts (address_fits v.0 && nat_le 1 (length v.1) && nat_le (length v.1) 16) (list_all offer_fits v.1) ok in
-    let q = and_parts (address_fits v.0 && nat_le 1 (length v.1)) (nat_le (length v.1) 16) p.0 in
-    let r = and_parts (address_fits v.0) (nat_le 1 (length v.1)) q.0 in
+    let sender : IsTrue (address_fits v.0) = grind arith in
+    let some : IsTrue (nat_le 1 (length v.1)) = grind arith in
+    let fit : IsTrue (nat_le (length v.1) 16 && list_all offer_fits v.1) = grind arith in
     let offers : List Offer × List ℕ = (v.1, rest) in
     ap bundle_from (append_assoc (address_text v.0) (counted offer_text v.1) rest)
-    ∙ ap with_sender (address-whole (counted offer_text v.1 ++ rest) v.0 r.0)
+    ∙ ap with_sender (address-whole (counted offer_text v.1 ++ rest) v.0 sender)
     ∙ ap (λ (o : Option (List Offer × List ℕ)). with_offers v.0 (some_offers o))
-    (counted-whole 16 offer_from offer_text offer_fits (omega arith) offer-whole rest v.1 (and_from (nat_le (length v.1) 16) (list_all offer_fits v.1) q.1 p.1))
-    ∙ ap (λ (b : Bool). with_offers v.0 (then_some b offers)) r.1
+    (counted-whole 16 offer_from offer_text offer_fits (omega arith) offer-whole rest v.1 fit)
+    ∙ ap (λ (b : Bool). with_offers v.0 (then_some b offers)) some
 
 -- a payload that is read to its end as a bundle has a publish record's shape
-pub bundle-shaped : (payload : List ℕ) (sender : ℕ) (os : List Offer) → AreBytes payload → bundle_from payload ≡ Some ((sender, os), [])
-    → IsShaped 1 payload (Publish sender os)
+pub bundle-shaped : (payload : List ℕ) (sender : ℕ) (os : List Offer) → AreBytes payload → bundle_from payload ≡ Some ((sender, os), []) → IsShaped 1 payload (Publish sender os)
 bundle-shaped payload sender os ok e =
     let p = bundle-parts payload [] (sender, os) ok e in
     (refl, p.0.text ∙ append-nil (publish_text sender os), p.1)
 
 -- one of the shape is read to its end
 bundle-read : (payload : List ℕ) (r : Request) → IsShaped 1 payload r → (b : ℕ × List Offer) × (bundle_from payload ≡ Some (b, []))
-bundle-read payload (Publish sender os) h =
-    ((sender, os), ap bundle_from (h.1 ∙ sym (append-nil (publish_text sender os))) ∙ bundle-whole [] (sender, os) h.2)
+bundle-read payload (Publish sender os) h = ((sender, os), ap bundle_from (h.1 ∙ sym (append-nil (publish_text sender os))) ∙ bundle-whole [] (sender, os) h.2)
 bundle-read payload (Run r) h = absurd (omega (arith, h.0))
 bundle-read payload (Show format) h = absurd (omega (arith, h.0))
 bundle-read payload (Audit format) h = absurd (omega (arith, h.0))
-bundle-read payload BadRun h = absurd h
-bundle-read payload Bad h = absurd h
+bundle-read _ _ h = absurd h
 
 -- what isn't read has no such shape
 pub bundle-none : (payload : List ℕ) → bundle_from payload ≡ None → IsShapeless 1 payload
@@ -188,17 +162,11 @@ run-parts bytes rest v ok e =
     Front-join (address_text s.0 ++ address_text h.0 ++ identifier_text m.0 ++ identifier_text f.0) (uleb b.0) bytes f.1 b.1 four u.0 in
     let last : Front (counted argument_text values) b.1 a.1 = subst (λ z. Front z b.1 a.1) (counted_values a.0) w.0 in
     let fit : IsTrue (values_fit values) = sym (fitting_values a.0) ∙ w.1 in
-    let few = and_parts (nat_le (length values) 16) (list_all argument_fits values) fit in
     let small : IsTrue (nat_lt b.0 (2 ^ 64)) = lt-ltb b.0 (2 ^ 64) (omega (arith, u.1)) in
     Front-as run_text run_fits bytes a.1 rest
     (record { sender = s.0; home = record { address = h.0; name = m.0 }; function = f.0; budget = b.0; arguments = values }) v e6
     (Front-join (address_text s.0 ++ address_text h.0 ++ identifier_text m.0 ++ identifier_text f.0 ++ uleb b.0) (counted argument_text values) bytes b.1 a.1 five last)
-    (and_from (address_fits s.0 && address_fits h.0 && identifier_fits m.0 && identifier_fits f.0 && nat_lt b.0 (2 ^ 64) && nat_le (length values) 16) (list_all argument_fits values)
-    (and_from (address_fits s.0 && address_fits h.0 && identifier_fits m.0 && identifier_fits f.0 && nat_lt b.0 (2 ^ 64)) (nat_le (length values) 16)
-    (and_from (address_fits s.0 && address_fits h.0 && identifier_fits m.0 && identifier_fits f.0) (nat_lt b.0 (2 ^ 64))
-    (and_from (address_fits s.0 && address_fits h.0 && identifier_fits m.0) (identifier_fits f.0)
-    (and_from (address_fits s.0 && address_fits h.0) (identifier_fits m.0)
-    (and_from (address_fits s.0) (address_fits h.0) p.1 q.1) r.1) t.1) small) few.0) few.1)))))))
+    (grind (arith, p.1, q.1, r.1, t.1, small, fit))))))))
 
 -- six parts before the rest
 six : (a b c d e f rest : List ℕ) → (a ++ b ++ c ++ d ++ e ++ f) ++ rest ≡ a ++ (b ++ (c ++ (d ++ (e ++ (f ++ rest)))))
@@ -255,12 +223,11 @@ run-shaped payload r ok e =
 
 -- one of the shape is read to its end
 run-read : (payload : List ℕ) (r : Request) → IsShaped 2 payload r → (q : RunRequest) × (run_from payload ≡ Some (q, []))
-run-read payload (Publish sender offers) h = absurd (omega (arith, h.0))
 run-read payload (Run r) h = (r, ap run_from (h.1 ∙ sym (append-nil (run_text r))) ∙ run-whole [] r h.2)
+run-read payload (Publish sender os) h = absurd (omega (arith, h.0))
 run-read payload (Show format) h = absurd (omega (arith, h.0))
 run-read payload (Audit format) h = absurd (omega (arith, h.0))
-run-read payload BadRun h = absurd h
-run-read payload Bad h = absurd h
+run-read _ _ h = absurd h
 
 -- what isn't read has no such shape
 pub run-none : (payload : List ℕ) → run_from payload ≡ None → IsShapeless 2 payload

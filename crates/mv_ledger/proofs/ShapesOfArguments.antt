@@ -1,26 +1,9 @@
 -- What is read of an argument is what was written: its token and its value.
-use Rattle.std.proofs.Common.{◌≡◌, ℕ, ◌^◌, List, [], ◌∷◌, ◌++◌, map, refl, ap, ◌∙◌, subst, Some, IsTrue, Bool, nat_lt, lt-ltb, ltb-true}
-use Rattle.std.specs.Bool.{then_some}
-use Rattle.std.specs.List.{list_all}
-use Rattle.std.proofs.lemmas.Bool.{and_parts, false≢true}
-use Rattle.std.proofs.lemmas.Option.{none-some}
-use Rattle.mv_move_types.specs.Tokens.{width_bits}
-use Rattle.mv_move_types.specs.declared.token.Width.TheVariants.{U8, U16, U32, U64, U128}
-use Rattle.mv_move_types.specs.declared.token.LeafKind.{LeafKind}
-use Rattle.mv_move_types.specs.declared.token.LeafKind.TheVariants.{Boolean, Number, Address, Signer}
-use Rattle.mv_move_types.specs.Options.{◌>>=◌}
-use Rattle.mv_module_text.specs.Entries.{leaf_token}
-use Rattle.mv_module_text.specs.Parsing.{byte_from, kind_of}
-use Rattle.mv_module_text.proofs.Texts.{Front, Parts, Whole, on_bind, then_some-parts, Front-join, Front-as, byte-front}
+use Rattle.mv_ledger.proofs.Common.{[], ◌++◌, ◌^◌, ◌∙◌, ◌∷◌, ◌≡◌, Bool, IsTrue, List, Some, ap, lt-ltb, map, refl, subst, ℕ, and_parts, false≢true, ltb-true, none-some, then_some, list_all, nat_lt}
+use Rattle.mv_ledger.proofs.Common.{◌>>=◌, width_bits, LeafKind, Address, Boolean, Number, Signer, U128, U16, U32, U64, U8, address-parts, address-whole, number_of-front, number_of-whole, Front}
+use Rattle.mv_ledger.proofs.Common.{Front-as, Front-join, Parts, Whole, byte-front, on_bind, then_some-parts, leaf_token, byte_from, kind_of, leaf_fits, Leaf, Value, arg_value, Arg, argument_from}
+use Rattle.mv_ledger.proofs.Common.{leaf_from, argument_fits, argument_text, leaf_bytes}
 use Rattle.mv_module_text.proofs.Tokens.{leaf-parts as token-parts}
-use Rattle.mv_module_text.proofs.Numbers.{number_of-front, number_of-whole}
-use Rattle.mv_module_text.proofs.Addresses.{address-parts, address-whole}
-use Rattle.mv_machine.specs.Value.{Value, Leaf, Struct, Ref}
-use Rattle.mv_machine.specs.Typed.{leaf_fits}
-use Rattle.mv_interpreter.specs.declared.Arg.{Arg}
-use Rattle.mv_interpreter.specs.Runs.{arg_value}
-use Rattle.mv_ledger.specs.RecordText.{leaf_bytes, argument_text, argument_fits}
-use Rattle.mv_ledger.specs.Payloads.{leaf_from, argument_from}
 
 -- a leaf at the front
 pub leaf-parts : (kind : LeafKind) → Parts (leaf_from kind) (leaf_bytes kind) (leaf_fits kind)
@@ -83,5 +66,4 @@ args_of [] ok = ([], refl)
 args_of (Leaf kind n ∷ vs) ok =
     let more = args_of vs (and_parts (leaf_fits kind n) (list_all argument_fits vs) ok).1 in
     (record { kind = kind; number = n } ∷ more.0, ap (λ z. Leaf kind n ∷ z) more.1)
-args_of (Struct name fields ∷ vs) ok = absurd (false≢true ok)
-args_of (Ref r ∷ vs) ok = absurd (false≢true ok)
+args_of _ ok = absurd (false≢true ok)

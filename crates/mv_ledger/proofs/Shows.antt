@@ -2,8 +2,6 @@
 --   Digits      An address as hexadecimal digits.
 --   Fields      The values of fields, and their text, one after the other.
 --   Structs     The value of a struct, by what its fields are made of.
---   NamePieces  A struct's name, as it is put after a text, piece by piece.
---   PlainTexts  Numbers and addresses have plain texts, which JSON writes with no escape.
 --   Names       The texts of structs' names and of values are plain: identifiers are letters, digits and `_`.
 --   Objects     A line of JSON as it is put together: the pieces of an object, and one object after the other.
 --   Audits      The counts of an audit, module by module.
@@ -11,8 +9,6 @@
 pub mod Digits
 pub mod Fields
 pub mod Structs
-pub mod NamePieces
-pub mod PlainTexts
 pub mod Names
 pub mod Objects
 pub mod Audits

@@ -1,19 +1,6 @@
 -- What is read of a text that spells a module, and offers whose texts are bytes.
-use Rattle.std.proofs.Common.{◌≡◌, ℕ, Bool, true, List, [], ◌∷◌, length, map, Some, IsTrue, sym, ◌∙◌}
-use Rattle.std.specs.Prelude.{◌&&◌, nat_le, All}
-use Rattle.std.specs.Cmp.{first_so, second_so}
-use Rattle.std.specs.List.{AllByRecursion, list_all}
-use Rattle.std.proofs.lemmas.List.Elements.{All-nil, All-cons}
-use Rattle.std.proofs.lemmas.Option.{same_Some}
-use Rattle.mv_move_types.specs.Module.{Module}
-use Rattle.mv_move_types.specs.Published.{PublishedModule}
-use Rattle.mv_module_text.specs.Fits.{is_byte}
-use Rattle.mv_module_text.specs.Laws.{AreBytes}
-use Rattle.mv_binary_format.specs.Laws.{IsReadByText}
-use Rattle.mv_binary_format.specs.Parsing.{module_of}
-use Rattle.mv_machine.specs.Ledger.{Offer}
-use Rattle.mv_ledger.specs.RecordText.{offer_fits}
-use Rattle.mv_ledger.specs.Publishing.{Spells, AllPass, offered}
+use Rattle.mv_ledger.proofs.Common.{[], ◌∙◌, ◌∷◌, ◌≡◌, IsTrue, List, Some, arith, map, sym, ℕ, All-cons, All-nil, same_Some, first_so, second_so, AllByRecursion, list_all, All, Module}
+use Rattle.mv_ledger.proofs.Common.{PublishedModule, IsReadByText, module_of, AreBytes, Offer, AllPass, Spells, offered, offer_fits}
 
 -- the module that bytes spell is read from them
 pub read-spelled : IsReadByText → (bytes : List ℕ) (m : Module) → AreBytes bytes → Spells bytes m → module_of bytes ≡ Some m
@@ -33,10 +20,7 @@ OffersAreBytes offers = AllByRecursion (λ o. AreBytes o.text) offers
 
 -- a text within its limits is of bytes
 pub text_bytes : (o : Offer) → IsTrue (offer_fits o) → AreBytes o.text
-text_bytes o h = second (nat_le (length o.text) 65536) (list_all is_byte o.text) (nat_le (length o.certificate) 1048576) (list_all is_byte o.certificate) h
-  where
-    second : (a b c d : Bool) → (a && b && c && d) ≡ true → b ≡ true
-    second a b c d k = second_so a b (first_so (a && b) c (first_so (a && b && c) d k))
+text_bytes o h = grind arith
 
 -- and so is each of these
 pub offers_bytes : (offers : List Offer) → IsTrue (list_all offer_fits offers) → OffersAreBytes offers

@@ -11,7 +11,6 @@
 --   ReachedLemmas     `reached-graph`, `ordered-reached`: the search from a bundle; a chain that leads back is of what it reaches
 --   NamerLemmas       `keeps-of`, `finding-all`: which modules of a store name which others: sets of pairs, and what is found in them
 --   DependantLemmas   `no-dependants`, `all-dependants`: published modules that stay and name a module of a bundle
-pub mod Common
 pub mod Depends
 pub mod Graphs
 pub mod JoinedOrder

@@ -1,19 +1,45 @@
--- Entries of lists by their places: what a search finds, and what a filter keeps.
-use Rattle.std.proofs.Common.{◌≡◌, ℕ, zero, suc, ◌<◌, Bool, true, false, cond, List, [], ◌∷◌, length, take, Option, Some, None, option_map, slice_get}
-use Rattle.std.proofs.Common.{Contains, refl, sym, ap, ◌∙◌, subst, arith, inl, inr}
-use Rattle.std.specs.Prelude.{not, filter, ◌||◌, ◌&&◌}
-use Rattle.std.specs.List.{list_all, list_any, filter_map, cons_option}
-use Rattle.std.specs.Cmp.{first_so, second_so}
-use Rattle.std.proofs.lemmas.Bool.{cases_order, cases_Bool, both_ways, ltb-true}
-use Rattle.std.proofs.lemmas.Option.{same_Some, none-some, slice_get_within, slice_get_read, get_or_from_slice_get}
-use Rattle.mv_move_types.specs.Options.{◌>>=◌, find_index}
-use Rattle.mv_bounds.specs.Definitions.{all_differ}
-use Rattle.mv_bounds.specs.Bounds.{below}
-use Rattle.std.specs.Option.{IsSome}
+-- Options one after the other, and entries of lists by their places: what a search finds, and what a filter keeps.
+use Rattle.mv_linker.proofs.Common.{[], ℕ, ◌&&◌, ◌++◌, ◌<◌, ◌>>=◌, ◌∙◌, ◌∷◌, ◌≡◌, ◌≤◌, ◌⊎◌, Bool, Contains, IsSome, List, None, Option, Some, all_differ, ap, arith, below, both_ways}
+use Rattle.mv_linker.proofs.Common.{cases_Bool, cases_lt, cases_order, cond, cons_option, false, filter, filter_map, find_index, first_so, get_or, get_or_from_slice_get, inl, inr, length}
+use Rattle.mv_linker.proofs.Common.{list_all, list_any, ltb-true, none-some, not, not-true, option_map, option_map_or, or_cases, or_right, position, refl, same_Some, second_so, slice_get}
+use Rattle.mv_linker.proofs.Common.{slice_get-get_or, slice_get_read, slice_get_within, subst, suc, sym, take, true, unwrap_or, zero}
+use Rattle.std.proofs.lemmas.List.Quantifiers.{position-Some}
+
+-- ---- options one after the other
+
+-- what follows a part that was found, regrouped; a map after such a part, and a map as one
+pub bind_bind : {A B C : Type 0} (o : Option A) (f : A → Option B) (g : B → Option C) → ((o >>= f) >>= g) ≡ (o >>= λ x. f x >>= g)
+bind_bind None f g = refl
+bind_bind (Some x) f g = refl
+
+pub map_bind : {A B C : Type 0} (o : Option A) (f : A → Option B) (g : B → C) → option_map g (o >>= f) ≡ (o >>= λ x. option_map g (f x))
+map_bind None f g = refl
+map_bind (Some x) f g = refl
+
+pub map_as_bind : {A B : Type 0} (o : Option A) (g : A → B) → option_map g o ≡ (o >>= λ x. Some (g x))
+map_as_bind None g = refl
+map_as_bind (Some x) g = refl
+
+-- what is made of a value, or else another one, by the map
+pub map_or-is : {A B : Type 0} (o : Option A) (g : A → B) (d : B) → option_map_or g o d ≡ unwrap_or (option_map g o) d
+map_or-is None g d = refl
+map_or-is (Some x) g d = refl
+
+-- two continuations that agree on what is there
+pub same_bind : {A B : Type 0} (o : Option A) (f g : A → Option B) → ((x : A) → o ≡ Some x → f x ≡ g x) → (o >>= f) ≡ (o >>= g)
+same_bind None f g same = refl
+same_bind (Some x) f g same = same x refl
+
+-- a value that is there and passes
+pub passing : {A : Type 0} (p : A → Bool) (o : Option A) → option_map_or p o false ≡ true → (x : A) × (o ≡ Some x) × (p x ≡ true)
+passing p None e = absurd cc
+passing p (Some x) e = (x, refl, e)
 
 -- a part that was found, and what follows
 pub then_found : {A B : Type 0} (r : Option A) (f : A → Option B) (x : A) (o : Option B) → r ≡ Some x → f x ≡ o → (r >>= f) ≡ o
 then_found r f x o e g = ap (λ s. s >>= f) e ∙ g
+
+-- ---- entries and their places
 
 -- an element and its place
 pub Contains-at : {A : Type 0} (xs : List A) (x : A) → Contains xs x → (k : ℕ) × (slice_get xs k ≡ Some x)
@@ -26,6 +52,17 @@ pub there_at : {A : Type 0} (xs : List A) (k : ℕ) → k < length xs → (x : A
 there_at [] k h = absurd (omega (arith, h))
 there_at (x ∷ xs) zero h = (x, refl)
 there_at (x ∷ xs) (suc k) h = there_at xs k (omega (arith, h))
+
+-- the last of a list, or one before
+pub last_or_before : {A : Type 0} (xs : List A) (y : A) (k : ℕ) (x : A) → slice_get (xs ++ y ∷ []) k ≡ Some x → (slice_get xs k ≡ Some x) ⊎ ((k ≡ length xs) × (y ≡ x))
+last_or_before [] y zero x e = inr (refl, same_Some y x e)
+last_or_before [] y (suc k) x e = absurd (none-some x e)
+last_or_before (z ∷ zs) y zero x e = inl e
+last_or_before (z ∷ zs) y (suc k) x e = elim (last_or_before zs y k x e) [ inl p ↦ inl p | inr p ↦ inr (ap suc p.0, p.1) ]
+
+-- nothing stands where the other list, which is as long, has nothing
+pub past_from : {A B : Type 0} (xs : List A) (ys : List B) (k : ℕ) → length ys ≡ length xs → slice_get xs k ≡ None → length ys ≤ k
+past_from xs ys k long none = elim (cases_lt k (length xs)) [ inl low ↦ (let x = there_at xs k low in absurd (none-some x.0 (sym none ∙ x.1))) | inr high ↦ omega (arith, high, long) ]
 
 -- an index below the length, by its test
 pub there_below : {A : Type 0} (xs : List A) (k : ℕ) → below k xs ≡ true → (x : A) × (slice_get xs k ≡ Some x)
@@ -66,12 +103,13 @@ some_fails p (x ∷ xs) h = elim (cases_Bool (p x)) [
 
 pub some_passes : {A : Type 0} (p : A → Bool) (xs : List A) (k : ℕ) (x : A) → slice_get xs k ≡ Some x → p x ≡ true → list_any p xs ≡ true
 some_passes p [] k x e h = absurd (none-some x e)
-some_passes p (y ∷ ys) zero x e h = ap (λ b. b || list_any p ys) (subst (λ z. p z ≡ true) (sym (same_Some y x e)) h)
-some_passes p (y ∷ ys) (suc k) x e h = or_second (p y) (list_any p ys) (some_passes p ys k x e h)
-  where
-    or_second : (a b : Bool) → b ≡ true → (a || b) ≡ true
-    or_second true b h = refl
-    or_second false b h = h
+some_passes p (y ∷ ys) zero x e h = grind arith
+some_passes p (y ∷ ys) (suc k) x e h = or_right (p y) (list_any p ys) (some_passes p ys k x e h)
+
+-- the first place where a test passes, by the map's word and by the modules'
+pub position-find_index : {A : Type 0} (p : A → Bool) (xs : List A) → position p xs ≡ find_index p xs
+position-find_index p [] = refl
+position-find_index p (x ∷ xs) = let e = position-find_index p xs in grind (arith, e)
 
 -- what a search found
 pub record Found {A : Type 0} (p : A → Bool) (xs : List A) (k : ℕ) : Type 0 where
@@ -79,60 +117,46 @@ pub record Found {A : Type 0} (p : A → Bool) (xs : List A) (k : ℕ) : Type 0 
   pub at : slice_get xs k ≡ Some entry
   pub passes : p entry ≡ true
 
-found_step : {A : Type 0} (p : A → Bool) (y : A) (ys : List A) (k : ℕ) (b : Bool) (o : Option ℕ) → p y ≡ b → ((j : ℕ) → o ≡ Some j → Found p ys j) → cond b (Some 0) (option_map suc o) ≡ Some k
-    → Found p (y ∷ ys) k
-found_step p y ys k true o q rest e = record { entry = y; at = ap (slice_get (y ∷ ys)) (sym (same_Some 0 k e)); passes = q }
-found_step p y ys k false None q rest e = absurd (none-some k e)
-found_step p y ys k false (Some j) q rest e =
-    let r = rest j refl in
-    record { entry = r.entry; at = ap (slice_get (y ∷ ys)) (sym (same_Some (suc j) k e)) ∙ r.at; passes = r.passes }
-
 pub found_at : {A : Type 0} (p : A → Bool) (xs : List A) (k : ℕ) → find_index p xs ≡ Some k → Found p xs k
 found_at p [] k e = absurd (none-some k e)
-found_at p (y ∷ ys) k e = found_step p y ys k (p y) (find_index p ys) refl (λ j q. found_at p ys j q) e
+found_at p (y ∷ ys) k e =
+    let f = position-Some p (y ∷ ys) k y (position-find_index p (y ∷ ys) ∙ e) in
+    record { entry = get_or (y ∷ ys) k y; at = slice_get-get_or (y ∷ ys) k y f.0; passes = f.1 }
+
+-- where some element passes, a first one is found
+pub any_found : {A : Type 0} (p : A → Bool) (xs : List A) → list_any p xs ≡ true → (k : ℕ) × (find_index p xs ≡ Some k)
+any_found p [] h = absurd cc
+any_found p (x ∷ xs) h = elim (or_cases (p x) (list_any p xs) h) [ inl e ↦ (0, rw e refl) | inr e ↦ by_first (p x) (any_found p xs e) ]
+  where
+    by_first : (b : Bool) → (k : ℕ) × (find_index p xs ≡ Some k) → (k : ℕ) × (cond b (Some 0) (option_map suc (find_index p xs)) ≡ Some k)
+    by_first true r = (0, refl)
+    by_first false r = (suc r.0, rw r.1 refl)
 
 -- a place that was found is one
 pub place_below : {A : Type 0} (p : A → Bool) (xs : List A) (k : ℕ) → find_index p xs ≡ Some k → k < length xs
 place_below p xs k e = let f = found_at p xs k e in slice_get_within xs k f.entry f.at
 
 -- none before it passes
-first_step : {A : Type 0} (p : A → Bool) (x y : A) (xs : List A) (b : Bool) (o : Option ℕ) → p x ≡ b → ((i j : ℕ) → o ≡ Some i → j < i → slice_get xs j ≡ Some y → ⊥) → (k j : ℕ) → cond b (Some 0)
-    (option_map suc o) ≡ Some k → j < k
-    → slice_get (x ∷ xs) j ≡ Some y → p y ≡ true → ⊥
-first_step p x y xs true o q rest k j e l at passes = let zero_is : 0 ≡ k = same_Some 0 k e in omega (arith, l, zero_is)
-first_step p x y xs false None q rest k j e l at passes = none-some k e
-first_step p x y xs false (Some i) q rest k zero e l at passes = both_ways (p x) q (ap p (same_Some x y at) ∙ passes)
-first_step p x y xs false (Some i) q rest k (suc j) e l at passes =
-    let next : suc i ≡ k = same_Some (suc i) k e in
-    rest i j refl (omega (arith, l, next)) at
-
 pub found_first : {A : Type 0} (p : A → Bool) (xs : List A) (k : ℕ) → find_index p xs ≡ Some k → (j : ℕ) (y : A) → j < k → slice_get xs j ≡ Some y → p y ≡ true → ⊥
-found_first p [] k e j y l at passes = none-some k e
-found_first p (x ∷ xs) k e j y l at passes = first_step p x y xs (p x) (find_index p xs) refl (λ i j f l at. found_first p xs i f j y l at passes) k j e l at passes
+found_first p xs k e j y l at passes =
+    both_ways (p y) (sym (ap p (get_or_from_slice_get xs j y y at)) ∙ (position-Some p xs k y (position-find_index p xs ∙ e)).2 j l) passes
 
 -- the first that passes is at k, if it passes and none before does
 pub find_first : {A : Type 0} (p : A → Bool) (xs : List A) (k : ℕ) (x : A) → slice_get xs k ≡ Some x → p x ≡ true → ((j : ℕ) (y : A) → j < k → slice_get xs j ≡ Some y → p y ≡ true → ⊥)
     → find_index p xs ≡ Some k
 find_first p [] k x e h never = absurd (none-some x e)
-find_first p (y ∷ ys) zero x e h never =
-    ap (λ b. cond b (Some 0) (option_map suc (find_index p ys))) (subst (λ z. p z ≡ true) (sym (same_Some y x e)) h)
+find_first p (y ∷ ys) zero x e h never = grind arith
 find_first p (y ∷ ys) (suc k) x e h never =
     let rest = find_first p ys k x e h (λ j z l g q. never (suc j) z (omega (arith, l)) g q) in
-    elim (cases_Bool (p y)) [
-      | inl so ↦ absurd (never 0 y (omega arith) refl so)
-      | inr nay ↦ ap (λ b. cond b (Some 0) (option_map suc (find_index p ys))) nay ∙ ap (option_map suc) rest
-    ]
+    let here : p y ≡ true → ⊥ = never 0 y (omega arith) refl in
+    grind (arith, rest)
 
 -- entries at different places differ
 pub differ_at : {A : Type 0} (same : A → A → Bool) (xs : List A) (j k : ℕ) (x y : A) → all_differ same xs ≡ true → j < k → slice_get xs j ≡ Some x → slice_get xs k ≡ Some y → same x y ≡ true → ⊥
 differ_at same [] j k x y h l e g q = none-some x e
 differ_at same (z ∷ zs) j zero x y h l e g q = omega (arith, l)
 differ_at same (z ∷ zs) zero (suc k) x y h l e g q =
-    both_ways (list_any (same z) zs) (not_so (list_any (same z) zs) (first_so (not (list_any (same z) zs)) (all_differ same zs) h)) (some_passes (same z) zs k y g (subst (λ w. same w y ≡ true) (sym (same_Some z x e)) q))
-  where
-    not_so : (b : Bool) → not b ≡ true → b ≡ false
-    not_so true p = sym p
-    not_so false p = refl
+    both_ways _ (not-true _ (first_so (not (list_any (same z) zs)) (all_differ same zs) h)) (some_passes (same z) zs k y g (subst (λ w. same w y ≡ true) (sym (same_Some z x e)) q))
 differ_at same (z ∷ zs) (suc j) (suc k) x y h l e g q = differ_at same zs j k x y (second_so (not (list_any (same z) zs)) (all_differ same zs) h) (omega (arith, l)) e g q
 
 -- entries that the test calls one are at one place
@@ -146,15 +170,12 @@ abbrev pub Somewhere : {A : Type 0} → List A → A → Type 0
 Somewhere xs x = (k : ℕ) × (slice_get xs k ≡ Some x)
 
 -- what a filter keeps
-kept_step : {A : Type 0} (y x : A) (ys : List A) (b : Bool) → Somewhere ys x → Somewhere (cond b (y ∷ ys) ys) x
-kept_step y x ys true rest = (suc rest.0, rest.1)
-kept_step y x ys false rest = rest
-
 pub kept_at : {A : Type 0} (p : A → Bool) (xs : List A) (k : ℕ) (x : A) → slice_get xs k ≡ Some x → p x ≡ true → Somewhere (filter p xs) x
 kept_at p [] k x e h = absurd (none-some x e)
-kept_at p (y ∷ ys) zero x e h =
-    (0, ap (λ l. slice_get l 0) (ap (λ b. cond b (y ∷ filter p ys) (filter p ys)) (subst (λ z. p z ≡ true) (sym (same_Some y x e)) h)) ∙ e)
-kept_at p (y ∷ ys) (suc k) x e h = kept_step y x (filter p ys) (p y) (kept_at p ys k x e h)
+kept_at p (y ∷ ys) zero x e h = (0, grind arith)
+kept_at p (y ∷ ys) (suc k) x e h =
+    let r = kept_at p ys k x e h in
+    elim (p y) as (λ b. Somewhere (cond b (y ∷ filter p ys) (filter p ys)) x) [ true ↦ (suc r.0, r.1) | false ↦ r ]
 
 pub record Kept {A : Type 0} (p : A → Bool) (xs : List A) (x : A) : Type 0 where
   pub passes : p x ≡ true
@@ -163,28 +184,21 @@ pub record Kept {A : Type 0} (p : A → Bool) (xs : List A) (x : A) : Type 0 whe
 
 kept_back : {A : Type 0} (p : A → Bool) (y x : A) (ys kept : List A) (b : Bool) → p y ≡ b → ((i : ℕ) → slice_get kept i ≡ Some x → Kept p ys x) → (j : ℕ)
     → slice_get (cond b (y ∷ kept) kept) j ≡ Some x → Kept p (y ∷ ys) x
-kept_back p y x ys kept true q rest zero e = record { passes = subst (λ z. p z ≡ true) (same_Some y x e) q; place = 0; at = e }
-kept_back p y x ys kept true q rest (suc j) e =
-    let r = rest j e in
-    record { passes = r.passes; place = suc r.place; at = r.at }
-kept_back p y x ys kept false q rest j e =
-    let r = rest j e in
-    record { passes = r.passes; place = suc r.place; at = r.at }
+kept_back p y x ys kept true q rest zero e = record { passes = cc; place = 0; at = e }
+kept_back p y x ys kept true q rest (suc j) e = (let r = rest j e in record { passes = r.passes; place = suc r.place; at = r.at })
+kept_back p y x ys kept false q rest j e = (let r = rest j e in record { passes = r.passes; place = suc r.place; at = r.at })
 
 pub kept_from : {A : Type 0} (p : A → Bool) (xs : List A) (j : ℕ) (x : A) → slice_get (filter p xs) j ≡ Some x → Kept p xs x
 kept_from p [] j x e = absurd (none-some x e)
 kept_from p (y ∷ ys) j x e = kept_back p y x ys (filter p ys) (p y) refl (λ i q. kept_from p ys i x q) j e
 
 -- what a filter makes
-made_step : {B : Type 0} (y : B) (ys : List B) (o : Option B) → Somewhere ys y → Somewhere (cons_option o ys) y
-made_step y ys None rest = rest
-made_step y ys (Some w) rest = (suc rest.0, rest.1)
-
 pub made_at : {A B : Type 0} (f : A → Option B) (xs : List A) (k : ℕ) (x : A) (y : B) → slice_get xs k ≡ Some x → f x ≡ Some y → Somewhere (filter_map f xs) y
 made_at f [] k x y e h = absurd (none-some x e)
-made_at f (z ∷ zs) zero x y e h =
-    (0, ap (λ o. slice_get (cons_option o (filter_map f zs)) 0) (subst (λ w. f w ≡ Some y) (sym (same_Some z x e)) h))
-made_at f (z ∷ zs) (suc k) x y e h = made_step y (filter_map f zs) (f z) (made_at f zs k x y e h)
+made_at f (z ∷ zs) zero x y e h = (0, grind arith)
+made_at f (z ∷ zs) (suc k) x y e h =
+    let r = made_at f zs k x y e h in
+    elim (f z) as (λ o. Somewhere (cons_option o (filter_map f zs)) y) [ None ↦ r | Some w ↦ (suc r.0, r.1) ]
 
 pub record Made {A B : Type 0} (f : A → Option B) (xs : List A) (y : B) : Type 0 where
   pub entry : A
@@ -194,13 +208,9 @@ pub record Made {A B : Type 0} (f : A → Option B) (xs : List A) (y : B) : Type
 
 made_back : {A B : Type 0} (f : A → Option B) (z : A) (zs : List A) (made : List B) (y : B) (o : Option B) → f z ≡ o → ((i : ℕ) → slice_get made i ≡ Some y → Made f zs y) → (j : ℕ)
     → slice_get (cons_option o made) j ≡ Some y → Made f (z ∷ zs) y
-made_back f z zs made y None q rest j e =
-    let r = rest j e in
-    record { entry = r.entry; place = suc r.place; at = r.at; makes = r.makes }
+made_back f z zs made y None q rest j e = (let r = rest j e in record { entry = r.entry; place = suc r.place; at = r.at; makes = r.makes })
 made_back f z zs made y (Some w) q rest zero e = record { entry = z; place = 0; at = refl; makes = q ∙ e }
-made_back f z zs made y (Some w) q rest (suc j) e =
-    let r = rest j e in
-    record { entry = r.entry; place = suc r.place; at = r.at; makes = r.makes }
+made_back f z zs made y (Some w) q rest (suc j) e = (let r = rest j e in record { entry = r.entry; place = suc r.place; at = r.at; makes = r.makes })
 
 pub made_from : {A B : Type 0} (f : A → Option B) (xs : List A) (j : ℕ) (y : B) → slice_get (filter_map f xs) j ≡ Some y → Made f xs y
 made_from f [] j y e = absurd (none-some y e)

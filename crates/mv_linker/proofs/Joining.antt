@@ -13,7 +13,6 @@
 --   Joins          `joining`, `names-hold`: a scope whose bundle joins its store: where its modules stand, and that what they name is there
 --   Joined         `joined-store`, `joined-linked`: a store that a bundle joined is a store
 --   JoinedTargets  `appended-joined`: what the handles of old modules lead to, for order and sizes
-pub mod Common
 pub mod Scopes
 pub mod Resolving
 pub mod Empty

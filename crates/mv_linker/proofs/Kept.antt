@@ -13,7 +13,6 @@
 --   ShapeLemmas        `shapes-are`: of what the structs of a module are made, by where those that its handles name are defined
 --   StoredShapes       `fields-known`: of what the structs of a store's modules are made, as its codes say
 --   InterfaceLemmas    `function-found`, `interface-at`: how interfaces are made, and that they find a function by its identifier
-pub mod Common
 pub mod Keyed
 pub mod WithAt
 pub mod Adding

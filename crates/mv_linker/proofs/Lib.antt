@@ -1,5 +1,6 @@
 -- The proofs of the store and of phase 13. Of general use are Found (entries of lists by their places), ListTests, Orders, Outcomes,
 -- NameLemmas, HandleNames and Members (modules by name, and among others), OwnDefinitions, TagTests and TypeTests (types by names).
+-- Common passes on the words that the proofs speak of all along, and Lemmas the lemmas that most of them cite.
 -- The rooms, each with an index at its head:
 --   Joining      a bundle joins a store
 --   Cycles       rule f, and who depends on whom
@@ -17,6 +18,7 @@ pub mod OwnDefinitions
 pub mod Members
 pub mod TagTests
 pub mod TypeTests
+pub mod Lemmas
 pub mod Joining
 pub mod Cycles
 pub mod StructSizes

@@ -17,8 +17,7 @@
 --   Linkable         `linkable`, `are-to-link`: the sizes and the functions that the handles of a module to link name
 --   RelinkingLemmas  `relinks`: modules that were linked: the codes of a store's modules with theirs are those of the result's modules
 --   PlacedCodes      `relinking`: the code of each module that was linked, with its place: with it a bundle that joins is linked
---   StoredCodes      `program-is`, `code-there`: what a store's codes say of its modules
-pub mod Common
+--   StoredCodes      `program-is`, `module-there`: what a store's codes say of its modules
 pub mod Constants
 pub mod TopLemmas
 pub mod WidthLemmas

@@ -1,9 +1,6 @@
 -- The rules, of modules and of their entries.
-use Rattle.std.proofs.Common.{◌≡◌, ℕ, suc, Bool, true, false, cond, List, [], ◌∷◌, Option, Some, None, option_map, refl, ap, ◌∙◌}
-use Rattle.std.specs.Prelude.{map, not, ◌&&◌, ◌||◌, is_some}
-use Rattle.std.specs.List.{list_all, list_any}
-use Rattle.mv_move_types.specs.Options.{find_index}
-use Rattle.mv_bounds.specs.Definitions.{all_differ}
+use Rattle.mv_linker.proofs.Common.{[], ℕ, ◌&&◌, ◌||◌, ◌∙◌, ◌∷◌, ◌≡◌, Bool, List, None, Option, Some, all_differ, ap, cond, false, find_index, is_some, list_all, list_any, map, not}
+use Rattle.mv_linker.proofs.Common.{option_map, refl, suc, true}
 
 -- a test of each element of a list that was mapped twice
 pub list_all-maps : {A B C : Type 0} (f : B → A) (h : C → B) (p : A → Bool) (xs : List C) → list_all p (map f (map h xs)) ≡ list_all (λ x. p (f (h x))) xs

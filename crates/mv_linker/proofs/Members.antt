@@ -1,18 +1,8 @@
 -- Modules among others: by name, and once a bundle joins.
-use Rattle.std.proofs.Common.{◌≡◌, ℕ, zero, suc, Bool, true, false, cond, List, [], ◌∷◌, refl, sym, ap, subst, ◌∙◌, Option, Some, None, option_map, ◌⊎◌, inl, inr}
-use Rattle.std.specs.Prelude.{slice_get, not, ◌||◌, option_and_then}
-use Rattle.std.specs.Cmp.{first_so, second_so}
-use Rattle.std.specs.List.{list_all, list_any}
-use Rattle.std.proofs.lemmas.Bool.{cases_Bool, not-true, not_from_false, or_cases, and_from}
-use Rattle.mv_move_types.specs.Names.{ModuleName}
-use Rattle.mv_move_types.specs.Module.{Module, own_name}
-use Rattle.mv_move_types.specs.Named.{is_module, have_one_name, module_place, module_named}
-use Rattle.mv_bounds.specs.Definitions.{all_differ}
-use Rattle.mv_linker.specs.Link.{are_compatible}
-use Rattle.mv_linker.specs.Scope.{with_table, with_tables}
-use Rattle.mv_linker.specs.Upgrades.{may_replace}
-use Rattle.std.proofs.lemmas.Option.{same_Some}
-use Rattle.mv_linker.proofs.NameLemmas.{is_module-is, is_module-from, have_one-is, have_one_name-is, have_one_name-from}
+use Rattle.mv_linker.proofs.Common.{[], ℕ, ◌||◌, ◌∙◌, ◌∷◌, ◌≡◌, ◌⊎◌, Bool, List, Module, ModuleName, Some, all_differ, and_from, ap, are_compatible, arith, cases_Bool, cond, false}
+use Rattle.mv_linker.proofs.Common.{false_from_ne_true, first_so, have_one_name, inl, inr, is_module, list_all, list_any, may_replace, module_named, not, not-true, or_cases, or_right}
+use Rattle.mv_linker.proofs.Common.{own_name, refl, same_Some, second_so, slice_get, subst, suc, sym, true, with_table, with_tables, zero}
+use Rattle.mv_linker.proofs.NameLemmas.{have_one-is, have_one_name-from, have_one_name-is, is_module-from, is_module-is}
 
 -- an element of a list
 abbrev pub Among : {A : Type 0} → List A → A → Type 0
@@ -41,50 +31,30 @@ at-among (y ∷ ys) x (inr a) = let r = at-among ys x a in (suc r.0, r.1)
 -- an element that passes a test, if some does
 pub any-among : {A : Type 0} (p : A → Bool) (xs : List A) → list_any p xs ≡ true → (x : A) × Among xs x × (p x ≡ true)
 any-among p [] h = absurd cc
-any-among {A = A} p (y ∷ ys) h = step (or_cases (p y) (list_any p ys) h) (λ e. any-among p ys e)
-  where
-    step : (p y ≡ true) ⊎ (list_any p ys ≡ true) → (list_any p ys ≡ true → (x : A) × Among ys x × (p x ≡ true)) → (x : A) × Among (y ∷ ys) x × (p x ≡ true)
-    step (inl e) ih = (y, inl refl, e)
-    step (inr e) ih = let r = ih e in (r.0, inr r.1, r.2)
+any-among p (y ∷ ys) h =
+    elim (or_cases (p y) (list_any p ys) h) [ inl e ↦ (y, inl refl, e) | inr e ↦ (let r = any-among p ys e in (r.0, inr r.1, r.2)) ]
 
 pub among-any : {A : Type 0} (p : A → Bool) (xs : List A) (x : A) → Among xs x → p x ≡ true → list_any p xs ≡ true
 among-any p [] x a h = absurd a
 among-any p (y ∷ ys) x (inl e) h = ap (λ b. b || list_any p ys) (ap p (sym e) ∙ h)
-among-any p (y ∷ ys) x (inr a) h = step (p y) (among-any p ys x a h)
-  where
-    step : (b : Bool) → list_any p ys ≡ true → (b || list_any p ys) ≡ true
-    step true e = refl
-    step false e = e
+among-any p (y ∷ ys) x (inr a) h = or_right (p y) (list_any p ys) (among-any p ys x a h)
 
 -- no element passes a test that none passes
 pub none-among : {A : Type 0} (p : A → Bool) (xs : List A) (x : A) → list_any p xs ≡ false → Among xs x → p x ≡ false
-none-among p xs x h a = step (cases_Bool (p x))
-  where
-    step : (p x ≡ true) ⊎ (p x ≡ false) → p x ≡ false
-    step (inl e) = let some : list_any p xs ≡ true = among-any p xs x a e in absurd cc
-    step (inr e) = e
+none-among p xs x h a = false_from_ne_true (p x) (λ e. let some : list_any p xs ≡ true = among-any p xs x a e in cc)
 
 -- ---- names
 
 pub turned : (a b : Module) → have_one_name a b ≡ false → have_one_name b a ≡ false
-turned a b h = step (cases_Bool (have_one_name b a))
-  where
-    step : (have_one_name b a ≡ true) ⊎ (have_one_name b a ≡ false) → have_one_name b a ≡ false
-    step (inl e) = let o = have_one_name-is b a e in let one : have_one_name a b ≡ true = have_one_name-from a b o.0 o.2 o.1 in absurd cc
-    step (inr e) = e
+turned a b h = false_from_ne_true (have_one_name b a) (λ e. let o = have_one_name-is b a e in let one : have_one_name a b ≡ true = have_one_name-from a b o.0 o.2 o.1 in cc)
 
 -- modules with the name of one that differs from another differ from it too
 carried : (m n x : Module) → have_one_name n m ≡ true → have_one_name m x ≡ false → have_one_name n x ≡ false
-carried m n x h k = step (cases_Bool (have_one_name n x))
-  where
-    step : (have_one_name n x ≡ true) ⊎ (have_one_name n x ≡ false) → have_one_name n x ≡ false
-    step (inl e) =
-        let o = have_one_name-is n m h in
-        let q = have_one_name-is n x e in
-        let same : q.0 ≡ o.0 = same_Some q.0 o.0 (sym q.1 ∙ o.1) in
-        let one : have_one_name m x ≡ true = have_one_name-from m x o.0 o.2 (q.2 ∙ ap Some same) in
-        absurd cc
-    step (inr e) = e
+carried m n x h k = false_from_ne_true (have_one_name n x) (λ e.
+    let o = have_one_name-is n m h in
+    let q = have_one_name-is n x e in
+    let one : have_one_name m x ≡ true = have_one_name-from m x o.0 o.2 cc in
+    cc)
 
 -- what all_differ says of the first
 pub first_differs : (m : Module) (ms : List Module) → all_differ have_one_name (m ∷ ms) ≡ true → (x : Module) → Among ms x → have_one_name m x ≡ false
@@ -95,11 +65,9 @@ rest_differ m ms h = second_so (not (list_any (have_one_name m) ms)) (all_differ
 
 -- and from where
 so_differs : (m : Module) (ms : List Module) → ((x : Module) → Among ms x → have_one_name m x ≡ false) → all_differ have_one_name ms ≡ true → all_differ have_one_name (m ∷ ms) ≡ true
-so_differs m ms h rest = and_from (not (list_any (have_one_name m) ms)) (all_differ have_one_name ms) (not_from_false (list_any (have_one_name m) ms) (none (cases_Bool (list_any (have_one_name m) ms)))) rest
-  where
-    none : (list_any (have_one_name m) ms ≡ true) ⊎ (list_any (have_one_name m) ms ≡ false) → list_any (have_one_name m) ms ≡ false
-    none (inl e) = let r = any-among (have_one_name m) ms e in let no : have_one_name m r.0 ≡ false = h r.0 r.1 in let yes : have_one_name m r.0 ≡ true = r.2 in absurd cc
-    none (inr e) = e
+so_differs m ms h rest =
+    let none = false_from_ne_true (list_any (have_one_name m) ms) (λ e. let r = any-among (have_one_name m) ms e in let no : have_one_name m r.0 ≡ false = h r.0 r.1 in let yes : have_one_name m r.0 ≡ true = r.2 in cc) in
+    and_from (not (list_any (have_one_name m) ms)) (all_differ have_one_name ms) (ap not none) rest
 
 -- modules of one name are one
 pub unique : (ms : List Module) (x y : Module) (k : ModuleName) → all_differ have_one_name ms ≡ true → Among ms x → Among ms y → own_name x ≡ Some k → own_name y ≡ Some k → x ≡ y
@@ -116,78 +84,57 @@ unique (m ∷ ms) x y k h (inr a) (inl f) p q =
 unique (m ∷ ms) x y k h (inr a) (inr b) p q = unique ms x y k (rest_differ m ms h) a b p q
 
 named_step : (m : Module) (ms : List Module) (k : ModuleName) → module_named (m ∷ ms) k ≡ cond (is_module k m) (Some m) (module_named ms k)
-named_step m ms k = step (is_module k m) (module_place ms k)
-  where
-    step : (b : Bool) (o : Option ℕ) → option_and_then (slice_get (m ∷ ms)) (cond b (Some 0) (option_map suc o)) ≡ cond b (Some m) (option_and_then (slice_get ms) o)
-    step true o = refl
-    step false None = refl
-    step false (Some i) = refl
+named_step m ms k = grind arith
 
 -- the module of a name is there, and has it
 pub named-so : (ms : List Module) (k : ModuleName) (x : Module) → module_named ms k ≡ Some x → Among ms x × (own_name x ≡ Some k)
 named-so [] k x e = absurd cc
-named-so (m ∷ ms) k x e = step (is_module k m) refl (sym (named_step m ms k) ∙ e) (λ f. named-so ms k x f)
-  where
-    step : (b : Bool) → is_module k m ≡ b → cond b (Some m) (module_named ms k) ≡ Some x → (module_named ms k ≡ Some x → Among ms x × (own_name x ≡ Some k)) → Among (m ∷ ms) x × (own_name x ≡ Some k)
-    step true p q ih = let same : x ≡ m = same_Some x m (sym q) in (inl same, ap own_name same ∙ is_module-is k m p)
-    step false p q ih = let r = ih q in (inr r.0, r.1)
+named-so (m ∷ ms) k x e = elim (cases_Bool (is_module k m)) [
+  | inl p ↦ (let same : x ≡ m = grind arith in (inl same, ap own_name same ∙ is_module-is k m p))
+  | inr p ↦ (let r = named-so ms k x (grind arith) in (inr r.0, r.1))
+]
 
 pub so-named : (ms : List Module) (k : ModuleName) (x : Module) → all_differ have_one_name ms ≡ true → Among ms x → own_name x ≡ Some k → module_named ms k ≡ Some x
 so-named [] k x h a p = absurd a
-so-named (m ∷ ms) k x h a p = named_step m ms k ∙ step (is_module k m) refl a (λ b. so-named ms k x (rest_differ m ms h) b p)
-  where
-    step : (b : Bool) → is_module k m ≡ b → Among (m ∷ ms) x → (Among ms x → module_named ms k ≡ Some x) → cond b (Some m) (module_named ms k) ≡ Some x
-    step true q a ih = ap Some (unique (m ∷ ms) m x k h (inl refl) a (is_module-is k m q) p)
-    step false q (inl e) ih = let yes : is_module k m ≡ true = is_module-from k m (sym (ap own_name e) ∙ p) in absurd cc
-    step false q (inr a) ih = ih a
+so-named (m ∷ ms) k x h (inl e) p = named_step m ms k ∙ rw (is_module-from k m (sym (ap own_name e) ∙ p)) (ap Some (sym e))
+so-named (m ∷ ms) k x h (inr a) p = named_step m ms k ∙ elim (cases_Bool (is_module k m)) [
+  | inl q ↦ rw q (ap Some (unique (m ∷ ms) m x k h (inl refl) (inr a) (is_module-is k m q) p))
+  | inr q ↦ rw q (so-named ms k x (rest_differ m ms h) a p)
+]
 
 -- ---- with one more module
 
 added-there : (ms : List Module) (n : Module) → Among (with_table ms n) n
 added-there [] n = inl refl
-added-there (m ∷ ms) n = step (have_one_name n m) (added-there ms n)
-  where
-    step : (b : Bool) → Among (with_table ms n) n → Among (cond b (n ∷ ms) (m ∷ with_table ms n)) n
-    step true a = inl refl
-    step false a = inr a
+added-there (m ∷ ms) n = elim (have_one_name n m) as (λ b. Among (cond b (n ∷ ms) (m ∷ with_table ms n)) n) [ true ↦ inl refl | false ↦ inr (added-there ms n) ]
 
 stays-there : (ms : List Module) (n x : Module) → Among ms x → have_one_name n x ≡ false → Among (with_table ms n) x
 stays-there [] n x a h = absurd a
-stays-there (m ∷ ms) n x a h = step (have_one_name n m) refl a (λ b. stays-there ms n x b h)
-  where
-    step : (b : Bool) → have_one_name n m ≡ b → Among (m ∷ ms) x → (Among ms x → Among (with_table ms n) x) → Among (cond b (n ∷ ms) (m ∷ with_table ms n)) x
-    step true p (inl e) ih = let no : have_one_name n m ≡ false = sym (ap (have_one_name n) e) ∙ h in absurd cc
-    step true p (inr a) ih = inr a
-    step false p (inl e) ih = inl e
-    step false p (inr a) ih = inr (ih a)
+stays-there (m ∷ ms) n x (inl e) h = rw (ap (have_one_name n) (sym e) ∙ h) (inl e)
+stays-there (m ∷ ms) n x (inr a) h =
+    elim (have_one_name n m) as (λ b. Among (cond b (n ∷ ms) (m ∷ with_table ms n)) x) [ true ↦ inr a | false ↦ inr (stays-there ms n x a h) ]
 
 among-added : (ms : List Module) (n x : Module) → all_differ have_one_name ms ≡ true → Among (with_table ms n) x → (x ≡ n) ⊎ (Among ms x × (have_one_name n x ≡ false))
 among-added [] n x h (inl e) = inl e
 among-added [] n x h (inr a) = absurd a
 among-added (m ∷ ms) n x h a = step (have_one_name n m) refl a (λ b. among-added ms n x (rest_differ m ms h) b)
   where
-    later : (x ≡ n) ⊎ (Among ms x × (have_one_name n x ≡ false)) → (x ≡ n) ⊎ (Among (m ∷ ms) x × (have_one_name n x ≡ false))
-    later (inl e) = inl e
-    later (inr r) = inr (inr r.0, r.1)
-
     step : (b : Bool) → have_one_name n m ≡ b → Among (cond b (n ∷ ms) (m ∷ with_table ms n)) x → (Among (with_table ms n) x → (x ≡ n) ⊎ (Among ms x × (have_one_name n x ≡ false)))
         → (x ≡ n) ⊎ (Among (m ∷ ms) x × (have_one_name n x ≡ false))
     step true p (inl e) ih = inl e
     step true p (inr a) ih = inr (inr a, carried m n x p (first_differs m ms h x a))
     step false p (inl e) ih = inr (inl e, ap (have_one_name n) e ∙ p)
-    step false p (inr a) ih = later (ih a)
+    step false p (inr a) ih = elim (ih a) [ inl e ↦ inl e | inr r ↦ inr (inr r.0, r.1) ]
 
 pub differ-added : (ms : List Module) (n : Module) → all_differ have_one_name ms ≡ true → all_differ have_one_name (with_table ms n) ≡ true
 differ-added [] n h = refl
-differ-added (m ∷ ms) n h = step (have_one_name n m) refl (differ-added ms n (rest_differ m ms h))
-  where
-    one : (x : Module) → have_one_name n m ≡ false → (x ≡ n) ⊎ (Among ms x × (have_one_name n x ≡ false)) → have_one_name m x ≡ false
-    one x p (inl e) = ap (have_one_name m) e ∙ turned n m p
-    one x p (inr r) = first_differs m ms h x r.0
-
-    step : (b : Bool) → have_one_name n m ≡ b → all_differ have_one_name (with_table ms n) ≡ true → all_differ have_one_name (cond b (n ∷ ms) (m ∷ with_table ms n)) ≡ true
-    step true p ih = so_differs n ms (λ x a. carried m n x p (first_differs m ms h x a)) (rest_differ m ms h)
-    step false p ih = so_differs m (with_table ms n) (λ x a. one x p (among-added ms n x (rest_differ m ms h) a)) ih
+differ-added (m ∷ ms) n h = elim (cases_Bool (have_one_name n m)) [
+  | inl p ↦ rw p (so_differs n ms (λ x a. carried m n x p (first_differs m ms h x a)) (rest_differ m ms h))
+  | inr p ↦ rw p (so_differs m (with_table ms n) (λ x a. elim (among-added ms n x (rest_differ m ms h) a) [
+    | inl e ↦ ap (have_one_name m) e ∙ turned n m p
+    | inr r ↦ first_differs m ms h x r.0
+  ]) (differ-added ms n (rest_differ m ms h)))
+]
 
 -- ---- with a bundle
 
@@ -211,43 +158,27 @@ bundle-there ms (n ∷ ns) x h (inr a) = bundle-there (with_table ms n) ns x (re
 pub among-result : (ms ns : List Module) (x : Module) → all_differ have_one_name ms ≡ true → Among (with_tables ms ns) x
     → Among ns x ⊎ (Among ms x × ((n : Module) → Among ns n → have_one_name n x ≡ false))
 among-result ms [] x h a = inr (a, λ n b. absurd b)
-among-result ms (n ∷ ns) x h a = step (among-result (with_table ms n) ns x (differ-added ms n h) a)
-  where
-    deeper : (Among (with_table ms n) x) → ((k : Module) → Among ns k → have_one_name k x ≡ false) → (x ≡ n) ⊎ (Among ms x × (have_one_name n x ≡ false))
-        → Among (n ∷ ns) x ⊎ (Among ms x × ((k : Module) → Among (n ∷ ns) k → have_one_name k x ≡ false))
-    deeper b rest (inl e) = inl (inl e)
-    deeper b rest (inr r) = inr (r.0, others)
-      where
-        others : (k : Module) → Among (n ∷ ns) k → have_one_name k x ≡ false
-        others k (inl e) = ap (λ z. have_one_name z x) e ∙ r.1
-        others k (inr c) = rest k c
-
-    step : Among ns x ⊎ (Among (with_table ms n) x × ((k : Module) → Among ns k → have_one_name k x ≡ false))
-        → Among (n ∷ ns) x ⊎ (Among ms x × ((k : Module) → Among (n ∷ ns) k → have_one_name k x ≡ false))
-    step (inl b) = inl (inr b)
-    step (inr r) = deeper r.0 r.1 (among-added ms n x h r.0)
+among-result ms (n ∷ ns) x h a = elim (among-result (with_table ms n) ns x (differ-added ms n h) a) [
+  | inl b ↦ inl (inr b)
+  | inr r ↦ elim (among-added ms n x h r.0) [
+    | inl e ↦ inl (inl e)
+    | inr old ↦ inr (old.0, λ k c. elim c [ inl e ↦ ap (λ z. have_one_name z x) e ∙ old.1 | inr later ↦ r.1 k later ])
+  ]
+]
 
 -- the module of an old name: itself, or one of the bundle that may replace it
 pub follower : (old ns : List Module) → all_differ have_one_name old ≡ true → all_differ have_one_name ns ≡ true → are_compatible old ns ≡ true
     → (k : ModuleName) (m : Module) → module_named old k ≡ Some m → (n : Module) × (module_named (with_tables old ns) k ≡ Some n) × ((n ≡ m) ⊎ (Among ns n × (may_replace m n ≡ true)))
-follower old ns once apart fits k m e = step (cases_Bool (list_any (is_module k) ns))
-  where
-    at : Among old m × (own_name m ≡ Some k)
-    at = named-so old k m e
-
-    step : (list_any (is_module k) ns ≡ true) ⊎ (list_any (is_module k) ns ≡ false)
-        → (n : Module) × (module_named (with_tables old ns) k ≡ Some n) × ((n ≡ m) ⊎ (Among ns n × (may_replace m n ≡ true)))
-    step (inl h) =
-        let r = any-among (is_module k) ns h in
-        let own : own_name r.0 ≡ Some k = is_module-is k r.0 r.2 in
-        let both = all-among (λ n. not (have_one_name m n) || may_replace m n) ns r.0 (all-among (λ m. list_all (λ n. not (have_one_name m n) || may_replace m n) ns) old m fits at.0) r.1 in
-        (r.0, so-named (with_tables old ns) k r.0 (differ-result old ns once) (bundle-there old ns r.0 apart r.1) own, inr (r.1, replaces r.0 (have_one_name-from m r.0 k at.1 own) both))
-      where
-        replaces : (n : Module) → have_one_name m n ≡ true → (not (have_one_name m n) || may_replace m n) ≡ true → may_replace m n ≡ true
-        replaces n p q = sym (ap (λ b. not b || may_replace m n) p) ∙ q
-    step (inr h) =
-        let stays : Among (with_tables old ns) m = stays-all old ns m at.0 (λ n a. differs n (none-among (is_module k) ns n h a)) in
-        (m, so-named (with_tables old ns) k m (differ-result old ns once) stays at.1, inl refl)
-      where
-        differs : (n : Module) → is_module k n ≡ false → have_one_name n m ≡ false
-        differs n p = turned m n (have_one-is m n k at.1 ∙ p)
+follower old ns once apart fits k m e =
+    let at = named-so old k m e in
+    elim (cases_Bool (list_any (is_module k) ns)) [
+      | inl h ↦
+          let r = any-among (is_module k) ns h in
+          let own : own_name r.0 ≡ Some k = is_module-is k r.0 r.2 in
+          let both = all-among (λ n. not (have_one_name m n) || may_replace m n) ns r.0 (all-among (λ m. list_all (λ n. not (have_one_name m n) || may_replace m n) ns) old m fits at.0) r.1 in
+          let replaces = sym (ap (λ b. not b || may_replace m r.0) (have_one_name-from m r.0 k at.1 own)) ∙ both in
+          (r.0, so-named (with_tables old ns) k r.0 (differ-result old ns once) (bundle-there old ns r.0 apart r.1) own, inr (r.1, replaces))
+      | inr h ↦
+          let stays : Among (with_tables old ns) m = stays-all old ns m at.0 (λ n a. turned m n (have_one-is m n k at.1 ∙ none-among (is_module k) ns n h a)) in
+          (m, so-named (with_tables old ns) k m (differ-result old ns once) stays at.1, inl refl)
+    ]

@@ -1,23 +1,34 @@
 -- What the tests of names mean, and where a module of a name stands.
-use Rattle.std.proofs.Common.{◌≡◌, ℕ, zero, suc, ◌<◌, Bool, true, false, List, length, Option, Some, None, slice_get, refl, sym, ap, ap₂, ◌∙◌, eqb, arith, inl, inr}
-use Rattle.std.specs.Prelude.{not}
-use Rattle.std.specs.Option.{option_map_or}
-use Rattle.std.specs.Cmp.{first_so, second_so}
-use Rattle.std.specs.Str.{bytes_eq}
-use Rattle.std.proofs.lemmas.Bool.{eqb-true, eq-eqb, and_from, or_cases, or_left, or_right, cases_order, both_ways}
-use Rattle.std.proofs.lemmas.Slice.Eq.{bytes_eq-Decides}
-use Rattle.mv_move_types.specs.Names.{ModuleName, StructName, same_module, same_struct}
-use Rattle.mv_move_types.specs.Module.{Module, own_name, module_name}
-use Rattle.mv_move_types.specs.Named.{is_module, have_one_name, module_place}
-use Rattle.mv_bounds.specs.Definitions.{all_differ}
-use Rattle.mv_linker.specs.StoreRules.{depends_on, names_module}
-use Rattle.mv_linker.proofs.Found.{found_at, find_first, differ_at, one_place}
+use Rattle.mv_linker.proofs.Common.{ℕ, ◌<◌, ◌∙◌, ◌≡◌, List, Module, ModuleHandle, ModuleName, Option, Some, StructDefinition, StructHandle, StructName, all_differ, and_from, and_parts, ap}
+use Rattle.mv_linker.proofs.Common.{ap₂, arith, both_ways, bytes_eq, bytes_eq-Decides, cases_order, depends_on, eq-eqb, eqb, eqb-true, false, first_so, have_one_name, inl, inr, is_module}
+use Rattle.mv_linker.proofs.Common.{length, module_name, module_place, name_at, name_of_struct, names_module, not, not-true, on_bind, option_map_or, or_cases, or_left, or_right, own_name}
+use Rattle.mv_linker.proofs.Common.{refl, same_module, same_Some, same_struct, second_so, slice_get, struct_name, suc, sym, true, zero}
+use Rattle.mv_linker.proofs.Found.{differ_at, find_first, found_at, one_place, passing}
 
 abbrev module_of : ℕ → List ℕ → ModuleName
 module_of address name = record { address = address; name = name }
 
 abbrev struct_of : ModuleName → List ℕ → StructName
 struct_of home name = record { home = home; name = name }
+
+-- the parts of the name of a module, of a struct, and of a struct at a place
+pub module_parts : {P : Type 0} (m : Module) (h : ℕ) (name : ModuleName) → module_name m h ≡ Some name
+    → ((x : ModuleHandle) → slice_get m.module_handles h ≡ Some x → slice_get m.addresses x.address ≡ Some name.address → slice_get m.identifiers x.name ≡ Some name.name → P) → P
+module_parts m h name e go =
+    on_bind (slice_get m.module_handles h) _ name e (λ x x_is e1. on_bind (slice_get m.addresses x.address) _ name e1 (λ p p_is e2. on_bind (slice_get m.identifiers x.name) _ name e2 (λ n n_is e3.
+    let same = same_Some (record { address = p; name = n }) name e3 in
+    go x x_is (p_is ∙ ap (λ (z : ModuleName). Some z.address) same) (n_is ∙ ap (λ (z : ModuleName). Some z.name) same))))
+
+pub struct_parts : {P : Type 0} (m : Module) (h : ℕ) (name : StructName) → struct_name m h ≡ Some name
+    → ((x : StructHandle) → slice_get m.struct_handles h ≡ Some x → module_name m x.module ≡ Some name.home → slice_get m.identifiers x.name ≡ Some name.name → P) → P
+struct_parts m h name e go =
+    on_bind (slice_get m.struct_handles h) _ name e (λ x x_is e1. on_bind (module_name m x.module) _ name e1 (λ p p_is e2. on_bind (slice_get m.identifiers x.name) _ name e2 (λ n n_is e3.
+    let same = same_Some (record { home = p; name = n }) name e3 in
+    go x x_is (p_is ∙ ap (λ (z : StructName). Some z.home) same) (n_is ∙ ap (λ (z : StructName). Some z.name) same))))
+
+pub name_parts : {P : Type 0} (modules : List Module) (p i : ℕ) (name : StructName) → name_at modules p i ≡ Some name
+    → ((m : Module) (d : StructDefinition) → slice_get modules p ≡ Some m → slice_get m.structs i ≡ Some d → name_of_struct m d ≡ Some name → P) → P
+name_parts modules p i name e go = on_bind (slice_get modules p) _ name e (λ m at e1. on_bind (slice_get m.structs i) _ name e1 (λ d d_at named. go m d at d_at named))
 
 pub same_module-same : (a : ModuleName) → same_module a a ≡ true
 same_module-same a = and_from _ _ (eq-eqb a.address a.address refl) ((bytes_eq-Decides a.name a.name).1 refl)
@@ -39,12 +50,7 @@ same_struct-is a b h =
 
 -- a module of a name has that name
 pub is_module-is : (name : ModuleName) (m : Module) → is_module name m ≡ true → own_name m ≡ Some name
-is_module-is name m h = by_name (own_name m) refl
-  where
-    by_name : (o : Option ModuleName) → own_name m ≡ o → own_name m ≡ Some name
-    by_name None e = absurd (both_ways (is_module name m) (ap (λ o. option_map_or (λ own. same_module own name) o false) e) h)
-    by_name (Some own) e =
-        e ∙ ap (λ n. Some n) (same_module-is own name (sym (ap (λ o. option_map_or (λ own. same_module own name) o false) e) ∙ h))
+is_module-is name m h = let s = passing (λ own. same_module own name) (own_name m) h in s.1 ∙ ap Some (same_module-is s.0 name s.2)
 
 pub is_module-from : (name : ModuleName) (m : Module) → own_name m ≡ Some name → is_module name m ≡ true
 is_module-from name m e = ap (λ o. option_map_or (λ own. same_module own name) o false) e ∙ same_module-same name
@@ -53,12 +59,7 @@ pub have_one_name-from : (m n : Module) (name : ModuleName) → own_name m ≡ S
 have_one_name-from m n name e g = ap (λ o. option_map_or (λ own. is_module own n) o false) e ∙ is_module-from name n g
 
 pub have_one_name-is : (m n : Module) → have_one_name m n ≡ true → (name : ModuleName) × (own_name m ≡ Some name) × (own_name n ≡ Some name)
-have_one_name-is m n h = by_name (own_name m) refl
-  where
-    by_name : (o : Option ModuleName) → own_name m ≡ o → (name : ModuleName) × (own_name m ≡ Some name) × (own_name n ≡ Some name)
-    by_name None e = absurd (both_ways (have_one_name m n) (ap (λ o. option_map_or (λ own. is_module own n) o false) e) h)
-    by_name (Some own) e =
-        (own, e, is_module-is own n (sym (ap (λ o. option_map_or (λ own. is_module own n) o false) e) ∙ h))
+have_one_name-is m n h = let s = passing (λ own. is_module own n) (own_name m) h in (s.0, s.1, is_module-is s.0 n s.2)
 
 -- two modules with one name pass the same tests
 pub one_test : (m n : Module) → own_name m ≡ own_name n → (name : ModuleName) → is_module name m ≡ is_module name n
@@ -105,25 +106,18 @@ pub record Names (m n : Module) (k : ℕ) : Type 0 where
 pub names_module-is : (m n : Module) (k : ℕ) → names_module m n k ≡ true → Names m n k
 names_module-is m n zero h = absurd (both_ways true (sym h) refl)
 names_module-is m n (suc k) h = elim (or_cases (option_map_or (λ name. is_module name n) (module_name m k) false) (names_module m n k) h) [
-  | inl here ↦ by_name (module_name m k) refl here
+  | inl here ↦
+      let s = passing (λ name. is_module name n) (module_name m k) here in
+      record { name = s.0; handle = k; below = omega arith; named = s.1; own = is_module-is s.0 n s.2 }
   | inr before ↦
       let r = names_module-is m n k before in
       record { name = r.name; handle = r.handle; below = (let l = r.below in omega (arith, l)); named = r.named; own = r.own }
 ]
-  where
-    by_name : (o : Option ModuleName) → module_name m k ≡ o → option_map_or (λ name. is_module name n) (module_name m k) false ≡ true → Names m n (suc k)
-    by_name None e here = absurd (both_ways (option_map_or (λ name. is_module name n) (module_name m k) false) (ap (λ o. option_map_or (λ name. is_module name n) o false) e) here)
-    by_name (Some name) e here =
-        record { name = name; handle = k; below = omega arith; named = e; own = is_module-is name n (sym (ap (λ o. option_map_or (λ name. is_module name n) o false) e) ∙ here) }
 
 pub depends_on-is : (m n : Module) → depends_on m n ≡ true → (have_one_name m n ≡ false) × Names m n (length m.module_handles)
 depends_on-is m n h =
-    let apart = first_so (not (have_one_name m n)) (names_module m n (length m.module_handles)) h in
-    (not_so (have_one_name m n) apart, names_module-is m n (length m.module_handles) (second_so (not (have_one_name m n)) (names_module m n (length m.module_handles)) h))
-  where
-    not_so : (b : Bool) → not b ≡ true → b ≡ false
-    not_so true p = sym p
-    not_so false p = refl
+    let both = and_parts (not (have_one_name m n)) (names_module m n (length m.module_handles)) h in
+    (not-true (have_one_name m n) both.0, names_module-is m n (length m.module_handles) both.1)
 
 pub depends_on-from : (m n : Module) (name : ModuleName) (h : ℕ) → h < length m.module_handles → module_name m h ≡ Some name → own_name n ≡ Some name → have_one_name m n ≡ false
     → depends_on m n ≡ true

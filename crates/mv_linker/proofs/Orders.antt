@@ -1,5 +1,5 @@
 -- Steps of orders on numbers. They stand here over plain variables, since a tactic reads all that is known where it is called.
-use Rattle.std.proofs.Common.{◌≡◌, ℕ, ◌<◌, ◌≤◌, List, length, ap, arith}
+use Rattle.mv_linker.proofs.Common.{ℕ, ◌<◌, ◌≡◌, ◌≤◌, List, ap, arith, length}
 
 -- below a number that is at most another
 pub below-most : (a b c : ℕ) → a < b → b ≤ c → a < c

@@ -1,7 +1,5 @@
 -- What follows of outcomes.
-use Rattle.std.specs.Prelude.{Result, Ok, Err, OnOk, IfErr}
-use Rattle.mv_move_types.specs.declared.refusal.Refusal.{Refusal}
-use Rattle.mv_move_types.specs.Refusals.{IsRefusedIn}
+use Rattle.mv_linker.proofs.Common.{Err, IfErr, IsRefusedIn, Ok, OnOk, Refusal, Result}
 use Rattle.mv_linker.proofs.Joining.Resolving.{refused_by}
 
 pub on_ok : {A B : Type 0} (r : Result A B) (P Q : Type 0) → (P → Q) → OnOk r P → OnOk r Q

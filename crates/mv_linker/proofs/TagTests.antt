@@ -1,14 +1,9 @@
 -- What the tests of types by names mean.
-use Rattle.std.proofs.Common.{◌≡◌, ℕ, true, cond, List, [], ◌∷◌, refl, sym, ap, ap₂, ◌∙◌}
-use Rattle.std.specs.Prelude.{◌==◌}
-use Rattle.std.specs.Bool.{beq}
-use Rattle.std.specs.Cmp.{first_so, second_so, booleans_Decides}
-use Rattle.std.proofs.lemmas.Bool.{and_from, eq-eqb, eqb-true}
+use Rattle.mv_linker.proofs.Common.{[], ℕ, ◌==◌, ◌∙◌, ◌∷◌, ◌≡◌, Address, Boolean, LeafTag, List, Number, ReferenceTag, Signer, StructTag, Tag, and_from, ap, ap₂, arith, beq}
+use Rattle.mv_linker.proofs.Common.{booleans_Decides, cond, eq-eqb, eqb-true, first_so, refl, same_tag, same_tags, second_so, sym, true}
 use Rattle.mv_move_types.specs.declared.token.LeafKind.{LeafKind}
-use Rattle.mv_move_types.specs.Tokens.{same_kind, kind_code}
-use Rattle.mv_move_types.specs.Tags.{Tag, LeafTag, StructTag, ReferenceTag, same_tag, same_tags}
-use Rattle.mv_move_types.specs.declared.token.LeafKind.TheVariants.{Boolean, Number, Address, Signer}
-use Rattle.mv_move_types.specs.declared.token.Width.TheVariants.{U8, U16, U32, U64, U128}
+use Rattle.mv_move_types.specs.Tokens.{kind_code, same_kind}
+use Rattle.mv_move_types.specs.declared.token.Width.TheVariants.{U128, U16, U32, U64, U8}
 use Rattle.mv_linker.proofs.NameLemmas.{same_struct-is, same_struct-same}
 
 -- the kind of a leaf, by its number
@@ -16,14 +11,7 @@ abbrev kind_of : ℕ → LeafKind
 kind_of n = cond (n == 0) Boolean (cond (n == 1) Address (cond (n == 2) Signer (cond (n == 8) (Number U8) (cond (n == 16) (Number U16) (cond (n == 32) (Number U32) (cond (n == 64) (Number U64) (Number U128)))))))
 
 kind_of-code : (k : LeafKind) → kind_of (kind_code k) ≡ k
-kind_of-code Boolean = refl
-kind_of-code Address = refl
-kind_of-code Signer = refl
-kind_of-code (Number U8) = refl
-kind_of-code (Number U16) = refl
-kind_of-code (Number U32) = refl
-kind_of-code (Number U64) = refl
-kind_of-code (Number U128) = refl
+kind_of-code k = grind arith
 
 kinds_equal : (j k : LeafKind) → same_kind j k ≡ true → j ≡ k
 kinds_equal j k e = sym (kind_of-code j) ∙ ap kind_of (eqb-true (kind_code j) (kind_code k) e) ∙ kind_of-code k
@@ -33,12 +21,7 @@ same_tag-is (LeafTag j) (LeafTag k) e = ap LeafTag (kinds_equal j k e)
 same_tag-is (StructTag m) (StructTag n) e = ap StructTag (same_struct-is m n e)
 same_tag-is (ReferenceTag i a) (ReferenceTag j b) e =
     ap₂ ReferenceTag ((booleans_Decides i j).0 (first_so (beq i j) (same_tag a b) e)) (same_tag-is a b (second_so (beq i j) (same_tag a b) e))
-same_tag-is (LeafTag j) (StructTag n) e = absurd cc
-same_tag-is (LeafTag j) (ReferenceTag i b) e = absurd cc
-same_tag-is (StructTag m) (LeafTag k) e = absurd cc
-same_tag-is (StructTag m) (ReferenceTag i b) e = absurd cc
-same_tag-is (ReferenceTag i a) (LeafTag k) e = absurd cc
-same_tag-is (ReferenceTag i a) (StructTag n) e = absurd cc
+same_tag-is _ _ e = absurd cc
 
 pub same_tag-same : (a : Tag) → same_tag a a ≡ true
 same_tag-same (LeafTag k) = eq-eqb (kind_code k) (kind_code k) refl
@@ -47,9 +30,8 @@ same_tag-same (ReferenceTag i a) = and_from (beq i i) (same_tag a a) ((booleans_
 
 pub same_tags-is : (as' bs : List Tag) → same_tags as' bs ≡ true → as' ≡ bs
 same_tags-is [] [] e = refl
-same_tags-is [] (b ∷ bs) e = absurd cc
-same_tags-is (a ∷ as') [] e = absurd cc
 same_tags-is (a ∷ as') (b ∷ bs) e = ap₂ (λ x xs. x ∷ xs) (same_tag-is a b (first_so (same_tag a b) (same_tags as' bs) e)) (same_tags-is as' bs (second_so (same_tag a b) (same_tags as' bs) e))
+same_tags-is _ _ e = absurd cc
 
 pub same_tags-same : (as' : List Tag) → same_tags as' as' ≡ true
 same_tags-same [] = refl

@@ -101,11 +101,11 @@ fn entry_of(alloc: Global, new: &New<'_>) -> Result<Entry, AllocError>
     Ok(Entry {
         name: Name {
             address,
-            identifier: CowSlice::Owned(name.to_vec(alloc)?),
+            identifier: CowSlice::Owned(Vec::from_slice(alloc, name)?),
         },
         texts: Texts {
-            module: new.text.to_vec(alloc)?,
-            certificate: new.certificate.to_vec(alloc)?,
+            module: Vec::from_slice(alloc, new.text)?,
+            certificate: Vec::from_slice(alloc, new.certificate)?,
         },
     })
 }

@@ -194,6 +194,9 @@ impl<'a> Scope<'a> {
         ensures there { OnOk result (IsTrue (structs_are_there (modules_in self.now) m.now 0 m.now.struct_handles)) }
         ensures refused { IfErr result (IsRefusedIn 13 (IsTrue (structs_are_there (modules_in self.now) m.now 0 m.now.struct_handles))) }
     {
+        if m.struct_handles().is_empty() {
+            return Ok(Vec::new(alloc));
+        }
         // Lent again, since they have one lifetime there.
         let likely = likely_structs(alloc, &*m, &*targets)?;
         let mut found = Vec::new(alloc);
@@ -272,6 +275,9 @@ impl<'a> Scope<'a> {
         ensures there { OnOk result (IsTrue (list_all (function_is_there (modules_in self.now) m.now) m.now.function_handles)) }
         ensures refused { IfErr result (IsRefusedIn 13 (IsTrue (list_all (function_is_there (modules_in self.now) m.now) m.now.function_handles))) }
     {
+        if m.function_handles().is_empty() {
+            return Ok(Vec::new(alloc));
+        }
         // Lent again, since they have one lifetime there.
         let likely = likely_functions(alloc, &*m, &*targets)?;
         let mut found = Vec::new(alloc);

@@ -1,6 +1,6 @@
 // The modules of a bundle, found by their names.
 ghost use Rattle.std.specs.Prelude.{◌≡◌, [], not, is_some, IfOk, OnOk};
-ghost use Rattle.std.specs.Option.{option_or};
+ghost use Rattle.std.specs.Option.{option_map_or, option_or};
 ghost use Rattle.std.specs.Map.{lookup};
 ghost use Rattle.mv_move_types.specs.Named.{module_place};
 ghost use Rattle.mv_linker.specs.Indexed.{PutsName, PutsPlace, has_name_of};
@@ -16,29 +16,30 @@ use std::marker::Model;
 /// The places of a bundle's modules by their names. The one that was put last stands beside the map of the others, so that a
 /// bundle of one module needs no map. Its model is the list of both.
 #[derive(Drop)]
-pub struct PlacesByName {
-    last: Option<(Name<'static>, usize)>,
-    others: IndexMap<Name<'static>, usize>,
+pub struct PlacesByName<'a> {
+    last: Option<(Name<'a>, usize)>,
+    others: Option<Box<IndexMap<Name<'a>, usize>>>,
 }
 
-impl Model for PlacesByName {
-    ghost use Rattle.std.specs.Prelude.{ℕ, List};
+impl<'a> Model for PlacesByName<'a> {
+    ghost use Rattle.std.specs.Prelude.{ℕ, List, []};
+    ghost use Rattle.std.specs.Option.{option_map_or};
     ghost use Rattle.mv_linker.specs.declared.entry.Name.{Name};
     ghost use Rattle.mv_linker.specs.Indexed.{with_last};
 
     ghost Value = { List (Name × ℕ) };
 
-    ghost view = { λ p. with_last p.last p.others.entries };
+    ghost view = { λ p. with_last p.last (option_map_or (λ m. m.value.entries) p.others []) };
 }
 
-impl PlacesByName {
+impl<'a> PlacesByName<'a> {
     /// Those of no modules.
-    pub fn new(alloc: Global) -> Self
+    pub fn new() -> Self
         ensures { result ≡ [] }
     {
         PlacesByName {
             last: None,
-            others: IndexMap::new(alloc),
+            others: None,
         }
     }
 
@@ -51,15 +52,18 @@ impl PlacesByName {
                 return Some(*place);
             }
         }
-        get_other(&self.others, name)
+        match &self.others {
+            Some(others) => others.get(name).copied(),
+            None => None,
+        }
     }
 
     /// Puts a place under a name.
-    pub fn put(&mut self, name: Name<'static>, place: usize) -> Result<(), AllocError>
+    pub fn put(&mut self, alloc: Global, name: Name<'a>, place: usize) -> Result<(), AllocError>
         ensures { OnOk result (PutsPlace self.old self.new name.entry place) }
     {
         if let Some((last, before)) = self.last.take() {
-            put_other(&mut self.others, last, before)?;
+            put_other(alloc, &mut self.others, last, before)?;
         }
         self.last = Some((name, place));
         Ok(())
@@ -73,20 +77,23 @@ fn is_one_name(a: &Name<'_>, b: &Name<'_>) -> bool
     a.address == b.address && a.identifier.as_slice() == b.identifier.as_slice()
 }
 
-/// The place under a name in a map, if there is one.
-fn get_other(places: &IndexMap<Name<'static>, usize>, name: &Name<'_>) -> Option<usize>
-    ensures { result ≡ lookup (has_name_of name.now) places.now.entries }
+/// A map that is there, or else an empty one.
+fn map_of<'a>(
+    alloc: Global,
+    map: Option<Box<IndexMap<Name<'a>, usize>>>,
+) -> Result<Box<IndexMap<Name<'a>, usize>>, AllocError>
+    ensures { IfOk result (λ m. m.value.entries ≡ option_map_or (λ m. m.value.entries) map.entry []) }
 {
-    if places.is_empty() {
-        return None;
+    match map {
+        Some(map) => Ok(map),
+        None => Ok(Box::new(alloc, IndexMap::new(alloc))?),
     }
-    places.get(name).copied()
 }
 
 /// Puts a place under a name in a map.
-fn put_other(
-    places: &mut IndexMap<Name<'static>, usize>,
-    name: Name<'static>,
+fn put_in<'a>(
+    places: &mut IndexMap<Name<'a>, usize>,
+    name: Name<'a>,
     place: usize,
 ) -> Result<(), AllocError>
     ensures { OnOk result (PutsPlace places.old.entries places.new.entries name.entry place) }
@@ -97,8 +104,23 @@ fn put_other(
     }
 }
 
+/// Puts a place under a name in a map, which is made where there is none. Where memory runs out there is none afterwards.
+fn put_other<'a>(
+    alloc: Global,
+    places: &mut Option<Box<IndexMap<Name<'a>, usize>>>,
+    name: Name<'a>,
+    place: usize,
+) -> Result<(), AllocError>
+    ensures { OnOk result (PutsPlace (option_map_or (λ m. m.value.entries) places.old []) (option_map_or (λ m. m.value.entries) places.new []) name.entry place) }
+{
+    let mut map = map_of(alloc, places.take())?;
+    put_in(&mut map, name, place)?;
+    *places = Some(map);
+    Ok(())
+}
+
 /// The place under a name of a bundle, or else that of the module that a store has of it.
-pub fn place_of(store: &Store, places: &PlacesByName, name: &Name<'_>) -> Option<usize>
+pub fn place_of(store: &Store, places: &PlacesByName<'_>, name: &Name<'_>) -> Option<usize>
     ensures { result ≡ option_or (lookup (has_name_of name.now) places.now) (module_place (tables_in store.now) (name_in name.now)) }
 {
     match places.get(name) {

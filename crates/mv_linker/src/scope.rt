@@ -27,7 +27,7 @@ pub struct Scope<'a> {
     /// The place of each module of the bundle.
     pub places: Vec<usize>,
     /// The same by name.
-    pub names: PlacesByName,
+    pub names: PlacesByName<'a>,
     ghost placed: { places.items ≡ places_in (tables_in store.now) (offered new.now) },
     ghost named: { IsTrue (all_named (offered new.now)) },
     ghost once: { IsTrue (all_differ have_one_name (offered new.now)) },
@@ -45,43 +45,43 @@ pub fn is_module(m: &Module<'_>, address: u128, name: &[u8]) -> bool
 }
 
 /// The name of a module that passed its phases.
-fn own_name(alloc: Global, n: &New<'_>) -> Result<Name<'static>, AllocError>
-    ensures { IfOk result (λ name. name_of_module n.now.module ≡ Some (name_in name)) }
+fn own_name<'n>(n: &'n New<'_>) -> Name<'n>
+    ensures { name_of_module n.entry.now.module ≡ Some (name_in result) }
 {
     let Some((address, name)) = name_of(n.module.module()) else {
         unreachable!();
     };
-    Ok(Name {
+    Name {
         address,
-        identifier: CowSlice::Owned(name.to_vec(alloc)?),
-    })
+        identifier: CowSlice::Borrowed(name),
+    }
 }
 
 /// The places that modules of a bundle take, in order and by name.
 #[derive(Drop)]
-struct Places {
+struct Places<'a> {
     /// In order.
     places: Vec<usize>,
     /// Under the names.
-    names: PlacesByName,
+    names: PlacesByName<'a>,
 }
 
 /// The places that the modules of a bundle take, each of which has a name.
-fn places_of(alloc: Global, store: &Store, new: &[New<'_>]) -> Result<Places, AllocError>
+fn places_of<'a>(alloc: Global, store: &Store, new: &'a [New<'a>]) -> Result<Places<'a>, AllocError>
     requires { length store.now + length new.now ≤ 65536 }
-    ensures places { IfOk result (λ p. p.places.items ≡ places_in (tables_in store.now) (offered new.now)) }
-    ensures names { IfOk result (λ p. ArePlacesOf p.names (offered new.now) p.places.items) }
-    ensures named { OnOk result (IsTrue (all_named (offered new.now))) }
+    ensures places { IfOk result (λ p. p.places.items ≡ places_in (tables_in store.now) (offered new.entry.now)) }
+    ensures names { IfOk result (λ p. ArePlacesOf p.names (offered new.entry.now) p.places.items) }
+    ensures named { OnOk result (IsTrue (all_named (offered new.entry.now))) }
     ensures sound { OnOk result (IsStore store.now) }
 {
     let mut places = Vec::with_capacity(alloc, new.len())?;
-    let mut names = PlacesByName::new(alloc);
+    let mut names = PlacesByName::new();
     let mut count = store.len();
     for i in 0..new.len() {
-        let name = own_name(alloc, &new[i])?;
+        let name = own_name(&new[i]);
         let place = place_of(store, &names, &name).unwrap_or(count);
         places.push(place)?;
-        names.put(name, place)?;
+        names.put(alloc, name, place)?;
         if place == count {
             count += 1;
         }

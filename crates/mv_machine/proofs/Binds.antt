@@ -1,18 +1,15 @@
 -- How the parts of a rule are taken apart.
-use Rattle.std.proofs.Common.{◌≡◌, ℕ, Bool, true, false, cond, List, [], ◌∷◌, ◌++◌, Option, Some, None, Result, Ok, Err, refl, sym, ap, subst, ◌∙◌, length, take, drop}
-use Rattle.std.specs.Prelude.{not, ◌==◌, is_some, reverse, nat_le, ok_or, slice_get, option_map, option_and_then}
+use Rattle.mv_machine.proofs.Common.{[], ℕ, ◌++◌, ◌∙◌, ◌∷◌, ◌≡◌, Bool, Err, List, None, Ok, Option, Result, Some, ap, cond, false, length, not, refl, reverse, subst, sym, true, ◌==◌}
+use Rattle.mv_machine.proofs.Common.{is_some, nat_le, ok_or, slice_get, StructName, same_struct, ◌>>=◌, ◌>>◌, need, Address, Boolean, Number, Width, State, with_place, held, Failure}
+use Rattle.mv_machine.proofs.Common.{Faults, TypeFault, entry, Leaf, Place, Ref, Reference, Struct, Value, Values, list_of}
+use Rattle.std.proofs.Common.{take, drop}
+use Rattle.std.specs.Prelude.{option_map, option_and_then}
 use Rattle.std.proofs.lemmas.List.{reverse-reverse, take-append-drop, length-reverse, length-take-le}
 use Rattle.std.proofs.lemmas.Bool.{leb-true}
-use Rattle.mv_move_types.specs.declared.token.Width.{Width}
-use Rattle.mv_move_types.specs.declared.token.LeafKind.TheVariants.{Boolean, Number, Address, Signer}
-use Rattle.mv_move_types.specs.Results.{◌>>=◌, ◌>>◌, need}
-use Rattle.mv_move_types.specs.Names.{StructName, same_struct}
-use Rattle.mv_machine.specs.Value.{Value, Leaf, Struct, Ref, Values, Reference, Place, list_of, with_value_at}
-use Rattle.mv_machine.specs.State.{State, root_value, with_root, with_place}
-use Rattle.mv_machine.specs.Typing.{Failure, Faults, TypeFault, entry}
+use Rattle.mv_machine.specs.Value.{with_value_at}
+use Rattle.mv_machine.specs.State.{root_value, with_root}
 use Rattle.mv_machine.specs.Step.{Here, operand, operands, as_reference}
 use Rattle.mv_machine.specs.StepParts.{as_number, as_boolean, as_address, as_fields}
-use Rattle.mv_machine.specs.StepLocals.{held}
 use Rattle.mv_machine.proofs.Laws.{on_ok}
 
 -- a part that gave a value gave this one
@@ -46,9 +43,8 @@ held-is h l v e =
 
 -- an operand that was a reference
 pub reference-is : (v : Value) (r : Reference) → as_reference v ≡ Ok r → v ≡ Ref r
-reference-is (Leaf k n) r h = absurd cc
-reference-is (Struct n fs) r h = absurd cc
 reference-is (Ref q) r h = ap Ref (ok-is q r h)
+reference-is v r h = absurd cc
 
 -- an option that is there
 pub on_some : {A B E P : Type 0} (o : Option A) (d : E) (f : A → Result B E) (y : B) → (ok_or o d >>= f) ≡ Ok y → ((x : A) → o ≡ Some x → f x ≡ Ok y → P) → P
@@ -63,35 +59,22 @@ on_operand (v ∷ below) f y e go = go v below refl e
 pub on_number : {B P : Type 0} (v : Value) (f : (Width × ℕ) → Result B Failure) (y : B) → (as_number v >>= f) ≡ Ok y →
     ((w : Width) (n : ℕ) → v ≡ Leaf (Number w) n → f (w, n) ≡ Ok y → P) → P
 on_number (Leaf (Number w) n) f y e go = go w n refl e
-on_number (Leaf Boolean n) f y e go = absurd cc
-on_number (Leaf Address n) f y e go = absurd cc
-on_number (Leaf Signer n) f y e go = absurd cc
-on_number (Struct name fields) f y e go = absurd cc
-on_number (Ref r) f y e go = absurd cc
+on_number v f y e go = absurd cc
 
 pub on_boolean : {B P : Type 0} (v : Value) (f : Bool → Result B Failure) (y : B) → (as_boolean v >>= f) ≡ Ok y →
     ((n : ℕ) → v ≡ Leaf Boolean n → f (not (n == 0)) ≡ Ok y → P) → P
 on_boolean (Leaf Boolean n) f y e go = go n refl e
-on_boolean (Leaf (Number w) n) f y e go = absurd cc
-on_boolean (Leaf Address n) f y e go = absurd cc
-on_boolean (Leaf Signer n) f y e go = absurd cc
-on_boolean (Struct name fields) f y e go = absurd cc
-on_boolean (Ref r) f y e go = absurd cc
+on_boolean v f y e go = absurd cc
 
 pub on_address : {B P : Type 0} (v : Value) (f : ℕ → Result B Failure) (y : B) → (as_address v >>= f) ≡ Ok y →
     ((n : ℕ) → v ≡ Leaf Address n → f n ≡ Ok y → P) → P
 on_address (Leaf Address n) f y e go = go n refl e
-on_address (Leaf (Number w) n) f y e go = absurd cc
-on_address (Leaf Boolean n) f y e go = absurd cc
-on_address (Leaf Signer n) f y e go = absurd cc
-on_address (Struct name fields) f y e go = absurd cc
-on_address (Ref r) f y e go = absurd cc
+on_address v f y e go = absurd cc
 
 pub on_reference : {B P : Type 0} (v : Value) (f : Reference → Result B Failure) (y : B) → (as_reference v >>= f) ≡ Ok y →
     ((r : Reference) → v ≡ Ref r → f r ≡ Ok y → P) → P
 on_reference (Ref r) f y e go = go r refl e
-on_reference (Leaf kind n) f y e go = absurd cc
-on_reference (Struct name fields) f y e go = absurd cc
+on_reference v f y e go = absurd cc
 
 pub on_fields : {B P : Type 0} (name : StructName) (v : Value) (f : List Value → Result B Failure) (y : B) → (as_fields name v >>= f) ≡ Ok y →
     ((own : StructName) (fields : Values) → v ≡ Struct own fields → same_struct own name ≡ true → f (list_of fields) ≡ Ok y → P) → P

@@ -1,20 +1,11 @@
 -- Worked runs of coins and calls, by computation.
-use Rattle.std.specs.Prelude.{◌≡◌, refl, ℕ, true, false, codes, List, [], ◌∷◌, ◌++◌}
+use Rattle.mv_machine.proofs.Common.{[], ℕ, ◌++◌, ◌∷◌, ◌≡◌, List, false, refl, true, codes, FunctionDefinition, Module, Instruction, Call, CopyLoc, ImmBorrowGlobal, ImmBorrowLoc, LdU64}
+use Rattle.mv_machine.proofs.Common.{MoveFrom, MoveLoc, MoveTo, MutBorrowField, MutBorrowGlobal, MutBorrowLoc, Pack, Pop, Ret, StLoc, Unpack, WriteRef, Public, Address, Number, Signer}
+use Rattle.mv_machine.proofs.Common.{MutableReference, Plain, OfLeaf, OfStruct, U64, Aborted, Faulted, FunctionCall, Returned, run, DanglingFault, LinkageFault, Leaf, More, NoMore, Struct}
+use Rattle.mv_machine.proofs.Common.{Missing}
 use Rattle.mv_move_types.specs.declared.tables.Visibility.{Visibility}
-use Rattle.mv_move_types.specs.declared.tables.Visibility.TheVariants.{Private, Public}
-use Rattle.mv_move_types.specs.declared.token.Width.TheVariants.{U64}
-use Rattle.mv_move_types.specs.declared.token.LeafKind.TheVariants.{Number, Address, Signer}
-use Rattle.mv_move_types.specs.declared.token.ValueType.TheVariants.{OfLeaf, OfStruct}
-use Rattle.mv_move_types.specs.declared.token.Token.TheVariants.{Plain, Reference, MutableReference}
-use Rattle.mv_move_types.specs.declared.instruction.Instruction.{Instruction}
-use Rattle.mv_move_types.specs.declared.instruction.Instruction.TheVariants.{Pop, Ret, LdU64, CopyLoc, MoveLoc, StLoc, ImmBorrowLoc, MutBorrowField}
-use Rattle.mv_move_types.specs.declared.instruction.Instruction.TheVariants.{WriteRef, Call, Pack, Unpack, MoveTo, MoveFrom, ImmBorrowGlobal}
-use Rattle.mv_move_types.specs.declared.instruction.Instruction.TheVariants.{MutBorrowGlobal, MutBorrowLoc}
-use Rattle.mv_move_types.specs.Module.{Module, FunctionDefinition}
-use Rattle.mv_machine.specs.declared.Kind.TheVariants.{Missing}
-use Rattle.mv_machine.specs.Value.{Leaf, Struct, NoMore, More}
-use Rattle.mv_machine.specs.Run.{Returned, Aborted, FunctionCall, run, Faulted}
-use Rattle.mv_machine.specs.Typing.{LinkageFault, DanglingFault}
+use Rattle.mv_move_types.specs.declared.tables.Visibility.TheVariants.{Private}
+use Rattle.mv_move_types.specs.declared.token.Token.TheVariants.{Reference}
 use Rattle.mv_machine.proofs.Coin.{coin_module, coin, one_coin}
 use Rattle.mv_machine.proofs.Computed.{computed}
 use Rattle.mv_machine.proofs.Rows.{two_numbers, one_function, steps_of}

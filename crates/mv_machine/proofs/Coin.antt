@@ -1,19 +1,8 @@
 -- Worked runs of the coin module, by computation.
-use Rattle.std.specs.Prelude.{◌≡◌, refl, true, false, [], ◌∷◌}
-use Rattle.mv_move_types.specs.declared.tables.Visibility.TheVariants.{Public}
-use Rattle.mv_move_types.specs.declared.token.Width.TheVariants.{U64}
-use Rattle.mv_move_types.specs.declared.token.LeafKind.TheVariants.{Number, Signer}
-use Rattle.mv_move_types.specs.declared.token.ValueType.TheVariants.{OfLeaf}
-use Rattle.mv_move_types.specs.declared.token.Token.TheVariants.{Plain}
-use Rattle.mv_move_types.specs.declared.instruction.Instruction.TheVariants.{Ret, ImmBorrowLoc, MoveLoc, Pack, MoveTo}
-use Rattle.mv_move_types.specs.Names.{StructName}
-use Rattle.mv_move_types.specs.Module.{Module}
-use Rattle.mv_machine.specs.declared.Kind.TheVariants.{Exists as AlreadyThere}
+use Rattle.mv_machine.proofs.Common.{[], ◌∷◌, ◌≡◌, false, refl, true, Module, StructName, ImmBorrowLoc, MoveLoc, MoveTo, Pack, Ret, Public, Number, Signer, Plain, OfLeaf, U64, Aborted}
+use Rattle.mv_machine.proofs.Common.{Exhausted, FunctionCall, Returned, run, Storage, Leaf, More, NoMore, Struct, AlreadyThere}
 use Rattle.mv_machine.specs.declared.Stop.TheVariants.{Steps}
-use Rattle.mv_machine.specs.Value.{Leaf, Struct, NoMore, More}
-use Rattle.mv_machine.specs.State.{Storage}
 use Rattle.mv_machine.proofs.Computed.{computed}
-use Rattle.mv_machine.specs.Run.{Returned, Aborted, Exhausted, FunctionCall, run}
 
 -- the module of a coin, with mint
 abbrev pub coin_module : Module

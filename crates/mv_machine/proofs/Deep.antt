@@ -1,12 +1,6 @@
 -- Worked runs with many frames, by computation.
-use Rattle.std.specs.Prelude.{◌≡◌, refl, [], ◌∷◌}
-use Rattle.mv_move_types.specs.declared.token.Width.TheVariants.{U64}
-use Rattle.mv_move_types.specs.declared.token.LeafKind.TheVariants.{Number}
-use Rattle.mv_move_types.specs.declared.instruction.Instruction.TheVariants.{Ret, BrTrue, LdU64, CopyLoc, MoveLoc, Call, Sub, Eq}
-use Rattle.mv_move_types.specs.Module.{Module}
+use Rattle.mv_machine.proofs.Common.{[], ◌∷◌, ◌≡◌, refl, Module, BrTrue, Call, CopyLoc, Eq, LdU64, MoveLoc, Ret, Sub, Number, U64, Exhausted, Returned, Leaf}
 use Rattle.mv_machine.specs.declared.Stop.TheVariants.{Frames}
-use Rattle.mv_machine.specs.Value.{Leaf}
-use Rattle.mv_machine.specs.Run.{Returned, Exhausted}
 use Rattle.mv_machine.proofs.Computed.{computed}
 use Rattle.mv_machine.proofs.Rows.{u64, one_function, of_f}
 

@@ -1,23 +1,12 @@
 -- What each instruction does to the values of a state, as a few kinds of effect.
-use Rattle.std.specs.Prelude.{◌≡◌, ℕ, ◌+◌, true, false, List, [], ◌∷◌, ◌++◌, reverse, length, Option, Some, None, Ok, slice_get}
-use Rattle.std.specs.List.{AllByRecursion, list_all}
+use Rattle.mv_machine.proofs.Common.{[], ℕ, ◌++◌, ◌+◌, ◌∷◌, ◌≡◌, List, None, Ok, Option, Some, false, length, reverse, true, AllByRecursion, list_all, slice_get, StructName, same_struct}
+use Rattle.mv_machine.proofs.Common.{for_each, Tag, FunctionHandle, LeafKind, Address, Frame, State, place_value, stored_at, with_place, with_stored, without_stored, Goes, OwnStruct}
+use Rattle.mv_machine.proofs.Common.{Returns, entered_frame, signature_tags, with_own_local, can_copy, can_drop, noted, own_struct, entry, has_tag, have_tags, tag_named, tag_of, Leaf, Place}
+use Rattle.mv_machine.proofs.Common.{Ref, Reference, Struct, Value, Values, fields_of, list_of}
 use Rattle.mv_move_types.specs.declared.tables.Key.{Key}
 use Rattle.mv_move_types.specs.declared.tables.Definition.{Definition}
-use Rattle.mv_move_types.specs.declared.tables.FunctionHandle.{FunctionHandle}
-use Rattle.mv_move_types.specs.declared.token.LeafKind.{LeafKind}
-use Rattle.mv_move_types.specs.declared.token.LeafKind.TheVariants.{Address}
-use Rattle.mv_move_types.specs.Results.{for_each}
-use Rattle.mv_machine.specs.Value.{Place, Reference, Value, Leaf, Struct, Ref, Values, list_of, fields_of}
-use Rattle.mv_machine.specs.State.{Frame, State, place_value, with_place, stored_at, with_stored, without_stored}
-use Rattle.mv_move_types.specs.Tags.{Tag}
-use Rattle.mv_machine.specs.Typing.{entry, has_tag, have_tags, tag_of, tag_named}
-use Rattle.mv_machine.specs.Step.{Here, Turn, Goes, Returns, OwnStruct, with_stack, with_storage, may_drop, entered_frame}
-use Rattle.mv_move_types.specs.Names.{StructName, same_struct}
-use Rattle.mv_machine.specs.StepStructs.{own_struct}
-use Rattle.mv_machine.specs.StepControl.{signature_tags}
-use Rattle.mv_machine.specs.StepParts.{with_top, can_copy, can_drop}
-use Rattle.mv_machine.specs.StepLocals.{with_own_local}
-use Rattle.mv_machine.specs.StepStructs.{noted}
+use Rattle.mv_machine.specs.Step.{Here, Turn, with_stack, with_storage, may_drop}
+use Rattle.mv_machine.specs.StepParts.{with_top}
 
 -- a state at another instruction
 abbrev pub arrived : ℕ → State → State

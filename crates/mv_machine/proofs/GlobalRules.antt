@@ -1,14 +1,9 @@
 -- The rules of the storage taken apart: what each found, and what it leaves.
-use Rattle.std.proofs.Common.{◌≡◌, ℕ, Bool, List, [], ◌∷◌, Some, None, Ok, ap, ◌∙◌}
-use Rattle.std.specs.Prelude.{not, is_some}
-use Rattle.mv_move_types.specs.declared.token.LeafKind.TheVariants.{Address}
+use Rattle.mv_machine.proofs.Common.{[], ℕ, ◌∙◌, ◌∷◌, ◌≡◌, Bool, List, None, Ok, Some, ap, not, is_some, Address, is_frozen_by, live, place_value, stored_at, with_stored, without_stored}
+use Rattle.mv_machine.proofs.Common.{borrow_global, exists, key_at, keyed_struct, move_from, move_to, Here, Turn, gives, goes_on, with_stack, has_tag, Leaf, Ref, Reference, Stored, Value}
 use Rattle.mv_move_types.specs.Tags.{StructTag}
-use Rattle.mv_machine.specs.Value.{Reference, Stored, Value, Leaf, Ref}
-use Rattle.mv_machine.specs.State.{place_value, stored_at, with_stored, without_stored}
-use Rattle.mv_machine.specs.Live.{is_frozen_by, live}
-use Rattle.mv_machine.specs.Typing.{has_tag}
-use Rattle.mv_machine.specs.StepParts.{Here, Turn, as_signer, goes_on, gives, truth, with_stack}
-use Rattle.mv_machine.specs.StepGlobals.{keyed_struct, key_at, with_storage, exists, borrow_global, move_from, move_to}
+use Rattle.mv_machine.specs.StepParts.{as_signer, truth}
+use Rattle.mv_machine.specs.StepGlobals.{with_storage}
 use Rattle.mv_machine.proofs.Laws.{on_ok, on_need}
 use Rattle.mv_machine.proofs.Binds.{none-is, on_some, on_operand, on_address, on_reference}
 

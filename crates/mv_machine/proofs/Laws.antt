@@ -1,15 +1,12 @@
 -- First laws of the machine: how its rules are taken apart, and what a whole run keeps.
-use Rattle.std.proofs.Common.{◌≡◌, ℕ, zero, suc, ◌+◌, ◌≤◌, Bool, true, false, List, [], ◌∷◌, ◌++◌, Result, Ok, Err, refl, sym, ap₂, eqb, subst, arith}
-use Rattle.std.specs.Cmp.{first_so, second_so}
-use Rattle.std.proofs.lemmas.Bool.{eqb-true}
-use Rattle.mv_move_types.specs.Results.{◌>>=◌, ◌>>◌, need}
+use Rattle.mv_machine.proofs.Common.{[], ℕ, ◌++◌, ◌+◌, ◌∷◌, ◌≡◌, Bool, Err, List, Ok, Result, ap₂, false, refl, subst, suc, sym, true, zero, eqb-true, first_so, second_so, Module, ◌>>=◌}
+use Rattle.mv_machine.proofs.Common.{◌>>◌, need, Aborted, Exhausted, Faulted, Returned, RunOutcome, follows, goes_with, turns, State, Goes, OwnStruct, Returns, step, Failure, Faults}
+use Rattle.mv_machine.proofs.Common.{Aborts, LinkageFault, entry, linked}
+use Rattle.std.proofs.Common.{◌≤◌, eqb, arith}
 use Rattle.mv_move_types.specs.Names.{same_module}
-use Rattle.mv_move_types.specs.Module.{Module, own_name, struct_name}
-use Rattle.mv_machine.specs.State.{State}
+use Rattle.mv_move_types.specs.Module.{own_name, struct_name}
 use Rattle.mv_move_types.specs.Paths.{begins}
-use Rattle.mv_machine.specs.Typing.{Failure, Aborts, Faults, LinkageFault, entry, linked}
-use Rattle.mv_machine.specs.Step.{Here, Turn, Goes, Returns, OwnStruct, own_struct, step}
-use Rattle.mv_machine.specs.Run.{RunOutcome, Returned, Aborted, Exhausted, Faulted, goes_with, follows, turns}
+use Rattle.mv_machine.specs.Step.{Here, Turn, own_struct}
 
 -- a part that did not fail gave its value to the next part
 pub on_ok : {A B E P : Type 0} (r : Result A E) (f : A → Result B E) (y : B) → (r >>= f) ≡ Ok y → ((x : A) → r ≡ Ok x → f x ≡ Ok y → P) → P

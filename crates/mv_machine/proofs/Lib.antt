@@ -1,3 +1,4 @@
+pub mod Common
 pub mod Computed
 pub mod Coin
 pub mod Rows

@@ -1,12 +1,7 @@
 -- The rules of Pop and of locals taken apart: what each found, and what it leaves.
-use Rattle.std.proofs.Common.{◌≡◌, ℕ, Bool, true, List, ◌∷◌, Option, Some, None, Ok, ap, ◌∙◌}
-use Rattle.std.specs.Prelude.{not, slice_get}
-use Rattle.mv_move_types.specs.Tags.{Tag}
-use Rattle.mv_machine.specs.Value.{Value, Ref}
-use Rattle.mv_machine.specs.Live.{is_frozen_by, live}
-use Rattle.mv_machine.specs.Typing.{has_tag}
-use Rattle.mv_machine.specs.StepParts.{Here, Turn, goes_on, pushes, can_copy, can_drop, may_drop, with_stack, is_reference_tag}
-use Rattle.mv_machine.specs.StepLocals.{pop, held, local_tag, local_place, with_own_local, copy_local, move_local, store_local, borrow_local}
+use Rattle.mv_machine.proofs.Common.{ℕ, ◌∙◌, ◌∷◌, ◌≡◌, Bool, List, None, Ok, Option, Some, ap, not, true, slice_get, Tag, is_frozen_by, live, borrow_local, copy_local, held, move_local, pop}
+use Rattle.mv_machine.proofs.Common.{store_local, with_own_local, Here, Turn, can_copy, can_drop, goes_on, is_reference_tag, may_drop, pushes, with_stack, has_tag, Ref, Value}
+use Rattle.mv_machine.specs.StepLocals.{local_tag, local_place}
 use Rattle.mv_machine.proofs.Laws.{on_ok, on_need}
 use Rattle.mv_machine.proofs.Binds.{ok-is, held-is, on_some, on_operand}
 

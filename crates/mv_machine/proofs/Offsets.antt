@@ -1,11 +1,5 @@
 -- Worked offsets of places, by computation.
-use Rattle.std.specs.Prelude.{◌≡◌, refl, ℕ, true, false, List, [], ◌∷◌, Option, Some, None}
-use Rattle.mv_move_types.specs.declared.token.Width.TheVariants.{U64}
-use Rattle.mv_move_types.specs.declared.token.LeafKind.TheVariants.{Number}
-use Rattle.mv_move_types.specs.declared.token.ValueType.TheVariants.{OfLeaf, OfStruct}
-use Rattle.mv_move_types.specs.declared.token.Token.{Token}
-use Rattle.mv_move_types.specs.declared.token.Token.TheVariants.{Plain}
-use Rattle.mv_move_types.specs.Module.{Module}
+use Rattle.mv_machine.proofs.Common.{[], ℕ, ◌∷◌, ◌≡◌, List, None, Option, Some, false, refl, true, Module, Number, Token, Plain, OfLeaf, OfStruct, U64}
 use Rattle.mv_machine.specs.Flat.{width, offset}
 
 abbrev number : Token

@@ -1,22 +1,10 @@
 -- What a load of a constant and an operator give: a leaf.
-use Rattle.std.proofs.Common.{◌≡◌, ℕ, Bool, true, List, [], ◌∷◌, ◌++◌, Ok, refl, sym, ap, subst, ◌∙◌}
-use Rattle.std.specs.Prelude.{not, ◌&&◌, slice_get}
-use Rattle.std.specs.Cmp.{first_so, second_so}
-use Rattle.std.specs.List.{AllByRecursion}
-use Rattle.mv_move_types.specs.declared.token.Width.{Width}
-use Rattle.mv_move_types.specs.declared.token.Width.TheVariants.{U8}
-use Rattle.mv_move_types.specs.declared.token.LeafKind.{LeafKind}
-use Rattle.mv_move_types.specs.declared.token.LeafKind.TheVariants.{Boolean, Number, Address, Signer}
-use Rattle.mv_move_types.specs.declared.token.Token.{Token}
-use Rattle.mv_move_types.specs.declared.token.Token.TheVariants.{Plain, Reference, MutableReference}
-use Rattle.mv_move_types.specs.declared.token.ValueType.TheVariants.{OfLeaf, OfStruct}
+use Rattle.mv_machine.proofs.Common.{[], ℕ, ◌++◌, ◌∙◌, ◌∷◌, ◌≡◌, Bool, List, Ok, ap, not, refl, subst, sym, true, first_so, second_so, AllByRecursion, ◌&&◌, slice_get, same_width, LeafKind}
+use Rattle.mv_machine.proofs.Common.{Boolean, Number, Token, Plain, OfLeaf, Width, U8, binary, cast, comparison, constant, equality, logic}
+use Rattle.mv_machine.proofs.Common.{negation, shift, Here, Turn, can_drop, is_reference_tag, pushes, has_tag, tag_of, Leaf, Value}
 use Rattle.mv_move_types.specs.Numbers.{leaf_number}
-use Rattle.mv_move_types.specs.Tokens.{same_width}
-use Rattle.mv_machine.specs.Value.{Value, Leaf}
-use Rattle.mv_machine.specs.Typing.{tag_of, has_tag}
 use Rattle.mv_machine.specs.Numbers.{Operator, fitting}
-use Rattle.mv_machine.specs.StepParts.{Here, Turn, can_drop, is_reference_tag, pushes}
-use Rattle.mv_machine.specs.StepNumbers.{binary, comparison, shift, cast, logic, negation, equality, constant_value, constant}
+use Rattle.mv_machine.specs.StepNumbers.{constant_value}
 use Rattle.mv_machine.proofs.Laws.{on_ok, on_need}
 use Rattle.mv_machine.proofs.Binds.{ok-is, on_some, on_operand, on_number, on_boolean, WhereOk}
 
@@ -32,9 +20,7 @@ pub record GivesLeaf (h : Here) (stack after : List Value) : Type 0 where
 
 leaf_drops : (h : Here) (kind : LeafKind) (n : ℕ) → can_drop h (Leaf kind n) ≡ true
 leaf_drops h Boolean n = refl
-leaf_drops h (Number w) n = refl
-leaf_drops h Address n = refl
-leaf_drops h Signer n = refl
+leaf_drops h kind n = refl
 
 -- a leaf may be dropped
 pub drops_leaf : (h : Here) (v : Value) (kind : LeafKind) (n : ℕ) → v ≡ Leaf kind n → can_drop h v ≡ true
@@ -131,9 +117,7 @@ pub record ConstantIs (h : Here) (t : Turn) : Type 0 where
 
 constant_value-leaf : (token : Token) (bytes : List ℕ) (v : Value) → constant_value token bytes ≡ Ok v → (kind : LeafKind) × (n : ℕ) × (v ≡ Leaf kind n)
 constant_value-leaf (Plain (OfLeaf kind)) bytes v e = on_some (leaf_number kind bytes) _ _ v e (λ n n_is e1. (kind, n, sym (ok-is (Leaf kind n) v e1)))
-constant_value-leaf (Plain (OfStruct i)) bytes v e = absurd cc
-constant_value-leaf (Reference to) bytes v e = absurd cc
-constant_value-leaf (MutableReference to) bytes v e = absurd cc
+constant_value-leaf token bytes v e = absurd cc
 
 pub constant-is : (h : Here) (i : ℕ) (t : Turn) → constant h i ≡ Ok t → ConstantIs h t
 unfolding constant

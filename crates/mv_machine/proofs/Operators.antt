@@ -1,17 +1,7 @@
 -- Worked rows of the operators, by computation: code that leaves a number, with which it is given up then.
-use Rattle.std.specs.Prelude.{◌≡◌, refl, ◌++◌, List, [], ◌∷◌}
-use Rattle.mv_move_types.specs.declared.instruction.Instruction.{Instruction}
-use Rattle.mv_move_types.specs.declared.instruction.Instruction.TheVariants.{BrTrue, BrFalse, LdU64, LdConst, LdTrue, LdFalse, Pop, Add, Sub, Mul}
-use Rattle.mv_move_types.specs.declared.instruction.Instruction.TheVariants.{Mod, Div, BitOr, BitAnd, Xor, Or, And, Not, Eq, Neq, Lt, Gt, Le, Ge}
-use Rattle.mv_move_types.specs.declared.instruction.Instruction.TheVariants.{Abort, Nop, Shl, Shr, LdU8, LdU128, CastU8, CastU64, CastU128, LdU16}
-use Rattle.mv_move_types.specs.declared.instruction.Instruction.TheVariants.{LdU32, CastU16, CastU32}
-use Rattle.mv_move_types.specs.declared.token.Width.TheVariants.{U64}
-use Rattle.mv_move_types.specs.declared.token.LeafKind.TheVariants.{Boolean, Number}
-use Rattle.mv_move_types.specs.declared.token.ValueType.TheVariants.{OfLeaf}
-use Rattle.mv_move_types.specs.declared.token.Token.TheVariants.{Plain}
-use Rattle.mv_machine.specs.declared.Kind.TheVariants.{Code, Arith}
-use Rattle.mv_machine.specs.Run.{RunOutcome, Aborted, Faulted}
-use Rattle.mv_machine.specs.Typing.{TypeFault}
+use Rattle.mv_machine.proofs.Common.{[], ◌++◌, ◌∷◌, ◌≡◌, List, refl, Instruction, Abort, Add, And, BitAnd, BitOr, BrFalse, BrTrue, CastU128, CastU16, CastU32, CastU64, CastU8, Div, Eq, Ge}
+use Rattle.mv_machine.proofs.Common.{Gt, LdConst, LdFalse, LdTrue, LdU128, LdU16, LdU32, LdU64, LdU8, Le, Lt, Mod, Mul, Neq, Nop, Not, Or, Pop, Shl, Shr, Sub, Xor, Boolean, Number, Plain}
+use Rattle.mv_machine.proofs.Common.{OfLeaf, U64, Aborted, Faulted, RunOutcome, TypeFault, Arith, Code}
 use Rattle.mv_machine.proofs.Rows.{one_function, of_f}
 use Rattle.mv_machine.proofs.Computed.{computed}
 

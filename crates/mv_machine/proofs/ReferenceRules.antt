@@ -1,14 +1,8 @@
 -- The rules of references taken apart: what each found, and what it leaves.
-use Rattle.std.proofs.Common.{◌≡◌, ℕ, Bool, true, false, List, ◌∷◌, Some, Ok, sym, ap, ap₂, ◌∙◌}
-use Rattle.std.specs.Prelude.{not}
-use Rattle.mv_move_types.specs.Tags.{Tag}
-use Rattle.mv_machine.specs.Value.{Reference, Value, Ref}
-use Rattle.mv_machine.specs.State.{State, place_value, with_place}
-use Rattle.mv_machine.specs.Live.{is_frozen_by, live}
-use Rattle.mv_machine.specs.Typing.{tag_of, has_tag}
-use Rattle.mv_machine.specs.StepParts.{Here, Turn, goes_on, gives, can_copy, can_drop, with_stack}
+use Rattle.mv_machine.proofs.Common.{ℕ, ◌∙◌, ◌∷◌, ◌≡◌, Bool, List, Ok, Some, ap, ap₂, false, not, sym, true, Tag, is_frozen_by, live, State, place_value, with_place, Here, Turn, can_copy}
+use Rattle.mv_machine.proofs.Common.{can_drop, gives, goes_on, with_stack, borrow_field, freeze, own_field, read_reference, write_reference, has_tag, tag_of, Ref, Reference, Value}
 use Rattle.mv_machine.specs.StepStructs.{OwnStruct}
-use Rattle.mv_machine.specs.StepReferences.{own_field, lends, extended, borrow_field, read_reference, write_reference, freeze}
+use Rattle.mv_machine.specs.StepReferences.{lends, extended}
 use Rattle.mv_machine.proofs.Laws.{on_ok, on_need}
 use Rattle.mv_machine.proofs.Binds.{ok-is, on_some, on_operand, on_reference, on_fields}
 

@@ -1,10 +1,7 @@
 -- Worked answers and lines of the coin module, by computation.
-use Rattle.std.specs.Prelude.{◌≡◌, refl, ℕ, codes, List, [], ◌∷◌, Option, Some, None, Err}
-use Rattle.mv_move_types.specs.declared.token.Width.TheVariants.{U8, U64}
-use Rattle.mv_move_types.specs.declared.token.LeafKind.TheVariants.{Number}
-use Rattle.mv_machine.specs.Value.{Value, Leaf}
+use Rattle.mv_machine.proofs.Common.{[], ℕ, ◌∷◌, ◌≡◌, Err, List, None, Option, Some, refl, codes, Number, U64, U8, admitted, Leaf, Value}
 use Rattle.mv_machine.specs.Lines.{Reply, Told, reply_text}
-use Rattle.mv_machine.specs.Ledger.{LedgerState, empty_ledger, RunRequest, AsText, AsJson, with_bundle, attempted, admitted, shown, audited}
+use Rattle.mv_machine.specs.Ledger.{LedgerState, empty_ledger, RunRequest, AsText, AsJson, with_bundle, attempted, shown, audited}
 use Rattle.mv_machine.proofs.Coin.{coin_module}
 use Rattle.mv_machine.proofs.Computed.{computed}
 

@@ -1,22 +1,10 @@
 -- Worked runs of single functions, by computation.
-use Rattle.std.specs.Prelude.{◌≡◌, refl, ℕ, true, false, List, [], ◌∷◌}
-use Rattle.mv_move_types.specs.declared.token.Token.{Token}
-use Rattle.mv_move_types.specs.declared.instruction.Instruction.{Instruction}
-use Rattle.mv_move_types.specs.declared.tables.Visibility.TheVariants.{Public}
-use Rattle.mv_move_types.specs.declared.token.Width.TheVariants.{U64}
-use Rattle.mv_move_types.specs.declared.token.LeafKind.TheVariants.{Number, Address, Signer}
-use Rattle.mv_move_types.specs.declared.token.ValueType.TheVariants.{OfLeaf, OfStruct}
-use Rattle.mv_move_types.specs.declared.token.Token.TheVariants.{Plain, Reference as ReferenceTo, MutableReference as MutableReferenceTo}
-use Rattle.mv_move_types.specs.declared.instruction.Instruction.TheVariants.{Pop, Ret, BrTrue, Branch, LdU64, CopyLoc, MoveLoc, StLoc, MutBorrowLoc}
-use Rattle.mv_move_types.specs.declared.instruction.Instruction.TheVariants.{ImmBorrowLoc, MutBorrowField, ImmBorrowField, Pack, Unpack, ReadRef}
-use Rattle.mv_move_types.specs.declared.instruction.Instruction.TheVariants.{WriteRef, Add, Sub, Mod, Eq, Abort, Exists, MutBorrowGlobal}
-use Rattle.mv_move_types.specs.declared.instruction.Instruction.TheVariants.{ImmBorrowGlobal, MoveFrom, MoveTo, FreezeRef, Shl, LdU8, LdU128, CastU8}
-use Rattle.mv_move_types.specs.Module.{Module}
-use Rattle.mv_machine.specs.declared.Kind.TheVariants.{Code, Arith, Exists as AlreadyThere, Missing}
-use Rattle.mv_machine.specs.Value.{Stored, Value, Leaf, Struct, Ref, NoMore, More}
-use Rattle.mv_machine.specs.State.{Storage}
-use Rattle.mv_machine.specs.Typing.{LostFault, DanglingFault, FrozenFault}
-use Rattle.mv_machine.specs.Run.{RunOutcome, Returned, Aborted, Faulted, run}
+use Rattle.mv_machine.proofs.Common.{[], ℕ, ◌∷◌, ◌≡◌, List, false, refl, true, Module, Instruction, Abort, Add, BrTrue, Branch, CastU8, CopyLoc, Eq, Exists, FreezeRef, ImmBorrowField}
+use Rattle.mv_machine.proofs.Common.{ImmBorrowGlobal, ImmBorrowLoc, LdU128, LdU64, LdU8, Mod, MoveFrom, MoveLoc, MoveTo, MutBorrowField, MutBorrowGlobal, MutBorrowLoc, Pack, Pop, ReadRef}
+use Rattle.mv_machine.proofs.Common.{Ret, Shl, StLoc, Sub, Unpack, WriteRef, Public, Address, Number, Signer, Token, Plain, OfLeaf, OfStruct, U64, Aborted, Faulted, Returned, RunOutcome}
+use Rattle.mv_machine.proofs.Common.{run, Storage, DanglingFault, Leaf, More, NoMore, Ref, Stored, Struct, Value, AlreadyThere, Arith, Code, Missing}
+use Rattle.mv_move_types.specs.declared.token.Token.TheVariants.{Reference as ReferenceTo, MutableReference as MutableReferenceTo}
+use Rattle.mv_machine.specs.Typing.{LostFault, FrozenFault}
 use Rattle.mv_machine.proofs.Computed.{computed}
 
 abbrev pub u64 : Token

@@ -1,34 +1,19 @@
 -- Each instruction's rule, as one of the kinds of effect.
-use Rattle.std.proofs.Common.{◌≡◌, ℕ, ◌+◌, Bool, true, false, List, [], ◌∷◌, ◌++◌, Option, Result, Ok, refl, sym, ap, subst, length}
-use Rattle.std.specs.Prelude.{not, ◌&&◌, nat_lt, nat_le, ok_or, bit_and, bit_or, bit_xor, ◌||◌}
-use Rattle.std.specs.List.{AllByRecursion}
-use Rattle.mv_move_types.specs.declared.token.Width.TheVariants.{U8, U16, U32, U64, U128}
-use Rattle.mv_move_types.specs.declared.token.LeafKind.TheVariants.{Boolean, Number}
-use Rattle.mv_move_types.specs.declared.instruction.Instruction.{Instruction}
-use Rattle.mv_move_types.specs.declared.instruction.Instruction.TheVariants.{Pop, Ret, BrTrue, BrFalse, Branch, LdU64, LdConst, LdTrue, LdFalse}
-use Rattle.mv_move_types.specs.declared.instruction.Instruction.TheVariants.{CopyLoc, MoveLoc, StLoc, MutBorrowLoc, ImmBorrowLoc, MutBorrowField}
-use Rattle.mv_move_types.specs.declared.instruction.Instruction.TheVariants.{ImmBorrowField, Call, Pack, Unpack, ReadRef, WriteRef, Add, Sub, Mul}
-use Rattle.mv_move_types.specs.declared.instruction.Instruction.TheVariants.{Mod, Div, BitOr, BitAnd, Xor, Or, And, Not, Eq, Neq, Lt, Gt, Le, Ge}
-use Rattle.mv_move_types.specs.declared.instruction.Instruction.TheVariants.{Abort, Nop, Exists, MutBorrowGlobal, ImmBorrowGlobal, MoveFrom, MoveTo}
-use Rattle.mv_move_types.specs.declared.instruction.Instruction.TheVariants.{FreezeRef, Shl, Shr, LdU8, LdU128, CastU8, CastU64, CastU128, LdU16}
-use Rattle.mv_move_types.specs.declared.instruction.Instruction.TheVariants.{LdU32, CastU16, CastU32}
-use Rattle.mv_move_types.specs.declared.tables.FunctionHandle.{FunctionHandle}
-use Rattle.mv_machine.specs.Value.{Value, Leaf}
-use Rattle.mv_machine.specs.State.{Frame, State}
-use Rattle.mv_machine.specs.Typing.{Failure, Faults, LinkageFault}
+use Rattle.mv_machine.proofs.Common.{[], ℕ, ◌++◌, ◌+◌, ◌∷◌, ◌≡◌, Bool, List, Ok, Option, Result, ap, false, length, not, refl, subst, sym, true, AllByRecursion, ◌&&◌, ◌||◌, nat_le, nat_lt}
+use Rattle.mv_machine.proofs.Common.{ok_or, Instruction, Abort, Add, And, BitAnd, BitOr, BrFalse, BrTrue, Branch, Call, CastU128, CastU16, CastU32, CastU64, CastU8, CopyLoc, Div, Eq, Exists}
+use Rattle.mv_machine.proofs.Common.{FreezeRef, Ge, Gt, ImmBorrowField, ImmBorrowGlobal, ImmBorrowLoc, LdConst, LdFalse, LdTrue, LdU128, LdU16, LdU32, LdU64, LdU8, Le, Lt, Mod, MoveFrom}
+use Rattle.mv_machine.proofs.Common.{MoveLoc, MoveTo, Mul, MutBorrowField, MutBorrowGlobal, MutBorrowLoc, Neq, Nop, Not, Or, Pack, Pop, ReadRef, Ret, Shl, Shr, StLoc, Sub, Unpack, WriteRef}
+use Rattle.mv_machine.proofs.Common.{Xor, FunctionHandle, Boolean, Number, U64, U8, Frame, State, rule, branch_if, call, return_results, borrow_global, exists, key_at, move_from, move_to}
+use Rattle.mv_machine.proofs.Common.{borrow_local, copy_local, move_local, pop, store_local, constant, can_drop, gives, goes_on, goes_to, pushes, borrow_field, freeze, read_reference}
+use Rattle.mv_machine.proofs.Common.{write_reference, pack, unpack, Failure, Faults, LinkageFault, Leaf, Value}
+use Rattle.std.specs.Prelude.{bit_and, bit_or, bit_xor}
+use Rattle.mv_move_types.specs.declared.token.Width.TheVariants.{U16, U32, U128}
 use Rattle.mv_machine.specs.Numbers.{sum_of, difference_of, product_of, remainder_of, quotient_of, shifted_left, shifted_right}
-use Rattle.mv_machine.specs.Step.{Here, Turn, with_stack, leaves, rule}
-use Rattle.mv_machine.specs.StepParts.{can_drop, gives, goes_to, goes_on, pushes}
-use Rattle.mv_machine.specs.StepNumbers.{constant}
-use Rattle.mv_machine.specs.StepLocals.{pop, copy_local, move_local, store_local, borrow_local}
-use Rattle.mv_machine.specs.StepStructs.{pack, unpack}
-use Rattle.mv_machine.specs.StepReferences.{borrow_field, read_reference, write_reference, freeze}
-use Rattle.mv_machine.specs.StepGlobals.{key_at, exists, borrow_global, move_from, move_to}
-use Rattle.mv_machine.specs.StepControl.{call, branch_if, return_results}
+use Rattle.mv_machine.specs.Step.{Here, Turn, with_stack, leaves}
 use Rattle.mv_machine.proofs.Laws.{on_ok}
 use Rattle.mv_machine.proofs.Binds.{WhereOk}
-use Rattle.mv_machine.proofs.Effects.{Appears, a_leaf, a_reference, a_copy, in_local, at_place, Effect, Restacked, MovedLocal, StoredLocal, Packed}
-use Rattle.mv_machine.proofs.Effects.{Unpacked, Written, MovedFrom, MovedTo, Called, Resumed, Ends, Went, Left}
+use Rattle.mv_machine.proofs.Effects.{Appears, a_leaf, a_reference, a_copy, in_local, at_place, Effect, Restacked, MovedLocal, StoredLocal, Packed, Unpacked, Written, MovedFrom, MovedTo}
+use Rattle.mv_machine.proofs.Effects.{Called, Resumed, Ends, Went, Left}
 use Rattle.mv_machine.proofs.Operations.{GivesLeaf, binary-gives, comparison-gives, shift-gives, cast-gives, logic-gives, negation-gives, equality-gives, constant-is}
 use Rattle.mv_machine.proofs.LocalRules.{pop-is, copy-is, move-is, store-is, borrow-is}
 use Rattle.mv_machine.proofs.StructRules.{pack-is, unpack-is}

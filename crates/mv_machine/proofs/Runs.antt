@@ -1,13 +1,10 @@
 -- A step is some instruction's rule; what every step keeps, a whole run keeps.
-use Rattle.std.proofs.Common.{◌≡◌, ℕ, zero, suc, ◌+◌, Bool, true, false, List, Some, [], Result, Ok, Err, refl, subst, length}
-use Rattle.std.specs.Prelude.{slice_get, nat_lt}
-use Rattle.std.specs.List.{list_all}
-use Rattle.mv_move_types.specs.Module.{Module, FunctionDefinition}
-use Rattle.mv_machine.specs.State.{Storage, State, Event, frames}
-use Rattle.mv_machine.specs.Typing.{Failure, Aborts, Faults}
+use Rattle.mv_machine.proofs.Common.{[], ℕ, ◌+◌, ◌≡◌, Bool, Err, List, Ok, Result, Some, false, length, refl, subst, suc, true, zero, list_all, nat_lt, slice_get, FunctionDefinition, Module}
+use Rattle.mv_machine.proofs.Common.{FunctionCall, RunOutcome, follows, goes_with, run, turns, State, Storage, Goes, Returns, entered_frame, step, Aborts, Failure, Faults}
+use Rattle.mv_machine.specs.State.{Event, frames}
 use Rattle.mv_move_types.specs.Flow.{successors}
-use Rattle.mv_machine.specs.Step.{Turn, Goes, Returns, step, entered_frame}
-use Rattle.mv_machine.specs.Run.{RunOutcome, FunctionCall, goes_with, follows, turns, first_state, outcome_from, run}
+use Rattle.mv_machine.specs.Step.{Turn}
+use Rattle.mv_machine.specs.Run.{first_state, outcome_from}
 use Rattle.mv_machine.proofs.Laws.{on_need}
 use Rattle.mv_machine.proofs.Effects.{Ends}
 use Rattle.mv_machine.specs.Returns.{AtReturn}

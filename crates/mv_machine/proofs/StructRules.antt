@@ -1,13 +1,7 @@
 -- The rules of Pack and Unpack taken apart: what each found, and what it leaves.
-use Rattle.std.proofs.Common.{◌≡◌, ℕ, true, false, List, ◌∷◌, ◌++◌, Ok, length, ap, ◌∙◌}
-use Rattle.std.specs.Prelude.{reverse}
-use Rattle.mv_move_types.specs.Names.{StructName, same_struct}
-use Rattle.mv_move_types.specs.Results.{for_each}
-use Rattle.mv_move_types.specs.Tags.{Tag}
-use Rattle.mv_machine.specs.Value.{Value, Struct, Values, list_of, fields_of}
-use Rattle.mv_machine.specs.Typing.{have_tags, tag_named}
-use Rattle.mv_machine.specs.StepParts.{Here, Turn, goes_on, with_stack}
-use Rattle.mv_machine.specs.StepStructs.{OwnStruct, own_struct, noted, pack, unpack}
+use Rattle.mv_machine.proofs.Common.{ℕ, ◌++◌, ◌∙◌, ◌∷◌, ◌≡◌, List, Ok, ap, false, length, reverse, true, StructName, same_struct, for_each, Tag, Here, Turn, goes_on, with_stack, noted}
+use Rattle.mv_machine.proofs.Common.{own_struct, pack, unpack, have_tags, tag_named, Struct, Value, Values, fields_of, list_of}
+use Rattle.mv_machine.specs.StepStructs.{OwnStruct}
 use Rattle.mv_machine.proofs.Laws.{on_ok, on_need}
 use Rattle.mv_machine.proofs.Binds.{on_operand, on_operands, on_fields}
 

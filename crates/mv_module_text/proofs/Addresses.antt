@@ -28,10 +28,6 @@ are_bytes (suc k) x = and_from (is_byte (byte_at k x)) (list_all is_byte (bytes_
 -- bytes of one number are the same bytes
 one_number : (n : ℕ) (xs ys : List ℕ) → length xs ≡ n → length ys ≡ n → AreBytes xs → AreBytes ys → big_from 0 n xs ≡ big_from 0 n ys → xs ≡ ys
 one_number zero [] [] m l ok well e = refl
-one_number zero [] (y ∷ ys) m l ok well e = absurd (omega arith)
-one_number zero (x ∷ xs) ys m l ok well e = absurd (omega arith)
-one_number (suc n) [] ys m l ok well e = absurd (omega arith)
-one_number (suc n) (x ∷ xs) [] m l ok well e = absurd (omega arith)
 one_number (suc n) (x ∷ xs) (y ∷ ys) m l ok well e =
     let p = and_parts (is_byte x) (list_all is_byte xs) ok in
     let q = and_parts (is_byte y) (list_all is_byte ys) well in
@@ -45,6 +41,7 @@ one_number (suc n) (x ∷ xs) (y ∷ ys) m l ok well e =
     let product : x * 256 ^ n ≡ y * 256 ^ n = ap (λ z. z * 256 ^ n) first in
     let others : big_from 0 n xs ≡ big_from 0 n ys = omega arith in
     ap (λ z. z ∷ xs) first ∙ ap (λ z. y ∷ z) (one_number n xs ys (omega arith) (omega arith) p.1 q.1 others)
+one_number n xs ys m l ok well e = absurd (omega arith)
 
 -- two ways to say the number of 16 bytes
 big_is : (xs : List ℕ) → from_be_bytes w128 xs ≡ big_from 0 16 xs

@@ -27,41 +27,14 @@ module_handle-whole rest v ok =
 
 -- the abilities of the bits of abilities
 abilities_same : (c d s k : Bool) → abilities_of_bits (ability_bits (record { copy = c; drop = d; store = s; key = k })) ≡ record { copy = c; drop = d; store = s; key = k }
-abilities_same true true true true = refl
-abilities_same true true true false = refl
-abilities_same true true false true = refl
-abilities_same true true false false = refl
-abilities_same true false true true = refl
-abilities_same true false true false = refl
-abilities_same true false false true = refl
-abilities_same true false false false = refl
-abilities_same false true true true = refl
-abilities_same false true true false = refl
-abilities_same false true false true = refl
-abilities_same false true false false = refl
-abilities_same false false true true = refl
-abilities_same false false true false = refl
-abilities_same false false false true = refl
-abilities_same false false false false = refl
+abilities_same true true s k = grind arith
+abilities_same true false s k = grind arith
+abilities_same false true s k = grind arith
+abilities_same false false s k = grind arith
 
 -- the bits are few
 bits_few : (c d s k : Bool) → ability_bits (record { copy = c; drop = d; store = s; key = k }) ≤ 15
-bits_few true true true true = omega arith
-bits_few true true true false = omega arith
-bits_few true true false true = omega arith
-bits_few true true false false = omega arith
-bits_few true false true true = omega arith
-bits_few true false true false = omega arith
-bits_few true false false true = omega arith
-bits_few true false false false = omega arith
-bits_few false true true true = omega arith
-bits_few false true true false = omega arith
-bits_few false true false true = omega arith
-bits_few false true false false = omega arith
-bits_few false false true true = omega arith
-bits_few false false true false = omega arith
-bits_few false false false true = omega arith
-bits_few false false false false = omega arith
+bits_few c d s k = grind arith
 
 -- the bits of the abilities of bits
 bits_same : (n : ℕ) → n ≤ 15 → ability_bits (abilities_of_bits n) ≡ n

@@ -9,7 +9,7 @@ use Rattle.mv_move_types.specs.Numbers.{little_endian}
 use Rattle.mv_move_types.specs.Options.{◌>>=◌}
 use Rattle.mv_move_types.specs.Tokens.{width_bits, width_bytes}
 use Rattle.mv_move_types.specs.declared.token.Width.{Width}
-use Rattle.mv_move_types.specs.declared.token.Width.TheVariants.{U8, U16, U32, U64, U128}
+use Rattle.mv_move_types.specs.declared.token.Width.TheVariants.{U8}
 use Rattle.mv_module_text.specs.Entries.{number_text}
 use Rattle.mv_module_text.specs.Fits.{is_byte}
 use Rattle.mv_module_text.specs.Parsing.{bytes_from, number_of_from}
@@ -72,18 +72,12 @@ bytes_back k xs len ok =
 -- a number's text is its bytes
 text_is : (w : Width) (n : ℕ) → n < 2 ^ width_bits w → number_text w n ≡ bytes_low_first 0 (width_bytes w) n
 text_is U8 n lt = ap (λ z. z ∷ []) (let small : n ≡ n % 256 = omega arith in small)
-text_is U16 n lt = refl
-text_is U32 n lt = refl
-text_is U64 n lt = refl
-text_is U128 n lt = refl
+text_is w n lt = refl
 
 -- as many numbers have a width's bits as its bytes
 bits_bytes : (w : Width) → 256 ^ width_bytes w ≡ 2 ^ width_bits w
 bits_bytes U8 = refl
-bits_bytes U16 = refl
-bits_bytes U32 = refl
-bits_bytes U64 = refl
-bits_bytes U128 = refl
+bits_bytes w = refl
 
 -- a number of a width at the front
 pub number_of-front : (w : Width) (n : ℕ) (bytes rest : List ℕ) → AreBytes bytes → number_of_from w bytes ≡ Some (n, rest)

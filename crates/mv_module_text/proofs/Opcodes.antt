@@ -6,21 +6,17 @@ use Rattle.std.proofs.lemmas.Option.{some_pair_parts}
 use Rattle.mv_uleb.specs.Uleb.{uleb}
 use Rattle.mv_move_types.specs.Options.{◌>>=◌}
 use Rattle.mv_move_types.specs.Tokens.{width_bits}
+use Rattle.mv_move_types.specs.declared.instruction.Immediate.{Immediate}
+use Rattle.mv_move_types.specs.declared.instruction.Immediate.TheVariants.{Nothing, Local, Struct, Field, Function, Constant, Target, Literal}
 use Rattle.mv_move_types.specs.declared.instruction.Instruction.{Instruction}
-use Rattle.mv_move_types.specs.declared.instruction.Instruction.TheVariants.{Pop, Ret, BrTrue, BrFalse, Branch, LdU64, LdConst, LdTrue, LdFalse}
-use Rattle.mv_move_types.specs.declared.instruction.Instruction.TheVariants.{CopyLoc, MoveLoc, StLoc, MutBorrowLoc, ImmBorrowLoc, MutBorrowField}
-use Rattle.mv_move_types.specs.declared.instruction.Instruction.TheVariants.{ImmBorrowField, Call, Pack, Unpack, ReadRef, WriteRef, Add, Sub, Mul}
-use Rattle.mv_move_types.specs.declared.instruction.Instruction.TheVariants.{Mod, Div, BitOr, BitAnd, Xor, Or, And, Not, Eq, Neq, Lt, Gt, Le, Ge}
-use Rattle.mv_move_types.specs.declared.instruction.Instruction.TheVariants.{Abort, Nop, Exists, MutBorrowGlobal, ImmBorrowGlobal, MoveFrom, MoveTo}
-use Rattle.mv_move_types.specs.declared.instruction.Instruction.TheVariants.{FreezeRef, Shl, Shr, LdU8, LdU128, CastU8, CastU64, CastU128, LdU16}
-use Rattle.mv_move_types.specs.declared.instruction.Instruction.TheVariants.{LdU32, CastU16, CastU32}
+use Rattle.mv_move_types.specs.declared.instruction.Instruction.TheVariants.{LdU16, LdU32, CastU16, CastU32}
 use Rattle.mv_move_types.specs.Instructions.{Form, Bare, Indexed, Numbered, Row, rows, given, is_row_of, row_of, code_of, immediate_of}
 use Rattle.mv_module_text.specs.Entries.{number_text, instruction_text}
 use Rattle.mv_module_text.specs.Fits.{is_index, is_late, immediate_fits, instruction_fits}
 use Rattle.mv_module_text.specs.Parsing.{Read, byte_from, immediate_from, instruction_from}
 use Rattle.mv_module_text.specs.Laws.{AreBytes}
 use Rattle.mv_module_text.proofs.Numbers.{number_of-front, number_of-whole}
-use Rattle.mv_module_text.proofs.Rows.{Each, find-some, on_map}
+use Rattle.mv_module_text.proofs.Rows.{Each, each_same, find-some, on_map}
 use Rattle.mv_module_text.proofs.Texts.{Front, Parts, Whole, on_bind, Front-from, Front-join, Front-as, index-parts, index-whole, byte-front}
 
 -- the text of the index or the number that a form has
@@ -35,252 +31,42 @@ form_fits (Bare instruction) n = true
 form_fits (Indexed make) n = is_index n
 form_fits (Numbered width make) n = nat_lt n (2 ^ width_bits width)
 
--- what a row stands for has the row's text and range, and is late where the row is
-abbrev IsRight : Row → Type 0
-IsRight r =
-    (n : ℕ) → ◌≡◌ {A = List ℕ × Bool × Bool} (instruction_text (given r.form n), immediate_fits (immediate_of (given r.form n)), is_late (given r.form n))
-    (r.code ∷ form_text r.form n, form_fits r.form n, r.is_late)
+-- the text and the range of what a row stands for, and whether it is late
+abbrev meant : ℕ → Row → List ℕ × Bool × Bool
+meant n r = (instruction_text (given r.form n), immediate_fits (immediate_of (given r.form n)), is_late (given r.form n))
 
--- one line a row, checked by computation
-rows_right : Each IsRight rows
-rows_right = (
-  λ _. refl,
-  (
-    λ _. refl,
-    (
-      λ _. refl,
-      (
-        λ _. refl,
-        (
-          λ _. refl,
-          (
-            λ _. refl,
-            (
-              λ _. refl,
-              (
-                λ _. refl,
-                (
-                  λ _. refl,
-                  (
-                    λ _. refl,
-                    (
-                      λ _. refl,
-                      (
-                        λ _. refl,
-                        (
-                          λ _. refl,
-                          (
-                            λ _. refl,
-                            (
-                              λ _. refl,
-                              (
-                                λ _. refl,
-                                (
-                                  λ _. refl,
-                                  (
-                                    λ _. refl,
-                                    (
-                                      λ _. refl,
-                                      (
-                                        λ _. refl,
-                                        (
-                                          λ _. refl,
-                                          (
-                                            λ _. refl,
-                                            (
-                                              λ _. refl,
-                                              (
-                                                λ _. refl,
-                                                (
-                                                  λ _. refl,
-                                                  (
-                                                    λ _. refl,
-                                                    (
-                                                      λ _. refl,
-                                                      (
-                                                        λ _. refl,
-                                                        (
-                                                          λ _. refl,
-                                                          (
-                                                            λ _. refl,
-                                                            (
-                                                              λ _. refl,
-                                                              (
-                                                                λ _. refl,
-                                                                (
-                                                                  λ _. refl,
-                                                                  (
-                                                                    λ _. refl,
-                                                                    (
-                                                                      λ _. refl,
-                                                                      (
-                                                                        λ _. refl,
-                                                                        (
-                                                                          λ _. refl,
-                                                                          (
-                                                                            λ _. refl,
-                                                                            (
-                                                                              λ _. refl,
-                                                                              (
-                                                                                λ _. refl,
-                                                                                (
-                                                                                  λ _. refl,
-                                                                                  (
-                                                                                    λ _. refl,
-                                                                                    (
-                                                                                      λ _. refl,
-                                                                                      (
-                                                                                        λ _. refl,
-                                                                                        (
-                                                                                          λ _. refl,
-                                                                                          (
-                                                                                            λ _. refl,
-                                                                                            (
-                                                                                              λ _. refl,
-                                                                                              (
-                                                                                                λ _. refl,
-                                                                                                (
-                                                                                                  λ _. refl,
-                                                                                                  (
-                                                                                                    λ _. refl,
-                                                                                                    (
-                                                                                                      λ _. refl,
-                                                                                                      (
-                                                                                                        λ _. refl,
-                                                                                                        (
-                                                                                                          λ _. refl,
-                                                                                                          (
-                                                                                                            λ _. refl,
-                                                                                                            (
-                                                                                                              λ _. refl,
-                                                                                                              (
-                                                                                                                λ _. refl,
-                                                                                                                (
-                                                                                                                  λ _. refl,
-                                                                                                                  tt,
-                                                                                                                ),
-                                                                                                              ),
-                                                                                                            ),
-                                                                                                          ),
-                                                                                                        ),
-                                                                                                      ),
-                                                                                                    ),
-                                                                                                  ),
-                                                                                                ),
-                                                                                              ),
-                                                                                            ),
-                                                                                          ),
-                                                                                        ),
-                                                                                      ),
-                                                                                    ),
-                                                                                  ),
-                                                                                ),
-                                                                              ),
-                                                                            ),
-                                                                          ),
-                                                                        ),
-                                                                      ),
-                                                                    ),
-                                                                  ),
-                                                                ),
-                                                              ),
-                                                            ),
-                                                          ),
-                                                        ),
-                                                      ),
-                                                    ),
-                                                  ),
-                                                ),
-                                              ),
-                                            ),
-                                          ),
-                                        ),
-                                      ),
-                                    ),
-                                  ),
-                                ),
-                              ),
-                            ),
-                          ),
-                        ),
-                      ),
-                    ),
-                  ),
-                ),
-              ),
-            ),
-          ),
-        ),
-      ),
-    ),
-  ),
-)
+-- the row's own
+abbrev told : ℕ → Row → List ℕ × Bool × Bool
+told n r = (r.code ∷ form_text r.form n, form_fits r.form n, r.is_late)
+
+-- they are the same in each row, by computation
+rows_right : (n : ℕ) → Each (λ r. meant n r ≡ told n r) rows
+rows_right n = each_same (meant n) (told n) rows refl
 
 -- an instruction of version 6 alone, by its opcode
 at_six : (version code n : ℕ) (i : Instruction) → IsTrue (version == 6) → option_map (λ (r : Row). given r.form n) (row_of 6 code) ≡ Some i
     → option_map (λ (r : Row). given r.form n) (row_of version code) ≡ Some i
 at_six version code n i ok e = subst (λ z. option_map (λ (r : Row). given r.form n) (row_of z code) ≡ Some i) (sym (eqb-true version 6 ok)) e
 
+-- the index or the number of an immediate
+abbrev number_in : Immediate → ℕ
+number_in Nothing = 0
+number_in (Literal width n) = n
+number_in (Target i) = i
+number_in (Constant i) = i
+number_in (Local i) = i
+number_in (Field i) = i
+number_in (Function i) = i
+number_in (Struct i) = i
+
 -- each instruction is what its own opcode stands for, in the versions that have it
 made_of : (version : ℕ) (i : Instruction) → IsTrue (not (is_late i) || version == 6)
     → (n : ℕ) × (option_map (λ (r : Row). given r.form n) (row_of version (code_of i)) ≡ Some i)
-made_of version Pop ok = (0, refl)
-made_of version Ret ok = (0, refl)
-made_of version (BrTrue n) ok = (n, refl)
-made_of version (BrFalse n) ok = (n, refl)
-made_of version (Branch n) ok = (n, refl)
-made_of version (LdU64 n) ok = (n, refl)
-made_of version (LdConst n) ok = (n, refl)
-made_of version LdTrue ok = (0, refl)
-made_of version LdFalse ok = (0, refl)
-made_of version (CopyLoc n) ok = (n, refl)
-made_of version (MoveLoc n) ok = (n, refl)
-made_of version (StLoc n) ok = (n, refl)
-made_of version (MutBorrowLoc n) ok = (n, refl)
-made_of version (ImmBorrowLoc n) ok = (n, refl)
-made_of version (MutBorrowField n) ok = (n, refl)
-made_of version (ImmBorrowField n) ok = (n, refl)
-made_of version (Call n) ok = (n, refl)
-made_of version (Pack n) ok = (n, refl)
-made_of version (Unpack n) ok = (n, refl)
-made_of version ReadRef ok = (0, refl)
-made_of version WriteRef ok = (0, refl)
-made_of version Add ok = (0, refl)
-made_of version Sub ok = (0, refl)
-made_of version Mul ok = (0, refl)
-made_of version Mod ok = (0, refl)
-made_of version Div ok = (0, refl)
-made_of version BitOr ok = (0, refl)
-made_of version BitAnd ok = (0, refl)
-made_of version Xor ok = (0, refl)
-made_of version Or ok = (0, refl)
-made_of version And ok = (0, refl)
-made_of version Not ok = (0, refl)
-made_of version Eq ok = (0, refl)
-made_of version Neq ok = (0, refl)
-made_of version Lt ok = (0, refl)
-made_of version Gt ok = (0, refl)
-made_of version Le ok = (0, refl)
-made_of version Ge ok = (0, refl)
-made_of version Abort ok = (0, refl)
-made_of version Nop ok = (0, refl)
-made_of version (Exists n) ok = (n, refl)
-made_of version (MutBorrowGlobal n) ok = (n, refl)
-made_of version (ImmBorrowGlobal n) ok = (n, refl)
-made_of version (MoveFrom n) ok = (n, refl)
-made_of version (MoveTo n) ok = (n, refl)
-made_of version FreezeRef ok = (0, refl)
-made_of version Shl ok = (0, refl)
-made_of version Shr ok = (0, refl)
-made_of version (LdU8 n) ok = (n, refl)
-made_of version (LdU128 n) ok = (n, refl)
-made_of version CastU8 ok = (0, refl)
-made_of version CastU64 ok = (0, refl)
-made_of version CastU128 ok = (0, refl)
 made_of version (LdU16 n) ok = (n, at_six version 0x48 n (LdU16 n) ok refl)
 made_of version (LdU32 n) ok = (n, at_six version 0x49 n (LdU32 n) ok refl)
 made_of version CastU16 ok = (0, at_six version 0x4B 0 CastU16 ok refl)
 made_of version CastU32 ok = (0, at_six version 0x4C 0 CastU32 ok refl)
+made_of version i ok = (number_in (immediate_of i), refl)
 
 -- the index or the number at the front
 immediate-parts : (form : Form) (n : ℕ) (bytes rest : List ℕ) → AreBytes bytes → immediate_from form bytes ≡ Some (n, rest)
@@ -307,8 +93,8 @@ instruction-parts version bytes rest v ok e =
     on_bind (row_of version code.0) _ (v, rest) e1 (λ r r_is e2.
     on_bind (immediate_from r.form code.1) _ (v, rest) e2 (λ n n_is e3.
     let i : Instruction = given r.form n.0 in
-    let found = find-some IsRight (is_row_of version code.0) rows r rows_right r_is in
-    let right = found.0 n.0 in
+    let found = find-some (λ r. meant n.0 r ≡ told n.0 r) (is_row_of version code.0) rows r (rows_right n.0) r_is in
+    let right = found.0 in
     let q = and_parts (r.code == code.0) (not r.is_late || version == 6) found.1 in
     let p = byte-front code.0 bytes code.1 ok code_is in
     let first : Front (r.code ∷ []) bytes code.1 = subst (λ z. Front (z ∷ []) bytes code.1) (sym (eqb-true r.code code.0 q.0)) p in
@@ -323,8 +109,8 @@ instruction-whole version rest i ok =
     let p = and_parts (not (is_late i) || version == 6) (immediate_fits (immediate_of i)) ok in
     let m = made_of version i p.0 in
     on_map (row_of version (code_of i)) (λ (r : Row). given r.form m.0) i m.1 (λ r r_is i_is.
-    let found = find-some IsRight (is_row_of version (code_of i)) rows r rows_right r_is in
-    let right = found.0 m.0 in
+    let found = find-some (λ r. meant m.0 r ≡ told m.0 r) (is_row_of version (code_of i)) rows r (rows_right m.0) r_is in
+    let right = found.0 in
     let q = and_parts (r.code == code_of i) (not r.is_late || version == 6) found.1 in
     let code : r.code ≡ code_of i = eqb-true r.code (code_of i) q.0 in
     let row : row_of version r.code ≡ Some r = subst (λ z. row_of version z ≡ Some r) (sym code) r_is in

@@ -1,5 +1,5 @@
 -- What is found in a table of rows.
-use Rattle.std.proofs.Common.{◌≡◌, Bool, true, false, cond, List, [], ◌∷◌, refl, subst, Option, Some, None, option_map}
+use Rattle.std.proofs.Common.{◌≡◌, Bool, true, false, cond, List, [], ◌∷◌, map, refl, subst, Option, Some, None, option_map}
 use Rattle.std.specs.Prelude.{find}
 use Rattle.std.proofs.lemmas.Option.{none-some, same_Some}
 
@@ -7,6 +7,11 @@ use Rattle.std.proofs.lemmas.Option.{none-some, same_Some}
 abbrev pub Each : {X : Type 0} → (X → Type 0) → List X → Type 0
 Each P [] = Unit {0}
 Each P (x ∷ xs) = P x × Each P xs
+
+-- two functions agree in each row where all that they give is the same
+pub each_same : {X Y : Type 0} (f g : X → Y) (xs : List X) → map f xs ≡ map g xs → Each (λ x. f x ≡ g x) xs
+each_same f g [] e = tt
+each_same f g (x ∷ xs) e = (cc, each_same f g xs cc)
 
 -- what is found is so, and passes the test
 pub find-some : {X : Type 0} (P : X → Type 0) (p : X → Bool) (xs : List X) (x : X) → Each P xs → find p xs ≡ Some x → P x × (p x ≡ true)

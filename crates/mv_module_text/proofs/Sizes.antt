@@ -2,9 +2,9 @@
 use Rattle.std.proofs.Common.{ℕ, ◌<◌, List, [], ◌∷◌, ◌++◌, length, arith, length-append, lt-ltb, le-ltb, inl, inr}
 use Rattle.std.proofs.lemmas.Bool.{cases_lt}
 use Rattle.mv_uleb.specs.Uleb.{uleb}
-use Rattle.mv_move_types.specs.declared.token.ValueType.TheVariants.{OfLeaf, OfStruct}
+use Rattle.mv_move_types.specs.declared.token.ValueType.TheVariants.{OfLeaf}
 use Rattle.mv_move_types.specs.declared.token.Token.{Token}
-use Rattle.mv_move_types.specs.declared.token.Token.TheVariants.{Plain, Reference, MutableReference}
+use Rattle.mv_move_types.specs.declared.token.Token.TheVariants.{Plain}
 use Rattle.mv_module_text.specs.Entries.{module_handle_text, struct_handle_text, function_handle_text, signature_text, constant_text, identifier_text}
 use Rattle.mv_module_text.specs.Entries.{address_text, struct_definition_text, function_definition_text, field_handle_text, counted, ability_bits}
 use Rattle.mv_module_text.specs.Entries.{field_text, code_text, token_text}
@@ -58,9 +58,7 @@ function_definition-takes version d ok =
 -- a type has a byte
 token-some : (t : Token) → 0 < length (token_text t)
 token-some (Plain (OfLeaf kind)) = omega arith
-token-some (Plain (OfStruct i)) = omega arith
-token-some (Reference t) = omega arith
-token-some (MutableReference t) = omega arith
+token-some t = omega arith
 
 pub constant-takes : (version : ℕ) → Takes constant_text (constant_fits version)
 constant-takes version c ok = some_first _ c.bytes (some_first (token_text c.token) _ (token-some c.token))

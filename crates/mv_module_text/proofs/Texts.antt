@@ -4,7 +4,7 @@ use Rattle.std.proofs.Common.{take-append-drop, append_assoc, length-append, len
 use Rattle.std.proofs.Common.{flat_map, eqb}
 use Rattle.std.specs.Bool.{then_some}
 use Rattle.std.specs.List.{list_all}
-use Rattle.std.proofs.lemmas.Bool.{and_parts, and_from, leb-true, le-leb, eqb-true, eq-eqb}
+use Rattle.std.proofs.lemmas.Bool.{and_parts, and_from, leb-true, le-leb, eqb-true}
 use Rattle.std.proofs.lemmas.List.Folds.{list_all-append}
 use Rattle.std.proofs.lemmas.Option.{some_pair_parts, none-some, same_Some}
 use Rattle.mv_uleb.specs.Uleb.{uleb}
@@ -100,10 +100,6 @@ mark-front b [] rest ok e = absurd (none-some rest e)
 mark-front b (c ∷ bytes) rest ok e =
     let p = then_some-parts (eqb c b) bytes rest e in
     Front-from (b ∷ []) (c ∷ bytes) rest ok (ap (λ z. z ∷ bytes) (eqb-true c b p.0) ∙ ap (λ z. b ∷ z) p.1)
-
--- it is read
-pub mark-whole : (b : ℕ) (rest : List ℕ) → mark_from b (b ∷ rest) ≡ Some rest
-mark-whole b rest = rw (eq-eqb b b refl) refl
 
 -- so many bytes at the front
 pub bytes-front : (n : ℕ) (x bytes rest : List ℕ) → AreBytes bytes → bytes_from n bytes ≡ Some (x, rest) → Front x bytes rest × (length x ≡ n)

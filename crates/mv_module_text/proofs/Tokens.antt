@@ -1,13 +1,13 @@
 -- What is read is what was written: types, signatures, fields and constants.
-use Rattle.std.proofs.Common.{◌≡◌, ℕ, List, [], ◌∷◌, ◌++◌, length, arith, refl, ap, sym, ◌∙◌, subst, append_assoc, Some, IsTrue, not, cond, eqb, ◌&&◌, ◌||◌, ◌⊎◌, inl, inr, ne_eqb, eq-eqb}
+use Rattle.std.proofs.Common.{◌≡◌, ℕ, List, [], ◌∷◌, ◌++◌, length, arith, refl, ap, sym, ◌∙◌, subst, append_assoc, Some, IsTrue, Bool, not, cond, eqb, ◌&&◌, ◌||◌, ◌⊎◌, inl, inr, ne_eqb, eq-eqb}
 use Rattle.std.specs.Prelude.{◌==◌, find}
 use Rattle.std.specs.List.{list_all}
 use Rattle.std.proofs.lemmas.Bool.{cases_eq, and_parts, and_from, eqb-true}
 use Rattle.mv_uleb.specs.Uleb.{uleb}
 use Rattle.mv_move_types.specs.Options.{◌>>=◌}
-use Rattle.mv_move_types.specs.declared.token.Width.TheVariants.{U8, U16, U32, U64, U128}
+use Rattle.mv_move_types.specs.declared.token.Width.TheVariants.{U8, U16, U32}
 use Rattle.mv_move_types.specs.declared.token.LeafKind.{LeafKind}
-use Rattle.mv_move_types.specs.declared.token.LeafKind.TheVariants.{Boolean, Number, Address, Signer}
+use Rattle.mv_move_types.specs.declared.token.LeafKind.TheVariants.{Number}
 use Rattle.mv_move_types.specs.declared.token.ValueType.{ValueType}
 use Rattle.mv_move_types.specs.declared.token.ValueType.TheVariants.{OfLeaf, OfStruct}
 use Rattle.mv_move_types.specs.declared.token.Token.{Token}
@@ -17,7 +17,7 @@ use Rattle.mv_module_text.specs.Fits.{is_index, is_byte, value_type_fits, token_
 use Rattle.mv_module_text.specs.Parsing.{index_from, byte_from, bytes_from, LeafRow, leaf_rows, is_leaf_row_of, kind_of, value_type_by}
 use Rattle.mv_module_text.specs.Parsing.{value_type_from, token_by, token_from, signature_from, field_from, constant_from}
 use Rattle.mv_module_text.specs.Laws.{AreBytes}
-use Rattle.mv_module_text.proofs.Rows.{Each, find-some, on_map}
+use Rattle.mv_module_text.proofs.Rows.{each_same, find-some, on_map}
 use Rattle.mv_module_text.proofs.Texts.{Front, Parts, Whole, on_bind, Front-join, Front-as, index-parts, index-whole, byte-front, bytes-front, bytes-whole, bytes_after, counted-parts, counted-whole}
 
 -- what a test of two numbers chose
@@ -28,56 +28,28 @@ cond-parts a b x y r e =
       | inr ne ↦ inr (sym (ap (λ t. cond t x y) (ne_eqb a b ne)) ∙ e)
     ]
 
--- a row has its type's token, in the versions that have the type
-abbrev IsRight : LeafRow → Type 0
-IsRight r = (leaf_token r.kind ≡ r.code) × ((version : ℕ) → (not r.is_late || version == 6) ≡ value_type_fits version (OfLeaf r.kind))
+-- the token of a row's type, and whether a version has the type
+abbrev meant : LeafRow → ℕ × (ℕ → Bool)
+meant r = (leaf_token r.kind, λ version. value_type_fits version (OfLeaf r.kind))
 
-rows_right : Each IsRight leaf_rows
-rows_right = (
-  (refl, λ _. refl),
-  (
-    (refl, λ _. refl),
-    (
-      (refl, λ _. refl),
-      (
-        (refl, λ _. refl),
-        (
-          (refl, λ _. refl),
-          (
-            (refl, λ _. refl),
-            (
-              (refl, λ _. refl),
-              (
-                (refl, λ _. refl),
-                tt,
-              ),
-            ),
-          ),
-        ),
-      ),
-    ),
-  ),
-)
+-- the row's own
+abbrev told : LeafRow → ℕ × (ℕ → Bool)
+told r = (r.code, λ version. not r.is_late || version == 6)
 
 -- a leaf type by its token
 pub leaf-parts : (version code : ℕ) (kind : LeafKind) → kind_of version code ≡ Some kind → (code ≡ leaf_token kind) × IsTrue (value_type_fits version (OfLeaf kind))
 leaf-parts version code kind e =
     on_map (find (is_leaf_row_of version code) leaf_rows) (λ (r : LeafRow). r.kind) kind e (λ r r_is kind_is.
-    let p = find-some IsRight (is_leaf_row_of version code) leaf_rows r rows_right r_is in
+    let p = find-some (λ r. meant r ≡ told r) (is_leaf_row_of version code) leaf_rows r (each_same meant told leaf_rows refl) r_is in
     let q = and_parts (r.code == code) (not r.is_late || version == 6) p.1 in
     subst (λ z. (code ≡ leaf_token z) × IsTrue (value_type_fits version (OfLeaf z))) kind_is
-    (sym (p.0.0 ∙ eqb-true r.code code q.0), sym (p.0.1 version) ∙ q.1))
+    (sym (ap (λ z. z.0) p.0 ∙ eqb-true r.code code q.0), ap (λ z. z.1 version) p.0 ∙ q.1))
 
 -- a token is its leaf type's
 pub leaf-whole : (version : ℕ) (kind : LeafKind) → IsTrue (value_type_fits version (OfLeaf kind)) → kind_of version (leaf_token kind) ≡ Some kind
-leaf-whole version Boolean ok = refl
-leaf-whole version (Number U8) ok = refl
 leaf-whole version (Number U16) ok = subst (λ z. kind_of z 0x0D ≡ Some (Number U16)) (sym (eqb-true version 6 ok)) refl
 leaf-whole version (Number U32) ok = subst (λ z. kind_of z 0x0E ≡ Some (Number U32)) (sym (eqb-true version 6 ok)) refl
-leaf-whole version (Number U64) ok = refl
-leaf-whole version (Number U128) ok = refl
-leaf-whole version Address ok = refl
-leaf-whole version Signer ok = refl
+leaf-whole version kind ok = refl
 
 -- a type that is no reference, by its token
 value_type_by-parts : (version code : ℕ) (bytes more rest : List ℕ) (t : ValueType) → Front (code ∷ []) bytes more → value_type_by version code more ≡ Some (t, rest)
@@ -126,25 +98,13 @@ token-parts version bytes rest t ok e =
 -- a leaf type's token marks neither a struct nor a reference
 leaf_value : (version : ℕ) (kind : LeafKind) (rest : List ℕ)
     → value_type_by version (leaf_token kind) rest ≡ (kind_of version (leaf_token kind) >>= λ k. Some (OfLeaf k, rest))
-leaf_value version Boolean rest = refl
 leaf_value version (Number U8) rest = refl
-leaf_value version (Number U16) rest = refl
-leaf_value version (Number U32) rest = refl
-leaf_value version (Number U64) rest = refl
-leaf_value version (Number U128) rest = refl
-leaf_value version Address rest = refl
-leaf_value version Signer rest = refl
+leaf_value version kind rest = refl
 
 plain_leaf : (version : ℕ) (kind : LeafKind) (rest : List ℕ)
     → token_by version (leaf_token kind) rest ≡ (value_type_by version (leaf_token kind) rest >>= λ t. Some (Plain t.0, t.1))
-plain_leaf version Boolean rest = refl
 plain_leaf version (Number U8) rest = refl
-plain_leaf version (Number U16) rest = refl
-plain_leaf version (Number U32) rest = refl
-plain_leaf version (Number U64) rest = refl
-plain_leaf version (Number U128) rest = refl
-plain_leaf version Address rest = refl
-plain_leaf version Signer rest = refl
+plain_leaf version kind rest = refl
 
 value_type-whole : (version : ℕ) → Whole (value_type_from version) value_type_text (value_type_fits version)
 value_type-whole version rest (OfLeaf kind) ok =

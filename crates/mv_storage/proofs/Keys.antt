@@ -1,15 +1,12 @@
 -- The order of keys is a total order, and it tells all keys apart.
-use Rattle.std.proofs.Common.{◌≡◌, ℕ, refl, sym, ap, ◌∙◌, Bool, true, false, cond, ◌&&◌, ◌||◌, ◌==◌, nat_lt, arith, ◌⊎◌, inl, inr}
+use Rattle.mv_storage.proofs.Common.{ℕ, ◌==◌, ◌||◌, ◌∙◌, ◌≡◌, ◌⊎◌, Bool, ap, arith, cond, false, inl, inr, refl, sym, true, nat_tests, is_eq, is_lt, Less, Key, key_before, same_key, key_cmp}
+use Rattle.std.proofs.Common.{◌&&◌, nat_lt}
 use Rattle.std.specs.declared.cmp.Ordering.{Ordering}
-use Rattle.std.specs.declared.cmp.Ordering.TheVariants.{Less, Equal, Greater}
-use Rattle.std.specs.Ordering.{nat_cmp, ordering_then, is_lt, is_eq, ordering_reverse}
+use Rattle.std.specs.declared.cmp.Ordering.TheVariants.{Equal, Greater}
+use Rattle.std.specs.Ordering.{nat_cmp, ordering_then, ordering_reverse}
 use Rattle.std.specs.Cmp.{IsTotalOrder}
 use Rattle.std.proofs.lemmas.Cmp.{nat_cmp_total, on_total, then_total, eq_by_cmp_equiv, tied_itself}
-use Rattle.std.proofs.lemmas.Bool.Decides.{nat_tests}
-use Rattle.std.proofs.lemmas.Map.Lookups.{CmpEqualImpliesEq}
-use Rattle.mv_move_types.specs.declared.tables.Key.{Key}
-use Rattle.mv_storage.specs.Slots.{key_cmp}
-use Rattle.mv_machine.specs.State.{key_before, same_key}
+use Rattle.std.proofs.lemmas.Bool.{and_parts}
 
 pub key_cmp_total : IsTotalOrder key_cmp
 key_cmp_total =
@@ -22,18 +19,12 @@ eq-is : (x y : ℕ) → (x == y) ≡ is_eq (nat_cmp x y)
 eq-is x y = grind (arith, nat_tests)
 
 before-then : (o p q : Ordering) → (is_lt o || is_eq o && (is_lt p || is_eq p && is_lt q)) ≡ is_lt (ordering_then o (ordering_then p q))
-before-then Less p q = refl
 before-then Equal Less q = refl
-before-then Equal Equal q = refl
-before-then Equal Greater q = refl
-before-then Greater p q = refl
+before-then o p q = refl
 
 same-then : (o p q : Ordering) → (is_eq o && is_eq p && is_eq q) ≡ is_eq (ordering_then o (ordering_then p q))
-same-then Less p q = refl
 same-then Equal Less q = refl
-same-then Equal Equal q = refl
-same-then Equal Greater q = refl
-same-then Greater p q = refl
+same-then o p q = refl
 
 before-from : (o p q : Ordering) (l e m f n : Bool) → l ≡ is_lt o → e ≡ is_eq o → m ≡ is_lt p → f ≡ is_eq p → n ≡ is_lt q
     → (l || e && (m || f && n)) ≡ is_lt (ordering_then o (ordering_then p q))
@@ -59,15 +50,10 @@ same_key-refl a = same_key-is a a ∙ ap is_eq (tied_itself key_cmp_total a)
 eq-to : (x y : ℕ) → (x == y) ≡ true → x ≡ y
 eq-to x y e = grind (arith, nat_tests)
 
-and-to : (p q : Bool) → (p && q) ≡ true → (p ≡ true) × (q ≡ true)
-and-to true true e = (refl, refl)
-and-to true false e = cc
-and-to false q e = cc
-
 pub same_key-to : (a b : Key) → same_key a b ≡ true → a ≡ b
 same_key-to a b e =
-    let both = and-to ((a.address == b.address) && (a.place == b.place)) (a.index == b.index) e in
-    let first = and-to (a.address == b.address) (a.place == b.place) both.0 in
+    let both = and_parts ((a.address == b.address) && (a.place == b.place)) (a.index == b.index) e in
+    let first = and_parts (a.address == b.address) (a.place == b.place) both.0 in
     let p : a.address ≡ b.address = eq-to a.address b.address first.0 in
     let q : a.place ≡ b.place = eq-to a.place b.place first.1 in
     let r : a.index ≡ b.index = eq-to a.index b.index both.1 in
@@ -109,6 +95,3 @@ keys_compare a b = by (key_cmp a b) (key_cmp b a) (key_cmp_total.antisymm b a) (
     by Less p r s u v = inr (inl u)
     by Equal p r s u v = inl s
     by Greater p r s u v = inr (inr (v ∙ ap is_lt r))
-
-pub key_cmp_exact : CmpEqualImpliesEq key_cmp
-key_cmp_exact x y e = same_key-to x y (same_key-is x y ∙ ap is_eq e)

@@ -1,10 +1,6 @@
 -- Entries by ascending key as a map.
-use Rattle.std.proofs.Common.{◌≡◌, ℕ, refl, sym, ap, ◌∙◌, Bool, true, false, cond, List, [], ◌∷◌, Some, None, ◌⊎◌, inl, inr, ⊎_elim, subst}
-use Rattle.mv_move_types.specs.declared.tables.Key.{Key}
-use Rattle.mv_machine.specs.State.{key_before, same_key}
-use Rattle.mv_machine.specs.Flat.{FlatEntry}
-use Rattle.mv_storage.specs.FlatStorage.{words_under, with_words, without_words}
-use Rattle.mv_storage.specs.Map.{IsBelow, Ascends}
+use Rattle.mv_storage.proofs.Common.{[], ℕ, ⊎_elim, ◌∙◌, ◌∷◌, ◌≡◌, ◌⊎◌, Bool, List, None, Some, ap, cond, false, inl, inr, refl, subst, sym, true, Key, FlatEntry, key_before, same_key}
+use Rattle.mv_storage.proofs.Common.{with_words, without_words, words_under, Ascends, IsBelow}
 use Rattle.mv_storage.proofs.Keys.{same_key-refl, same_key-to, same_key-symm, before-apart, before-trans, keys_compare}
 
 -- a test is true or false

@@ -1,18 +1,12 @@
 -- Slots in a list, and keys that have places there.
 --   put-at      a slot stands at a key's place, or at a free one that the key gets
 --   removed-at  a key is gone, and its place is free
-use Rattle.std.proofs.Common.{◌≡◌, ◌<◌, ℕ, zero, suc, refl, sym, ap, ◌∙◌, true, false, cond, List, [], ◌∷◌, ◌++◌, length, Option, Some, None, ⊎_elim}
-use Rattle.std.proofs.Common.{◌⊎◌, inl, inr, is_some, arith, subst, slice_get, slice_set, slice_index_or, ◌==◌}
-use Rattle.std.specs.Option.{option_and_then}
-use Rattle.std.specs.BTreeMap.{get, is_at, IsOrdered}
-use Rattle.std.specs.Map.{lookup}
-use Rattle.std.proofs.lemmas.Bool.Decides.{nat_tests}
-use Rattle.std.proofs.lemmas.Option.{slice_get_read, slice_get_within}
-use Rattle.mv_move_types.specs.declared.tables.Key.{Key}
-use Rattle.mv_machine.specs.State.{same_key}
-use Rattle.mv_storage.specs.declared.slot.Slot.{Slot}
-use Rattle.mv_storage.specs.declared.places.Places.{Places}
-use Rattle.mv_storage.specs.Slots.{key_cmp, slot_at, is_vacant, IsVacantAt, IsUsedAt, IsSound, IsSettling}
+use Rattle.mv_storage.proofs.Common.{[], ℕ, ⊎_elim, ◌++◌, ◌<◌, ◌==◌, ◌∙◌, ◌∷◌, ◌≡◌, ◌⊎◌, List, None, Option, Some, ap, arith, cond, false, inl, inr, is_some, length, refl, slice_get}
+use Rattle.mv_storage.proofs.Common.{slice_index_or, slice_set, subst, suc, sym, true, nat_tests, slice_get_within, IsOrdered, get, is_at, lookup, option_and_then, Key, same_key, IsSettling}
+use Rattle.mv_storage.proofs.Common.{IsSound, is_vacant, key_cmp, slot_at, Places, Slot}
+use Rattle.std.proofs.Common.{zero}
+use Rattle.std.proofs.lemmas.Option.{slice_get_read}
+use Rattle.mv_storage.specs.Slots.{IsVacantAt, IsUsedAt}
 use Rattle.mv_storage.proofs.Keys.{same_key-to}
 use Rattle.mv_storage.proofs.Maps.{bool_cases}
 

@@ -1,24 +1,14 @@
 -- What slots show, as a map.
-use Rattle.std.proofs.Common.{◌≡◌, ℕ, suc, ◌+◌, ◌≤◌, arith, refl, sym, ap, ◌∙◌, Bool, true, false, cond, nat_le, List, [], ◌∷◌, ◌++◌, length, take, drop, Option, Some, None, ⊎_elim, subst, slice_get}
-use Rattle.std.specs.Option.{option_and_then}
-use Rattle.std.specs.Map.{lookup, keys_of}
-use Rattle.std.specs.BTreeMap.{is_at, IsOrdered}
+use Rattle.mv_storage.proofs.Common.{[], ℕ, ⊎_elim, ◌++◌, ◌∙◌, ◌∷◌, ◌≡◌, ◌≤◌, Bool, List, None, Option, Some, ap, arith, cond, false, length, refl, slice_get, subst, suc, sym, take, true}
+use Rattle.mv_storage.proofs.Common.{IsOrdered, is_at, lookup, option_and_then, is_eq, is_lt, Less, Key, FlatEntry, key_before, same_key, with_words, without_words, words_under, Ascends}
+use Rattle.mv_storage.proofs.Common.{IsBelow, edited, is_changed, key_cmp, layer_at, shown, value_at, Places, Layer, Committed, Current, Slot, Vacant}
+use Rattle.std.proofs.Common.{◌+◌, nat_le, drop}
+use Rattle.std.specs.Map.{keys_of}
 use Rattle.std.specs.List.{AllByRecursion}
 use Rattle.std.specs.List.Sorted.{IsStrictlySortedBy}
-use Rattle.std.specs.Ordering.{is_eq, is_lt}
-use Rattle.std.specs.declared.cmp.Ordering.TheVariants.{Less}
 use Rattle.std.proofs.lemmas.Map.Keys.{sorted_head, sorted_tail}
-use Rattle.mv_move_types.specs.declared.tables.Key.{Key}
-use Rattle.mv_machine.specs.State.{key_before, same_key}
-use Rattle.mv_machine.specs.Flat.{FlatEntry}
-use Rattle.mv_storage.specs.declared.slot.Slot.{Slot}
-use Rattle.mv_storage.specs.declared.slot.Layer.{Layer}
-use Rattle.mv_storage.specs.declared.slot.Layer.TheVariants.{Committed, Current}
-use Rattle.mv_storage.specs.declared.slot.Slot.TheVariants.{Vacant, Empty, One, Many, AddedOne, AddedMany, Changed}
-use Rattle.mv_storage.specs.declared.places.Places.{Places}
-use Rattle.mv_storage.specs.FlatStorage.{words_under, with_words, without_words}
-use Rattle.mv_storage.specs.Map.{IsBelow, Ascends, overwritten}
-use Rattle.mv_storage.specs.Slots.{key_cmp, layer_at, shown, shown_before, value_at, is_changed, edited}
+use Rattle.mv_storage.specs.Map.{overwritten}
+use Rattle.mv_storage.specs.Slots.{shown_before}
 use Rattle.mv_storage.proofs.Keys.{key_before-is, same_key-is, same_key-symm, same_key-to}
 use Rattle.mv_storage.proofs.Maps.{bool_cases, words_under-below, words_under-with_words, words_under-without_words, Ascends-with_words, Ascends-without_words, entries_from_words}
 
@@ -144,12 +134,7 @@ shown-edit l m n k from new s t h = by (value_at l m k) refl (words_under-shown 
 pub layers-same : (slot : Option Slot) → is_changed slot ≡ false → layer_at Current slot ≡ layer_at Committed slot
 layers-same None h = refl
 layers-same (Some (Vacant next)) h = refl
-layers-same (Some Empty) h = refl
-layers-same (Some (One n)) h = refl
-layers-same (Some (Many words)) h = refl
-layers-same (Some (AddedOne n)) h = cc
-layers-same (Some (AddedMany words)) h = cc
-layers-same (Some (Changed versions)) h = cc
+layers-same slot h = cc
 
 -- ---- how many there are
 

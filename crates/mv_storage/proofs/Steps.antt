@@ -1,27 +1,18 @@
 -- What a step of the code on its slots does to what they show.
-use Rattle.std.proofs.Common.{◌≡◌, ℕ, refl, sym, ap, ◌∙◌, Bool, true, false, cond, List, [], ◌∷◌, ◌++◌, Option, Some, None, ⊎_elim, inl, inr, is_some}
-use Rattle.std.proofs.Common.{◌||◌, ◌≤◌, arith, subst, slice_get, slice_set, slice_index_or, length, take, ◌-◌, length-append}
-use Rattle.std.specs.Option.{option_and_then}
-use Rattle.std.specs.BTreeMap.{BTreeMap, get, is_at, IsOrdered}
-use Rattle.std.specs.Map.{lookup}
+use Rattle.mv_storage.proofs.Common.{[], ℕ, ⊎_elim, ◌++◌, ◌||◌, ◌∙◌, ◌∷◌, ◌≡◌, ◌≤◌, Bool, List, None, Option, Some, ap, arith, cond, false, inl, inr, is_some, refl, slice_get}
+use Rattle.mv_storage.proofs.Common.{slice_index_or, slice_set, subst, sym, true, IsOrdered, get, is_at, lookup, option_and_then, Key, FlatEntry, same_key, words_under, AreNoted}
+use Rattle.mv_storage.proofs.Common.{AreSettling, IsSettling, IsSound, IsTracked, ShowsSame, is_changed, is_vacant, key_cmp, layer_at, of_layer, seen, slot_at, value_at, Places, Layer}
+use Rattle.mv_storage.proofs.Common.{Committed, Current, Slot, Vacant}
+use Rattle.std.specs.BTreeMap.{BTreeMap}
 use Rattle.std.specs.List.{list_any}
 use Rattle.std.proofs.lemmas.List.Folds.{list_any-append}
-use Rattle.mv_move_types.specs.declared.tables.Key.{Key}
-use Rattle.mv_machine.specs.State.{same_key}
-use Rattle.mv_machine.specs.Flat.{FlatEntry}
-use Rattle.mv_storage.specs.declared.slot.Slot.{Slot}
-use Rattle.mv_storage.specs.declared.slot.Slot.TheVariants.{Vacant}
-use Rattle.mv_storage.specs.declared.slot.Layer.{Layer}
-use Rattle.mv_storage.specs.declared.slot.Layer.TheVariants.{Committed, Current}
-use Rattle.mv_storage.specs.declared.places.Places.{Places}
-use Rattle.mv_storage.specs.FlatStorage.{words_under}
+use Rattle.std.proofs.lemmas.Bool.{or_left}
 use Rattle.mv_storage.specs.Map.{Layers}
-use Rattle.mv_storage.specs.Slots.{key_cmp, of_layer, layer_at, slot_at, is_change, is_vacant, value_at, is_changed, IsSound, AreNoted, ArePlaced}
-use Rattle.mv_storage.specs.Slots.{AreSettling, IsSettling, IsTracked, IsSettled, IsSettledAt, ShowsAt, ShowsSame, layers, seen}
+use Rattle.mv_storage.specs.Slots.{is_change, ArePlaced, IsSettled, IsSettledAt, ShowsAt, layers}
 use Rattle.mv_storage.proofs.Keys.{same_key-is, same_key-refl, same_key-symm, same_key-to}
 use Rattle.mv_storage.proofs.Maps.{bool_cases}
-use Rattle.mv_storage.proofs.PlaceLemmas.{HasAt, HasPlace, Put, place-read, settling-used, wrote-at, removed-at, used-not_vacant, same-sound}
-use Rattle.mv_storage.proofs.PlaceLemmas.{same-slots, same-settling, wrote-settling, removed-settling, slice_set-again, slice_set-read}
+use Rattle.mv_storage.proofs.PlaceLemmas.{HasAt, HasPlace, Put, place-read, settling-used, wrote-at, removed-at, used-not_vacant, same-sound, same-slots, same-settling, wrote-settling}
+use Rattle.mv_storage.proofs.PlaceLemmas.{removed-settling, slice_set-again, slice_set-read}
 use Rattle.mv_storage.proofs.Shown.{shown_of, words_under-shown, shown-same, layers-same}
 
 -- the words under a key are those of the slot under it
@@ -50,10 +41,6 @@ has-same layer m n k slot has is q =
 
 -- ---- the keys touched
 
-or-more : (a b : Bool) → a ≡ true → (a || b) ≡ true
-or-more true b e = refl
-or-more false b e = cc
-
 or-last : (a b : Bool) → b ≡ true → (a || (b || false)) ≡ true
 or-last true b e = refl
 or-last false true e = refl
@@ -61,7 +48,7 @@ or-last false false e = cc
 
 -- one more key is touched
 pub grows-push : (touched : List (Key × ℕ)) (u : Key × ℕ) (q : Key) → list_any (λ t. same_key q t.0) touched ≡ true → list_any (λ t. same_key q t.0) (touched ++ u ∷ []) ≡ true
-grows-push touched u q h = list_any-append (λ t. same_key q t.0) touched (u ∷ []) ∙ or-more (list_any (λ t. same_key q t.0) touched) (list_any (λ t. same_key q t.0) (u ∷ [])) h
+grows-push touched u q h = list_any-append (λ t. same_key q t.0) touched (u ∷ []) ∙ or_left (list_any (λ t. same_key q t.0) touched) (list_any (λ t. same_key q t.0) (u ∷ [])) h
 
 pub has-push : (touched : List (Key × ℕ)) (u : Key × ℕ) → list_any (λ t. same_key u.0 t.0) (touched ++ u ∷ []) ≡ true
 has-push touched u =
@@ -217,16 +204,6 @@ placed-same m n k p touched at gets placed =
 pub placed-entries : (a b : BTreeMap Key ℕ) (touched : List (Key × ℕ)) → b.entries ≡ a.entries → ArePlaced a touched → ArePlaced b touched
 placed-entries a b touched same placed =
     placed-kept a b touched (λ q place e. ap (λ (es : List (Key × ℕ)). lookup (is_at (key_cmp q)) es) same ∙ e) placed
-
-take-all : {X : Type 0} (xs ys : List X) → take (length xs) (xs ++ ys) ≡ xs
-take-all [] ys = refl
-take-all (x ∷ xs) ys = ap (λ zs. x ∷ zs) (take-all xs ys)
-
--- what was added last is gone again
-pub popped-same : {X : Type 0} (ts us vs : List X) (x : X) (n : ℕ) → us ≡ ts ++ x ∷ [] → n ≡ length us → vs ≡ take (n - 1) us → vs ≡ ts
-popped-same ts us vs x n pushed long popped =
-    let short : n - 1 ≡ length ts = omega (arith, long, ap length pushed, length-append ts (x ∷ [])) in
-    popped ∙ ap (λ i. take i us) short ∙ ap (take (length ts)) pushed ∙ take-all ts (x ∷ [])
 
 -- from slots that are the same
 pub put-from : (m v n : Places) (k : Key) (t : Slot) → ((q : Key) → slot_at v q ≡ slot_at m q) → Put v n k t → Put m n k t

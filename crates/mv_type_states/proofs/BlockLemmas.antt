@@ -1,32 +1,17 @@
 -- One turn of a walk over a block's instructions, and one of a walk over a function's blocks.
 --   types_in m d b   the types before each instruction of a block
-use Rattle.std.proofs.Common.{◌≡◌, ℕ, ◌+◌, ◌-◌, ◌<◌, ◌≤◌, Bool, true, false, ◌&&◌, cond, List, [], ◌∷◌, ◌++◌, append_assoc, length, reverse, map}
-use Rattle.std.proofs.Common.{flat_map, drop, get_or, Option, Some, None, Err, IsSome, IsTrue, nat_eq, nat_le, refl, ap, sym, ◌∙◌, subst, add-one}
-use Rattle.std.proofs.Common.{drop-cons, arith}
+use Rattle.mv_type_states.proofs.Common.{[], ℕ, ◌&&◌, ◌++◌, ◌+◌, ◌-◌, ◌<◌, ◌∙◌, ◌∷◌, ◌≡◌, ◌≤◌, Bool, Err, IsSome, IsTrue, List, None, Option, Some, add-one, ap, append_assoc, arith, cond}
+use Rattle.mv_type_states.proofs.Common.{drop, false, flat_map, get_or, length, map, nat_eq, nat_le, refl, reverse, subst, sym, true, eqb-true, none-some, same_Some, list_all, slice_range}
+use Rattle.mv_type_states.proofs.Common.{FunctionDefinition, Module, ◌>>=◌, IsRefusedIn, Instruction, Refusal, Memory, Phase, Token, basic_block_of, Block, Cfg, StackEffect, block_is_level}
+use Rattle.mv_type_states.proofs.Common.{effect_of, function_is_level, height_through, Follows, types_each, Types, types_after, block_is_typed, function_is_typed, types_through}
+use Rattle.std.proofs.Common.{drop-cons}
 use Rattle.std.specs.Bool.{then_some}
-use Rattle.std.specs.List.{list_all, slice_range}
 use Rattle.std.specs.Option.{option_map_or}
-use Rattle.std.proofs.lemmas.Bool.{le-leb, eqb-true, false≢true}
-use Rattle.std.proofs.lemmas.Option.{none-some, same_Some}
+use Rattle.std.proofs.lemmas.Bool.{le-leb, false≢true, and_parts}
 use Rattle.std.proofs.lemmas.List.{append-nil, drop_all}
-use Rattle.mv_move_types.specs.declared.instruction.Instruction.{Instruction}
-use Rattle.mv_move_types.specs.declared.refusal.Refusal.{Refusal}
-use Rattle.mv_move_types.specs.declared.refusal.Refusal.TheVariants.{Phase, Memory}
-use Rattle.mv_move_types.specs.declared.token.Token.{Token}
-use Rattle.mv_move_types.specs.Refusals.{IsRefusedIn}
-use Rattle.mv_type_states.specs.Answers.{Follows}
-use Rattle.mv_move_types.specs.Options.{◌>>=◌}
-use Rattle.mv_move_types.specs.Module.{Module, FunctionDefinition}
-use Rattle.mv_cfg.specs.declared.Block.{Block}
-use Rattle.mv_cfg.specs.declared.Cfg.{Cfg}
 use Rattle.mv_cfg.specs.Blocks.{BasicBlock, blocks}
-use Rattle.mv_cfg.specs.FlowGraph.{basic_block_of}
-use Rattle.mv_stack_use.specs.Heights.{StackEffect, effect_of, raised, height_through, block_is_level, function_is_level}
-use Rattle.mv_type_states.specs.TypeRules.{Types, types_after}
-use Rattle.mv_type_states.specs.TypesHold.{types_through, block_is_typed, function_is_typed}
-use Rattle.mv_type_states.specs.Sound.{types_each}
+use Rattle.mv_stack_use.specs.Heights.{raised}
 use Rattle.mv_type_states.proofs.HeightLemmas.{bind_some, has_effect}
-use Rattle.mv_type_states.proofs.Tokens.{both_true}
 
 -- the types before each instruction of a block
 abbrev pub types_in : Module → FunctionDefinition → BasicBlock → List Types
@@ -58,7 +43,7 @@ module _ (m : Module) (d : FunctionDefinition) where
       let at : IsSome (raised h e >>= λ after. height_through m d is after) =
       subst (λ (o : Option StackEffect). IsSome (o >>= λ e. raised h e >>= λ after. height_through m d is after)) is_e room in
       let p = then_some_on (nat_le e.takes h && nat_le (h - e.takes + e.gives) 128) (h - e.takes + e.gives) (height_through m d is) at in
-      let low = (both_true (nat_le e.takes h) (nat_le (h - e.takes + e.gives) 128) p.0).1 in
+      let low = (and_parts (nat_le e.takes h) (nat_le (h - e.takes + e.gives) 128) p.0).1 in
       (subst (λ (k : ℕ). nat_le k 128 ≡ true) to low, subst (λ (k : ℕ). IsSome (height_through m d is k)) to p.1)
 
   through-low : (i : Instruction) (is : List Instruction) (s after : Types) → types_after m d i s ≡ Some after → nat_le (length after) 128 ≡ true
@@ -129,7 +114,7 @@ module _ (m : Module) (d : FunctionDefinition) where
   walked g bs k b t whole below is_b is level there =
       let at : drop k bs ≡ b ∷ drop (k + 1) bs = subst (λ (x : Block). drop k bs ≡ x ∷ drop (k + 1) bs) (sym is_b) (drop-next bs k b below) in
       let rest = map (basic_block_of g) (drop (k + 1) bs) in
-      let both = both_true (block_is_level m d (basic_block_of g b)) (list_all (block_is_level m d) rest)
+      let both = and_parts (block_is_level m d (basic_block_of g b)) (list_all (block_is_level m d) rest)
       (subst (λ (xs : List Block). IsTrue (list_all (block_is_level m d) (map (basic_block_of g) xs))) at level) in
       let code = slice_range d.code b.first (b.last + 1) in
       let none = level_height code (length t) (heights-through code [] t there) both.0 in
@@ -161,7 +146,7 @@ module _ (m : Module) (d : FunctionDefinition) where
       → IsTrue (list_all (block_is_level m d) (map (basic_block_of g) (drop k bs))) → IsSome (height_through m d (slice_range code b.first (b.last + 1)) (length (reverse stack)))
   block_room g bs k b code stack below is_b same empty level =
       let rest = map (basic_block_of g) (drop (k + 1) bs) in
-      let both = both_true (block_is_level m d (basic_block_of g b)) (list_all (block_is_level m d) rest)
+      let both = and_parts (block_is_level m d (basic_block_of g b)) (list_all (block_is_level m d) rest)
       (subst (λ (xs : List Block). IsTrue (list_all (block_is_level m d) (map (basic_block_of g) xs))) (next_block bs k b below is_b) level) in
       let here : IsSome (height_through m d (slice_range d.code b.first (b.last + 1)) 0) = some_height (height_through m d (slice_range d.code b.first (b.last + 1)) 0) both.0 in
       subst (λ (xs : List Instruction). IsSome (height_through m d (slice_range xs b.first (b.last + 1)) (length (reverse stack)))) (sym same)
@@ -206,7 +191,7 @@ module _ (m : Module) (d : FunctionDefinition) where
   blocks_level : (bs : List BasicBlock) → IsTrue (list_all (block_is_typed m d) bs) → IsTrue (list_all (block_is_level m d) bs)
   blocks_level [] h = refl
   blocks_level (b ∷ bs) h =
-      let both = both_true (block_is_typed m d b) (list_all (block_is_typed m d) bs) h in rw (block_level b both.0) (blocks_level bs both.1)
+      let both = and_parts (block_is_typed m d b) (list_all (block_is_typed m d) bs) h in rw (block_level b both.0) (blocks_level bs both.1)
 
   -- a function that is well typed is level
   pub level-from_typed : IsTrue (function_is_typed m d) → IsTrue (function_is_level m d)

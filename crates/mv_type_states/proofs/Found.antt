@@ -1,23 +1,8 @@
 -- What a table has at an index, or hasn't.
-use Rattle.std.proofs.Common.{◌≡◌, ℕ, List, length, Option, Some, None, Bor, Err, slice_get, refl, sym, ap, ◌∙◌, reverse, ◌++◌}
-use Rattle.std.specs.Slice.{IsItemAt}
-use Rattle.std.proofs.lemmas.Option.{slice_get_read, slice_get_past}
-use Rattle.mv_move_types.specs.Module.{Module}
-use Rattle.mv_move_types.specs.Options.{◌>>=◌}
-use Rattle.mv_move_types.specs.declared.refusal.Refusal.{Refusal}
-use Rattle.mv_move_types.specs.declared.refusal.Refusal.TheVariants.{Phase, Memory}
-use Rattle.mv_move_types.specs.declared.token.Token.{Token}
-use Rattle.mv_type_states.specs.Answers.{Follows, Finds}
-use Rattle.mv_type_states.specs.TypeRules.{Types, taken, takes_gives}
-
--- the element that was asked for
-pub got : {A : Type 0} (xs ys : List A) (i j : ℕ) (x : Bor A) → ys ≡ xs → j ≡ i → IsItemAt ys j (Some x) → slice_get xs i ≡ Some x.now
-got xs ys i j x same at item =
-    sym (ap (λ l. slice_get l i) same) ∙ sym (ap (slice_get ys) at) ∙ slice_get_read ys (length ys) j x.now refl item.3.0 item.1
-
--- there was none
-pub missed : {A : Type 0} (xs ys : List A) (i j : ℕ) → ys ≡ xs → j ≡ i → IsItemAt ys j None → slice_get xs i ≡ None
-missed xs ys i j same at item = sym (ap (λ l. slice_get l i) same) ∙ sym (ap (slice_get ys) at) ∙ slice_get_past ys j item.3
+use Rattle.mv_type_states.proofs.Common.{ℕ, ◌++◌, ◌∙◌, ◌≡◌, Err, List, Option, Some, ap, reverse, slice_get, sym, Module, ◌>>=◌, Refusal, Memory, Phase}
+use Rattle.mv_type_states.proofs.Common.{Token, Follows, Types, taken, takes_gives}
+use Rattle.mv_type_states.specs.Answers.{Finds}
+pub use Rattle.mv_bounds.proofs.Entries.{got, missed}
 
 -- the signature at an index, if there is one
 pub signature_at : (m n : Module) (i j : ℕ) (o : Option (List Token)) → n ≡ m → j ≡ i → o ≡ slice_get n.signatures j → slice_get m.signatures i ≡ o

@@ -1,37 +1,24 @@
 -- All functions of a module, one after another, and the phases.
-use Rattle.std.proofs.Common.{◌≡◌, ℕ, ◌+◌, ◌<◌, List, [], ◌∷◌, ◌++◌, length, get_or, slice_get, map, take, Option, Some, None, option_map, IsTrue}
-use Rattle.std.proofs.Common.{IfSome, refl, sym, ap, ◌∙◌, subst, inl, inr, ◌⊎◌, ⊎_elim, zero, suc, length-append, arith}
-use Rattle.std.proofs.lemmas.Option.{MatchOption-at_some, slice_get_within, slice_get-map, slice_get-get_or, slice_get_read, get_or_from_slice_get, same_Some}
-use Rattle.std.proofs.lemmas.List.{take_more, map-append, length-map}
-use Rattle.mv_move_types.specs.declared.refusal.Refusal.{Refusal}
-use Rattle.mv_move_types.specs.declared.refusal.Refusal.TheVariants.{Phase, Memory}
-use Rattle.mv_move_types.specs.Refusals.{IsRefusedIn}
-use Rattle.mv_move_types.specs.Module.{Module, FunctionDefinition}
+use Rattle.mv_type_states.proofs.Common.{[], ℕ, ◌++◌, ◌+◌, ◌<◌, ◌∙◌, ◌∷◌, ◌≡◌, IfSome, IsTrue, List, None, Option, Some, ap, arith, get_or, length, length-append, map, refl, slice_get}
+use Rattle.mv_type_states.proofs.Common.{subst, sym, take, length-map, map-append, take_more, MatchOption-at_some, get_or_from_slice_get, same_Some, slice_get-get_or}
+use Rattle.mv_type_states.proofs.Common.{slice_get_read, slice_get_within, FunctionDefinition, Module, IsRefusedIn, Refusal, Memory, Phase, Cfg, AreGraphs, types_before, Types}
+use Rattle.mv_type_states.proofs.Common.{function_is_typed}
+use Rattle.std.proofs.Common.{option_map, ◌⊎◌, ⊎_elim}
+use Rattle.std.proofs.lemmas.Option.{slice_get-map}
 use Rattle.mv_signatures.specs.Signatures.{WellSigned}
 use Rattle.mv_abilities.specs.Abilities.{AbilitiesHold}
-use Rattle.mv_cfg.specs.declared.Cfg.{Cfg}
 use Rattle.mv_cfg.specs.Blocks.{ends_well, FlowHolds}
 use Rattle.mv_cfg.specs.FlowGraph.{IsFlowGraph}
 use Rattle.mv_cfg.proofs.Tables.{slice_get-push}
-use Rattle.mv_type_states.specs.TypesHold.{function_is_typed, TypesHold}
-use Rattle.mv_type_states.specs.Graphs.{AreGraphs}
-use Rattle.mv_type_states.specs.TypeRules.{Types}
-use Rattle.mv_type_states.specs.Sound.{types_before, FailsTypes, ill_signed, unable, endless, ill_typed, IsRefusedByTypes}
+use Rattle.mv_type_states.specs.TypesHold.{TypesHold}
+use Rattle.mv_type_states.specs.Sound.{FailsTypes, ill_signed, unable, endless, ill_typed, IsRefusedByTypes}
 use Rattle.mv_type_states.proofs.Stacks.{list_all-at, list_all-each}
+pub use Rattle.mv_cfg.proofs.Graphs.{element_at as slice_get-there}
 
 -- what is refused for a part is refused for the whole
 pub refused-wider : (phase : ℕ) (part whole : Type 0) (e : Refusal) → (whole → part) → IsRefusedIn phase part e → IsRefusedIn phase whole e
 refused-wider phase part whole (Phase p) narrow r = (r.0, λ h. r.1 (narrow h))
 refused-wider phase part whole Memory narrow r = tt
-
--- an element that is there
-pub slice_get-there : {A : Type 0} (xs : List A) (i : ℕ) → i < length xs → (x : A) × (slice_get xs i ≡ Some x)
-slice_get-there [] i h = absurd (omega arith)
-slice_get-there (x ∷ xs) zero h = (x, refl)
-slice_get-there (x ∷ xs) (suc i) h = slice_get-there xs i (omega arith)
-
-pub AreGraphs-start : (fs : List FunctionDefinition) → AreGraphs fs 0 []
-AreGraphs-start fs = record { entries = refl; each = λ f d g at h. cc }
 
 pub AreGraphs-push : (fs : List FunctionDefinition) (n : ℕ) (gs : List Cfg) (g : Cfg) → AreGraphs fs n gs → n < length fs → IfSome (slice_get fs n) (λ d. IsFlowGraph d.code g)
     → AreGraphs fs (n + 1) (gs ++ g ∷ [])
@@ -59,14 +46,6 @@ ends-from_FlowHolds m f d at h = list_all-at (λ (x : FunctionDefinition). ends_
 
 pub typed-from_TypesHold : (m : Module) (f : ℕ) (d : FunctionDefinition) → slice_get m.functions f ≡ Some d → TypesHold m → IsTrue (function_is_typed m d)
 typed-from_TypesHold m f d at h = list_all-at (function_is_typed m) m.functions f d h at
-
--- where all functions are well typed, one that is there is
-pub each_typed : (m : Module) (f : ℕ) → TypesHold m → IfSome (slice_get m.functions f) (λ d. IsTrue (function_is_typed m d))
-each_typed m f h = at (slice_get m.functions f) refl
-  where
-    at : (o : Option FunctionDefinition) → slice_get m.functions f ≡ o → IfSome o (λ d. IsTrue (function_is_typed m d))
-    at None e = tt
-    at (Some d) e = typed-from_TypesHold m f d e h
 
 -- a refusal of function f in phase 7 is one of the module
 pub flow_refused : (m : Module) (f : ℕ) (e : Refusal) → f < length m.functions → IfSome (slice_get m.functions f) (λ d. IsRefusedIn 7 (IsTrue (ends_well d.code)) e) → IsRefusedIn 7 (FlowHolds m) e

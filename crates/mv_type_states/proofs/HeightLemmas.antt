@@ -1,32 +1,19 @@
 -- A type rule changes the height of the stack by the instruction's effect.
-use Rattle.std.proofs.Common.{◌≡◌, ℕ, ◌+◌, ◌≤◌, Bool, true, false, List, [], ◌∷◌, ◌++◌, length, map, reverse, take, drop, slice_get, Option, Some, None, refl, ap, length-append, length-drop, arith}
-use Rattle.std.proofs.lemmas.List.{length-reverse, length-map, length-take}
-use Rattle.std.proofs.lemmas.Option.{none-some, same_Some}
+use Rattle.mv_type_states.proofs.Common.{[], ℕ, ◌++◌, ◌+◌, ◌∷◌, ◌≡◌, ◌≤◌, Bool, List, None, Option, Some, ap, arith, drop, false, length, length-append, length-drop, map, refl, reverse}
+use Rattle.mv_type_states.proofs.Common.{slice_get, take, true, length-map, length-reverse, length-take, none-some, same_Some, FunctionDefinition, Module, local_type, ◌>>=◌, same_tokens}
+use Rattle.mv_type_states.proofs.Common.{same_value_type, Instruction, Field, FunctionHandle, Signer, Token, MutableReference, Plain, Reference, ValueType, OfLeaf, OfStruct, U64, U8}
+use Rattle.mv_type_states.proofs.Common.{StackEffect, effect_of, Types, of_return, provided, taken, takes_gives, types_after}
 use Rattle.mv_move_types.specs.declared.token.Width.{Width}
-use Rattle.mv_move_types.specs.declared.token.Width.TheVariants.{U8, U64}
-use Rattle.mv_move_types.specs.declared.token.LeafKind.TheVariants.{Signer}
-use Rattle.mv_move_types.specs.declared.token.ValueType.{ValueType}
-use Rattle.mv_move_types.specs.declared.token.ValueType.TheVariants.{OfLeaf, OfStruct}
-use Rattle.mv_move_types.specs.declared.token.Token.{Token}
-use Rattle.mv_move_types.specs.declared.token.Token.TheVariants.{Plain, Reference, MutableReference}
-use Rattle.mv_move_types.specs.declared.tables.Field.{Field}
-use Rattle.mv_move_types.specs.declared.tables.FunctionHandle.{FunctionHandle}
-use Rattle.mv_move_types.specs.declared.instruction.Instruction.{Instruction}
-use Rattle.mv_move_types.specs.declared.instruction.Instruction.TheVariants.{Pop, Ret, BrTrue, BrFalse, Branch, LdU64, LdConst, LdTrue, LdFalse}
-use Rattle.mv_move_types.specs.declared.instruction.Instruction.TheVariants.{CopyLoc, MoveLoc, StLoc, MutBorrowLoc, ImmBorrowLoc, MutBorrowField}
-use Rattle.mv_move_types.specs.declared.instruction.Instruction.TheVariants.{ImmBorrowField, Call, Pack, Unpack, ReadRef, WriteRef, Or, And, Not, Eq}
-use Rattle.mv_move_types.specs.declared.instruction.Instruction.TheVariants.{Neq, Abort, Nop, Exists, MutBorrowGlobal, ImmBorrowGlobal, MoveFrom}
-use Rattle.mv_move_types.specs.declared.instruction.Instruction.TheVariants.{MoveTo, FreezeRef, Shl, Shr, LdU8, LdU128, CastU8, CastU64, CastU128}
-use Rattle.mv_move_types.specs.declared.instruction.Instruction.TheVariants.{LdU16, LdU32, CastU16, CastU32}
-use Rattle.mv_move_types.specs.Tokens.{same_value_type, same_tokens}
-use Rattle.mv_move_types.specs.Options.{◌>>=◌}
-use Rattle.mv_move_types.specs.Module.{Module, StructDefinition, FunctionDefinition, local_type}
+use Rattle.mv_move_types.specs.declared.instruction.Instruction.TheVariants.{Pop, Ret, BrTrue, BrFalse, Branch, LdU64, LdConst, LdTrue, LdFalse, CopyLoc, MoveLoc, StLoc, MutBorrowLoc}
+use Rattle.mv_move_types.specs.declared.instruction.Instruction.TheVariants.{ImmBorrowLoc, MutBorrowField, ImmBorrowField, Call, Pack, Unpack, ReadRef, WriteRef, Or, And, Not, Eq, Neq}
+use Rattle.mv_move_types.specs.declared.instruction.Instruction.TheVariants.{Abort, Nop, Exists, MutBorrowGlobal, ImmBorrowGlobal, MoveFrom, MoveTo, FreezeRef, Shl, Shr, LdU8, LdU128}
+use Rattle.mv_move_types.specs.declared.instruction.Instruction.TheVariants.{CastU8, CastU64, CastU128, LdU16, LdU32, CastU16, CastU32}
+use Rattle.mv_move_types.specs.Module.{StructDefinition}
 use Rattle.mv_abilities.specs.Abilities.{value_type_abilities, token_abilities}
-use Rattle.mv_stack_use.specs.Heights.{StackEffect, effect, effect_of, return_effect, call_effect, pack_effect, unpack_effect}
-use Rattle.mv_type_states.specs.TypeRules.{Types, types_after, provided, top_type, taken, takes_gives, boolean, number, address, width_of, plain_of}
-use Rattle.mv_type_states.specs.TypeRules.{target_of, mutable_target_of, top_width, of_two_numbers, of_shift, of_cast, of_equality, of_pop, of_copy}
-use Rattle.mv_type_states.specs.TypeRules.{of_borrow_local, keyed_type, field_types, of_mutable_field, of_immutable_field, of_call, of_return}
-use Rattle.mv_type_states.specs.TypeRules.{of_pack, of_unpack, of_read, of_write, of_freeze, of_constant, of_global, of_move_to}
+use Rattle.mv_stack_use.specs.Heights.{effect, return_effect, call_effect, pack_effect, unpack_effect}
+use Rattle.mv_type_states.specs.TypeRules.{top_type, boolean, number, address, width_of, plain_of, target_of, mutable_target_of, top_width, of_two_numbers, of_shift, of_cast, of_equality}
+use Rattle.mv_type_states.specs.TypeRules.{of_pop, of_copy, of_borrow_local, keyed_type, field_types, of_mutable_field, of_immutable_field, of_call, of_pack, of_unpack, of_read, of_write}
+use Rattle.mv_type_states.specs.TypeRules.{of_freeze, of_constant, of_global, of_move_to}
 use Rattle.mv_type_states.proofs.Tokens.{lists_equal}
 
 -- so many are taken, and so many given

@@ -1,9 +1,6 @@
 -- A function's locals are its parameters and the others.
-use Rattle.std.proofs.Common.{◌≡◌, ℕ, List, ◌++◌, Option, Some, slice_get, IfSome, sym, ap, ◌∙◌}
-use Rattle.std.proofs.lemmas.Option.{MatchOption-at_some}
-use Rattle.mv_move_types.specs.declared.token.Token.{Token}
-use Rattle.mv_move_types.specs.Options.{◌>>=◌}
-use Rattle.mv_move_types.specs.Module.{Module, FunctionDefinition, parameter_tokens, local_tokens, local_type}
+use Rattle.mv_type_states.proofs.Common.{ℕ, ◌++◌, ◌∙◌, ◌≡◌, IfSome, List, Option, Some, ap, slice_get, sym, MatchOption-at_some, FunctionDefinition, Module, local_type, ◌>>=◌, Token}
+use Rattle.mv_move_types.specs.Module.{parameter_tokens, local_tokens}
 use Rattle.mv_bounds.proofs.FunctionLemmas.{tokens_are}
 
 pub local_tokens-are : (m : Module) (f : ℕ) (d : FunctionDefinition) (parameters others : List Token) → slice_get m.functions f ≡ Some d

@@ -1,11 +1,11 @@
 -- Parts of one list, as it grows.
-use Rattle.std.proofs.Common.{◌≡◌, ℕ, ◌+◌, ◌-◌, ◌≤◌, List, [], ◌∷◌, ◌++◌, length, reverse, take, drop, suc, ap, ◌∙◌, length-drop, arith}
-use Rattle.std.specs.List.{All, slice_range}
-use Rattle.std.proofs.lemmas.List.{take-append-le, drop-append-le, take_all}
+use Rattle.mv_type_states.proofs.Common.{[], ℕ, ◌++◌, ◌+◌, ◌-◌, ◌∙◌, ◌∷◌, ◌≡◌, ◌≤◌, List, ap, arith, drop, length, length-drop, reverse, suc, take, take-append-le, take_all, slice_range}
+use Rattle.mv_type_states.proofs.Common.{Token, types_of_each}
+use Rattle.std.specs.List.{All}
+use Rattle.std.proofs.lemmas.List.{drop-append-le}
 use Rattle.std.proofs.Math.Seq.{drop-append_seam}
-use Rattle.mv_move_types.specs.declared.token.Token.{Token}
 use Rattle.mv_type_states.specs.declared.stack_types.Part.{Part}
-use Rattle.mv_type_states.specs.Stacks.{types_of, types_of_each, IsWithin}
+use Rattle.mv_type_states.specs.Stacks.{types_of, IsWithin}
 
 -- a part of the list stays as it is
 range-within : (xs ys : List Token) (i j : ℕ) → i ≤ j → j ≤ length xs → slice_range (xs ++ ys) i j ≡ slice_range xs i j

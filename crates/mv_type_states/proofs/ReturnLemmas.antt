@@ -1,10 +1,6 @@
 -- The types at a return, by the function's results.
-use Rattle.std.proofs.Common.{◌≡◌, [], List, reverse, slice_get, Some, refl}
-use Rattle.mv_move_types.specs.declared.tables.FunctionHandle.{FunctionHandle}
-use Rattle.mv_move_types.specs.declared.token.Token.{Token}
-use Rattle.mv_move_types.specs.Tokens.{same_tokens}
-use Rattle.mv_move_types.specs.Module.{Module, FunctionDefinition, result_tokens}
-use Rattle.mv_type_states.specs.TypeRules.{Types, provided, of_return}
+use Rattle.mv_type_states.proofs.Common.{[], ◌≡◌, List, Some, refl, reverse, slice_get, FunctionDefinition, Module, result_tokens, same_tokens, FunctionHandle, Token, Types, of_return}
+use Rattle.mv_type_states.proofs.Common.{provided}
 use Rattle.mv_type_states.proofs.HeightLemmas.{bind_some}
 
 by_handle : (m : Module) (d : FunctionDefinition) (h : FunctionHandle) (rs : List Token) (s : Types) → slice_get m.function_handles d.handle ≡ Some h → slice_get m.signatures h.results ≡ Some rs

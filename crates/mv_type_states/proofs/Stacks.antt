@@ -1,22 +1,14 @@
 -- Stacks with the topmost last, and what is taken from them.
-use Rattle.std.proofs.Common.{◌≡◌, ℕ, ◌+◌, ◌<◌, Bool, true, false, ◌&&◌, List, [], ◌∷◌, ◌++◌, length, reverse, append_assoc, get_or, set, take, drop}
-use Rattle.std.proofs.Common.{slice_get, Option, Some, None, refl, sym, ap, ◌∙◌, subst, zero, suc, add-one, length-append, length-take, map, arith}
-use Rattle.std.proofs.Common.{IsTrue, nat_eq, vec_len, Vec, Global, Result, Err}
-use Rattle.std.proofs.lemmas.List.{reverse-append, reverse-reverse, length-reverse, map-append, take_more, take_all}
+use Rattle.mv_type_states.proofs.Common.{[], ℕ, ◌&&◌, ◌++◌, ◌+◌, ◌<◌, ◌∙◌, ◌∷◌, ◌≡◌, Bool, Err, IsTrue, List, None, Option, Result, Some, add-one, ap, append_assoc, arith, drop, false}
+use Rattle.mv_type_states.proofs.Common.{get_or, length, length-append, map, nat_eq, refl, reverse, slice_get, subst, suc, sym, take, true, length-reverse, length-take, map-append}
+use Rattle.mv_type_states.proofs.Common.{reverse-append, take_all, take_more, same_Some, list_all, vec_len, ◌>>=◌, same_token, same_tokens, Refusal, Memory, Phase, Field, Token}
+use Rattle.mv_type_states.proofs.Common.{Follows, Types, provided, taken, takes_gives}
+use Rattle.std.proofs.Common.{set, Vec, Global}
+use Rattle.std.proofs.lemmas.List.{reverse-reverse}
 use Rattle.std.proofs.Math.Seq.{set-append_seam}
 use Rattle.std.proofs.lemmas.Bool.{ne_eqb, eqb-false}
 use Rattle.std.proofs.Math.Dec.{eqb-suc-zero}
-use Rattle.mv_move_types.specs.declared.token.Token.{Token}
-use Rattle.mv_move_types.specs.Tokens.{same_token, same_tokens}
-use Rattle.mv_move_types.specs.declared.refusal.Refusal.{Refusal}
-use Rattle.mv_move_types.specs.declared.refusal.Refusal.TheVariants.{Phase, Memory}
-use Rattle.mv_move_types.specs.declared.tables.Field.{Field}
-use Rattle.mv_move_types.specs.Options.{◌>>=◌}
-use Rattle.mv_type_states.specs.TypeRules.{Types, provided, taken, takes_gives}
-use Rattle.mv_type_states.specs.Answers.{Follows}
-use Rattle.mv_type_states.proofs.Tokens.{both_true}
-use Rattle.std.specs.List.{list_all}
-use Rattle.std.proofs.lemmas.Option.{none-some, same_Some}
+pub use Rattle.mv_bounds.proofs.FunctionLemmas.{all_at as list_all-at}
 
 -- a push puts a type on top
 pub reverse-push : (xs : List Token) (x : Token) → reverse (xs ++ x ∷ []) ≡ x ∷ reverse xs
@@ -125,12 +117,6 @@ alone-left rs s new e some = rw (alone rs s, e, length-reverse, ne_eqb (length n
 
 pub full_stack : (v : Vec Token Global) (r : Bool) → r ≡ nat_eq (vec_len v) 0 → r ≡ false → 0 < length v.items
 full_stack v r e t = let z : vec_len v ≡ 0 → ⊥ = eqb-false (vec_len v) 0 (sym e ∙ t) in let same = v.ok.0 in omega arith
-
--- what holds of all holds of each
-pub list_all-at : {A : Type 0} (p : A → Bool) (xs : List A) (i : ℕ) (x : A) → IsTrue (list_all p xs) → slice_get xs i ≡ Some x → IsTrue (p x)
-list_all-at p [] i x h at = absurd (none-some x at)
-list_all-at p (y ∷ ys) zero x h at = subst (λ (z : _). IsTrue (p z)) (same_Some y x at) (both_true (p y) (list_all p ys) h).0
-list_all-at p (y ∷ ys) (suc i) x h at = list_all-at p ys i x (both_true (p y) (list_all p ys) h).1 at
 
 -- what holds of each holds of all
 pub list_all-each : {A : Type 0} (p : A → Bool) (xs : List A) → ((i : ℕ) (x : A) → slice_get xs i ≡ Some x → IsTrue (p x)) → IsTrue (list_all p xs)

@@ -1,14 +1,10 @@
 -- The topmost types of stacks.
-use Rattle.std.proofs.Common.{◌≡◌, ℕ, ◌+◌, ◌-◌, ◌<◌, ◌≤◌, Bool, true, false, List, [], ◌∷◌, ◌++◌, length, map, slice_get, reverse, take, drop, nat_le}
-use Rattle.std.proofs.Common.{Some, Result, Ok, Err, IfOk, refl, sym, ap, ◌∙◌, arith, length-drop}
+use Rattle.mv_type_states.proofs.Common.{[], ℕ, ◌++◌, ◌+◌, ◌-◌, ◌<◌, ◌∙◌, ◌∷◌, ◌≡◌, ◌≤◌, Bool, Err, List, Result, Some, ap, arith, drop, false, length, length-drop, map, nat_le, refl}
+use Rattle.mv_type_states.proofs.Common.{reverse, slice_get, sym, take, true, length-reverse, map-append, reverse-append, take-append-le, take_all, take_more, get_or_from_slice_get}
+use Rattle.mv_type_states.proofs.Common.{slice_get_within, FunctionDefinition, Module, Token, types_before, tops_before, tops_of, Types}
+use Rattle.std.proofs.Common.{Ok, IfOk}
 use Rattle.std.proofs.lemmas.Bool.{leb-true, leb-false}
-use Rattle.std.proofs.lemmas.List.{take-append-drop, take-append-le, take-take, take_all, take_more, reverse-append, length-reverse, map-append}
-use Rattle.std.proofs.lemmas.Option.{get_or_from_slice_get, slice_get_within}
-use Rattle.mv_move_types.specs.declared.token.Token.{Token}
-use Rattle.mv_move_types.specs.Module.{Module, FunctionDefinition}
-use Rattle.mv_type_states.specs.TypeRules.{Types}
-use Rattle.mv_type_states.specs.Sound.{types_before}
-use Rattle.mv_type_states.specs.Tops.{tops_of, tops_before}
+use Rattle.std.proofs.lemmas.List.{take-append-drop, take-take}
 
 -- the last two of a list are the first two of its reverse
 pub reverse-last_two : (xs : List Token) → reverse (drop (length xs - 2) xs) ≡ take 2 (reverse xs)

@@ -1,7 +1,4 @@
-use Rattle.std.proofs.Common.{sym, ◌∙◌, arith}
-use Rattle.std.proofs.lemmas.Option.{none-some}
-use Rattle.mv_binary_format.specs.ModuleText.{IsModuleText}
-use Rattle.mv_binary_format.specs.Parsing.{module_of}
+use Rattle.mv_binary_format.proofs.Common.{◌∙◌, arith, sym, none-some, IsModuleText, module_of}
 use Rattle.mv_binary_format.proofs.Back.{all-are_bytes}
 use Rattle.mv_binary_format.proofs.Takings.{IfOk-Decides, Decides-none}
 use Rattle.mv_binary_format.proofs.decode.Goals as goal

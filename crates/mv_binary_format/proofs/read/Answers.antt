@@ -1,9 +1,4 @@
-use Rattle.std.proofs.Common.{◌≡◌, [], Some, ap, arith, subst, sym, ◌∙◌}
-use Rattle.mv_module_text.specs.Parsing.{index_from}
-use Rattle.mv_move_types.specs.Versions.{version_number}
-use Rattle.mv_binary_format.specs.Kinds.{headers_of}
-use Rattle.mv_binary_format.specs.Parsing.{module_of}
-use Rattle.mv_binary_format.specs.Tables.{tables_of}
+use Rattle.mv_binary_format.proofs.Common.{[], ◌∙◌, ◌≡◌, Some, ap, arith, subst, sym, version_number, index_from, headers_of, module_of, tables_of}
 use Rattle.mv_binary_format.proofs.Back.{all-are_bytes}
 use Rattle.mv_binary_format.proofs.Fitting.{module_of-parts}
 use Rattle.mv_binary_format.proofs.read.Goals as goal

@@ -4,7 +4,7 @@ use Rattle.mv_borrow_graph.specs.Abstract.Places.{Defined, Label}
 use Rattle.mv_borrow_graph.specs.Abstract.Covers.{Node, Slot, Own, Glob, Temp, Ref, Live, Edges, InList, Covers}
 use Rattle.mv_borrow_graph.specs.Abstract.Rows.{IsArgument, after_call}
 use Rattle.mv_borrow_graph.specs.Abstract.Lists.{Value, Plain, Reference, stack_ref, local_ref, refs_of, Activation, seen, Lent, GivenAt, first_locals, refs_among}
-use Rattle.mv_borrow_graph.proofs.Abstract.Lists.{stack_pushed, stack_top, stack_under, stack_joined, returned, returned_at}
+use Rattle.mv_borrow_graph.proofs.Abstract.Lists.{same_temp, stack_pushed, stack_top, stack_under, stack_joined, returned, returned_at}
 use Rattle.mv_borrow_graph.specs.Abstract.Stack.{Entered, Layer, Calls, Chain}
 use Rattle.mv_borrow_graph.proofs.Abstract.Stack.{covers_returned}
 
@@ -47,14 +47,12 @@ module _ (w : Activation) (args s : List Value) (stack_is : w.stack ≡ args ++ 
   pub entered_at : (u : Activation) (e : Edges) (rest : List (Option Value)) → u.locals ≡ first_locals args rest → u.stack ≡ [] → u.entry ≡ refs_among args
       → ((i : ℕ) (r : Ref) → local_ref rest i ≡ Some r → ⊥)
       → Entered (record { frame = seen w; edges = e }) (seen u) (IsArgument (length s)) (came_from (length s))
-  entered_at u e rest l k h none (Own m) r g = cc
-  entered_at u e rest l k h none (Glob m) r g = cc
-  entered_at u e rest l k h none (Temp m) r g = cc
   entered_at u e rest l k h none (Slot j) r g =
       elim (locals_from args rest j r (rw l at g)) [
         | inl t ↦ (rw h (among args j r t), (Temp (length s + j), (j, refl, refl), (length s + j, refl, omega arith), rw stack_is (stack_joined args s j r t)))
         | inr t ↦ absurd (none t.0 r t.2)
       ]
+  entered_at u e rest l k h none n r g = cc
 
   -- each entry argument stands on the caller's stack
   pub passed_at : (g : Ref) → InList g (refs_among args) → (n : Node) × IsArgument (length s) n × Live (seen w) n g
@@ -65,9 +63,6 @@ module _ (w : Activation) (args s : List Value) (stack_is : w.stack ≡ args ++ 
   pub came_apart : (n m a b : Node) → came_from (length s) a n → came_from (length s) b m → (n ≡ m → ⊥) → a ≡ b → ⊥
   came_apart n m a b (i, p, q) (j, t, v) d w = d (q ∙ ap Slot (cancel i j (same_temp (length s + i) (length s + j) (sym p ∙ w ∙ t))) ∙ sym v)
     where
-      same_temp : (a b : ℕ) → Temp a ≡ Temp b → a ≡ b
-      same_temp a b h = cc
-
       cancel : (i j : ℕ) → length s + i ≡ length s + j → i ≡ j
       cancel i j h = omega arith
 
@@ -103,9 +98,6 @@ module _ (depends : ℕ → ℕ → Type 0) (home_of : Defined → ℕ) (through
 
         not_glob : (t : Defined) → IsArgument (length s) (Glob t) → ⊥
         not_glob t (k, e, b) = cc
-
-        same_temp : (a b : ℕ) → Temp a ≡ Temp b → a ≡ b
-        same_temp a b h = cc
 
         stood : (n : Node) (r : Ref)
             → (((k : ℕ) → n ≡ Temp k → k < length s) × Live (seen w) n r) ⊎ ((m : Node) × returned (length s) m n × Live (seen u) m r)

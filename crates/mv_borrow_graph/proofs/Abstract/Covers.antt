@@ -153,9 +153,6 @@ only_true h k = cc
 pub reach_along : (x : Label) (a b : List ℕ) → a ≡ b → Reach x b → Reach x a
 reach_along x a b h r = rw h r
 
-pub overlap_along : (a b c : Place) → a ≡ b → Overlap a c → Overlap b c
-overlap_along a b c h o = rw h at o
-
 -- a new reference at the place k of the stack, at or below the place of the reference of node j
 module _ (f : Frame) (e e' : Edges) (refs : Node → Option Ref) (k : ℕ) (new : Ref) (j : Node) (from : Ref) (s : List ℕ) (grow : Label → Label)
     (cover : Covers f e)

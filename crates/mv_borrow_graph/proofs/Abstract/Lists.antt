@@ -1,5 +1,5 @@
 -- What pushes, pops and writes of locals do to the live references.
-use Rattle.std.proofs.Common.{◌≡◌, ℕ, zero, suc, ◌<◌, ◌+◌, List, [], ◌∷◌, ◌++◌, length, map, reverse, Bool, true, ◌⊎◌, inl, inr, refl, ◌∙◌, ap, arith, Option, Some, None}
+use Rattle.std.proofs.Common.{◌≡◌, ℕ, zero, suc, ◌<◌, ◌+◌, List, [], ◌∷◌, ◌++◌, length, map, reverse, Bool, true, ◌⊎◌, inl, inr, refl, sym, ◌∙◌, ap, arith, Option, Some, None}
 use Rattle.std.proofs.lemmas.Bool.Decides.{eqb_tells}
 use Rattle.std.proofs.lemmas.List.{length-append}
 use Rattle.mv_borrow_graph.specs.Abstract.Places.{Label, Agrees, field_of}
@@ -8,6 +8,7 @@ use Rattle.std.proofs.lemmas.Bool.{cases_eq}
 use Rattle.mv_borrow_graph.specs.Abstract.Covers.{Node, Slot, Own, Glob, Temp, Ref, Live, Edges, Covers}
 use Rattle.mv_borrow_graph.specs.Abstract.Lists.{Value, Reference, ref_of, ref_in, stack_ref, local_ref, set_local, refs_of, Activation, seen}
 use Rattle.mv_borrow_graph.proofs.Abstract.Rows.{Pushed, row_field_mutable}
+use Rattle.std.proofs.lemmas.Option.{same_Some}
 
 pub stack_below : (s : List Value) (k : ℕ) (r : Ref) → stack_ref s k ≡ Some r → k < length s
 stack_below [] k r h = cc
@@ -84,7 +85,7 @@ local_set_other (x ∷ xs) zero (suc m) v r d h = h
 local_set_other (x ∷ xs) (suc l) zero v r d h = h
 local_set_other (x ∷ xs) (suc l) (suc m) v r d h = local_set_other xs l m v r (λ z. d (ap suc z)) h
 
-same_temp : (a b : ℕ) → Temp a ≡ Temp b → a ≡ b
+pub same_temp : (a b : ℕ) → Temp a ≡ Temp b → a ≡ b
 same_temp a b h = cc
 
 same_slot : (a b : ℕ) → Slot a ≡ Slot b → a ≡ b
@@ -97,12 +98,9 @@ pushed_at a new (Own l) r h = cc
 pushed_at a new (Glob l) r h = cc
 pushed_at a new (Temp k) r h =
     elim (stack_pushed (Reference new) a.stack k r h) [
-      | inl t ↦ inl (ap Temp t.0, same_some t.1)
+      | inl t ↦ inl (ap Temp t.0, sym (same_Some new r t.1))
       | inr t ↦ inr ((λ z. t.0 (same_temp k (length a.stack) z)), t.1)
     ]
-  where
-    same_some : Some new ≡ Some r → r ≡ new
-    same_some h = cc
 
 -- the field borrows and FreezeRef: another reference in the operand's place
 pub replaced_at : (a : Activation) (s : List Value) (old : Value) (new : Ref) → a.stack ≡ old ∷ s
@@ -112,12 +110,9 @@ replaced_at a s old new e (Own l) r h = cc
 replaced_at a s old new e (Glob l) r h = cc
 replaced_at a s old new e (Temp k) r h =
     elim (stack_pushed (Reference new) s k r h) [
-      | inl t ↦ inl (ap Temp t.0, same_some t.1)
+      | inl t ↦ inl (ap Temp t.0, sym (same_Some new r t.1))
       | inr t ↦ inr ((λ z. t.0 (same_temp k (length s) z)), rw e (stack_under old s k r t.1).1)
     ]
-  where
-    same_some : Some new ≡ Some r → r ≡ new
-    same_some h = cc
 
 pub operand_at : (a : Activation) (s : List Value) (old : Ref) → a.stack ≡ Reference old ∷ s → Live (seen a) (Temp (length s)) old
 operand_at a s old e = rw e (stack_top (Reference old) s)

@@ -1,7 +1,7 @@
 -- Facts of places and labels: what a label names, and when places overlap.
 use Rattle.std.proofs.Common.{◌≡◌, ℕ, List, [], ◌∷◌, ◌++◌, ◌⊎◌, inl, inr, refl, sym, ◌∙◌, ap, subst, append_assoc}
 use Rattle.std.proofs.lemmas.List.{append-nil}
-use Rattle.mv_borrow_graph.specs.Abstract.Places.{Place, Begins, Below, Overlap, Label, Exact, Open, steps, Reach, Matches, LabelBelow, extend, opened, AgreesWith, Agrees, under, field_of}
+use Rattle.mv_borrow_graph.specs.Abstract.Places.{Place, Begins, Below, Overlap, Label, Exact, Open, steps, Reach, Matches, LabelBelow, extend, opened, AgreesWith, Agrees, field_of}
 
 pub begins_self : (a : List ℕ) → Begins a a
 begins_self a = ([], sym (append-nil a))
@@ -41,9 +41,6 @@ below_self p = (refl, begins_self p.path)
 pub below_trans : (a b c : Place) → Below a b → Below b c → Below a c
 below_trans a b c h k = (h.0 ∙ k.0, begins_trans c.path b.path a.path k.1 h.1)
 
-pub below_under : (p : Place) (s : List ℕ) → Below (under p s) p
-below_under p s = (refl, (s, refl))
-
 pub overlap_sym : (a b : Place) → Overlap a b → Overlap b a
 overlap_sym a b (inl h) = inr h
 overlap_sym a b (inr h) = inl h
@@ -75,11 +72,6 @@ reach_extend (Open l) f s h = begins_trans l s (s ++ f ∷ []) h (f ∷ [], refl
 
 pub reach_opened : (x : Label) (s t : List ℕ) → Reach x s → Reach (opened x) (s ++ t)
 reach_opened x s t r = begins_trans (steps x) s (s ++ t) (steps_reach x s r) (t, refl)
-
--- the second fact, in two parts
-pub matches_extend : (x : Label) (f : ℕ) (p c : Place) → Matches x p c → Matches (extend f x) p (field_of c f)
-matches_extend x f p c (e, s, d, r) =
-    (e, s ++ f ∷ [], ap (λ l. l ++ f ∷ []) d ∙ append_assoc p.path s (f ∷ []), reach_extend x f s r)
 
 pub matches_opened : (x : Label) (p c b : Place) → Matches x p c → Below b c → Matches (opened x) p b
 matches_opened x p c b (e, s, d, r) (h, (t, k)) =

@@ -8,7 +8,7 @@ use Rattle.mv_borrow_graph.specs.Abstract.Stack.{Layer, Calls, Homed, Chain}
 use Rattle.mv_borrow_graph.proofs.Abstract.Rows.{row_rise}
 use Rattle.mv_borrow_graph.proofs.Abstract.Stack.{chain_covers, chain_step, chain_call, chain_return}
 use Rattle.mv_borrow_graph.proofs.Abstract.Calls.{came_from, entered_at, came_apart, return_row}
-use Rattle.mv_borrow_graph.proofs.Abstract.Turns.{Turn, Copies, CopiesMutable, Moves, Stores, BorrowsLocal, BorrowsField, BorrowsGlobal, Freezes, Drops, covers_turn}
+use Rattle.mv_borrow_graph.proofs.Abstract.Turns.{Turn, Copies, covers_turn}
 
 abbrev pub layer : Activation → Edges → Layer
 layer a e = record { frame = seen a; edges = e }
@@ -25,14 +25,7 @@ SameFrame a b = (b.number ≡ a.number) × (b.home ≡ a.home) × (b.acquires �
 
 turn_keeps : (row : Row) (k : ℕ) (a b : Activation) → Turn row k a b → SameFrame a b
 turn_keeps row k a b (Copies _ l r h m) = (refl, refl, refl, refl)
-turn_keeps row k a b (CopiesMutable _ l r h m) = (refl, refl, refl, refl)
-turn_keeps row k a b (Moves _ l r h) = (refl, refl, refl, refl)
-turn_keeps row k a b (Stores _ l r s h) = (refl, refl, refl, refl)
-turn_keeps row k a b (BorrowsLocal _ m l) = (refl, refl, refl, refl)
-turn_keeps row k a b (BorrowsField _ m f r s h g) = (refl, refl, refl, refl)
-turn_keeps row k a b (BorrowsGlobal _ m g t n s h acq) = (refl, refl, refl, refl)
-turn_keeps row k a b (Freezes _ r s h) = (refl, refl, refl, refl)
-turn_keeps row k a b (Drops _ r s h) = (refl, refl, refl, refl)
+turn_keeps row k a b t = (refl, refl, refl, refl)
 
 -- one step of a run, as the certificate's rules see it
 pub data Steps (depends : ℕ → ℕ → Type 0) (home_of : Defined → ℕ) : List Layer → List Layer → Type 1 where

@@ -1,6 +1,6 @@
 -- What follows of a stack of covered frames: no live reference into what a frame gives up, and frames kept apart.
 use Rattle.std.proofs.Common.{◌≡◌, ℕ, ◌<◌, ◌≤◌, List, [], ◌∷◌, true, false, ◌⊎◌, inl, inr, refl, sym, ◌∙◌, ap, arith, Option, Some}
-use Rattle.mv_borrow_graph.specs.Abstract.Places.{Defined, Root, Local, Global, Place, Below, Overlap, Label, Reach, opened}
+use Rattle.mv_borrow_graph.specs.Abstract.Places.{Defined, Local, Global, Place, Below, Overlap, Label, Reach, opened}
 use Rattle.mv_borrow_graph.proofs.Abstract.Places.{below_self, below_trans, overlap_sym, overlap_above, matches_opened, reach_opened}
 use Rattle.mv_borrow_graph.specs.Abstract.Covers.{Node, Own, Glob, Ref, Frame, with_refs, Live, Edges, InList, Given, Origin, FromOwn, FromStore, FromEntry, Leads, Covers}
 use Rattle.mv_borrow_graph.proofs.Abstract.Covers.{only_true, origin_kept, swap, one_ref}
@@ -21,10 +21,6 @@ module _ (depends : ℕ → ℕ → Type 0) (home_of : Defined → ℕ)
     pub chain_covers : (u : Layer) (rest : List Layer) → Chain depends home_of (u ∷ rest) → Covers u.frame u.edges
     chain_covers u rest (Bottom c h e) = c
     chain_covers u rest (Above c h a k d) = c
-
-    pub chain_homed : (u : Layer) (rest : List Layer) → Chain depends home_of (u ∷ rest) → Homed home_of u.frame
-    chain_homed u rest (Bottom c h e) = h
-    chain_homed u rest (Above c h a k d) = h
 
     own_number : (k m a b : ℕ) → Local k a ≡ Local m b → k ≡ m
     own_number k m a b h = cc
@@ -377,11 +373,3 @@ module _ (depends : ℕ → ℕ → Type 0) (home_of : Defined → ℕ)
     -- a Ret: the waiting frame's layer, once it is covered again, stands on top
     pub chain_return : (u w : Layer) (below : List Layer) → Chain depends home_of (u ∷ (w ∷ below)) → Chain depends home_of (w ∷ below)
     chain_return u w below (Above c k argument calls d) = d
-
-    -- no live reference dangles: what a step removes is no root of a live reference of any frame
-    pub none_dangles : (present present' : Root → Type 0) (gone : Root → Type 0) (ls : List Layer)
-        → ((x : Root) → present x → (gone x → ⊥) → present' x)
-        → ((v : Layer) (n : Node) (r : Ref) → OnStack v ls → Live v.frame n r → present r.place.root)
-        → ((v : Layer) (n : Node) (r : Ref) → OnStack v ls → Live v.frame n r → gone r.place.root → ⊥)
-        → (v : Layer) (n : Node) (r : Ref) → OnStack v ls → Live v.frame n r → present' r.place.root
-    none_dangles present present' gone ls keeps was none v n r o h = keeps r.place.root (was v n r o h) (none v n r o h)

@@ -1,12 +1,8 @@
 -- The clauses across frames: what an upper frame acquires no lower one refers to, and no mutable reference overlaps an immutable one below.
-use Rattle.mv_interpreter.proofs.Borrows.Common.{refl, sym, ◌≡◌, ℕ, List, [], ◌∷◌, true, false, ◌⊎◌, inl, inr, ap, subst, ◌==◌, ⊤, list_any, and_from}
-use Rattle.mv_interpreter.proofs.Borrows.Common.{eq-eqb, Key, Stored, Reference, Chain, ref_of, defined, Stood, seen_of, layer_at, layers, home_of}
-use Rattle.mv_machine.specs.Live.{frame_references, overlap}
-use Rattle.mv_borrow_graph.specs.Abstract.Stack.{OnStack, Top, Lower}
+use Rattle.mv_interpreter.proofs.Borrows.Common.{refl, sym, ◌≡◌, ℕ, List, [], ◌∷◌, true, false, ◌⊎◌, inl, inr, ap, subst, and_from, eq-eqb, list_any, ◌==◌, ⊤, Key, frame_references}
+use Rattle.mv_interpreter.proofs.Borrows.Common.{overlap, Stored, Reference, Chain, OnStack, Top, Lower, InRefs, Stood, seen_of, layer_at, layers, home_of, ref_of, defined, root_of}
 use Rattle.mv_borrow_graph.proofs.Abstract.Stack.{acquired_apart, immutable_apart, chain_return, adjacent, reaches}
-use Rattle.mv_interpreter.specs.Borrows.View.{root_of}
 use Rattle.mv_interpreter.proofs.Borrows.Free.{live-at, overlap-is}
-use Rattle.mv_interpreter.specs.Borrows.Hypotheses.{InRefs}
 
 abbrev pub InStood : Stood → List Stood → Type 0
 InStood w [] = ⊥

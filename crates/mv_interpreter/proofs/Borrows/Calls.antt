@@ -1,41 +1,28 @@
 -- A Call and a Ret keep the chain of frames.
-use Rattle.mv_interpreter.proofs.Borrows.Common.{◌≡◌, ℕ, zero, suc, ◌≤◌, ◌+◌, ◌-◌, List, [], ◌∷◌, ◌++◌, map, length, reverse, Bool, true, false, not}
-use Rattle.mv_interpreter.proofs.Borrows.Common.{cond, inl, inr, refl, sym, ◌∙◌, ap, ap₂, arith, subst, Option, Some, None, eqb, slice_get, ◌&&◌}
-use Rattle.mv_interpreter.proofs.Borrows.Common.{◌||◌, ◌==◌, replicate, list_any, list_all, reverse_onto, eq-eqb, and_parts, and_from, eqb-true}
-use Rattle.mv_interpreter.proofs.Borrows.Common.{not-true, eqb_tells, length-map, same_Some, Node, Slot, Own, Glob, Temp, Token, Plain, ReferenceTo}
-use Rattle.mv_interpreter.proofs.Borrows.Common.{MutableReferenceTo, ◌>>>◌, Module, FunctionDefinition, Reference, Value, Frame, reference_of, Edge}
-use Rattle.mv_interpreter.proofs.Borrows.Common.{same_node, without, inherited, Point, no_edge_out, is_mutable, return_edges, Types, Seen, Defined}
-use Rattle.mv_interpreter.proofs.Borrows.Common.{TheLabel, TheNode, AtOwn, AtGlob, AtTemp, TheRef, Live, TheValue, seen_frame, local_ref, Layer}
-use Rattle.mv_interpreter.proofs.Borrows.Common.{Chain, home_of, defined, node_of, Member, edges_of, held_as, activation, acquires_of, layer_of}
-use Rattle.mv_interpreter.proofs.Borrows.Common.{operands_of, kind_at, label_from, local_of, alone, token_kind, operand_kind, Fits, layer}
+use Rattle.mv_interpreter.proofs.Borrows.Common.{refl, sym, ◌≡◌, ℕ, List, [], ◌∷◌, true, false, inl, inr, ap, subst, zero, suc, ◌++◌, map, length, Option, Some, None, ◌≤◌, ◌+◌, ◌-◌}
+use Rattle.mv_interpreter.proofs.Borrows.Common.{reverse, Bool, not, ◌∙◌, ap₂, arith, and_from, eq-eqb, and_parts, eqb-true, not-true, eqb_tells, reverse_onto, length-map, length-append}
+use Rattle.mv_interpreter.proofs.Borrows.Common.{length-reverse, map-append, same_Some, list_any, list_all, ◌==◌, slice_get, replicate, ◌&&◌, ◌||◌, Module, FunctionDefinition, Node, Own}
+use Rattle.mv_interpreter.proofs.Borrows.Common.{Glob, Temp, Token, Plain, ReferenceTo, MutableReferenceTo, reference_of, Frame, Reference, Value, layer, chain_steps, TheNode, AtOwn}
+use Rattle.mv_interpreter.proofs.Borrows.Common.{AtGlob, AtTemp, TheRef, Live, TheValue, seen_frame, local_ref, Activation, refs_among, Defined, TheLabel, Chain, Layer, no_edge_out}
+use Rattle.mv_interpreter.proofs.Borrows.Common.{is_mutable, return_edges, is_mutable_token, is_reference_token, call_edges, is_temp, is_root_node, Edge, same_node, without, inherited}
+use Rattle.mv_interpreter.proofs.Borrows.Common.{Types, of_call, Point, map-turned, Seen, token_kind, operand_kind, Fits, IsCall, home_of, defined, local_of, node_of, Member, edges_of}
+use Rattle.mv_interpreter.proofs.Borrows.Common.{held_as, activation, acquires_of, layer_of, operands_of, kind_at, label_from, alone, AmongNodes, on_bind}
 use Rattle.std.specs.Prelude.{if◌then◌else◌}
-use Rattle.std.proofs.Common.{take, drop, append_assoc}
-use Rattle.std.proofs.lemmas.Bool.{ne_eqb}
-use Rattle.std.proofs.lemmas.List.{length-drop, take-append-drop, length-append, length-reverse, map-append, reverse-reverse}
-use Rattle.mv_move_types.specs.Module.{own_acquires}
+use Rattle.std.proofs.{lemmas.Bool.ne_eqb, lemmas.List.length-drop, lemmas.List.take-append-drop, lemmas.List.reverse-reverse}
+use Rattle.mv_move_types.specs.{Module.own_acquires, Tokens.same_tokens}
 use Rattle.mv_edges.specs.Edges.{opened}
-use Rattle.mv_borrow_graph.specs.BorrowRules.{reference_nodes, is_mutable_token, is_reference_token, call_edges, without_all, result_edges, opened_edges, is_temp, is_root_node}
-use Rattle.mv_type_states.specs.TypeRules.{of_call, taken}
-use Rattle.mv_move_types.specs.Tokens.{same_tokens, same_token}
-use Rattle.mv_borrow_graph.specs.Abstract.Places.{opened as the_opened}
-use Rattle.mv_borrow_graph.specs.Abstract.Covers.{InList}
-use Rattle.mv_borrow_graph.specs.Abstract.Rows.{IsArgument, after_call}
-use Rattle.mv_borrow_graph.specs.Abstract.Lists.{Activation, refs_among, first_locals, Lent, GivenAt}
-use Rattle.mv_borrow_graph.specs.Abstract.Stack.{Calls, Homed}
-use Rattle.mv_borrow_graph.proofs.Abstract.Calls.{passed_at}
-use Rattle.mv_interpreter.specs.Borrows.View.{AmongNodes, value_of}
-use Rattle.mv_interpreter.specs.Borrows.Links.{IsCall}
+use Rattle.mv_borrow_graph.specs.BorrowRules.{reference_nodes, without_all, result_edges, opened_edges}
+use Rattle.mv_borrow_graph.specs.{Abstract.Places.opened as the_opened, Abstract.Covers.InList, Abstract.Rows.IsArgument, Abstract.Rows.after_call, Abstract.Lists.first_locals}
+use Rattle.mv_borrow_graph.specs.{Abstract.Lists.Lent, Abstract.Lists.GivenAt, Abstract.Stack.Calls, Abstract.Stack.Homed}
+use Rattle.mv_type_states.specs.TypeRules.{taken}
+use Rattle.mv_borrow_graph.proofs.{Abstract.Calls.passed_at, Abstract.Run.ByRet, Abstract.Run.ByCall}
+use Rattle.mv_interpreter.specs.Borrows.View.{value_of}
 use Rattle.mv_interpreter.proofs.Borrows.Edges.{none_any, free_out, then-some, member_filter, member_flat, member_left, member_right, node-not, node_of-inj, Included}
-use Rattle.mv_interpreter.proofs.Borrows.EdgeRows.{inherited_in, away}
-use Rattle.mv_borrow_graph.proofs.Abstract.Run.{ByRet, ByCall, chain_steps}
-use Rattle.mv_interpreter.proofs.Borrows.Kept.{below-from}
-use Rattle.mv_interpreter.proofs.Borrows.Lists.{place_get, place-reverse, stack-back}
+use Rattle.mv_interpreter.proofs.{Borrows.EdgeRows.inherited_in, Borrows.EdgeRows.away, Borrows.Kept.below-from, Borrows.Lists.place_get, Borrows.Lists.place-reverse}
+use Rattle.mv_interpreter.proofs.{Borrows.Lists.stack-back}
 use Rattle.mv_interpreter.proofs.Borrows.Mutability.{kinds, kinds-length, kind-at, kind-mutable, kind-reference}
-use Rattle.mv_interpreter.proofs.Lists.{map-turned}
-
-some-bind0 : {A B P : Type 0} (r : Option A) (f : A → Option B) (y : B) → (r >>> f) ≡ Some y → ((x : A) → r ≡ Some x → f x ≡ Some y → P) → P
-some-bind0 (Some x) f y e go = go x refl e
-some-bind0 None f y e go = absurd cc
+use Rattle.mv_type_states.proofs.Tokens.{lists_equal}
+use Rattle.std.proofs.Common.{take, drop, append_assoc}
 
 -- ---- lists
 
@@ -47,64 +34,14 @@ place-right [] ys j x h = absurd (too-far ys j x h)
     too-far (y ∷ ys) j x h =
         elim (eqb_tells (suc (length ys) + j) (length ys)) [
           | inl t ↦ let e = t.1 in omega arith
-          | inr t ↦ too-far ys (suc j) x (subst (λ n. place_get ys n ≡ Some x) (more (length ys) j) (rw t.0 at h))
+          | inr t ↦ too-far ys (suc j) x (let e : suc (length ys) + j ≡ length ys + suc j = omega arith in subst (λ n. place_get ys n ≡ Some x) e (rw t.0 at h))
         ]
-      where
-        more : (n j : ℕ) → suc n + j ≡ n + suc j
-        more n j = omega arith
 place-right (z ∷ xs) ys j x h =
+    let long : length (xs ++ ys) ≡ length xs + length ys = length-append xs ys in
     elim (eqb_tells j (length xs)) [
-      | inl t ↦ rw t.0 (subst (λ b. cond b (Some z) (place_get (xs ++ ys) (length ys + j)) ≡ Some x) (top j (length-append xs ys) t.1) h)
-      | inr t ↦ rw t.0 (place-right xs ys j x (subst (λ b. cond b (Some z) (place_get (xs ++ ys) (length ys + j)) ≡ Some x) (other j (length-append xs ys) t.1) h))
+      | inl t ↦ let d = t.1 in rw t.0 (rw (eq-eqb (length ys + j) (length (xs ++ ys)) (omega arith)) at h)
+      | inr t ↦ let d = t.1 in rw t.0 (place-right xs ys j x (rw (ne_eqb (length ys + j) (length (xs ++ ys)) (λ z. d (omega arith))) at h))
     ]
-  where
-    top : (j : ℕ) → length (xs ++ ys) ≡ length xs + length ys → j ≡ length xs → eqb (length ys + j) (length (xs ++ ys)) ≡ true
-    top j e d = eq-eqb (length ys + j) (length (xs ++ ys)) (omega arith)
-
-    other : (j : ℕ) → length (xs ++ ys) ≡ length xs + length ys → (j ≡ length xs → ⊥) → eqb (length ys + j) (length (xs ++ ys)) ≡ false
-    other j e d = ne_eqb (length ys + j) (length (xs ++ ys)) (λ z. d (omega arith))
-
-pub kinds-at : (xs ys : List Token) → map token_kind xs ≡ map token_kind ys → (j : ℕ) (t : Token) → place_get xs j ≡ Some t → (u : Token) × (place_get ys j ≡ Some u) × (token_kind u ≡ token_kind t)
-kinds-at [] ys h j t e = absurd cc
-kinds-at (x ∷ xs) [] h j t e = absurd cc
-kinds-at (x ∷ xs) (y ∷ ys) h j t e = at_place (first-two h) (λ g. kinds-at xs ys (rest-two h) j t g)
-  where
-    first-two : (token_kind x ∷ map token_kind xs) ≡ (token_kind y ∷ map token_kind ys) → token_kind y ≡ token_kind x
-    first-two h = cc
-
-    rest-two : (token_kind x ∷ map token_kind xs) ≡ (token_kind y ∷ map token_kind ys) → map token_kind xs ≡ map token_kind ys
-    rest-two h = cc
-
-    long : length ys ≡ length xs
-    long = sym (length-map ys token_kind) ∙ ap length (sym (rest-two h)) ∙ length-map xs token_kind
-
-    at_place : token_kind y ≡ token_kind x → (place_get xs j ≡ Some t → (u : Token) × (place_get ys j ≡ Some u) × (token_kind u ≡ token_kind t))
-        → (u : Token) × (cond (eqb j (length ys)) (Some y) (place_get ys j) ≡ Some u) × (token_kind u ≡ token_kind t)
-    at_place one further =
-        elim (eqb_tells j (length xs)) [
-          | inl q ↦ (y, rw (long, q.0) refl, one ∙ ap token_kind (same_Some x t (rw q.0 at e)))
-          | inr q ↦ let r = further (rw q.0 at e) in (r.0, rw (long, q.0) r.1, r.2)
-        ]
-
--- types that the test calls one are of one kind
-same-kinds : (xs ys : List Token) → same_tokens xs ys ≡ true → map token_kind xs ≡ map token_kind ys
-same-kinds [] [] h = refl
-same-kinds [] (y ∷ ys) h = absurd cc
-same-kinds (x ∷ xs) [] h = absurd cc
-same-kinds (x ∷ xs) (y ∷ ys) h =
-    let both = and_parts (same_token x y) (same_tokens xs ys) h in
-    ap₂ (λ (a : Option Bool) (l : List (Option Bool)). a ∷ l) (one x y both.0) (same-kinds xs ys both.1)
-  where
-    one : (x y : Token) → same_token x y ≡ true → token_kind x ≡ token_kind y
-    one (Plain a) (Plain b) h = refl
-    one (ReferenceTo a) (ReferenceTo b) h = refl
-    one (MutableReferenceTo a) (MutableReferenceTo b) h = refl
-    one (Plain a) (ReferenceTo b) h = absurd cc
-    one (Plain a) (MutableReferenceTo b) h = absurd cc
-    one (ReferenceTo a) (Plain b) h = absurd cc
-    one (ReferenceTo a) (MutableReferenceTo b) h = absurd cc
-    one (MutableReferenceTo a) (Plain b) h = absurd cc
-    one (MutableReferenceTo a) (ReferenceTo b) h = absurd cc
 
 plus-zero : (n : ℕ) → n + 0 ≡ n
 plus-zero n = omega arith
@@ -130,16 +67,13 @@ all-nodes test [] n h a = absurd a
 all-nodes test (x ∷ ns) n h (inl a) = ap test a ∙ (and_parts (test x) (list_all test ns) h).0
 all-nodes test (x ∷ ns) n h (inr a) = all-nodes test ns n (and_parts (test x) (list_all test ns) h).1 a
 
-all-numbers : (test : ℕ → Bool) (ns : List ℕ) (n : ℕ) → list_all test ns ≡ true → list_any (λ y. y == n) ns ≡ true → test n ≡ true
+pub all-numbers : (test : ℕ → Bool) (ns : List ℕ) (n : ℕ) → list_all test ns ≡ true → list_any (λ y. y == n) ns ≡ true → test n ≡ true
 all-numbers test [] n h a = absurd cc
 all-numbers test (x ∷ ns) n h a =
     elim (eqb_tells x n) [
       | inl t ↦ ap test (sym t.1) ∙ (and_parts (test x) (list_all test ns) h).0
       | inr t ↦ all-numbers test ns n (and_parts (test x) (list_all test ns) h).1 (rw t.0 at a)
     ]
-
-map-join : (lent : List (Option Reference)) (stack : List Value) → map held_as (reverse lent ++ map reference_of stack) ≡ map held_as (reverse lent) ++ map held_as (map reference_of stack)
-map-join lent stack = map-append held_as (reverse lent) (map reference_of stack)
 
 -- every node of the parameters is an operand from the base up
 pub from-base : (test : Token → Bool) (base : ℕ) (ts : List Token) (n : Node) → AmongNodes n (reference_nodes test base ts) → (k : ℕ) × (n ≡ Temp k) × (base ≤ k)
@@ -174,10 +108,7 @@ result-in mutable all k i [] t es e n at ref a b m to = absurd cc
 result-in mutable all k zero (x ∷ ts) t es e n at ref a b m to = first x (same_Some x t at)
   where
     first : (x : Token) → x ≡ t → Member (record { from = e.from; label = opened e.label; to = Temp (k + 0) }) (result_edges mutable all k (x ∷ ts) es)
-    first (Plain v) h = absurd (never (ap is_reference_token h ∙ ref))
-      where
-        never : false ≡ true → ⊥
-        never z = cc
+    first (Plain v) h = let z : false ≡ true = ap is_reference_token h ∙ ref in absurd cc
     first (ReferenceTo v) h =
         subst (λ n. Member (record { from = e.from; label = opened e.label; to = Temp n }) (result_edges mutable all k (ReferenceTo v ∷ ts) es)) (sym (plus-zero k))
         (member_left _ (opened_edges all (Temp k) es) (result_edges mutable all (k + 1) ts es) (opened-in all (Temp k) n es e a m to))
@@ -208,9 +139,8 @@ given-locals [] n = refl
 given-locals (v ∷ vs) n = ap (λ l. Some (value_of v) ∷ l) (given-locals vs n)
 
 none-local : (n i : ℕ) (r : TheRef) → local_ref (map local_of (replicate n None)) i ≡ Some r → ⊥
-none-local zero i r h = cc
-none-local (suc n) zero r h = cc
 none-local (suc n) (suc i) r h = none-local n i r h
+none-local n i r h = cc
 
 -- a frame's acquired structs are of its own module
 pub homed : (acquires : List ℕ) (v : Seen) → Homed home_of (seen_frame (activation acquires v))
@@ -248,7 +178,7 @@ module _ (depends : ℕ → ℕ → Type 0) (home : Module) (function : Function
 
     typed-call : same_tokens (take count types) (reverse link.parameters) ≡ true
     typed-call =
-        some-bind0 (taken link.parameters types) (λ below. Some (reverse link.results ++ below)) types' (rw (link.is_handle, link.is_parameters, link.is_results) at typing) (λ below below_is e.
+        on_bind (taken link.parameters types) (λ below. Some (reverse link.results ++ below)) types' (rw (link.is_handle, link.is_parameters, link.is_results) at typing) (λ below below_is e.
         (then-some (same_tokens (take count types) (reverse link.parameters)) (drop count types) below below_is).0)
 
     long : length types ≡ count + length w.frame.stack
@@ -260,10 +190,7 @@ module _ (depends : ℕ → ℕ → Type 0) (home : Module) (function : Function
     height-is = length-map (map reference_of w.frame.stack) held_as ∙ length-map w.frame.stack reference_of
 
     pub base-is : base ≡ height
-    base-is = let a : length types ≡ count + length w.frame.stack = long in let b : height ≡ length w.frame.stack = height-is in sums count (length w.frame.stack) (length types) height a b
-      where
-        sums : (c s n h : ℕ) → n ≡ c + s → h ≡ s → n - c ≡ h
-        sums c s n h a b = omega arith
+    base-is = let a : length types ≡ count + length w.frame.stack = long in let b : height ≡ length w.frame.stack = height-is in omega (arith, a, b)
 
     length-rest : length (drop count types) ≡ base
     length-rest = length-drop count types
@@ -274,25 +201,23 @@ module _ (depends : ℕ → ℕ → Type 0) (home : Module) (function : Function
     arg-at k g above live =
         let r = stack-back (operands_of w) k g live in
         let t = kind-at types (operands_of w) fits.stack k (Some r.0) r.1 in
-        let j : (j : ℕ) × (k ≡ base + j) = (k - base, split k base height base-is above) in
+        let same : base ≡ height = base-is in
+        let j : (j : ℕ) × (k ≡ base + j) = (k - base, omega (arith, same, above)) in
         let here = place-right (take count types) (drop count types) j.0 t.0
         (subst (λ (l : List Token). place_get l (length (drop count types) + j.0) ≡ Some t.0) (sym (take-append-drop count types))
         (subst (λ n. place_get types n ≡ Some t.0) (j.1 ∙ ap (λ (n : ℕ). n + j.0) (sym length-rest)) t.1)) in
-        let u = kinds-at (take count types) (reverse link.parameters) (same-kinds (take count types) (reverse link.parameters) typed-call) j.0 t.0 here in (
+        let there = subst (λ (l : List Token). place_get l j.0 ≡ Some t.0) (lists_equal (take count types) (reverse link.parameters) typed-call) here in (
           j.0,
-          u.0,
+          t.0,
           j.1,
-          ap (λ (l : List Token). slice_get l j.0) (sym (reverse-reverse link.parameters)) ∙ place-reverse (reverse link.parameters) j.0 ∙ u.1,
-          u.2 ∙ t.2 ∙ ap (λ (q : TheRef). Some q.mutable) (sym r.2),
+          ap (λ (l : List Token). slice_get l j.0) (sym (reverse-reverse link.parameters)) ∙ place-reverse (reverse link.parameters) j.0 ∙ there,
+          t.2 ∙ ap (λ (q : TheRef). Some q.mutable) (sym r.2),
         )
-      where
-        split : (k b h : ℕ) → b ≡ h → h ≤ k → k ≡ b + (k - b)
-        split k b h e l = omega arith
 
     pub calls-hold : (eu : List Edge) → Calls depends (layer_of function.acquires w es) (layer_of acquires (record { frame = upper; lent = [] }) eu) (IsArgument height)
     calls-hold eu = record {
       passed = λ g i. passed_at act_w (map held_as (reverse w.lent)) (map held_as (map reference_of w.frame.stack))
-          (map-join w.lent w.frame.stack) g (subst (λ l. InList g (refs_among (map held_as (reverse l)))) (sym lent_is) i);
+          (map-append held_as (reverse w.lent) (map reference_of w.frame.stack)) g (subst (λ l. InList g (refs_among (map held_as (reverse l)))) (sym lent_is) i);
       free = λ n g x c is live mutable e. at_argument n g x c is live mutable e;
       store_free = λ same t acq. at_store same t (and_parts (t.place == upper.function.place) (list_any (λ y. y == t.index) acquires) acq);
       later = link.later;
@@ -337,10 +262,7 @@ module _ (depends : ℕ → ℕ → Type 0) (home : Module) (function : Function
         )
       where
         outside : (n d : Node) (q : TheNode) → (IsArgument height q → ⊥) → q ≡ node_of place d → AmongNodes n (reference_nodes is_reference_token base link.parameters) → d ≡ n → ⊥
-        outside n d q far_off is a same = let b = from-base is_reference_token base link.parameters n a in far_off (b.0, is ∙ ap (node_of place) (same ∙ b.1), lower b.0 b.2 base-is)
-          where
-            lower : (k : ℕ) → base ≤ k → base ≡ height → height ≤ k
-            lower k l b = subst (λ n. n ≤ k) b l
+        outside n d q far_off is a same = let b = from-base is_reference_token base link.parameters n a in far_off (b.0, is ∙ ap (node_of place) (same ∙ b.1), subst (λ n. n ≤ b.0) base-is b.2)
 
         far : (n : Node) → AmongNodes n (reference_nodes is_reference_token base link.parameters) → (e.from ≡ n → ⊥) × (e.to ≡ n → ⊥)
         far n a = (λ h. outside n e.from p no_p from a h, λ h. outside n e.to c no_c to a h)
@@ -369,7 +291,7 @@ module _ (depends : ℕ → ℕ → Type 0) (home : Module) (function : Function
       call-kept eu arguments n locals stack entered stands =
           chain_steps depends home_of through no_cycle _ _
           (ByCall act_w (activation acquires (alone upper)) (edges_of place es) (edges_of upper.function.place eu) (map held_as (reverse w.lent)) (map held_as (map reference_of w.frame.stack))
-          (map local_of (replicate n None)) rest (map-join w.lent w.frame.stack)
+          (map local_of (replicate n None)) rest (map-append held_as (reverse w.lent) (map reference_of w.frame.stack))
           (ap (map local_of) locals ∙ given-locals arguments n ∙ ap (λ l. map Some (map held_as l) ++ map local_of (replicate n None)) (sym entered ∙ sym lent_is)
           ∙ ap (λ l. map Some l ++ map local_of (replicate n None)) (sym (map-reverse w.lent)) ∙ sym (first-is (map held_as (reverse w.lent)) (map local_of (replicate n None))))
           (ap (λ (s : List Value). map held_as (map reference_of s)) stack) (ap (λ l. refs_among (map held_as (reverse l))) (sym lent_is)) (none-local n)
@@ -385,7 +307,7 @@ module _ (depends : ℕ → ℕ → Type 0) (home : Module) (function : Function
           (sym (map-append held_as (map reference_of upper.stack) (map reference_of w.frame.stack)) ∙ ap (map held_as) (sym (map-append reference_of upper.stack w.frame.stack)))
           (chain_steps depends home_of through no_cycle _ _
           (ByRet act_w act_u (edges_of place es) (edges_of upper.function.place eu) (edges_of place es') (map held_as (reverse w.lent)) (map held_as (map reference_of w.frame.stack))
-          (kind_at pw) result rest (map-join w.lent w.frame.stack) (kinds pw function.acquires w fits) typed no_own no_glob no_pair (calls-hold eu)
+          (kind_at pw) result rest (map-append held_as (reverse w.lent) (map reference_of w.frame.stack)) (kinds pw function.acquires w fits) typed no_own no_glob no_pair (calls-hold eu)
           (below-from _ _ (return-in act_u result at_results typed))) stands)
         where
           act_u : Activation
@@ -411,10 +333,8 @@ module _ (depends : ℕ → ℕ → Type 0) (home : Module) (function : Function
               (glob-root e.from from))
             where
               glob-root : (n : Node) → AtGlob t ≡ node_of upper.function.place n → (is_root_node n || is_temp n && is_mutable pu n) ≡ true
-              glob-root (Slot l) h = absurd cc
-              glob-root (Own l) h = absurd cc
               glob-root (Glob l) h = refl
-              glob-root (Temp l) h = absurd cc
+              glob-root n h = absurd cc
 
           no_pair : (i j : ℕ) (x : TheLabel) → result i ≡ true → edges_of upper.function.place eu (AtTemp i) x (AtTemp j) → ⊥
           no_pair i j x mutable (e, m, from, on, to) =

@@ -1,26 +1,17 @@
 -- What a certificate that holds says at an instruction and after it.
-use Rattle.mv_interpreter.proofs.Borrows.Common.{◌≡◌, ℕ, List, [], ◌∷◌, ◌++◌, Bool, true, false, inl, inr, refl, sym, ◌∙◌, ap, ap₂, subst, Option}
-use Rattle.mv_interpreter.proofs.Borrows.Common.{Some, None, ◌&&◌, beq, option_map_or, list_any, list_all, and_parts, same_Some, Instruction, Module}
-use Rattle.mv_interpreter.proofs.Borrows.Common.{FunctionDefinition, begins, Types, Edge, Label, same_node, EdgesBelow, node_of, label_from, Member}
-use Rattle.mv_interpreter.proofs.Borrows.Common.{edges_of}
+use Rattle.mv_interpreter.proofs.Borrows.Common.{refl, sym, ◌≡◌, ℕ, List, [], ◌∷◌, true, false, inl, inr, ap, subst, ◌++◌, Option, Some, Bool, ◌∙◌, ap₂, and_parts, or_cases, same_Some}
+use Rattle.mv_interpreter.proofs.Borrows.Common.{beq, list_any, list_all, ◌&&◌, Module, FunctionDefinition, begins, Availability, Instruction, begins-more, EdgesBelow, LabelBelow, Edge}
+use Rattle.mv_interpreter.proofs.Borrows.Common.{same_node, Label, Types, node_of, Member, edges_of, label_from, label_of, on_bind}
+use Rattle.mv_interpreter.proofs.{Typing.Callees.on_found, Borrows.Edges.same_node-is, Borrows.Kept.label-self, Typing.Tests.beq-is}
 use Rattle.std.specs.Str.{bytes_eq}
-use Rattle.std.proofs.lemmas.Bool.{or_cases}
 use Rattle.std.proofs.lemmas.Slice.Eq.{bytes_eq-Decides}
-use Rattle.mv_move_types.specs.declared.borrow.Availability.{Availability}
 use Rattle.mv_cfg.specs.Blocks.{BasicBlock as Block}
 use Rattle.mv_type_states.specs.TypeRules.{types_after}
 use Rattle.mv_edges.specs.Edges.{label_leq, edge_leq, edges_leq}
 use Rattle.mv_certificate.specs.Certificate.{Known, Rule, through, instructions_of, stated_at, flows_into, block_holds}
-use Rattle.mv_locals_safety.specs.LocalsRules.{locals_after}
-use Rattle.mv_borrow_graph.specs.BorrowRules.{edges_after}
 use Rattle.mv_certificate.specs.Known.{known_after}
-use Rattle.mv_machine.proofs.Laws.{begins-more}
-use Rattle.mv_interpreter.proofs.Borrows.Edges.{same_node-is}
-use Rattle.mv_borrow_graph.specs.Abstract.Places.{LabelBelow, Begins}
-use Rattle.mv_module_text.proofs.Texts.{on_bind}
-use Rattle.mv_interpreter.specs.Borrows.View.{label_of}
-use Rattle.mv_interpreter.proofs.Borrows.Kept.{label-self}
-use Rattle.mv_interpreter.proofs.Typing.Tests.{beq-is}
+use Rattle.mv_locals_safety.specs.LocalsRules.{locals_after}
+use Rattle.mv_borrow_graph.specs.{BorrowRules.edges_after, Abstract.Places.Begins}
 
 -- ---- the order
 
@@ -116,20 +107,12 @@ module _ {S : Type 0} (rule : Rule S) (m : Module) (d : FunctionDefinition) wher
     pub exits : list_all (flows_into leq stated end.0) b.next ≡ true
 
   pub held : (leq : S → S → Bool) (stated : List (Block × Option S)) (b : Block) (known : S) → block_holds rule leq m d stated (b, Some known) ≡ true → Held leq stated b known
-  held leq stated b known h = by_case (through rule m d (instructions_of d b) (known, [])) refl h
-    where
-      by_case : (o : Option (S × Types)) → through rule m d (instructions_of d b) (known, []) ≡ o
-          → option_map_or (λ end. list_all (flows_into leq stated end.0) b.next) o false ≡ true → Held leq stated b known
-      by_case None e k = absurd cc
-      by_case (Some end) e k = record { end = end; goes = e; exits = k }
+  held leq stated b known h =
+      on_found (λ end. list_all (flows_into leq stated end.0) b.next) (through rule m d (instructions_of d b) (known, [])) h (λ end e k. record { end = end; goes = e; exits = k })
 
   -- where control goes on, something is stated, and what is known is below it
   pub flows : (leq : S → S → Bool) (stated : List (Block × Option S)) (known : S) (i : ℕ) → flows_into leq stated known i ≡ true → (s : S) × (stated_at stated i ≡ Some s) × (leq known s ≡ true)
-  flows leq stated known i h = by_case (stated_at stated i) h
-    where
-      by_case : (o : Option S) → option_map_or (leq known) o false ≡ true → (s : S) × (o ≡ Some s) × (leq known s ≡ true)
-      by_case None k = absurd cc
-      by_case (Some s) k = (s, refl, k)
+  flows leq stated known i h = on_found (leq known) (stated_at stated i) h (λ s is k. (s, is, k))
 
 -- what is known of both parts goes through where each part does
 pub both-through : (m : Module) (d : FunctionDefinition) (is : List Instruction) (k : Known) (types : Types) (ls : List Availability) (es : List Edge) (ts us : Types)

@@ -1,18 +1,11 @@
 -- Edges of a list, and what the tests on a list say of them.
-use Rattle.mv_interpreter.proofs.Borrows.Common.{◌≡◌, ℕ, suc, List, [], ◌∷◌, ◌++◌, map, length, Bool, true, false, inl, inr, refl, sym, ◌∙◌, ap}
-use Rattle.mv_interpreter.proofs.Borrows.Common.{arith, Some, filter, list_any, eqb-true, not-true, Node, Slot, Own, Glob, Temp, Edge, same_node}
-use Rattle.mv_interpreter.proofs.Borrows.Common.{Point, no_edge_out, no_mutable_from, is_mutable, Defined, TheLabel, TheNode, AtGlob, defined}
-use Rattle.mv_interpreter.proofs.Borrows.Common.{node_of, Member, edges_of, kind_at}
-use Rattle.std.proofs.Common.{◌||◌}
-use Rattle.std.specs.Prelude.{flat_map}
+use Rattle.mv_interpreter.proofs.Borrows.Common.{refl, sym, ◌≡◌, ℕ, List, [], ◌∷◌, true, false, inl, inr, ap, suc, ◌++◌, map, length, Some, Bool, ◌∙◌, arith, eqb-true, not-true}
+use Rattle.mv_interpreter.proofs.Borrows.Common.{true≢false, cases_Bool, list_any, filter, flat_map, Node, Slot, Own, Glob, Temp, TheNode, Edges, Defined, TheLabel, no_edge_out}
+use Rattle.mv_interpreter.proofs.Borrows.Common.{is_mutable, no_mutable_from, Edge, same_node, out_of, Point, defined, node_of, Member, edges_of, kind_at, AmongNodes}
+use Rattle.std.proofs.lemmas.Bool.{false_from_ne_true, or_parts}
 use Rattle.std.specs.Bool.{then_some}
-use Rattle.std.proofs.lemmas.Bool.{cases_Bool, true≢false}
-use Rattle.mv_edges.specs.Edges.{out_of}
 use Rattle.mv_edges.specs.Equality.{same_node_decides}
-use Rattle.mv_borrow_graph.specs.BorrowRules.{is_empty}
-use Rattle.mv_borrow_graph.specs.Abstract.Covers.{Edges}
-use Rattle.mv_borrow_graph.specs.There.{node_itself}
-use Rattle.mv_interpreter.specs.Borrows.View.{AmongNodes}
+use Rattle.mv_borrow_graph.specs.{BorrowRules.is_empty, There.node_itself}
 
 -- ---- nodes
 
@@ -21,35 +14,17 @@ pub same_node-is : (a b : Node) → same_node a b ≡ true → a ≡ b
 same_node-is a b h = (same_node_decides a b).0 h
 
 pub node_of-inj : (w : ℕ) (a b : Node) → node_of w a ≡ node_of w b → a ≡ b
+node_of-inj w (Glob i) (Glob j) h = let same : defined w i ≡ defined w j = cc in ap Glob (ap (λ (d : Defined). d.index) same)
 node_of-inj w (Slot i) (Slot j) h = cc
 node_of-inj w (Own i) (Own j) h = cc
-node_of-inj w (Glob i) (Glob j) h = ap Glob (ap (λ (d : Defined). d.index) (glob-inj (defined w i) (defined w j) h))
-  where
-    glob-inj : (a b : Defined) → AtGlob a ≡ AtGlob b → a ≡ b
-    glob-inj a b e = cc
 node_of-inj w (Temp i) (Temp j) h = cc
-node_of-inj w (Slot i) (Own j) h = cc
-node_of-inj w (Slot i) (Glob j) h = cc
-node_of-inj w (Slot i) (Temp j) h = cc
-node_of-inj w (Own i) (Slot j) h = cc
-node_of-inj w (Own i) (Glob j) h = cc
-node_of-inj w (Own i) (Temp j) h = cc
-node_of-inj w (Glob i) (Slot j) h = cc
-node_of-inj w (Glob i) (Own j) h = cc
-node_of-inj w (Glob i) (Temp j) h = cc
-node_of-inj w (Temp i) (Slot j) h = cc
-node_of-inj w (Temp i) (Own j) h = cc
-node_of-inj w (Temp i) (Glob j) h = cc
+node_of-inj w a b h = cc
 
 pub node-is : (n m : Node) → n ≡ m → same_node n m ≡ true
 node-is n m h = rw h (node_itself m)
 
 pub node-not : (n m : Node) → (n ≡ m → ⊥) → same_node n m ≡ false
-node-not n m d =
-    elim (cases_Bool (same_node n m)) [
-      | inl t ↦ absurd (d (same_node-is n m t))
-      | inr t ↦ t
-    ]
+node-not n m d = false_from_ne_true (same_node n m) (λ t. d (same_node-is n m t))
 
 -- ---- members
 
@@ -84,23 +59,12 @@ member_flat f e n (x ∷ ns) (inr h) m = member_right e (f x) (flat_map f ns) (m
 -- none passes, of a list of which no test passes
 pub none_any : (test : Edge → Bool) (es : List Edge) → list_any test es ≡ false → (e : Edge) → Member e es → test e ≡ true → ⊥
 none_any test [] h e m t = m
-none_any test (x ∷ es) h e (inl m) t = true≢false (sym t ∙ ap test m ∙ or_first (test x) (list_any test es) h)
-  where
-    or_first : (a b : Bool) → (a || b) ≡ false → a ≡ false
-    or_first true b h = h
-    or_first false b h = refl
-none_any test (x ∷ es) h e (inr m) t = none_any test es (or_second (test x) (list_any test es) h) e m t
-  where
-    or_second : (a b : Bool) → (a || b) ≡ false → b ≡ false
-    or_second true b h = absurd cc
-    or_second false b h = h
+none_any test (x ∷ es) h e (inl m) t = true≢false (sym t ∙ ap test m ∙ (or_parts (test x) (list_any test es) h).0)
+none_any test (x ∷ es) h e (inr m) t = none_any test es (or_parts (test x) (list_any test es) h).1 e m t
 
 pub none_in : (es : List Edge) → is_empty es ≡ true → (e : Edge) → Member e es → ⊥
 none_in [] h e m = m
-none_in (x ∷ es) h e m = not_none (length es) (eqb-true (suc (length es)) 0 h)
-  where
-    not_none : (n : ℕ) → suc n ≡ 0 → ⊥
-    not_none n d = omega arith
+none_in (x ∷ es) h e m = let d : suc (length es) ≡ 0 = eqb-true (suc (length es)) 0 h in omega arith
 
 -- ---- what the needs say
 
@@ -115,9 +79,7 @@ free_out w n es h x c (e, m, from, l, to) =
 
 pub kind_of_node : (p : Point) (w : ℕ) (n : Node) → kind_at p (node_of w n) ≡ is_mutable p n
 kind_of_node p w (Slot l) = refl
-kind_of_node p w (Own l) = refl
-kind_of_node p w (Glob l) = refl
-kind_of_node p w (Temp l) = refl
+kind_of_node p w n = refl
 
 -- none leads to a mutable node
 pub free_mutable : (p : Point) (w : ℕ) (n : Node) (es : List Edge) → no_mutable_from p n es ≡ true → (x : TheLabel) (c : TheNode)

@@ -1,68 +1,47 @@
 -- What no live reference of any frame leads into.
-use Rattle.mv_interpreter.proofs.Borrows.Common.{◌≡◌, ℕ, suc, ◌<◌, ◌≤◌, List, [], ◌∷◌, ◌++◌, map, length, reverse, true, false, not, ◌⊎◌, inl, inr}
-use Rattle.mv_interpreter.proofs.Borrows.Common.{refl, sym, ◌∙◌, ap, ap₂, arith, subst, Option, Some, None, ◌&&◌, ◌||◌, ◌==◌, list_any, and_parts}
-use Rattle.mv_interpreter.proofs.Borrows.Common.{and_from, eq-eqb, eqb-true, not-true, eqb_tells, Key, Slot, Own, Glob, Temp, Local, Stored}
-use Rattle.mv_interpreter.proofs.Borrows.Common.{Reference, Value, Frame, State, reference_of, live, is_frozen_by, begins, no_edge_out, return_edges}
-use Rattle.mv_interpreter.proofs.Borrows.Common.{is_mutable, Seen, Defined, TheLabel, TheNode, AtSlot, AtTemp, AtOwn, AtGlob, TheRef, Live, local_ref}
-use Rattle.mv_interpreter.proofs.Borrows.Common.{stack_ref, seen_frame, Layer, Chain, Edge, Node, Point, home_of, Stood, seen_of, layer_at, layers}
-use Rattle.mv_interpreter.proofs.Borrows.Common.{StoodOn, held_as, node_of, edges_of, Member, defined, ref_of, local_of, acquires_of, operands_of}
-use Rattle.mv_interpreter.proofs.Borrows.Common.{activation}
-use Rattle.std.specs.Prelude.{flat_map}
+use Rattle.mv_interpreter.proofs.Borrows.Common.{refl, sym, ◌≡◌, ℕ, List, [], ◌∷◌, true, false, ◌⊎◌, inl, inr, ap, subst, suc, ◌++◌, map, length, Option, Some, None, ◌≤◌, reverse, not}
+use Rattle.mv_interpreter.proofs.Borrows.Common.{◌∙◌, ap₂, arith, ◌<◌, and_from, eq-eqb, and_parts, eqb-true, not-true, or_cases, cases_Bool, list_any, ◌==◌, ◌&&◌, ◌||◌, flat_map, begins}
+use Rattle.mv_interpreter.proofs.Borrows.Common.{Node, Own, Glob, Temp, Key, begins-more, reference_of, live, is_frozen_by, frame_references, overlap, Frame, State, frames, Stored}
+use Rattle.mv_interpreter.proofs.Borrows.Common.{Reference, Value, Local, Root, Place, TheNode, AtOwn, AtGlob, AtTemp, TheRef, Live, AtSlot, seen_frame, local_ref, stack_ref, Defined}
+use Rattle.mv_interpreter.proofs.Borrows.Common.{TheLabel, Chain, Layer, OnStack, Top, Lower, no_edge_out, is_mutable, return_edges, is_temp, is_root_node, Edge, Point, Seen, InRefs}
+use Rattle.mv_interpreter.proofs.Borrows.Common.{Stood, seen_of, layer_at, layers, home_of, StoodOn, ref_of, defined, local_of, node_of, Member, edges_of, held_as, activation, acquires_of}
+use Rattle.mv_interpreter.proofs.Borrows.Common.{operands_of, root_of}
 use Rattle.std.specs.List.{cons_option}
-use Rattle.std.proofs.lemmas.Bool.{or_cases, cases_Bool}
-use Rattle.mv_machine.specs.Value.{Root, Place}
-use Rattle.mv_machine.specs.State.{frames, same_key}
-use Rattle.mv_machine.specs.Live.{references, local_references, frame_references, same_root, overlap}
-use Rattle.mv_borrow_graph.specs.BorrowRules.{is_temp, is_root_node}
-use Rattle.mv_interpreter.specs.Borrows.Hypotheses.{InRefs}
-use Rattle.mv_machine.proofs.Laws.{begins-more}
+use Rattle.mv_machine.specs.{State.same_key, Live.references, Live.local_references, Live.same_root, StepControl.holds_frame, StepControl.is_local_of}
 use Rattle.mv_borrow_graph.specs.Abstract.Places.{Local as InLocal, Global as InStore, Overlap, Reach}
-use Rattle.mv_borrow_graph.specs.Abstract.Covers.{Covers as TheCovers}
-use Rattle.mv_borrow_graph.specs.Abstract.Stack.{OnStack, Top, Lower, Above}
+use Rattle.mv_borrow_graph.specs.{Abstract.Covers.Covers as TheCovers, Abstract.Stack.Above}
 use Rattle.mv_borrow_graph.proofs.Abstract.Stack.{local_unborrowed, struct_unborrowed, write_unfrozen, local_below, number_below, chain_covers}
 use Rattle.mv_borrow_graph.proofs.Abstract.Places.{overlap_sym}
-use Rattle.mv_machine.specs.StepControl.{holds_frame, is_local_of}
-use Rattle.mv_interpreter.specs.Borrows.View.{root_of, place_of}
+use Rattle.mv_interpreter.specs.Borrows.View.{place_of}
 use Rattle.mv_interpreter.proofs.Borrows.Edges.{free_out, none_any, then-some, node_of-inj}
-use Rattle.mv_interpreter.proofs.Borrows.Lists.{place_get, stack-seen}
-use Rattle.mv_interpreter.proofs.Borrows.Kept.{place-under}
+use Rattle.mv_interpreter.proofs.{Borrows.Lists.place_get, Borrows.Lists.stack-seen, Borrows.Kept.place-under}
 
 pub in-either : (r : Reference) (xs ys : List Reference) → InRefs r (xs ++ ys) → InRefs r xs ⊎ InRefs r ys
 in-either r [] ys h = inr h
 in-either r (x ∷ xs) ys (inl h) = inl (inl h)
 in-either r (x ∷ xs) ys (inr h) = elim (in-either r xs ys h) [ inl t ↦ inl (inr t) | inr t ↦ inr t ]
 
+-- a reference among those of a value and others
+pub in-cons : (r : Reference) (o : Option Reference) (rs : List Reference) → InRefs r (cons_option o rs) → (o ≡ Some r) ⊎ InRefs r rs
+in-cons r None rs i = inr i
+in-cons r (Some q) rs (inl e) = inl (ap Some (sym e))
+in-cons r (Some q) rs (inr i) = inr i
+
 in-local : (r : Reference) (xs : List (Option Value)) → InRefs r (local_references xs) → (l : ℕ) × (local_ref (map local_of xs) l ≡ Some (ref_of r))
 in-local r [] h = absurd h
 in-local r (None ∷ xs) h = let t = in-local r xs h in (suc t.0, t.1)
-in-local r (Some v ∷ xs) h = by_case (reference_of v) refl h (λ g. in-local r xs g)
-  where
-    by_case : (o : Option Reference) → reference_of v ≡ o → InRefs r (cons_option o (local_references xs))
-        → (InRefs r (local_references xs) → (l : ℕ) × (local_ref (map local_of xs) l ≡ Some (ref_of r)))
-        → (l : ℕ) × (local_ref (map local_of (Some v ∷ xs)) l ≡ Some (ref_of r))
-    by_case None e g further = let t = further g in (suc t.0, t.1)
-    by_case (Some q) e (inl g) further = (0, rw e (ap (λ (x : Reference). Some (ref_of x)) (sym g)))
-    by_case (Some q) e (inr g) further = let t = further g in (suc t.0, t.1)
+in-local r (Some v ∷ xs) h = elim (in-cons r (reference_of v) (local_references xs) h) [ inl e ↦ (0, rw e refl) | inr g ↦ let t = in-local r xs g in (suc t.0, t.1) ]
+
+pub place-top : (o : Option Reference) (xs : List (Option Reference)) (x : Option Reference) → o ≡ x → place_get (o ∷ xs) (length xs) ≡ Some x
+place-top o xs x e = rw (eq-eqb (length xs) (length xs) refl) (ap Some e)
 
 in-stack : (r : Reference) (xs : List Value) → InRefs r (references xs) → (k : ℕ) × (place_get (map reference_of xs) k ≡ Some (Some r))
 in-stack r [] h = absurd h
-in-stack r (v ∷ xs) h = by_case (reference_of v) refl h (λ g. in-stack r xs g)
-  where
-    under : (o : Option Reference) → (k : ℕ) × (place_get (map reference_of xs) k ≡ Some (Some r)) → (k : ℕ) × (place_get (o ∷ map reference_of xs) k ≡ Some (Some r))
-    under o (k, e) = (k, place-under o (map reference_of xs) k (Some r) e)
-
-    top : (o : Option Reference) → o ≡ Some r → place_get (o ∷ map reference_of xs) (length (map reference_of xs)) ≡ Some (Some r)
-    top o e =
-        elim (eqb_tells (length (map reference_of xs)) (length (map reference_of xs))) [
-          | inl t ↦ rw t.0 (ap Some e)
-          | inr t ↦ absurd (t.1 refl)
-        ]
-
-    by_case : (o : Option Reference) → reference_of v ≡ o → InRefs r (cons_option o (references xs)) → (InRefs r (references xs) → (k : ℕ) × (place_get (map reference_of xs) k ≡ Some (Some r)))
-        → (k : ℕ) × (place_get (reference_of v ∷ map reference_of xs) k ≡ Some (Some r))
-    by_case None e g further = under (reference_of v) (further g)
-    by_case (Some q) e (inl g) further = (length (map reference_of xs), top (reference_of v) (e ∙ ap Some (sym g)))
-    by_case (Some q) e (inr g) further = under (reference_of v) (further g)
+in-stack r (v ∷ xs) h =
+    elim (in-cons r (reference_of v) (references xs) h) [
+      | inl e ↦ (length (map reference_of xs), place-top (reference_of v) (map reference_of xs) (Some r) e)
+      | inr g ↦ let t = in-stack r xs g in (t.0, place-under (reference_of v) (map reference_of xs) t.0 (Some r) t.1)
+    ]
 
 place-below : (xs ys : List (Option Reference)) (k : ℕ) (o : Option Reference) → place_get ys k ≡ Some o → place_get (xs ++ ys) k ≡ Some o
 place-below [] ys k o h = h
@@ -79,13 +58,12 @@ live-at acquires v r h =
 -- each live reference of a state is live in one of its layers
 pub live-in : (lent : List (Option Reference)) (fs : List Frame) (xs : List Stood) (r : Reference) → StoodOn lent fs xs → InRefs r (flat_map frame_references fs)
     → (v : Layer) × OnStack v (layers xs) × ((n : TheNode) × Live v.frame n (ref_of r))
-live-in lent [] xs r s h = absurd h
-live-in lent (f ∷ fs) [] r s h = absurd s
 live-in lent (f ∷ fs) (x ∷ xs) r s h =
     elim (in-either r (frame_references f) (flat_map frame_references fs) h) [
       | inl t ↦ (layer_at x, Top, live-at x.function.acquires (seen_of x) r (subst (λ g. InRefs r (frame_references g)) (sym s.0) t))
       | inr t ↦ let u = live-in f.entered_with fs xs r s.2 t in (u.0, Lower u.1, u.2)
     ]
+live-in lent fs xs r s h = absurd (grind arith)
 
 -- a test of references that none passes
 pub none-frozen : (rs : List Reference) (p : Place) → ((r : Reference) → InRefs r rs → r.is_mutable ≡ false → overlap r.place p ≡ true → ⊥) → is_frozen_by rs p ≡ false
@@ -105,8 +83,7 @@ key-is a b h =
 pub root-is : (a b : Root) → same_root a b ≡ true → root_of a ≡ root_of b
 root-is (Local m k) (Local n l) h = let t = and_parts (m == n) (k == l) h in ap₂ InLocal (eqb-true m n t.0) (eqb-true k l t.1)
 root-is (Stored j) (Stored k) h = let t = key-is j k h in ap₂ InStore t.0 (ap₂ defined t.1 t.2)
-root-is (Local m k) (Stored j) h = absurd cc
-root-is (Stored j) (Local m k) h = absurd cc
+root-is a b h = absurd cc
 
 pub overlap-is : (p q : Place) → overlap p q ≡ true → Overlap (place_of p) (place_of q)
 overlap-is p q h =
@@ -148,14 +125,9 @@ module _ (depends : ℕ → ℕ → Type 0) (through : (a b c : ℕ) → depends
     write-unfrozen q below top mutable free rs among = none-frozen rs q.place (λ r i im o. at_write r (live-in [] (frames s) (x ∷ xs) r stood (among r i)) im (overlap-is r.place q.place o))
       where
         placed : stack_ref (map held_as (operands_of (seen_of x))) (length below) ≡ Some (ref_of q)
-        placed = stack-seen (operands_of (seen_of x)) (length below) q (ap (λ l. place_get l (length below)) top ∙ on_top)
-          where
-            on_top : place_get (Some q ∷ below) (length below) ≡ Some (Some q)
-            on_top =
-                elim (eqb_tells (length below) (length below)) [
-                  | inl t ↦ rw t.0 refl
-                  | inr t ↦ absurd (t.1 refl)
-                ]
+        placed =
+            let on_top : place_get (Some q ∷ below) (length below) ≡ Some (Some q) = rw (eq-eqb (length below) (length below) refl) refl in
+            stack-seen (operands_of (seen_of x)) (length below) q (ap (λ l. place_get l (length below)) top ∙ on_top)
 
         at_write : (r : Reference) → (v : Layer) × OnStack v (layers (x ∷ xs)) × ((n : TheNode) × Live v.frame n (ref_of r)) → r.is_mutable ≡ false → Overlap (place_of r.place) (place_of q.place) → ⊥
         at_write r v im o =
@@ -192,10 +164,9 @@ module _ (depends : ℕ → ℕ → Type 0) (through : (a b c : ℕ) → depends
         to-temp e h = subst (λ n. is_temp n ≡ true) (node_of-inj x.frame.function.place (Temp k) e.to h) refl
 
         from-glob : (t : Defined) (n : Node) → AtGlob t ≡ node_of x.frame.function.place n → is_root_node n ≡ true
-        from-glob t (Slot l) h = absurd cc
         from-glob t (Own l) h = refl
         from-glob t (Glob l) h = refl
-        from-glob t (Temp l) h = absurd cc
+        from-glob t n h = absurd cc
 
         own : (l : ℕ) → r.place.root ≡ InLocal x.frame.number l → (y : TheLabel) × edges_of x.frame.function.place x.edges (AtOwn l) y (AtTemp k) × Reach y r.place.path → ⊥
         own l root (y, (e, m, from, on, to), reach) = no_edge e m (to-temp e to) (subst (λ n. is_root_node n ≡ true) (node_of-inj x.frame.function.place (Own l) e.from from) refl)

@@ -1,26 +1,16 @@
 -- Every step keeps what the borrow rules need of a state.
-use Rattle.mv_interpreter.proofs.Borrows.Common.{◌≡◌, ℕ, ◌<◌, ◌+◌, List, [], ◌∷◌, ◌++◌, map, length, reverse, refl, sym, ◌∙◌, ap, ap₂, arith, subst}
-use Rattle.mv_interpreter.proofs.Borrows.Common.{Option, Some, Ok, slice_get, Instruction, Module, FunctionDefinition, Reference, Value, Frame, State}
-use Rattle.mv_interpreter.proofs.Borrows.Common.{reference_of, Edge, return_edges, Call, length-map, Types, token_kind, operand_kind, Fits}
-use Rattle.mv_interpreter.proofs.Borrows.Common.{activation, held_as, edges_of, layer_of, alone, layer, EdgesBelow, Here, Layer, Chain, Stood}
-use Rattle.mv_interpreter.proofs.Borrows.Common.{seen_of, layer_at, layers, StoodOn, Descending, home_of}
-use Rattle.mv_borrow_graph.specs.BorrowRules.{edges_after, call_edges}
+use Rattle.mv_interpreter.proofs.Borrows.Common.{refl, sym, ◌≡◌, ℕ, List, [], ◌∷◌, ap, subst, ◌++◌, map, length, Option, Some, Ok, ◌+◌, reverse, ◌∙◌, ap₂, arith, ◌<◌, length-map}
+use Rattle.mv_interpreter.proofs.Borrows.Common.{map-append, slice_get, Module, FunctionDefinition, Instruction, Call, reference_of, Frame, State, Here, Goes, Reference, Value, layer}
+use Rattle.mv_interpreter.proofs.Borrows.Common.{EdgesBelow, Chain, Layer, return_edges, call_edges, Edge, Types, of_call, map-turned, token_kind, operand_kind, Fits, NoneInside, IsCall}
+use Rattle.mv_interpreter.proofs.Borrows.Common.{Reaches, Stood, seen_of, layer_at, layers, home_of, StoodOn, Descending, AllUnder, Sound, edges_of, held_as, activation, layer_of, alone}
+use Rattle.mv_borrow_graph.specs.BorrowRules.{edges_after}
 use Rattle.mv_move_types.specs.declared.tables.Definition.{Definition}
-use Rattle.std.proofs.lemmas.List.{map-append}
-use Rattle.mv_type_states.specs.TypeRules.{of_call}
 use Rattle.mv_machine.specs.StepControl.{Callee, callee, call, return_results}
-use Rattle.mv_interpreter.specs.Borrows.Links.{CallFacts, IsCall, Reaches}
-use Rattle.mv_interpreter.specs.Borrows.Hypotheses.{NoneInside}
-use Rattle.mv_interpreter.proofs.Borrows.Calls.{call-kept, return-kept}
-use Rattle.mv_machine.proofs.Transfers.{called, Called, callee-is, signature-is, tags-long, returned, ReturnedTo}
-use Rattle.mv_machine.specs.StepParts.{Goes}
 use Rattle.mv_machine.specs.Step.{rule}
-use Rattle.mv_interpreter.specs.Borrows.Stood.{point_of, AllUnder, Linked, LinkedTo, Sound}
-use Rattle.mv_interpreter.proofs.Borrows.Same.{SameSeen, SameFrames, layer-same}
-use Rattle.mv_interpreter.proofs.Borrows.Kept.{falls-same, kept-falls}
-use Rattle.mv_interpreter.proofs.Borrows.Standing.{Standing, IsTransfer, Stays}
-use Rattle.mv_interpreter.proofs.Borrows.Steps.{step-kept}
-use Rattle.mv_interpreter.proofs.Lists.{map-turned}
+use Rattle.mv_interpreter.specs.{Borrows.Links.CallFacts, Borrows.Stood.point_of, Borrows.Stood.Linked, Borrows.Stood.LinkedTo}
+use Rattle.mv_interpreter.proofs.{Borrows.Calls.call-kept, Borrows.Calls.return-kept, Borrows.Same.SameSeen, Borrows.Same.SameFrames, Borrows.Same.layer-same, Borrows.Kept.falls-same}
+use Rattle.mv_interpreter.proofs.{Borrows.Kept.kept-falls, Borrows.Standing.Standing, Borrows.Standing.IsTransfer, Borrows.Standing.Stays, Borrows.Steps.step-kept}
+use Rattle.mv_machine.proofs.Transfers.{called, Called, callee-is, signature-is, tags-long, returned, ReturnedTo}
 
 -- the same with these frames
 abbrev pub refit : List Stood → List Frame → List Stood
@@ -30,35 +20,27 @@ refit (x ∷ xs) (f ∷ fs) = record x { frame = f } ∷ refit xs fs
 
 pub stood-refit : (lent lent' : List (Option Reference)) (fs gs : List Frame) (xs : List Stood) → lent' ≡ lent → StoodOn lent fs xs → SameFrames fs gs → StoodOn lent' gs (refit xs gs)
 stood-refit lent lent' [] [] [] e s q = tt
-stood-refit lent lent' [] [] (x ∷ xs) e s q = absurd s
-stood-refit lent lent' [] (g ∷ gs) xs e s q = absurd q
-stood-refit lent lent' (f ∷ fs) [] xs e s q = absurd q
-stood-refit lent lent' (f ∷ fs) (g ∷ gs) [] e s q = absurd s
 stood-refit lent lent' (f ∷ fs) (g ∷ gs) (x ∷ xs) e s q = (refl, s.1 ∙ sym e, stood-refit f.entered_with g.entered_with fs gs xs q.0.entered_with s.2 q.1)
+stood-refit lent lent' fs gs xs e s q = absurd (grind arith)
 
 pub layers-refit : (lent : List (Option Reference)) (fs gs : List Frame) (xs : List Stood) → StoodOn lent fs xs → SameFrames fs gs → layers xs ≡ layers (refit xs gs)
 layers-refit lent [] [] [] s q = refl
-layers-refit lent [] [] (x ∷ xs) s q = absurd s
-layers-refit lent [] (g ∷ gs) xs s q = absurd q
-layers-refit lent (f ∷ fs) [] xs s q = absurd q
-layers-refit lent (f ∷ fs) (g ∷ gs) [] s q = absurd s
 layers-refit lent (f ∷ fs) (g ∷ gs) (x ∷ xs) s q =
     ap₂ (λ (u : Layer) (us : List Layer). u ∷ us) (layer-same x.function.acquires x.lent x.frame g x.edges (subst (λ z. SameSeen z g) (sym s.0) q.0)) (layers-refit f.entered_with fs gs xs s.2 q.1)
+layers-refit lent fs gs xs s q = absurd (grind arith)
 
 under-refit : (n m : ℕ) (fs gs : List Frame) → m ≡ n → SameFrames fs gs → AllUnder n fs → AllUnder m gs
 under-refit n m [] [] e q h = tt
-under-refit n m [] (g ∷ gs) e q h = absurd q
-under-refit n m (f ∷ fs) [] e q h = absurd q
-under-refit n m (f ∷ fs) (g ∷ gs) e q h = (lower q.0.number h.0, under-refit n m fs gs e q.1 h.1)
-  where
-    lower : g.number ≡ f.number → f.number < n → g.number < m
-    lower a b = omega arith
+under-refit n m (f ∷ fs) (g ∷ gs) e q h =
+    let same : g.number ≡ f.number = q.0.number in
+    let under : f.number < n = h.0 in
+    (omega arith, under-refit n m fs gs e q.1 h.1)
+under-refit n m fs gs e q h = absurd q
 
 descending-refit : (fs gs : List Frame) → SameFrames fs gs → Descending fs → Descending gs
 descending-refit [] [] q h = tt
-descending-refit [] (g ∷ gs) q h = absurd q
-descending-refit (f ∷ fs) [] q h = absurd q
 descending-refit (f ∷ fs) (g ∷ gs) q h = (under-refit f.number g.number fs gs q.0.number q.1 h.0, descending-refit fs gs q.1 h.1)
+descending-refit fs gs q h = absurd q
 
 module _ (depends : ℕ → ℕ → Type 0) where
   pub link-same : (home : Module) (function : FunctionDefinition) (w u w' u' : Frame) (acquires : List ℕ) → IsCall depends home function w u acquires
@@ -85,8 +67,6 @@ module _ (depends : ℕ → ℕ → Type 0) where
       → SameFrames fs gs → LinkedTo depends u xs → LinkedTo depends u' (refit xs gs)
   unfolding link-same
   linked-refit u u' [] lent fs gs z a b c s q l = tt
-  linked-refit u u' (w ∷ ws) lent [] gs z a b c s q l = absurd s
-  linked-refit u u' (w ∷ ws) lent (f ∷ fs) [] z a b c s q l = absurd q
   linked-refit u u' (w ∷ ws) lent (f ∷ fs) (g ∷ gs) z a b c s q l = (
     record {
       link = subst (λ (d : FunctionDefinition). IsCall depends w.home w.function g u'.frame d.acquires) (sym z)
@@ -100,6 +80,7 @@ module _ (depends : ℕ → ℕ → Type 0) where
     linked-refit w (record w { frame = g }) ws f.entered_with fs gs refl (q.0.number ∙ ap (λ (y : Frame). y.number) (sym s.0)) (q.0.function ∙ ap (λ (y : Frame). y.function) (sym s.0))
         (q.0.entered_with ∙ ap (λ (y : Frame). y.entered_with) (sym s.0)) s.2 q.1 l.1,
   )
+  linked-refit u u' ws lent fs gs z a b c s q l = absurd (grind arith)
 
 module _ (depends : ℕ → ℕ → Type 0) where
   pub linked-top : (u u' : Stood) (xs : List Stood) → u'.function ≡ u.function → u'.frame.number ≡ u.frame.number → u'.frame.function ≡ u.frame.function → u'.frame.entered_with ≡ u.frame.entered_with
@@ -169,10 +150,7 @@ module _ (depends : ℕ → ℕ → Type 0) (through : (a b c : ℕ) → depends
 
     weaken : (n m : ℕ) (fs : List Frame) → n < m → AllUnder n fs → AllUnder m fs
     weaken n m [] l a = tt
-    weaken n m (f ∷ fs) l a = (lower a.0, weaken n m fs l a.1)
-      where
-        lower : f.number < n → f.number < m
-        lower b = omega arith
+    weaken n m (f ∷ fs) l a = let b : f.number < n = a.0 in (omega arith, weaken n m fs l a.1)
 
     -- the caller as it waits
     abbrev pub waits : List Value → List (Option Reference) → Stood
@@ -231,13 +209,10 @@ module _ (depends : ℕ → ℕ → Type 0) (through : (a b c : ℕ) → depends
                         (ap (λ (y : Frame). y.entered_with) (sym sound.stood.0)) sound.links,
                   );
                   ordered = subst (λ fs. AllUnder t.top.number fs × Descending fs) (sym k.below) ((later, weaken s.top.number t.top.number s.below later sound.ordered.0), sound.ordered);
-                  next = rw (number, k.entered) (more s.entered);
+                  next = rw (number, k.entered) (omega arith);
                 },
               ),
             )
-          where
-            more : (n : ℕ) → n < n + 1
-            more n = omega arith
 
 -- a Ret: the caller goes on; what the certificate says after the Call is above what the Call's rule leaves
 module _ (depends : ℕ → ℕ → Type 0) (through : (a b c : ℕ) → depends a b → depends b c → depends a c) (no_cycle : (a : ℕ) → depends a a → ⊥)
@@ -254,12 +229,6 @@ module _ (depends : ℕ → ℕ → Type 0) (through : (a b c : ℕ) → depends
         link : Linked depends w x
         link = sound.links.0
 
-        lone : (f : Frame) → x.frame ≡ f → Fits (point_of x) (alone f) → Fits (point_of x) (alone x.frame)
-        lone f h q = subst (λ g. Fits (point_of x) (alone g)) (sym h) q
-
-        lone-layer : layer_at x ≡ layer_of x.function.acquires (alone x.frame) x.edges
-        lone-layer = rw sound.stood.1 refl
-
         by_below : (below : List Frame) → StoodOn s.top.entered_with below (w ∷ ws) → Descending below
             → ReturnedTo (record { modules = modules; home = x.home; function = x.function; state = s }) below (Ok (Goes t))
             → Sound depends t (record { home = w.home; function = w.function; frame = t.top; lent = []; types = types'; edges = es' }) ws
@@ -271,9 +240,10 @@ module _ (depends : ℕ → ℕ → Type 0) (through : (a b c : ℕ) → depends
             let stood_top : Chain depends home_of (layer_of w.function.acquires (alone t.top) link.edges ∷ layers ws) =
             subst (λ g. Chain depends home_of (layer_of w.function.acquires (alone g) link.edges ∷ layers ws)) (sym top)
             (return-kept depends w.home w.function (seen_of w) x.frame x.function.acquires w.types link.types w.edges link.edges link.link
-            (stood.1 ∙ ap (λ (g : Frame). g.entered_with) (sym sound.stood.0)) fits_w link.need link.typing through no_cycle (layers ws) x.edges (point_of x) (lone s.top sound.stood.0 fits) free
+            (stood.1 ∙ ap (λ (g : Frame). g.entered_with) (sym sound.stood.0)) fits_w link.need link.typing through no_cycle (layers ws) x.edges (point_of x)
+            (subst (λ g. Fits (point_of x) (alone g)) (sym sound.stood.0) fits) free
             (results ∙ ap (λ (g : Frame). map operand_kind (map reference_of g.stack)) (sym sound.stood.0))
-            (subst (λ u. Chain depends home_of (u ∷ layers (w ∷ ws))) lone-layer sound.chain)) in
+            (let lone : layer_at x ≡ layer_of x.function.acquires (alone x.frame) x.edges = rw sound.stood.1 refl in subst (λ u. Chain depends home_of (u ∷ layers (w ∷ ws))) lone sound.chain)) in
             record {
               stood = (refl, refl, subst (λ gs. StoodOn t.top.entered_with gs ws) (sym k.below) (subst (λ l. StoodOn l fs ws) (ap (λ (g : Frame). g.entered_with) (sym stood.0) ∙ ap (λ (g : Frame). g.entered_with) (sym top)) stood.2));
               chain =
@@ -285,8 +255,5 @@ module _ (depends : ℕ → ℕ → Type 0) (through : (a b c : ℕ) → depends
                   (ap (λ (g : Frame). g.entered_with) top) sound.links.1;
               ordered = subst (λ gs. AllUnder t.top.number gs × Descending gs) (sym k.below)
                   (subst (λ n. AllUnder n fs) (ap (λ (g : Frame). g.number) (sym stood.0) ∙ sym number) ordered.0, ordered.1);
-              next = below-next number k.entered link.link.later (ap (λ (g : Frame). g.number) sound.stood.0) sound.next;
+              next = omega (arith, number, k.entered, link.link.later, ap (λ (g : Frame). g.number) sound.stood.0, sound.next);
             }
-          where
-            below-next : t.top.number ≡ w.frame.number → t.entered ≡ s.entered → w.frame.number < x.frame.number → x.frame.number ≡ s.top.number → s.top.number < s.entered → t.top.number < t.entered
-            below-next a b c d e = omega arith

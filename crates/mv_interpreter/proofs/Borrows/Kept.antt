@@ -1,17 +1,13 @@
 -- A step of the frame at work keeps the chain of frames: one lemma a row, at the machine's lists.
-use Rattle.mv_interpreter.proofs.Borrows.Common.{◌≡◌, ℕ, ◌<◌, List, [], ◌∷◌, ◌++◌, map, length, Bool, true, false, not, inl, inr, refl, sym, ◌∙◌, ap}
-use Rattle.mv_interpreter.proofs.Borrows.Common.{arith, subst, Option, Some, None, slice_get, slice_set, filter, eqb_tells, length-map, Key, Slot}
-use Rattle.mv_interpreter.proofs.Borrows.Common.{Own, Glob, Temp, Local, Stored, Reference, Value, Frame, reference_of, Edge, same_node, here}
-use Rattle.mv_interpreter.proofs.Borrows.Common.{without, inherited, renamed, an_edge, extended, TheLabel, TheNode, AtSlot, AtOwn, AtGlob, AtTemp}
-use Rattle.mv_interpreter.proofs.Borrows.Common.{TheRef, Live, Bars, TheValue, seen_frame, Layer, Chain, layer, EdgesBelow, Kinds, home_of, defined}
-use Rattle.mv_interpreter.proofs.Borrows.Common.{ref_of, held_as, local_of, acquires_of, activation, edges_of}
-use Rattle.mv_borrow_graph.specs.Abstract.Places.{LabelBelow, Exact, Open}
-use Rattle.mv_borrow_graph.proofs.Abstract.Places.{begins_self}
-use Rattle.mv_borrow_graph.specs.Abstract.Covers.{Edges}
-use Rattle.mv_borrow_graph.specs.Abstract.Rows.{Row, CopyRef, CopyMut, MoveRef, StoreRef, BorrowLocal, BorrowField, BorrowGlobal, Freeze, Drop, Need, After}
-use Rattle.mv_borrow_graph.specs.Abstract.Lists.{Reference as Held, set_local, refs_of, Activation}
+use Rattle.mv_interpreter.proofs.Borrows.Common.{refl, sym, ◌≡◌, ℕ, List, [], ◌∷◌, true, false, inl, inr, ap, subst, ◌++◌, map, length, Option, Some, None, Bool, not, ◌∙◌, arith, ◌<◌}
+use Rattle.mv_interpreter.proofs.Borrows.Common.{eqb_tells, length-map, same_Some, none-some, slice_get, slice_set, filter, Slot, Own, Glob, Temp, Key, reference_of, Frame, Stored}
+use Rattle.mv_interpreter.proofs.Borrows.Common.{Reference, Value, Local, layer, EdgesBelow, Kinds, chain_steps, TheNode, AtOwn, AtGlob, AtTemp, TheRef, Live, AtSlot, Edges, TheValue}
+use Rattle.mv_interpreter.proofs.Borrows.Common.{seen_frame, Activation, set_local, TheLabel, LabelBelow, Bars, BorrowField, Need, Chain, Layer, Edge, same_node, without, inherited, here}
+use Rattle.mv_interpreter.proofs.Borrows.Common.{renamed, an_edge, extended, home_of, ref_of, defined, local_of, edges_of, held_as, activation, acquires_of}
+use Rattle.mv_borrow_graph.specs.{Abstract.Places.Exact, Abstract.Places.Open, Abstract.Lists.Reference as Held, Abstract.Lists.refs_of}
+use Rattle.mv_borrow_graph.specs.Abstract.Rows.{Row, CopyRef, CopyMut, MoveRef, StoreRef, BorrowLocal, BorrowGlobal, Freeze, Drop, After}
+use Rattle.mv_borrow_graph.proofs.{Abstract.Places.begins_self, Abstract.Run.ByRow, Abstract.Run.ByValue}
 use Rattle.mv_borrow_graph.proofs.Abstract.Turns.{Turn, Copies, CopiesMutable, Moves, Stores, BorrowsLocal, BorrowsField, BorrowsGlobal, Freezes, Drops}
-use Rattle.mv_borrow_graph.proofs.Abstract.Run.{ByRow, ByValue, chain_steps}
 use Rattle.mv_interpreter.proofs.Borrows.Edges.{Included}
 use Rattle.mv_interpreter.proofs.Borrows.Lists.{place_get, stack-seen, stack-back, local-back, local-seen, set-map}
 use Rattle.mv_interpreter.proofs.Borrows.EdgeRows.{copy_in, copy_mutable_in, borrow_in, drop_in, field_in, freeze_in, move_in, store_in}
@@ -49,12 +45,9 @@ falls-popped os new x h k r g = ap (λ l. place_get l k) h ∙ place-under x new
 pub falls-pushed : (os new : List (Option Reference)) (x : Option Reference) → x ≡ None → Falls os new → Falls os (x ∷ new)
 falls-pushed os new x h falls k r g =
     elim (eqb_tells k (length new)) [
-      | inl t ↦ absurd (not_one x h (rw t.0 at g))
+      | inl t ↦ absurd (none-some r (sym h ∙ same_Some x (Some r) (rw t.0 at g)))
       | inr t ↦ falls k r (rw t.0 at g)
     ]
-  where
-    not_one : (x : Option Reference) → x ≡ None → Some x ≡ Some (Some r) → ⊥
-    not_one x h g = cc
 
 pub falls-then : (a b c : List (Option Reference)) → Falls a b → Falls b c → Falls a c
 falls-then a b c h g k r e = h k r (g k r e)
@@ -103,9 +96,8 @@ module _ (depends : ℕ → ℕ → Type 0) (through : (a b c : ℕ) → depends
         where
           old : (n : TheNode) (r : TheRef) → refs_of (map local_of locals') (map held_as os') n ≡ Some r → Live (seen_frame before) n r
           old (AtSlot l) r h = let t = local-back locals' l r h in local-seen locals l t.0 t.1 (stay l t.0 t.1 t.2 t.3) t.3 ∙ ap Some (sym t.4)
-          old (AtOwn l) r h = absurd cc
-          old (AtGlob l) r h = absurd cc
           old (AtTemp k) r h = let t = stack-back os' k r h in stack-seen os k t.0 (falls k t.0 t.1) ∙ ap Some (sym t.2)
+          old n r h = absurd cc
 
       height : length (map held_as os) ≡ length os
       height = length-map os held_as
@@ -118,8 +110,7 @@ module _ (depends : ℕ → ℕ → Type 0) (through : (a b c : ℕ) → depends
           → r.is_mutable ≡ false → Stand locals (reference_of v ∷ os) (es ++ inherited (λ label. label) (Slot l) (Temp (length os)) es)
       kept-copy l v r kind typed at is immutable =
           moved (Some r ∷ os) (reference_of v ∷ os) locals _ (ap (λ (x : Option Reference). x ∷ os) (sym is))
-          (row (CopyRef l) (length (map held_as os)) (act acquires f locals (Some r ∷ os)) kind (es ++ inherited (λ label. label) (Slot l) (Temp (length os)) es)
-          (Copies before l (ref_of r) (local-seen locals l v r at is) immutable) typed tt
+          (row (CopyRef l) (length (map held_as os)) _ kind _ (Copies before l (ref_of r) (local-seen locals l v r at is) immutable) typed tt
           (rw height (copy_in f.function.place l (length os) es)))
 
       pub kept-copy-mutable : (l : ℕ) (v : Value) (r : Reference) (kind : TheNode → Bool) → Kinds before kind → slice_get locals l ≡ Some (Some v) → reference_of v ≡ Some r
@@ -127,9 +118,7 @@ module _ (depends : ℕ → ℕ → Type 0) (through : (a b c : ℕ) → depends
           → Stand locals (reference_of v ∷ os) (es ++ inherited (λ label. label) (Slot l) (Temp (length os)) es ++ an_edge (Slot l) here (Temp (length os)) ∷ [])
       kept-copy-mutable l v r kind typed at is mutable need =
           moved (Some r ∷ os) (reference_of v ∷ os) locals _ (ap (λ (x : Option Reference). x ∷ os) (sym is))
-          (row (CopyMut l) (length (map held_as os)) (act acquires f locals (Some r ∷ os)) kind
-          (es ++ inherited (λ label. label) (Slot l) (Temp (length os)) es ++ an_edge (Slot l) here (Temp (length os)) ∷ [])
-          (CopiesMutable before l (ref_of r) (local-seen locals l v r at is) mutable) typed need
+          (row (CopyMut l) (length (map held_as os)) _ kind _ (CopiesMutable before l (ref_of r) (local-seen locals l v r at is) mutable) typed need
           (rw height (copy_mutable_in f.function.place l (length os) es)))
 
       in_locals : (new : List (Option TheValue)) (locals' : List (Option Value)) (stack : List TheValue) (es' : List Edge) → new ≡ map local_of locals'
@@ -142,9 +131,7 @@ module _ (depends : ℕ → ℕ → Type 0) (through : (a b c : ℕ) → depends
       kept-move l v r kind typed at is =
           moved (Some r ∷ os) (reference_of v ∷ os) (slice_set locals l None) _ (ap (λ (x : Option Reference). x ∷ os) (sym is))
           (in_locals (set_local (map local_of locals) l None) (slice_set locals l None) (map held_as (Some r ∷ os)) (renamed (Slot l) (Temp (length os)) es) (sym (set-map locals l None))
-          (row (MoveRef l) (length (map held_as os)) (record before { locals = set_local (map local_of locals) l None; stack = Held (ref_of r) ∷ map held_as os }) kind
-          (renamed (Slot l) (Temp (length os)) es)
-          (Moves before l (ref_of r) (local-seen locals l v r at is)) typed tt
+          (row (MoveRef l) (length (map held_as os)) _ kind _ (Moves before l (ref_of r) (local-seen locals l v r at is)) typed tt
           (rw height (move_in f.function.place l (length os) es))))
 
       on_top : (o : Option Reference) (s : List (Option Reference)) → os ≡ o ∷ s → map held_as os ≡ held_as o ∷ map held_as s
@@ -155,26 +142,20 @@ module _ (depends : ℕ → ℕ → Type 0) (through : (a b c : ℕ) → depends
       kept-store l v r s kind typed top is =
           in_locals (set_local (map local_of locals) l (Some (Held (ref_of r)))) (slice_set locals l (Some v)) (map held_as s) (renamed (Temp (length s)) (Slot l) (without (Slot l) es))
           (ap (λ (o : Option Reference). set_local (map local_of locals) l (Some (held_as o))) (sym is) ∙ sym (set-map locals l (Some v)))
-          (row (StoreRef l) (length (map held_as s)) (record before { locals = set_local (map local_of locals) l (Some (Held (ref_of r))); stack = map held_as s }) kind
-          (renamed (Temp (length s)) (Slot l) (without (Slot l) es))
-          (Stores before l (ref_of r) (map held_as s) (on_top (Some r) s top)) typed tt
+          (row (StoreRef l) (length (map held_as s)) _ kind _ (Stores before l (ref_of r) (map held_as s) (on_top (Some r) s top)) typed tt
           (rw (length-map s held_as) (store_in f.function.place l (length s) es)))
 
       pub kept-borrow-local : (m : Bool) (l : ℕ) (kind : TheNode → Bool) → Kinds before kind → ((x : TheLabel) (c : TheNode) → E es (AtOwn l) x c → Bars m kind c → ⊥)
           → Stand locals (Some (record { is_mutable = m; place = record { root = Local f.number l; path = [] } }) ∷ os) (es ++ an_edge (Own l) here (Temp (length os)) ∷ [])
       kept-borrow-local m l kind typed need =
-          row (BorrowLocal m l) (length (map held_as os)) (act acquires f locals (Some (record { is_mutable = m; place = record { root = Local f.number l; path = [] } }) ∷ os)) kind
-          (es ++ an_edge (Own l) here (Temp (length os)) ∷ []) (BorrowsLocal before m l) typed need
-          (rw height (borrow_in f.function.place (length os) (Own l) es))
+          row (BorrowLocal m l) (length (map held_as os)) _ kind _ (BorrowsLocal before m l) typed need (rw height (borrow_in f.function.place (length os) (Own l) es))
 
       pub kept-borrow-field : (m : Bool) (i : ℕ) (r : Reference) (s : List (Option Reference)) (kind : TheNode → Bool) → Kinds before kind → os ≡ Some r ∷ s → (m ≡ true → r.is_mutable ≡ true)
           → Need (BorrowField m i) (length s) kind (E es)
           → Stand locals (Some (record { is_mutable = m; place = record { root = r.place.root; path = r.place.path ++ i ∷ [] } }) ∷ s)
           (without (Temp (length s)) es ++ inherited (extended i) (Temp (length s)) (Temp (length s)) es)
       kept-borrow-field m i r s kind typed top lends need =
-          row (BorrowField m i) (length (map held_as s)) (act acquires f locals (Some (record { is_mutable = m; place = record { root = r.place.root; path = r.place.path ++ i ∷ [] } }) ∷ s)) kind
-          (without (Temp (length s)) es ++ inherited (extended i) (Temp (length s)) (Temp (length s)) es)
-          (BorrowsField before m i (ref_of r) (map held_as s) (on_top (Some r) s top) lends) typed (rw (length-map s held_as) need)
+          row (BorrowField m i) (length (map held_as s)) _ kind _ (BorrowsField before m i (ref_of r) (map held_as s) (on_top (Some r) s top) lends) typed (rw (length-map s held_as) need)
           (rw (length-map s held_as) (field_in f.function.place i (length s) es))
 
       pub kept-borrow-global : (m : Bool) (key : Key) (s : List (Option Reference)) (kind : TheNode → Bool) → Kinds before kind → os ≡ None ∷ s
@@ -182,9 +163,7 @@ module _ (depends : ℕ → ℕ → Type 0) (through : (a b c : ℕ) → depends
           → ((x : TheLabel) (c : TheNode) → E es (AtGlob (defined f.function.place key.index)) x c → Bars m kind c → ⊥)
           → Stand locals (Some (record { is_mutable = m; place = record { root = Stored key; path = [] } }) ∷ s) (es ++ an_edge (Glob key.index) here (Temp (length s)) ∷ [])
       kept-borrow-global m key s kind typed top acq home need =
-          row (BorrowGlobal m (defined key.place key.index)) (length (map held_as s))
-          (act acquires f locals (Some (record { is_mutable = m; place = record { root = Stored key; path = [] } }) ∷ s)) kind
-          (es ++ an_edge (Glob key.index) here (Temp (length s)) ∷ [])
+          row (BorrowGlobal m (defined key.place key.index)) (length (map held_as s)) _ kind _
           (BorrowsGlobal before m key.address (defined key.place key.index) 0 (map held_as s) (on_top None s top) acq) typed
           (λ x c h. need x c (subst (λ (w : ℕ). E es (AtGlob (defined w key.index)) x c) home h))
           (rw (length-map s held_as, home) (borrow_in f.function.place (length s) (Glob key.index) es))
@@ -193,14 +172,10 @@ module _ (depends : ℕ → ℕ → Type 0) (through : (a b c : ℕ) → depends
           → Need Freeze (length s) kind (E es)
           → Stand locals (Some (record { is_mutable = false; place = r.place }) ∷ s) (filter (λ e. not (same_node e.from (Temp (length s)))) es)
       kept-freeze r s kind typed top need =
-          row Freeze (length (map held_as s)) (act acquires f locals (Some (record { is_mutable = false; place = r.place }) ∷ s)) kind
-          (filter (λ e. not (same_node e.from (Temp (length s)))) es)
-          (Freezes before (ref_of r) (map held_as s) (on_top (Some r) s top)) typed (rw (length-map s held_as) need)
+          row Freeze (length (map held_as s)) _ kind _ (Freezes before (ref_of r) (map held_as s) (on_top (Some r) s top)) typed (rw (length-map s held_as) need)
           (rw (length-map s held_as) (freeze_in f.function.place (length s) es))
 
       pub kept-drop : (o : Option Reference) (s : List (Option Reference)) (kind : TheNode → Bool) → Kinds before kind → os ≡ o ∷ s
           → Stand locals s (without (Temp (length s)) es)
       kept-drop o s kind typed top =
-          row Drop (length (map held_as s)) (act acquires f locals s) kind (without (Temp (length s)) es)
-          (Drops before (held_as o) (map held_as s) (on_top o s top)) typed tt
-          (rw (length-map s held_as) (drop_in f.function.place (length s) es))
+          row Drop (length (map held_as s)) _ kind _ (Drops before (held_as o) (map held_as s) (on_top o s top)) typed tt (rw (length-map s held_as) (drop_in f.function.place (length s) es))

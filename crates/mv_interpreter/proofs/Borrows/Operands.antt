@@ -1,24 +1,14 @@
 -- The machine's rules taken apart: what they take off the stack and put on it.
-use Rattle.mv_interpreter.proofs.Borrows.Common.{◌≡◌, List, [], ◌∷◌, ◌++◌, map, reverse, Bool, true, false, refl, sym, ◌∙◌, ap, subst, Option, Some}
-use Rattle.mv_interpreter.proofs.Borrows.Common.{None, Result, Ok, Err, ap₂, option_and_then, ⊤, reverse_onto, Module, Token, Plain, ReferenceTo}
-use Rattle.mv_interpreter.proofs.Borrows.Common.{MutableReferenceTo, beq, option_map_or, and_parts, State, place_value, tag_named, Faults, entry}
-use Rattle.mv_interpreter.proofs.Borrows.Common.{has_tag, Tag, token_kind, operand_kind, ◌>>>◌, Value, Leaf, Struct, Ref, reference_of, Here, on_ok}
-use Rattle.mv_interpreter.proofs.Borrows.Common.{ok-is}
-use Rattle.std.specs.Prelude.{option_map}
-use Rattle.mv_move_types.specs.Names.{StructName}
-use Rattle.mv_move_types.specs.Module.{struct_name}
-use Rattle.mv_move_types.specs.declared.token.LeafKind.{LeafKind}
-use Rattle.mv_move_types.specs.declared.token.ValueType.{ValueType}
-use Rattle.mv_move_types.specs.declared.token.ValueType.TheVariants.{OfLeaf, OfStruct}
-use Rattle.mv_machine.specs.Typing.{linked, LinkageFault, value_type_tag, have_tags, plain_tag}
+use Rattle.mv_interpreter.proofs.Borrows.Common.{refl, sym, ◌≡◌, List, [], ◌∷◌, true, false, ap, subst, ◌++◌, map, Option, Some, None, Ok, reverse, Bool, ◌∙◌, ap₂, Result, Err, and_parts}
+use Rattle.mv_interpreter.proofs.Borrows.Common.{reverse_onto, beq, option_map_or, ⊤, option_and_then, option_map, Module, ◌>>>◌, Tag, Token, Plain, ReferenceTo, MutableReferenceTo, ok-is}
+use Rattle.mv_interpreter.proofs.Borrows.Common.{on_ok, GivesLeaf, reference_of, State, place_value, Here, tag_named, Faults, entry, has_tag, Value, Leaf, Struct, Ref, token_kind}
+use Rattle.mv_interpreter.proofs.Borrows.Common.{operand_kind, NoneOf}
+use Rattle.mv_move_types.specs.{Names.StructName, Module.struct_name, declared.token.LeafKind.LeafKind, declared.token.ValueType.ValueType, declared.token.ValueType.TheVariants.OfLeaf}
+use Rattle.mv_move_types.specs.{declared.token.ValueType.TheVariants.OfStruct, AbilitySets.same_abilities, Named.declared, Results.for_each, Results.◌>>=◌}
 use Rattle.mv_move_types.specs.Tags.{LeafTag, ReferenceTag, StructTag, same_tag}
-use Rattle.mv_move_types.specs.AbilitySets.{same_abilities}
-use Rattle.mv_move_types.specs.Named.{declared}
-use Rattle.mv_interpreter.specs.Borrows.Hypotheses.{NoneOf}
-use Rattle.mv_move_types.specs.Results.{for_each, ◌>>=◌}
+use Rattle.mv_machine.specs.Typing.{linked, LinkageFault, value_type_tag, have_tags, plain_tag}
 use Rattle.mv_machine.proofs.Laws.{on_need}
 use Rattle.mv_interpreter.proofs.Borrows.Kept.{Falls, falls-popped, falls-pushed, falls-then, falls-same}
-use Rattle.mv_machine.proofs.Operations.{GivesLeaf}
 use Rattle.mv_interpreter.proofs.Typing.Tests.{beq-is}
 
 -- the same for what lives higher
@@ -60,16 +50,10 @@ none-reverse (v ∷ xs) h = subst NoneOf (sym (reverse_onto xs v [])) (none-appe
 -- ---- tags
 
 leaf-tag : (kind : LeafKind) (tag to : Tag) (b : Bool) → tag ≡ ReferenceTag b to → same_tag (LeafTag kind) tag ≡ true → ⊥
-leaf-tag kind tag to b h e = absurd-false (sym (ap (same_tag (LeafTag kind)) h) ∙ e)
-  where
-    absurd-false : false ≡ true → ⊥
-    absurd-false d = cc
+leaf-tag kind tag to b h e = let d : false ≡ true = sym (ap (same_tag (LeafTag kind)) h) ∙ e in absurd cc
 
 struct-tag : (name : StructName) (tag to : Tag) (b : Bool) → tag ≡ ReferenceTag b to → same_tag (StructTag name) tag ≡ true → ⊥
-struct-tag name tag to b h e = absurd-false (sym (ap (same_tag (StructTag name)) h) ∙ e)
-  where
-    absurd-false : false ≡ true → ⊥
-    absurd-false d = cc
+struct-tag name tag to b h e = let d : false ≡ true = sym (ap (same_tag (StructTag name)) h) ∙ e in absurd cc
 
 -- a plain type's tag is no reference's
 abbrev pub IsPlainTag : Tag → Type 0
@@ -90,9 +74,8 @@ reference-tag : (modules : List Module) (m : Module) (b : Bool) (t : ValueType) 
 reference-tag modules m b t tag h = on_ok (value_type_tag modules m t) _ tag h (λ to to_is e. (to, sym (ok-is (ReferenceTag b to) tag e)))
 
 pub not-plain : (b : Bool) (x tag : Tag) → IsPlainTag tag → same_tag (ReferenceTag b x) tag ≡ true → ⊥
-not-plain b x (LeafTag k) p h = cc
-not-plain b x (StructTag n) p h = cc
 not-plain b x (ReferenceTag c to) p h = p
+not-plain b x tag p h = cc
 
 same-flag : (a b : Bool) (x to tag : Tag) → tag ≡ ReferenceTag b to → same_tag (ReferenceTag a x) tag ≡ true → a ≡ b
 same-flag a b x to tag h e = beq-is a b (and_parts (beq a b) (same_tag x to) (sym (ap (same_tag (ReferenceTag a x)) h) ∙ e)).0
@@ -104,8 +87,6 @@ followed (Some x) a tag h = (x, h)
 -- a value that has a type's tag is a reference where the type is
 pub tag-kind : (modules : List Module) (m : Module) (s : State) (v : Value) (t : Token) (tag : Tag) → tag_named modules m t ≡ Ok tag → has_tag s v tag ≡ true
     → token_kind t ≡ operand_kind (reference_of v)
-tag-kind modules m s (Leaf kind n) (Plain t) tag h k = refl
-tag-kind modules m s (Struct name fs) (Plain t) tag h k = refl
 tag-kind modules m s (Ref r) (Plain t) tag h k =
     let x = followed (option_and_then plain_tag (place_value s r.place)) r.is_mutable tag k in
     absurd (not-plain r.is_mutable x.0 tag (plain-tag modules m t tag h) x.1)
@@ -121,6 +102,7 @@ tag-kind modules m s (Ref r) (MutableReferenceTo t) tag h k =
     let y = reference-tag modules m true t tag h in
     let x = followed (option_and_then plain_tag (place_value s r.place)) r.is_mutable tag k in
     ap Some (sym (same-flag r.is_mutable true x.0 y.0 tag y.1 x.1))
+tag-kind modules m s v (Plain t) tag h k = refl
 
 -- values that have the tags of types
 pub tags-kinds : (modules : List Module) (m : Module) (s : State) (vs : List Value) (ts : List Token) (tags : List Tag) → for_each (tag_named modules m) ts ≡ Ok tags → have_tags s vs tags ≡ true

@@ -1,19 +1,12 @@
 -- The frame at work stands on the chain of frames: what its next step may be proved from, and how a step ends that keeps the chain.
-use Rattle.mv_interpreter.proofs.Borrows.Common.{◌≡◌, ℕ, suc, ◌+◌, ◌-◌, List, [], ◌∷◌, map, length, ◌⊎◌, refl, sym, ◌∙◌, ap, arith, subst, Option}
-use Rattle.mv_interpreter.proofs.Borrows.Common.{Some, None, Result, Ok, Err, slice_get, option_and_then, ⊤, same_Some, Temp, Token, Instruction}
-use Rattle.mv_interpreter.proofs.Borrows.Common.{Call, Reference, Value, Frame, State, reference_of, successors, Edge, without, Point, Types, alone}
-use Rattle.mv_interpreter.proofs.Borrows.Common.{activation, kind_at, layer_of, Here, Turn, gives, with_top, Layer, Chain, Kinds, home_of, Fits}
-use Rattle.mv_interpreter.proofs.Borrows.Common.{token_kind, operand_kind, ok-is}
-use Rattle.mv_move_types.specs.declared.instruction.Instruction.TheVariants.{Ret}
-use Rattle.mv_move_types.specs.Module.{local_type}
-use Rattle.mv_machine.specs.Typing.{Failure}
-use Rattle.mv_machine.specs.StepParts.{Goes, Returns, pushes, operands}
-use Rattle.mv_interpreter.specs.Borrows.Hypotheses.{NoneInside}
-use Rattle.mv_interpreter.proofs.Borrows.Same.{SameFrames, same-all}
-use Rattle.mv_interpreter.proofs.Borrows.Mutability.{kinds, kinds-length}
+use Rattle.mv_interpreter.proofs.Borrows.Common.{refl, sym, ◌≡◌, ℕ, List, [], ◌∷◌, ◌⊎◌, ap, subst, suc, map, length, Option, Some, None, Ok, ◌+◌, ◌-◌, ◌∙◌, arith, Result, Err, same_Some}
+use Rattle.mv_interpreter.proofs.Borrows.Common.{⊤, slice_get, option_and_then, successors, local_type, Temp, Instruction, Call, Ret, Token, ok-is, GivesLeaf, reference_of, Frame, State}
+use Rattle.mv_interpreter.proofs.Borrows.Common.{Here, Turn, gives, with_top, Goes, Reference, Value, Kinds, Chain, Layer, Edge, without, Types, Point, token_kind, operand_kind, Fits}
+use Rattle.mv_interpreter.proofs.Borrows.Common.{NoneInside, home_of, activation, layer_of, kind_at, alone}
+use Rattle.mv_machine.specs.{Typing.Failure, StepParts.Returns, StepParts.pushes, StepParts.operands}
+use Rattle.mv_interpreter.proofs.{Borrows.Same.SameFrames, Borrows.Same.same-all, Borrows.Mutability.kinds, Borrows.Mutability.kinds-length, Borrows.Operands.on_result}
+use Rattle.mv_interpreter.proofs.{Borrows.Operands.leaf-falls}
 use Rattle.mv_interpreter.proofs.Borrows.Kept.{Falls, falls-pushed, falls-same, below-from, kept-falls, kept-drop, Stand}
-use Rattle.mv_interpreter.proofs.Borrows.Operands.{on_result, leaf-falls}
-use Rattle.mv_machine.proofs.Operations.{GivesLeaf}
 
 -- a number is in a list
 abbrev pub Among : ℕ → List ℕ → Type 0

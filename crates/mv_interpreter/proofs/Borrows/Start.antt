@@ -1,23 +1,15 @@
 -- The first state of a run, whose arguments are no references.
-use Rattle.mv_interpreter.proofs.Borrows.Common.{◌≡◌, ℕ, zero, suc, ◌<◌, List, [], ◌∷◌, ◌++◌, map, reverse, refl, sym, ◌∙◌, ap, subst, Some, None}
-use Rattle.mv_interpreter.proofs.Borrows.Common.{slice_get, replicate, same_Some, Module, FunctionDefinition, Reference, Value, State, reference_of}
-use Rattle.mv_interpreter.proofs.Borrows.Common.{Edge, Types, TheNode, AtSlot, AtOwn, AtGlob, AtTemp, TheRef, Live, seen_frame, stack_ref, held_as}
-use Rattle.mv_interpreter.proofs.Borrows.Common.{activation, alone, StoodOn, Descending}
-use Rattle.mv_borrow_graph.specs.Abstract.Lists.{refs_among}
+use Rattle.mv_interpreter.proofs.Borrows.Common.{refl, sym, ◌≡◌, ℕ, List, [], ◌∷◌, ap, subst, zero, suc, ◌++◌, map, Some, None, reverse, ◌∙◌, ◌<◌, same_Some, none-some, slice_get}
+use Rattle.mv_interpreter.proofs.Borrows.Common.{replicate, Module, FunctionDefinition, reference_of, State, Value, TheNode, AtTemp, TheRef, Live, AtSlot, seen_frame, stack_ref}
+use Rattle.mv_interpreter.proofs.Borrows.Common.{refs_among, Edge, Types, map-turned, NoneOf, StoodOn, Descending, Sound, held_as, activation, alone}
 use Rattle.mv_borrow_graph.specs.Abstract.Stack.{Bottom}
-use Rattle.mv_interpreter.specs.Borrows.Hypotheses.{NoneOf}
-use Rattle.mv_interpreter.specs.Borrows.Stood.{Sound}
-use Rattle.mv_interpreter.proofs.Borrows.Lists.{local-back}
-use Rattle.mv_interpreter.proofs.Borrows.Operands.{none-reverse}
-use Rattle.mv_interpreter.proofs.Borrows.Calls.{homed}
-use Rattle.mv_interpreter.proofs.Lists.{map-turned}
+use Rattle.mv_interpreter.proofs.{Borrows.Lists.local-back, Borrows.Operands.none-reverse, Borrows.Calls.homed}
 
 none-given : (args : List Value) (n l : ℕ) (v : Value) → NoneOf args → slice_get (map Some args ++ replicate n None) l ≡ Some (Some v) → reference_of v ≡ None
-none-given [] zero l v h e = absurd cc
-none-given [] (suc n) zero v h e = absurd cc
 none-given [] (suc n) (suc l) v h e = none-given [] n l v h e
 none-given (a ∷ args) n zero v h e = ap reference_of (sym (same_Some a v (same_Some (Some a) (Some v) e))) ∙ h.0
 none-given (a ∷ args) n (suc l) v h e = none-given args n l v h.1 e
+none-given [] n l v h e = absurd cc
 
 none-among : (args : List Value) → NoneOf args → refs_among (map held_as (map reference_of args)) ≡ []
 none-among [] h = refl
@@ -43,13 +35,6 @@ sound-start depends s home function types edges args n below entered locals stac
     none-live : (m : TheNode) (r : TheRef) → Live (seen_frame (activation function.acquires (alone s.top))) m r → ⊥
     none-live (AtSlot l) r h =
         let t = local-back s.top.locals l r h in
-        not-both t.1 (sym (none-given args n l t.0 none (ap (λ xs. slice_get xs l) (sym locals) ∙ t.2)) ∙ t.3)
-      where
-        not-both : (q : Reference) → None ≡ Some q → ⊥
-        not-both q z = cc
-    none-live (AtOwn l) r h = cc
-    none-live (AtGlob t) r h = cc
-    none-live (AtTemp k) r h = no-place (ap (λ (xs : List Value). stack_ref (map held_as (map reference_of xs)) k) (sym stack) ∙ h)
-      where
-        no-place : None ≡ Some r → ⊥
-        no-place z = cc
+        absurd (none-some t.1 (sym (none-given args n l t.0 none (ap (λ xs. slice_get xs l) (sym locals) ∙ t.2)) ∙ t.3))
+    none-live (AtTemp k) r h = none-some r (ap (λ (xs : List Value). stack_ref (map held_as (map reference_of xs)) k) (sym stack) ∙ h)
+    none-live m r h = cc

@@ -1,21 +1,17 @@
 -- A step on the storage keeps the chain of frames.
-use Rattle.mv_interpreter.proofs.Borrows.Common.{◌≡◌, ℕ, suc, ◌+◌, ◌-◌, List, [], ◌∷◌, ◌++◌, map, length, Bool, true, false, inl, refl, sym, ◌∙◌, ap}
-use Rattle.mv_interpreter.proofs.Borrows.Common.{arith, subst, Option, Some, None, Ok, ◌==◌, list_any, and_from, eq-eqb, same_Some, Key, Glob, Temp}
-use Rattle.mv_interpreter.proofs.Borrows.Common.{Instruction, need, Stored, Reference, Value, Ref, Frame, reference_of, successors, Edge, here}
-use Rattle.mv_interpreter.proofs.Borrows.Common.{without, an_edge, no_edge_out, no_mutable_from, defined, acquires_of, edges_of, kind_at, held_as}
-use Rattle.mv_interpreter.proofs.Borrows.Common.{Turn, with_top, TheLabel, TheNode, AtSlot, AtOwn, AtGlob, AtTemp, Bars, Kinds, stack_ref}
+use Rattle.mv_interpreter.proofs.Borrows.Common.{refl, sym, ◌≡◌, ℕ, List, [], ◌∷◌, true, false, inl, ap, subst, suc, ◌++◌, map, length, Option, Some, None, Ok, ◌+◌, ◌-◌, Bool, ◌∙◌, arith}
+use Rattle.mv_interpreter.proofs.Borrows.Common.{and_from, eq-eqb, same_Some, list_any, ◌==◌, successors, need, Glob, Temp, Instruction, Exists, MutBorrowGlobal, ImmBorrowGlobal, MoveFrom}
+use Rattle.mv_interpreter.proofs.Borrows.Common.{MoveTo, Key, reference_of, Frame, Turn, with_top, truth, Stored, Reference, Value, Ref, Kinds, TheNode, AtGlob, AtTemp, AtSlot, stack_ref}
+use Rattle.mv_interpreter.proofs.Borrows.Common.{TheLabel, Bars, no_edge_out, no_mutable_from, Edge, without, here, an_edge, defined, edges_of, held_as, acquires_of, kind_at}
 use Rattle.std.specs.Prelude.{is_some}
-use Rattle.mv_move_types.specs.declared.instruction.Instruction.TheVariants.{Exists, MutBorrowGlobal, ImmBorrowGlobal, MoveFrom, MoveTo}
 use Rattle.mv_machine.specs.State.{stored_at, without_stored, with_stored}
-use Rattle.mv_borrow_graph.specs.BorrowRules.{edges_after, global_edges}
-use Rattle.mv_machine.specs.StepParts.{truth}
 use Rattle.mv_machine.specs.StepGlobals.{borrow_global, move_from, move_to, exists, key_at}
+use Rattle.mv_borrow_graph.specs.BorrowRules.{edges_after, global_edges}
 use Rattle.mv_borrow_graph.proofs.Abstract.Lists.{stack_under}
-use Rattle.mv_interpreter.proofs.Borrows.Same.{same-all}
-use Rattle.mv_interpreter.proofs.Borrows.Edges.{free_out, free_mutable, then-some}
+use Rattle.mv_interpreter.proofs.{Borrows.Same.same-all, Borrows.Edges.free_out, Borrows.Edges.free_mutable, Borrows.Edges.then-some}
 use Rattle.mv_interpreter.proofs.Borrows.Kept.{falls-pushed, falls-popped, below-from, kept-falls, kept-borrow-global, kept-drop, act}
-use Rattle.mv_machine.proofs.GlobalRules.{borrow_global-is, move_from-is, move_to-is, exists-is}
 use Rattle.mv_interpreter.proofs.Borrows.Standing.{Standing, view, Among, at_top, ends, calm, StandTop, StandList, Kept, size, typed}
+use Rattle.mv_machine.proofs.GlobalRules.{borrow_global-is, move_from-is, move_to-is, exists-is}
 
 module _ (this : Standing) where
   open this use {depends, through, no_cycle, rest, h, types, es, stands, fits, inside}
@@ -72,33 +68,28 @@ module _ (this : Standing) where
   -- the operands below are as the types say
   typed-under : (s : List (Option Reference)) (x : Option Reference) → os ≡ x ∷ s → Kinds (act h.function.acquires h.state.top h.state.top.locals s) (kind_at p)
   typed-under s x top (AtSlot l) r g = typed this (AtSlot l) r g
-  typed-under s x top (AtOwn l) r g = absurd cc
-  typed-under s x top (AtGlob l) r g = absurd cc
   typed-under s x top (AtTemp k) r g =
       typed this (AtTemp k) r (ap (λ o. stack_ref (map held_as o) k) top ∙ (stack_under (held_as x) (map held_as s) k r g).1)
+  typed-under s x top y r g = absurd cc
 
   pub step-move-to : (i : ℕ) (y : Turn) (es' : List Edge) → move_to h i ≡ Ok y → edges_after p (MoveTo i) es ≡ Some es' → Kept this (MoveTo i) es' (Ok y)
   unfolding edges_after
   step-move-to i y es' e g =
       let m = move_to-is h i y e in
+      let top : os ≡ reference_of m.value ∷ Some m.reference ∷ map reference_of m.below = ap (map reference_of) m.taken in
+      let two : length os ≡ suc (suc (length (map reference_of m.below))) = ap length top in
+      let second : length (map reference_of m.below) ≡ length types - 2 = omega (arith, two, size this) in
+      let taken : StandTop this (record (h.state.top) { stack = m.below; at = h.state.top.at + 1 }) (without (Temp (length types - 2)) es) =
+      subst (λ n. StandList this h.state.top.locals (map reference_of m.below) (without (Temp n) es)) second
+      (kept-drop depends through no_cycle h.function.acquires h.state.top rest h.state.top.locals (Some m.reference ∷ map reference_of m.below) es
+      (kept-falls depends through no_cycle h.function.acquires h.state.top rest h.state.top.locals os es stands h.state.top.locals (Some m.reference ∷ map reference_of m.below) es (λ l v r at is. at)
+      (falls-popped os (Some m.reference ∷ map reference_of m.below) (reference_of m.value) top) (below-from _ _ (λ q x c e. e)))
+      (Some m.reference) (map reference_of m.below) (kind_at p) (typed-under (Some m.reference ∷ map reference_of m.below) (reference_of m.value) top) refl) in
       ends this (MoveTo i)
       (record (h.state) { storage = with_stored h.state.storage (key_at h i m.address) m.value; top = record (h.state.top) { stack = m.below; at = h.state.top.at + 1 } }) y
       (without (Temp (length types - 2)) es) es' m.left
       (same_Some (without (Temp (length types - 2)) es) es' g)
-      (taken m.value m.reference m.below (ap (map reference_of) m.taken), (refl, refl, refl, same-all h.state.below, refl, inl refl))
-    where
-      taken : (v : Value) (r : Reference) (below : List Value) → os ≡ reference_of v ∷ Some r ∷ map reference_of below
-          → StandTop this (record (h.state.top) { stack = below; at = h.state.top.at + 1 }) (without (Temp (length types - 2)) es)
-      taken v r below top =
-          subst (λ n. StandList this h.state.top.locals (map reference_of below) (without (Temp n) es))
-          (second (length os) (length (map reference_of below)) (ap length top) (size this))
-          (kept-drop depends through no_cycle h.function.acquires h.state.top rest h.state.top.locals (Some r ∷ map reference_of below) es
-          (kept-falls depends through no_cycle h.function.acquires h.state.top rest h.state.top.locals os es stands h.state.top.locals (Some r ∷ map reference_of below) es (λ l v r at is. at)
-          (falls-popped os (Some r ∷ map reference_of below) (reference_of v) top) (below-from _ _ (λ q x c e. e)))
-          (Some r) (map reference_of below) (kind_at p) (typed-under (Some r ∷ map reference_of below) (reference_of v) top) refl)
-        where
-          second : (a c : ℕ) → a ≡ suc (suc c) → length types ≡ a → c ≡ length types - 2
-          second a c d f = omega arith
+      (taken, (refl, refl, refl, same-all h.state.below, refl, inl refl))
 
   pub step-exists : (i : ℕ) (y : Turn) (es' : List Edge) → exists h i ≡ Ok y → edges_after p (Exists i) es ≡ Some es' → Kept this (Exists i) es' (Ok y)
   unfolding edges_after

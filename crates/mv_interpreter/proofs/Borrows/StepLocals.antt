@@ -1,22 +1,18 @@
 -- A step on a local keeps the chain of frames: copies, moves, stores and borrows.
-use Rattle.mv_interpreter.proofs.Borrows.Common.{◌≡◌, ℕ, zero, suc, ◌+◌, List, [], ◌∷◌, ◌++◌, map, length, Bool, true, false, inl, refl, sym, ◌∙◌, ap}
-use Rattle.mv_interpreter.proofs.Borrows.Common.{subst, Option, Some, None, Ok, slice_get, slice_set, same_Some, Slot, Own, Temp, Token, Plain}
-use Rattle.mv_interpreter.proofs.Borrows.Common.{ReferenceTo, MutableReferenceTo, Instruction, need, ◌>>>◌, Reference, Value, Ref, Frame}
-use Rattle.mv_interpreter.proofs.Borrows.Common.{reference_of, successors, entry, tag_named, Tag, Edge, here, without, inherited, renamed, an_edge}
-use Rattle.mv_interpreter.proofs.Borrows.Common.{no_edge_out, no_mutable_from, edges_of, kind_at, Turn, with_top, TheLabel, TheNode, AtOwn, Bars}
-use Rattle.mv_interpreter.proofs.Borrows.Common.{token_kind, operand_kind, on_ok, found-is}
-use Rattle.mv_move_types.specs.declared.instruction.Instruction.TheVariants.{CopyLoc, MoveLoc, StLoc, MutBorrowLoc, ImmBorrowLoc}
-use Rattle.mv_move_types.specs.Module.{local_tokens, local_type}
+use Rattle.mv_interpreter.proofs.Borrows.Common.{refl, sym, ◌≡◌, ℕ, List, [], ◌∷◌, true, false, inl, ap, subst, zero, suc, ◌++◌, map, length, Option, Some, None, Ok, ◌+◌, Bool, ◌∙◌}
+use Rattle.mv_interpreter.proofs.Borrows.Common.{same_Some, none-some, slice_get, slice_set, successors, local_type, ◌>>>◌, need, Tag, Slot, Own, Temp, Instruction, CopyLoc, MoveLoc}
+use Rattle.mv_interpreter.proofs.Borrows.Common.{StLoc, MutBorrowLoc, ImmBorrowLoc, Token, Plain, ReferenceTo, MutableReferenceTo, found-is, on_ok, reference_of, Frame, Turn, with_top}
+use Rattle.mv_interpreter.proofs.Borrows.Common.{tag_named, entry, Reference, Value, Ref, TheNode, AtOwn, TheLabel, Bars, no_edge_out, no_mutable_from, Edge, without, inherited, here}
+use Rattle.mv_interpreter.proofs.Borrows.Common.{renamed, an_edge, token_kind, operand_kind, edges_of, kind_at}
+use Rattle.mv_move_types.specs.Module.{local_tokens}
 use Rattle.mv_machine.specs.Typing.{linked}
-use Rattle.mv_borrow_graph.specs.BorrowRules.{edges_after, copy_edges, move_edges, store_edges}
 use Rattle.mv_machine.specs.StepLocals.{copy_local, move_local, store_local, borrow_local, local_place, local_tag}
-use Rattle.mv_interpreter.proofs.Borrows.Same.{same-all}
-use Rattle.mv_interpreter.proofs.Borrows.Edges.{free_out, free_mutable, then-some}
-use Rattle.mv_interpreter.proofs.Borrows.Mutability.{operand-plain}
+use Rattle.mv_borrow_graph.specs.BorrowRules.{edges_after, copy_edges, move_edges, store_edges}
+use Rattle.mv_interpreter.proofs.{Borrows.Same.same-all, Borrows.Edges.free_out, Borrows.Edges.free_mutable, Borrows.Edges.then-some, Borrows.Mutability.operand-plain}
+use Rattle.mv_interpreter.proofs.{Borrows.Operands.on_option, Borrows.Operands.tag-kind}
 use Rattle.mv_interpreter.proofs.Borrows.Kept.{falls-pushed, falls-popped, falls-same, below-from, kept-falls, kept-copy, kept-copy-mutable, kept-move, kept-store, kept-borrow-local}
-use Rattle.mv_machine.proofs.LocalRules.{copy-is, move-is, store-is, borrow-is}
-use Rattle.mv_interpreter.proofs.Borrows.Operands.{on_option, tag-kind}
 use Rattle.mv_interpreter.proofs.Borrows.Standing.{Standing, view, Among, at_next, at_top, local-kind, ends, calm, StandTop, Kept, typed}
+use Rattle.mv_machine.proofs.LocalRules.{copy-is, move-is, store-is, borrow-is}
 
 kind-some : (o : Option Reference) (b : Bool) → Some b ≡ operand_kind o → (r : Reference) × (o ≡ Some r) × (r.is_mutable ≡ b)
 kind-some None b e = absurd cc
@@ -25,13 +21,9 @@ kind-some (Some r) b e = (r, refl, sym (same_Some b r.is_mutable e))
 set-none : (xs : List (Option Value)) (l m : ℕ) (o : Option Value) (v : Value) (r : Reference) → ((w : Value) → o ≡ Some w → reference_of w ≡ None) → slice_get (slice_set xs l o) m ≡ Some (Some v)
     → reference_of v ≡ Some r → slice_get xs m ≡ Some (Some v)
 set-none [] l m o v r none at is = absurd cc
-set-none (x ∷ xs) zero zero o v r none at is = absurd (not_both (sym (none v (same_Some o (Some v) at)) ∙ is))
-  where
-    not_both : None ≡ Some r → ⊥
-    not_both z = cc
-set-none (x ∷ xs) zero (suc m) o v r none at is = at
-set-none (x ∷ xs) (suc l) zero o v r none at is = at
+set-none (x ∷ xs) zero zero o v r none at is = absurd (none-some r (sym (none v (same_Some o (Some v) at)) ∙ is))
 set-none (x ∷ xs) (suc l) (suc m) o v r none at is = set-none xs l m o v r none at is
+set-none (x ∷ xs) l m o v r none at is = at
 
 no-value : (w : Value) → None ≡ Some w → reference_of w ≡ None
 no-value w z = absurd cc
@@ -75,13 +67,8 @@ module _ (this : Standing) where
       (kept-falls depends through no_cycle h.function.acquires h.state.top rest h.state.top.locals os es stands (slice_set h.state.top.locals l None) (reference_of v ∷ os) es
       (λ m w r. set-none h.state.top.locals l m None w r no-value)
       (falls-pushed os os (reference_of v) (operand-plain (Plain t) (reference_of v) k refl) (falls-same os)) (below-from _ _ (λ q x c e. e)))
-  move-by l v es' (ReferenceTo t) at k g =
-      let r = kind-some (reference_of v) false k in
-      subst (λ u. StandTop this (moved_frame l v) u) (same_Some _ es' g)
-      (at_next this (λ n. renamed (Slot l) (Temp n) es) (slice_set h.state.top.locals l None) (reference_of v ∷ os)
-      (kept-move depends through no_cycle h.function.acquires h.state.top rest h.state.top.locals os es stands l v r.0 (kind_at p) (typed this) at r.1))
-  move-by l v es' (MutableReferenceTo t) at k g =
-      let r = kind-some (reference_of v) true k in
+  move-by l v es' t at k g =
+      let r = kind-some (reference_of v) _ k in
       subst (λ u. StandTop this (moved_frame l v) u) (same_Some _ es' g)
       (at_next this (λ n. renamed (Slot l) (Temp n) es) (slice_set h.state.top.locals l None) (reference_of v ∷ os)
       (kept-move depends through no_cycle h.function.acquires h.state.top rest h.state.top.locals os es stands l v r.0 (kind_at p) (typed this) at r.1))
@@ -104,14 +91,8 @@ module _ (this : Standing) where
       (kept-falls depends through no_cycle h.function.acquires h.state.top rest h.state.top.locals os es stands (slice_set h.state.top.locals l (Some v)) (map reference_of s) es
       (λ m w r. set-none h.state.top.locals l m (Some v) w r (λ u z. ap reference_of (sym (same_Some v u z)) ∙ operand-plain (Plain t) (reference_of v) k refl))
       (falls-popped os (map reference_of s) (reference_of v) top) (below-from _ _ (λ q x c e. e)))
-  store-by l v s es' (ReferenceTo t) top k g =
-      let r = kind-some (reference_of v) false k in
-      subst (λ u. StandTop this (stored_frame l v s) u) (same_Some _ es' g)
-      (at_top this (λ n. renamed (Temp n) (Slot l) (without (Slot l) es)) (slice_set h.state.top.locals l (Some v)) (map reference_of s) (map reference_of s) (reference_of v) top
-      (kept-store depends through no_cycle h.function.acquires h.state.top rest h.state.top.locals os es stands l v r.0 (map reference_of s) (kind_at p) (typed this)
-      (top ∙ ap (λ (x : Option Reference). x ∷ map reference_of s) r.1) r.1))
-  store-by l v s es' (MutableReferenceTo t) top k g =
-      let r = kind-some (reference_of v) true k in
+  store-by l v s es' t top k g =
+      let r = kind-some (reference_of v) _ k in
       subst (λ u. StandTop this (stored_frame l v s) u) (same_Some _ es' g)
       (at_top this (λ n. renamed (Temp n) (Slot l) (without (Slot l) es)) (slice_set h.state.top.locals l (Some v)) (map reference_of s) (map reference_of s) (reference_of v) top
       (kept-store depends through no_cycle h.function.acquires h.state.top rest h.state.top.locals os es stands l v r.0 (map reference_of s) (kind_at p) (typed this)

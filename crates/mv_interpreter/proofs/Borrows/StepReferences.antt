@@ -1,18 +1,16 @@
 -- A step on references keeps the chain of frames: fields, FreezeRef, reads and writes.
-use Rattle.mv_interpreter.proofs.Borrows.Common.{◌≡◌, ℕ, ◌+◌, ◌-◌, List, [], ◌∷◌, ◌++◌, map, length, Bool, true, false, not, inl, refl, sym, ◌∙◌, ap}
-use Rattle.mv_interpreter.proofs.Borrows.Common.{subst, Some, None, Ok, slice_get, ◌&&◌, ◌||◌, ◌==◌, filter, list_any, not-true, and_from, eq-eqb}
-use Rattle.mv_interpreter.proofs.Borrows.Common.{same_Some, Temp, Instruction, need, ◌>>>◌, Reference, Value, Ref, Frame, reference_of, successors}
-use Rattle.mv_interpreter.proofs.Borrows.Common.{entry, Edge, Label, same_node, without, inherited, extended, is_mutable, no_edge_out}
-use Rattle.mv_interpreter.proofs.Borrows.Common.{no_mutable_from, edges_of, kind_at, label_from, Member, Turn, gives, with_top, with_stack, TheLabel}
-use Rattle.mv_interpreter.proofs.Borrows.Common.{TheNode, AtTemp, Chain, home_of, Descending, begins, on_ok, ok-is, found-is}
-use Rattle.mv_move_types.specs.declared.instruction.Instruction.TheVariants.{MutBorrowField, ImmBorrowField, ReadRef, WriteRef, FreezeRef}
-use Rattle.mv_edges.specs.Edges.{out_of, agrees}
+use Rattle.mv_interpreter.proofs.Borrows.Common.{refl, sym, ◌≡◌, ℕ, List, [], ◌∷◌, true, false, inl, ap, subst, ◌++◌, map, length, Some, None, Ok, ◌+◌, ◌-◌, Bool, not, ◌∙◌, and_from}
+use Rattle.mv_interpreter.proofs.Borrows.Common.{eq-eqb, not-true, same_Some, list_any, ◌==◌, slice_get, ◌&&◌, ◌||◌, filter, successors, ◌>>>◌, begins, need, Temp, Instruction}
+use Rattle.mv_interpreter.proofs.Borrows.Common.{MutBorrowField, ImmBorrowField, ReadRef, WriteRef, FreezeRef, ok-is, found-is, on_ok, reference_of, Frame, Turn, gives, with_top}
+use Rattle.mv_interpreter.proofs.Borrows.Common.{with_stack, entry, Reference, Value, Ref, TheNode, AtTemp, TheLabel, BorrowField, Need, Chain, no_edge_out, is_mutable, no_mutable_from}
+use Rattle.mv_interpreter.proofs.Borrows.Common.{Edge, same_node, without, inherited, Label, extended, out_of, home_of, Descending, Member, edges_of, kind_at, label_from}
+use Rattle.std.proofs.lemmas.Bool.{or_right}
+use Rattle.mv_edges.specs.Edges.{agrees}
 use Rattle.mv_borrow_graph.specs.BorrowRules.{edges_after, position_of, field_edges, top_temp}
 use Rattle.mv_machine.specs.StepStructs.{OwnStruct, own_struct}
 use Rattle.mv_machine.specs.StepReferences.{borrow_field, write_reference, read_reference, freeze, own_field, lends}
 use Rattle.mv_borrow_graph.specs.Abstract.Places.{Agrees, AgreesWith, steps}
-use Rattle.mv_borrow_graph.specs.Abstract.Rows.{BorrowField, Need}
-use Rattle.mv_interpreter.proofs.Borrows.Same.{SameSeen, same-all, layer-same, write-same, plain-tagged}
+use Rattle.mv_interpreter.proofs.Borrows.Same.{same-all, layer-same, write-same, plain-tagged}
 use Rattle.mv_interpreter.proofs.Borrows.Edges.{kind_of_node, free_mutable, then-some, none_any, node_of-inj, node-is, member_filter}
 use Rattle.mv_interpreter.proofs.Borrows.Kept.{Falls, falls-pushed, falls-popped, falls-same, kept-borrow-field, kept-freeze}
 use Rattle.mv_machine.proofs.ReferenceRules.{borrow_field-is, read-is, write-is, freeze-is}
@@ -21,11 +19,7 @@ use Rattle.mv_interpreter.proofs.Borrows.Standing.{Standing, view, Among, at_top
 
 agrees-begins : (l : List ℕ) (i : ℕ) → AgreesWith l i → (begins l (i ∷ []) || begins (i ∷ []) l) ≡ true
 agrees-begins [] i a = refl
-agrees-begins (g ∷ l) i a = or-right (begins (g ∷ l) (i ∷ [])) (begins (i ∷ []) (g ∷ l)) (and_from (i == g) true (eq-eqb i g (sym a)) refl)
-  where
-    or-right : (x y : Bool) → y ≡ true → (x || y) ≡ true
-    or-right true y q = refl
-    or-right false y q = q
+agrees-begins (g ∷ l) i a = or_right (begins (g ∷ l) (i ∷ [])) (begins (i ∷ []) (g ∷ l)) (and_from (i == g) true (eq-eqb i g (sym a)) refl)
 
 label-path : (b : Bool) (path : List ℕ) → steps (label_from b path) ≡ path
 label-path true path = refl
@@ -144,11 +138,9 @@ module _ (this : Standing) where
       ends this WriteRef (with_top x.next (record (x.next.top) { at = x.next.top.at + 1 })) y (without (top_temp p) es) es' x.left (sym b.1) (
         subst (λ u. Chain depends home_of (u ∷ rest))
             (layer-same h.function.acquires [] (record (h.state.top) { stack = x.below; at = h.state.top.at + 1 })
-            (record (x.next.top) { at = x.next.top.at + 1 }) (without (top_temp p) es) (same-on h.state.top x.next.top x.below w.0))
+            (record (x.next.top) { at = x.next.top.at + 1 }) (without (top_temp p) es)
+            (record { number = w.0.number; function = w.0.function; entered_with = w.0.entered_with; at = ap (λ n. n + 1) w.0.at; stack = w.0.stack; locals = w.0.locals }))
             (dropped-calm this (Ref x.reference) (x.new ∷ x.below) x.below (h.state.top.at + 1) x.taken
             (falls-popped (map reference_of (x.new ∷ x.below)) (map reference_of x.below) (reference_of x.new) refl)),
         (w.0.number, w.0.function, w.0.entered_with, w.1, w.2, inl (ap (λ n. n + 1) w.0.at)),
       )
-    where
-      same-on : (f g : Frame) (s : List Value) → SameSeen (record f { stack = s }) g → SameSeen (record f { stack = s; at = f.at + 1 }) (record g { at = g.at + 1 })
-      same-on f g s x = record { number = x.number; function = x.function; entered_with = x.entered_with; at = ap (λ n. n + 1) x.at; stack = x.stack; locals = x.locals }

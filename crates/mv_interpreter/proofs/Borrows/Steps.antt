@@ -1,39 +1,27 @@
 -- One step of the machine keeps the chain of frames: every instruction but Call and Ret, in one table over the families.
-use Rattle.mv_interpreter.proofs.Borrows.Common.{◌≡◌, ℕ, ◌+◌, ◌-◌, List, ◌∷◌, ◌++◌, map, length, reverse, Bool, true, false, not, cond, inl, inr}
-use Rattle.mv_interpreter.proofs.Borrows.Common.{refl, sym, ap, subst, Some, None, Ok, ◌&&◌, ◌||◌, ◌==◌, beq, same_Some, Temp, Instruction, Call}
-use Rattle.mv_interpreter.proofs.Borrows.Common.{Value, Leaf, Struct, reference_of, successors, Edge, without, Turn, gives, with_top, with_stack}
-use Rattle.mv_interpreter.proofs.Borrows.Common.{Descending}
+use Rattle.mv_interpreter.proofs.Borrows.Common.{refl, sym, ◌≡◌, ℕ, List, ◌∷◌, true, false, inl, inr, ap, subst, ◌++◌, map, length, Some, None, Ok, ◌+◌, ◌-◌, reverse, Bool, not, cond}
+use Rattle.mv_interpreter.proofs.Borrows.Common.{same_Some, beq, ◌==◌, ◌&&◌, ◌||◌, successors, Temp, Instruction, Exists, MutBorrowGlobal, ImmBorrowGlobal, MoveFrom, MoveTo, CopyLoc}
+use Rattle.mv_interpreter.proofs.Borrows.Common.{MoveLoc, StLoc, MutBorrowLoc, ImmBorrowLoc, MutBorrowField, ImmBorrowField, ReadRef, WriteRef, FreezeRef, reference_of, Turn, gives}
+use Rattle.mv_interpreter.proofs.Borrows.Common.{with_top, with_stack, truth, Value, Leaf, Struct, Edge, without, Reaches, Descending}
 use Rattle.std.specs.Prelude.{nat_le, bit_or, bit_and, bit_xor, nat_lt}
 use Rattle.mv_move_types.specs.declared.token.Width.TheVariants.{U8, U16, U32, U64, U128}
-use Rattle.mv_move_types.specs.declared.instruction.Instruction.TheVariants.{Pop, Ret, BrTrue, BrFalse, Branch, LdU64, LdConst, LdTrue, LdFalse}
-use Rattle.mv_move_types.specs.declared.instruction.Instruction.TheVariants.{CopyLoc, MoveLoc, StLoc, MutBorrowLoc, ImmBorrowLoc, MutBorrowField}
-use Rattle.mv_move_types.specs.declared.instruction.Instruction.TheVariants.{ImmBorrowField, Pack, Unpack, ReadRef, WriteRef, Add, Sub, Mul, Mod, Div}
-use Rattle.mv_move_types.specs.declared.instruction.Instruction.TheVariants.{BitOr, BitAnd, Xor, Or, And, Not, Eq, Neq, Lt, Gt, Le, Ge, Abort, Nop}
-use Rattle.mv_move_types.specs.declared.instruction.Instruction.TheVariants.{Exists, MutBorrowGlobal, ImmBorrowGlobal, MoveFrom, MoveTo, FreezeRef}
-use Rattle.mv_move_types.specs.declared.instruction.Instruction.TheVariants.{Shl, Shr, LdU8, LdU128, CastU8, CastU64, CastU128, LdU16, LdU32, CastU16}
-use Rattle.mv_move_types.specs.declared.instruction.Instruction.TheVariants.{CastU32}
-use Rattle.mv_machine.specs.Value.{fields_of, list_of}
-use Rattle.mv_borrow_graph.specs.BorrowRules.{edges_after}
-use Rattle.mv_interpreter.specs.Borrows.Links.{Reaches}
-use Rattle.mv_machine.specs.Numbers.{sum_of, difference_of, product_of, remainder_of, quotient_of, shifted_left, shifted_right}
-use Rattle.mv_machine.specs.StepParts.{goes_to, truth}
-use Rattle.mv_machine.specs.StepStructs.{pack, unpack, noted}
-use Rattle.mv_machine.specs.Step.{rule}
-use Rattle.mv_machine.specs.StepLocals.{pop}
-use Rattle.mv_machine.specs.StepNumbers.{constant}
-use Rattle.mv_machine.specs.StepControl.{branch_if}
+use Rattle.mv_move_types.specs.declared.instruction.Instruction.TheVariants.{Pop, BrTrue, BrFalse, Branch, LdU64, LdConst, LdTrue, LdFalse, Pack, Unpack, Add, Sub, Mul, Mod, Div, BitOr}
+use Rattle.mv_move_types.specs.declared.instruction.Instruction.TheVariants.{BitAnd, Xor, Or, And, Not, Eq, Neq, Lt, Gt, Le, Ge, Abort, Nop, Shl, Shr, LdU8, LdU128, CastU8, CastU64}
+use Rattle.mv_move_types.specs.declared.instruction.Instruction.TheVariants.{CastU128, LdU16, LdU32, CastU16, CastU32}
 use Rattle.mv_move_types.specs.declared.token.LeafKind.TheVariants.{Number}
+use Rattle.mv_machine.specs.{Value.fields_of, Value.list_of, StepParts.goes_to, StepStructs.pack, StepStructs.unpack, StepStructs.noted, Step.rule, StepLocals.pop, StepNumbers.constant}
+use Rattle.mv_machine.specs.{StepControl.branch_if}
+use Rattle.mv_machine.specs.Numbers.{sum_of, difference_of, product_of, remainder_of, quotient_of, shifted_left, shifted_right}
+use Rattle.mv_borrow_graph.specs.BorrowRules.{edges_after}
 use Rattle.mv_interpreter.proofs.Borrows.Same.{same-all}
 use Rattle.mv_interpreter.proofs.Borrows.Kept.{Falls, falls-popped, falls-pushed, falls-same}
-use Rattle.mv_machine.proofs.LocalRules.{pop-is}
-use Rattle.mv_machine.proofs.StructRules.{pack-is, unpack-is}
-use Rattle.mv_machine.proofs.Operations.{binary-gives, comparison-gives, shift-gives, cast-gives, logic-gives, negation-gives, equality-gives, constant-is}
-use Rattle.mv_machine.proofs.Transfers.{branch-is, no-abort}
 use Rattle.mv_interpreter.proofs.Borrows.Operands.{on_result, taken-falls, none-more, none-reverse}
 use Rattle.mv_interpreter.proofs.Borrows.Standing.{Standing, view, Among, IsTransfer, ends, calm, calm-leaf, calm-pushes, Kept, dropped-calm}
 use Rattle.mv_interpreter.proofs.Borrows.StepLocals.{step-copy, step-move, step-store, step-borrow-mutable, step-borrow-immutable}
 use Rattle.mv_interpreter.proofs.Borrows.StepReferences.{step-field-mutable, step-field-immutable, step-freeze, step-read, step-write}
 use Rattle.mv_interpreter.proofs.Borrows.StepGlobals.{step-global-mutable, step-global-immutable, step-move-from, step-move-to, step-exists}
+use Rattle.mv_machine.proofs.{LocalRules.pop-is, StructRules.pack-is, StructRules.unpack-is, Transfers.branch-is, Transfers.no-abort}
+use Rattle.mv_machine.proofs.Operations.{binary-gives, comparison-gives, shift-gives, cast-gives, logic-gives, negation-gives, equality-gives, constant-is}
 
 module _ (this : Standing) where
   open this use {depends, through, no_cycle, rest, h, types, es, stands, fits, inside}
@@ -102,7 +90,6 @@ module _ (this : Standing) where
       → Descending (h.state.top ∷ h.state.below) → rule i h ≡ Ok y → edges_after p i es ≡ Some es' → Kept this i es' (Ok y)
   unfolding rule edges_after
   step-kept Pop y es' n q o e g = step-pop y es' e g
-  step-kept Ret y es' n q o e g = absurd (n tt)
   step-kept (BrTrue t) y es' n q o e g = branch-kept true (BrTrue t) t y es' (inl refl) (inr (inl refl)) e g
   step-kept (BrFalse t) y es' n q o e g = branch-kept false (BrFalse t) t y es' (inl refl) (inr (inl refl)) e g
   step-kept (Branch t) y es' n q o e g = stays-here (Branch t) t y es' (inl refl) e g
@@ -117,7 +104,6 @@ module _ (this : Standing) where
   step-kept (ImmBorrowLoc l) y es' n q o e g = step-borrow-immutable this l y es' e g
   step-kept (MutBorrowField i) y es' n q o e g = step-field-mutable this i y es' e g
   step-kept (ImmBorrowField i) y es' n q o e g = step-field-immutable this i y es' e g
-  step-kept (Call i) y es' n q o e g = absurd (n tt)
   step-kept (Pack i) y es' n q o e g = step-pack i y es' e g
   step-kept (Unpack i) y es' n q o e g = step-unpack i y es' e g
   step-kept ReadRef y es' n q o e g = step-read this y es' e g
@@ -158,3 +144,4 @@ module _ (this : Standing) where
   step-kept (LdU32 k) y es' n q o e g = calm-pushes this (LdU32 k) (Leaf (Number U32) k) y es' (inl refl) e g refl
   step-kept CastU16 y es' n q o e g = calm-leaf this CastU16 _ y es' (cast-gives h U16 h.state.top.stack) (inl refl) e g
   step-kept CastU32 y es' n q o e g = calm-leaf this CastU32 _ y es' (cast-gives h U32 h.state.top.stack) (inl refl) e g
+  step-kept i y es' n q o e g = absurd (n tt)

@@ -1,46 +1,24 @@
 -- The whole: a run of linked code over an accepted store agrees with the machine's run.
-use Rattle.mv_interpreter.proofs.Flat.Common.{◌≡◌, ℕ, ◌≤◌, List, [], ◌∷◌, ◌++◌, map, length, refl, sym, ◌∙◌, subst, Option, Some, None, Result, Ok}
-use Rattle.mv_interpreter.proofs.Flat.Common.{flat_map, replicate, option_map_or, same_Some, Token, Module, Value, Leaf, Struct, Ref, State, Storage}
-use Rattle.mv_interpreter.proofs.Flat.Common.{flat, Failure, Tag, LeafTag, StructTag, ReferenceTag, token_named, tokens_named, FunctionCall, Roots}
-use Rattle.mv_interpreter.proofs.Flat.Common.{HasType, HaveTypes, HaveTokens, StorageTyped, SoundStore, Guides, StoreAccepted, Program, width_of_tags}
-use Rattle.mv_interpreter.proofs.Flat.Common.{width_of_tokens, IsLinked, on_bind, History, ValueWords, LocalsWords, Represented, flat_entry}
-use Rattle.mv_interpreter.proofs.Flat.Common.{SameOutcome}
+use Rattle.mv_interpreter.proofs.Flat.Common.{◌≡◌, ℕ, ◌≤◌, List, map, length, sym, subst, [], ◌∷◌, ◌++◌, refl, Result, Ok, Option, Some, None, option_map_or, flat_map, replicate, Module}
+use Rattle.mv_interpreter.proofs.Flat.Common.{Tag, LeafTag, StructTag, ReferenceTag, Token, flat, FunctionCall, Storage, State, Failure, Value, Ref, IsLinked, Program, tokens_named}
+use Rattle.mv_interpreter.proofs.Flat.Common.{width_of_tokens, width_of_tags, FlatOutcome, FlatStuck, SameOutcome, flat_entry, History, ValueWords, LocalsWords, Represented, StoreAccepted}
+use Rattle.mv_interpreter.proofs.Flat.Common.{SoundStore, HaveTypes, HasType, Guides, StorageTyped}
+use Rattle.mv_interpreter.proofs.{Typing.Operands.on_names, Typing.Structs.names_length, Typing.Addresses.accepted_is_sound, Flat.Wide.Sized, Flat.Sizes.sizes}
+use Rattle.mv_interpreter.proofs.{Typing.Roots.tokens_have_tags, Flat.Slot.widths_named, Flat.Arguments.ListWords, Flat.Grow.entered_locals, Flat.Grow.all_named, Flat.Grow.named_split}
+use Rattle.mv_interpreter.proofs.{Flat.Calls.types_are, Flat.Run.turns_follow}
+use Rattle.mv_interpreter.proofs.Typing.First.{Nowhere, CallTyped, begun, first_typed, first_is}
 use Rattle.mv_machine.specs.Run.{outcome_from, run}
 use Rattle.mv_interpreter.specs.Typing.HasType.{fields_by_name}
-use Rattle.mv_interpreter.proofs.Typing.Structs.{names_length}
-use Rattle.mv_interpreter.proofs.Typing.First.{Nowhere, CallTyped, begun, first_typed, first_is}
-use Rattle.mv_interpreter.proofs.Typing.Addresses.{accepted_is_sound}
-use Rattle.mv_interpreter.specs.Flat.FlatRun.{FlatOutcome, FlatStuck, flat_turns, flat_first, flat_run, width_of_others}
-use Rattle.mv_interpreter.proofs.Flat.Wide.{Sized}
-use Rattle.mv_interpreter.proofs.Flat.Sizes.{sizes}
-use Rattle.mv_interpreter.proofs.Flat.Slot.{widths_named}
-use Rattle.mv_interpreter.proofs.Flat.Arguments.{ListWords}
-use Rattle.mv_interpreter.proofs.Flat.Grow.{entered_locals, all_named, named_split}
-use Rattle.mv_interpreter.proofs.Flat.Calls.{types_are}
-use Rattle.mv_interpreter.proofs.Flat.Run.{turns_follow}
+use Rattle.mv_interpreter.specs.Flat.FlatRun.{flat_turns, flat_first, flat_run, width_of_others}
 use Rattle.std.proofs.lemmas.Option.{none-some}
-
--- values of types have the types' names
-types_named : (modules : List Module) (look : Roots) (home : Module) (vs : List Value) (ts : List Token) (tags : List Tag)
-    → HaveTokens modules look home vs ts → tokens_named home ts ≡ Some tags → HaveTypes (fields_by_name modules) look vs tags
-types_named modules look home [] [] tags h e = subst (λ (x : List Tag). HaveTypes (fields_by_name modules) look [] x) (same_Some [] tags e) tt
-types_named modules look home [] (t ∷ ts) tags h e = absurd h
-types_named modules look home (v ∷ vs) [] tags h e = absurd h
-types_named modules look home (v ∷ vs) (t ∷ ts) tags h e =
-    on_bind (token_named home t) _ tags e (λ tag tag_is e1.
-    on_bind (tokens_named home ts) (λ rest. Some (tag ∷ rest)) tags e1 (λ rest rest_is e2.
-    let same : h.0.tag ≡ tag = same_Some h.0.tag tag (sym h.0.names ∙ tag_is) in
-    subst (λ (x : List Tag). HaveTypes (fields_by_name modules) look (v ∷ vs) x) (same_Some (tag ∷ rest) tags e2)
-    (subst (λ (x : Tag). HasType (fields_by_name modules) look v x) same h.0.typed, types_named modules look home vs ts rest h.1 rest_is)))
 
 module _ (modules : List Module) (history : History) where
   -- arguments that are no references have the words of their leaves
   argument_words : (v : Value) (t : Tag) → HasType (fields_by_name modules) Nowhere v t → ValueWords modules history v (flat v)
-  argument_words (Leaf k n) t h = refl
-  argument_words (Struct name fields) t h = refl
   argument_words (Ref r) (LeafTag k) h = absurd h
   argument_words (Ref r) (StructTag name) h = absurd h
   argument_words (Ref r) (ReferenceTag m to) h = absurd (none-some h.1.root.value h.1.root.is_there)
+  argument_words v t h = refl
 
   arguments_words : (vs : List Value) (ts : List Tag) → HaveTypes (fields_by_name modules) Nowhere vs ts → ListWords modules history vs (flat_map flat vs)
   arguments_words [] ts h = refl
@@ -56,7 +34,7 @@ first_represented modules storage call c store sized stored =
     let first = named_first c.home c.parameters c.others named.0 named.1 in
     let apart = named_split c.home c.parameters c.others first.0 named.0 named.1 first.1 in
     let history : History = record { base = 0; types = named.0 } ∷ [] in
-    let typed = types_named modules Nowhere c.home call.arguments c.parameters first.0 c.arguments first.1 in
+    let typed = tokens_have_tags modules Nowhere c.home call.arguments c.parameters first.0 c.arguments first.1 in
     let zeros : List ℕ = replicate (width_of_tags modules apart.0) 0 in
     let locals : LocalsWords modules history (map Some call.arguments ++ replicate (length apart.0) None) (first.0 ++ apart.0) (flat_map flat call.arguments ++ zeros) =
     entered_locals modules history sized Nowhere call.arguments first.0 apart.0 (flat_map flat call.arguments) typed (arguments_words modules history call.arguments first.0 typed) in
@@ -91,10 +69,9 @@ first_represented modules storage call c store sized stored =
     named_first : (m : Module) (ts us : List Token) (all : List Tag) → tokens_named m (ts ++ us) ≡ Some all → (a : List Tag) × (tokens_named m ts ≡ Some a)
     named_first m [] us all e = ([], refl)
     named_first m (t ∷ ts) us all e =
-        on_bind (token_named m t) _ all e (λ tag tag_is e1.
-        on_bind (tokens_named m (ts ++ us)) (λ rest. Some (tag ∷ rest)) all e1 (λ rest rest_is e2.
+        on_names m t (ts ++ us) all e (λ tag rest tag_is rest_is whole.
         let inner = named_first m ts us rest rest_is in
-        (tag ∷ inner.0, rw (tag_is, inner.1) refl)))
+        (tag ∷ inner.0, rw (tag_is, inner.1) refl))
 
 pub others_are : (modules : List Module) (call : FunctionCall) (c : CallTyped modules call) → width_of_others modules call.function ≡ Some (width_of_tokens modules c.home c.others)
 others_are modules call c = rw (c.is_home, c.is_function, c.are_others) refl

@@ -1,24 +1,19 @@
 -- Worked runs of linked code, by computation.
-use Rattle.mv_interpreter.proofs.Flat.Common.{flat_map, U64, Number, OfLeaf, OfStruct, Plain, Ret, Call, Module, FunctionCall, flat, Push, program_of, flat_entry}
+use Rattle.mv_interpreter.proofs.Flat.Common.{flat_map, Module, Call, Ret, Pop, LdU64, CopyLoc, MoveLoc, StLoc, MutBorrowLoc, MutBorrowField, Pack, Unpack, ReadRef, WriteRef, Add, Abort}
+use Rattle.mv_interpreter.proofs.Flat.Common.{Number, Plain, OfLeaf, OfStruct, U64, flat, FunctionCall, Aborted, AlreadyThere, Code, program_of, Push, Enter, Leave, PutStored, Discard}
+use Rattle.mv_interpreter.proofs.Flat.Common.{Load, Store, BorrowLocal, GiveUp, BorrowInside, Read, Write, Sum, Tally, Skip, FlatReturned, FlatAborted, flat_entry}
 use Rattle.std.specs.Prelude.{◌≡◌, refl, ℕ, true, false, [], ◌∷◌, map}
-use Rattle.mv_move_types.specs.declared.tables.Visibility.TheVariants.{Public, Private}
-use Rattle.mv_move_types.specs.declared.token.Token.TheVariants.{MutableReference}
-use Rattle.mv_move_types.specs.declared.instruction.Instruction.TheVariants.{MutBorrowLoc, MutBorrowField, CopyLoc, MoveLoc, StLoc, Pack, Unpack, Pop, LdU64, ReadRef, WriteRef, Add, Abort}
-use Rattle.mv_machine.specs.declared.Kind.TheVariants.{Code, Exists as AlreadyThere}
-use Rattle.mv_machine.specs.Run.{run, Aborted, turns}
-use Rattle.mv_machine.proofs.Coin.{coin_module, mint, one_coin}
+use Rattle.mv_move_types.specs.{declared.tables.Visibility.TheVariants.Public, declared.tables.Visibility.TheVariants.Private, declared.token.Token.TheVariants.MutableReference}
+use Rattle.mv_machine.specs.{Run.run, Run.turns, StepLocals.pop, StepLocals.copy_local, StepLocals.store_local, StepStructs.unpack, StepGlobals.exists, StepGlobals.borrow_global}
+use Rattle.mv_machine.specs.{StepGlobals.move_from}
 use Rattle.mv_machine.specs.StepNumbers.{binary, comparison, shift, cast, logic, negation, constant, equality}
-use Rattle.mv_machine.specs.StepLocals.{pop, copy_local, store_local}
 use Rattle.mv_machine.specs.Step.{held, move_local, borrow_local, own_struct, pack, keyed_struct, move_to, signature_tags, return_results, rule, step}
-use Rattle.mv_machine.specs.StepStructs.{unpack}
 use Rattle.mv_machine.specs.StepReferences.{own_field, borrow_field, read_reference, write_reference, freeze}
-use Rattle.mv_machine.specs.StepGlobals.{exists, borrow_global, move_from}
 use Rattle.mv_machine.specs.StepControl.{callee, call, branch_if, abort}
+use Rattle.mv_machine.proofs.Coin.{coin_module, mint, one_coin}
 use Rattle.mv_type_states.specs.TypeRules.{types_after}
-use Rattle.mv_linker.specs.Operations.{Discard, BorrowLocal, BorrowInside, Load, Store, Read, Write, Sum, Skip, Tally, PutStored, Leave, Enter, GiveUp}
 use Rattle.mv_linker.specs.Linked.{linked}
-use Rattle.mv_interpreter.specs.Flat.FlatStep.{apply}
-use Rattle.mv_interpreter.specs.Flat.FlatRun.{FlatReturned, FlatAborted, flat_turns, flat_run}
+use Rattle.mv_interpreter.specs.{Flat.FlatStep.apply, Flat.FlatRun.flat_turns, Flat.FlatRun.flat_run}
 
 -- all that a flat run computes with
 unfoldable computes : ℕ

@@ -1,18 +1,17 @@
 -- A certificate that holds of a module holds of each of its functions; and what is known where a callee begins.
-use Rattle.mv_interpreter.proofs.Guided.Common.{◌≡◌, ℕ, zero, suc, ◌+◌, ◌-◌, List, [], ◌∷◌, ◌++◌, map, length, true, false, refl, sym, ◌∙◌, ap, subst}
-use Rattle.mv_interpreter.proofs.Guided.Common.{arith, Bool, Option, Some, None, option_map, Ok, slice_get, option_map_or, and_parts, same_Some}
-use Rattle.mv_interpreter.proofs.Guided.Common.{FunctionHandle, Token, Available, Unavailable, Module, FunctionDefinition, local_tokens, Value, Tag}
-use Rattle.mv_interpreter.proofs.Guided.Common.{same_tag, same_tags, Known, Certificate, Stated, locals_leq, edges_leq, Here, Callee, on_bind}
-use Rattle.mv_interpreter.proofs.Guided.Common.{callee-is, AsKnown, StoreFacts}
-use Rattle.std.proofs.Common.{replicate}
-use Rattle.std.proofs.lemmas.List.{length-append}
+use Rattle.mv_interpreter.proofs.Guided.Common.{◌≡◌, ℕ, zero, suc, ◌+◌, ◌-◌, List, [], ◌∷◌, ◌++◌, map, length, true, refl, sym, ◌∙◌, ap, subst, arith, Bool, Some, None, option_map, Ok}
+use Rattle.mv_interpreter.proofs.Guided.Common.{ap₂, and_parts, length-append, same_Some, slice_get, Module, FunctionDefinition, local_tokens, Tag, same_tag, same_tags, Available}
+use Rattle.mv_interpreter.proofs.Guided.Common.{Unavailable, FunctionHandle, Token, callee-is, signature-is, Callee, Here, Value, Known, Certificate, Stated, flow_holds, edges_leq}
+use Rattle.mv_interpreter.proofs.Guided.Common.{on_bind, locals_leq, AsKnown, StoreFacts}
+use Rattle.mv_interpreter.proofs.{Typing.Callees.on_found, Borrows.Available.known-start}
 use Rattle.mv_move_types.specs.Module.{parameter_tokens}
-use Rattle.mv_certificate.specs.Certificate.{known_at_start, flow_holds, locals_hold, edges_hold, each_function}
+use Rattle.mv_certificate.specs.Certificate.{known_at_start, locals_hold, edges_hold, each_function}
 use Rattle.mv_locals_safety.specs.LocalsRules.{locals_after}
 use Rattle.mv_borrow_graph.specs.BorrowRules.{edges_after}
 use Rattle.mv_machine.specs.StepControl.{callee}
-use Rattle.mv_machine.proofs.Transfers.{signature-is, tags-long}
-use Rattle.mv_interpreter.proofs.Borrows.Available.{known-start}
+use Rattle.mv_machine.proofs.Transfers.{tags-long}
+use Rattle.mv_linker.proofs.TagTests.{same_tag-is}
+use Rattle.std.proofs.Common.{replicate}
 
 -- what is stated of a function flows
 pub record Flows (m : Module) (d : FunctionDefinition) (stated : Stated) : Type 0 where
@@ -23,10 +22,9 @@ pub record Flows (m : Module) (d : FunctionDefinition) (stated : Stated) : Type 
 
 each-at : (test : FunctionDefinition → Stated → Bool) (ds : List FunctionDefinition) (cs : Certificate) (k : ℕ) (d : FunctionDefinition) → each_function test ds cs ≡ true → slice_get ds k ≡ Some d
     → (c : Stated) × (slice_get cs k ≡ Some c) × (test d c ≡ true)
-each-at test [] cs k d h e = absurd cc
-each-at test (x ∷ ds) [] k d h e = absurd cc
 each-at test (x ∷ ds) (c ∷ cs) zero d h e = (c, refl, subst (λ y. test y c ≡ true) (same_Some x d e) (and_parts (test x c) (each_function test ds cs) h).0)
 each-at test (x ∷ ds) (c ∷ cs) (suc k) d h e = each-at test ds cs k d (and_parts (test x c) (each_function test ds cs) h).1 e
+each-at test ds cs k d h e = absurd cc
 
 module _ (depends : ℕ → ℕ → Type 0) (modules : List Module) (certificates : List Certificate) (store : StoreFacts depends modules certificates) where
   -- each function of the store has something stated, which flows
@@ -36,13 +34,14 @@ module _ (depends : ℕ → ℕ → Type 0) (modules : List Module) (certificate
       let c = store.certified place m m_at in
       let l = each-at (locals_hold m) m.functions c.0 index d c.2 d_at in
       let e = each-at (edges_hold m) m.functions c.0 index d c.3 d_at in
-      (c.0, l.0, c.1, l.1, by_start l.0 (known_at_start m d) refl l.2 (subst (λ z. edges_hold m d z ≡ true) (same_Some e.0 l.0 (sym e.1 ∙ l.1)) e.2))
-    where
-      by_start : (stated : Stated) (o : Option Known) → known_at_start m d ≡ o
-          → option_map_or (λ start. flow_holds locals_after locals_leq m d start.locals (map (option_map (λ (k : Known). k.locals)) stated)) o false ≡ true
-          → option_map_or (λ start. flow_holds edges_after edges_leq m d start.edges (map (option_map (λ (k : Known). k.edges)) stated)) o false ≡ true → Flows m d stated
-      by_start stated None is a b = absurd cc
-      by_start stated (Some start) is a b = record { start = start; is_start = is; locals = a; edges = b }
+      let b : edges_hold m d l.0 ≡ true = subst (λ z. edges_hold m d z ≡ true) (same_Some e.0 l.0 (sym e.1 ∙ l.1)) e.2 in (
+        c.0,
+        l.0,
+        c.1,
+        l.1,
+        on_found (λ start. flow_holds locals_after locals_leq m d start.locals (map (option_map (λ (k : Known). k.locals)) l.0)) (known_at_start m d) l.2 (λ start is a.
+            record { start = start; is_start = is; locals = a; edges = rw is at b }),
+      )
 
   -- the same where they are at hand
   pub flows-at : (place index : ℕ) (m : Module) (d : FunctionDefinition) (c : Certificate) (stated : Stated) → slice_get modules place ≡ Some m → slice_get m.functions index ≡ Some d
@@ -55,11 +54,12 @@ module _ (depends : ℕ → ℕ → Type 0) (modules : List Module) (certificate
 
 -- ---- a callee
 
-same-long : (xs ys : List Tag) → same_tags xs ys ≡ true → length xs ≡ length ys
-same-long [] [] h = refl
-same-long [] (y ∷ ys) h = absurd cc
-same-long (x ∷ xs) [] h = absurd cc
-same-long (x ∷ xs) (y ∷ ys) h = ap suc (same-long xs ys (and_parts (same_tag x y) (same_tags xs ys) h).1)
+pub same-tags : (xs ys : List Tag) → same_tags xs ys ≡ true → xs ≡ ys
+same-tags [] [] h = refl
+same-tags (x ∷ xs) (y ∷ ys) h =
+    let t = and_parts (same_tag x y) (same_tags xs ys) h in
+    ap₂ (λ (a : Tag) (l : List Tag). a ∷ l) (same_tag-is x y t.0) (same-tags xs ys t.1)
+same-tags xs ys h = absurd cc
 
 -- the callee's own parameters
 pub record OwnParameters (c : Callee) : Type 0 where
@@ -78,8 +78,8 @@ own-parameters h i c e =
       parameters = p.0;
       is_handle = is.is_own;
       are_parameters = p.1;
-      long = tags-long _ p.0 is.own_parameters p.2 ∙ sym (same-long c.parameters is.own_parameters
-          (and_parts (same_tags c.parameters is.own_parameters) (same_tags c.results is.own_results) is.agree).0);
+      long = tags-long _ p.0 is.own_parameters p.2 ∙ ap length (sym (same-tags c.parameters is.own_parameters
+          (and_parts (same_tags c.parameters is.own_parameters) (same_tags c.results is.own_results) is.agree).0));
     }
 
 -- its locals are as known where it begins
@@ -90,22 +90,14 @@ pub entered-known : (m : Module) (d : FunctionDefinition) (start : Known) (handl
 entered-known m d start handle parameters others args handle_is parameters_are others_are long e =
     on_bind (parameter_tokens m d) _ start e (λ ps ps_are e1.
     on_bind (local_tokens m d) _ start e1 (λ ts ts_are e2.
-    let p : ps ≡ parameters = same_Some ps parameters (sym ps_are ∙ found_parameters) in
-    let t : ts ≡ parameters ++ others = same_Some ts (parameters ++ others) (sym ts_are ∙ found_locals) in
+    let found : parameter_tokens m d ≡ Some parameters = rw (handle_is, parameters_are) refl in
+    let all : local_tokens m d ≡ Some (parameters ++ others) = rw (handle_is, parameters_are, others_are) refl in
+    let p : ps ≡ parameters = same_Some ps parameters (sym ps_are ∙ found) in
+    let t : ts ≡ parameters ++ others = same_Some ts (parameters ++ others) (sym ts_are ∙ all) in
+    let a : length ts ≡ length parameters + length others = ap length t ∙ length-append parameters others in
+    let b : length ps ≡ length parameters = ap length p in
     let n : length ps ≡ length args = ap length p ∙ sym long in
-    let k : length ts - length ps ≡ length others = lengths ps ts p t in
+    let k : length ts - length ps ≡ length others = omega (arith, a, b) in
     subst (λ (z : Known). AsKnown z.locals (map Some args ++ replicate (length others) None)) (same_Some _ start e2)
     (subst (λ (z : ℕ). AsKnown (replicate z Available ++ replicate (length ts - length ps) Unavailable) (map Some args ++ replicate (length others) None)) (sym n)
     (subst (λ (z : ℕ). AsKnown (replicate (length args) Available ++ replicate z Unavailable) (map Some args ++ replicate (length others) None)) (sym k) (known-start args (length others))))))
-  where
-    found_parameters : parameter_tokens m d ≡ Some parameters
-    found_parameters = rw (handle_is, parameters_are) refl
-
-    found_locals : local_tokens m d ≡ Some (parameters ++ others)
-    found_locals = rw (handle_is, parameters_are, others_are) refl
-
-    lengths : (ps ts : List Token) → ps ≡ parameters → ts ≡ parameters ++ others → length ts - length ps ≡ length others
-    lengths ps ts p t =
-        let a : length ts ≡ length parameters + length others = ap length t ∙ length-append parameters others in
-        let b : length ps ≡ length parameters = ap length p in
-        omega (arith, a, b)

@@ -1,21 +1,14 @@
 -- What no live reference of any frame leads into, as the rules of types ask for it.
-use Rattle.mv_interpreter.proofs.Guided.Common.{◌≡◌, ℕ, List, [], ◌∷◌, ◌++◌, map, length, reverse, true, ◌⊎◌, inl, inr, refl, sym, ◌∙◌, ap, subst}
-use Rattle.mv_interpreter.proofs.Guided.Common.{Option, Some, None, ◌==◌, list_any, cons_option, and_from, eq-eqb, reverse_onto, Own, Glob, Root}
-use Rattle.mv_interpreter.proofs.Guided.Common.{Local, Stored, Reference, Value, Frame, State, frames, reference_of, references, local_references}
-use Rattle.mv_interpreter.proofs.Guided.Common.{Point, no_edge_out, root_of, Stood, seen_of, layer_at, layers, StoodOn, InRefs}
+use Rattle.mv_interpreter.proofs.Guided.Common.{◌≡◌, ℕ, List, [], ◌∷◌, ◌++◌, map, length, true, refl, sym, ◌∙◌, ap, subst, Option, Some, None, reverse, ◌⊎◌, inl, inr, and_from, eq-eqb}
+use Rattle.mv_interpreter.proofs.Guided.Common.{reverse_onto, list_any, ◌==◌, Own, Glob, reference_of, references, local_references, Frame, State, frames, Value, Root, Local, Stored}
+use Rattle.mv_interpreter.proofs.Guided.Common.{Reference, Live, InLocal, InStore, Chain, no_edge_out, return_edges, Point, InRefs, Stood, seen_of, layer_at, layers, StoodOn, home_of}
+use Rattle.mv_interpreter.proofs.Guided.Common.{root_of, defined, ref_of, operands_of}
 use Rattle.std.specs.Prelude.{filter_map}
-use Rattle.std.proofs.lemmas.Bool.Decides.{eqb_tells}
-use Rattle.mv_borrow_graph.specs.BorrowRules.{return_edges}
-use Rattle.mv_borrow_graph.specs.Abstract.Places.{Local as InLocal, Global as InStore}
-use Rattle.mv_borrow_graph.specs.Abstract.Covers.{Node as TheNode, Temp as AtTemp, Live}
-use Rattle.mv_borrow_graph.specs.Abstract.Stack.{Layer, OnStack, Top, Lower, Chain}
+use Rattle.mv_borrow_graph.specs.Abstract.Covers.{Node as TheNode, Temp as AtTemp}
+use Rattle.mv_borrow_graph.specs.Abstract.Stack.{Layer, OnStack, Top, Lower}
 use Rattle.mv_borrow_graph.proofs.Abstract.Stack.{local_unborrowed, struct_unborrowed}
-use Rattle.mv_interpreter.specs.Borrows.View.{defined, ref_of, operands_of}
-use Rattle.mv_interpreter.specs.Borrows.Stood.{home_of}
-use Rattle.mv_interpreter.proofs.Borrows.Edges.{free_out}
-use Rattle.mv_interpreter.proofs.Borrows.Lists.{place_get, stack-seen}
-use Rattle.mv_interpreter.proofs.Borrows.Kept.{place-under}
-use Rattle.mv_interpreter.proofs.Borrows.Free.{live-at, below-free, result-free}
+use Rattle.mv_interpreter.proofs.{Borrows.Edges.free_out, Borrows.Lists.place_get, Borrows.Lists.stack-seen, Borrows.Kept.place-under}
+use Rattle.mv_interpreter.proofs.Borrows.Free.{live-at, below-free, result-free, in-cons, place-top}
 use Rattle.mv_interpreter.specs.Typing.Unreached.{Avoid, FrameAvoids, BelowAvoid, Unreached, Leaving}
 
 -- ---- lists of references
@@ -34,7 +27,7 @@ avoid-from gone [] h = tt
 avoid-from gone (r ∷ rs) h = (h r (inl refl), avoid-from gone rs (λ q i. h q (inr i)))
 
 -- a reference among what was lent
-abbrev HasSome : Reference → List (Option Reference) → Type 0
+abbrev pub HasSome : Reference → List (Option Reference) → Type 0
 HasSome r [] = ⊥
 HasSome r (o ∷ os) = (o ≡ Some r) ⊎ HasSome r os
 
@@ -47,7 +40,7 @@ has-right : (r : Reference) (xs ys : List (Option Reference)) → HasSome r ys �
 has-right r [] ys h = h
 has-right r (x ∷ xs) ys h = inr (has-right r xs ys h)
 
-has-reverse : (r : Reference) (xs : List (Option Reference)) → HasSome r xs → HasSome r (reverse xs)
+pub has-reverse : (r : Reference) (xs : List (Option Reference)) → HasSome r xs → HasSome r (reverse xs)
 has-reverse r [] h = absurd h
 has-reverse r (x ∷ xs) (inl h) = subst (HasSome r) (sym (reverse_onto xs x [])) (has-right r (reverse xs) (x ∷ []) (inl h))
 has-reverse r (x ∷ xs) (inr h) = subst (HasSome r) (sym (reverse_onto xs x [])) (has-left r (reverse xs) (x ∷ []) (has-reverse r xs h))
@@ -60,24 +53,12 @@ has-lent r (Some q ∷ os) (inr h) = inr (has-lent r os h)
 
 has-place : (r : Reference) (os : List (Option Reference)) → HasSome r os → (k : ℕ) × (place_get os k ≡ Some (Some r))
 has-place r [] h = absurd h
-has-place r (o ∷ os) (inl h) = (length os, at_top)
-  where
-    at_top : place_get (o ∷ os) (length os) ≡ Some (Some r)
-    at_top =
-        elim (eqb_tells (length os) (length os)) [
-          | inl t ↦ rw t.0 (ap Some h)
-          | inr t ↦ absurd (t.1 refl)
-        ]
+has-place r (o ∷ os) (inl h) = (length os, place-top o os (Some r) h)
 has-place r (o ∷ os) (inr h) = let t = has-place r os h in (t.0, place-under o os t.0 (Some r) t.1)
 
 has-refs : (r : Reference) (vs : List Value) → InRefs r (references vs) → HasSome r (map reference_of vs)
 has-refs r [] h = absurd h
-has-refs r (v ∷ vs) h = by_case (reference_of v) h (λ g. has-refs r vs g)
-  where
-    by_case : (o : Option Reference) → InRefs r (cons_option o (references vs)) → (InRefs r (references vs) → HasSome r (map reference_of vs)) → HasSome r (o ∷ map reference_of vs)
-    by_case None g further = inr (further g)
-    by_case (Some q) (inl g) further = inl (ap Some (sym g))
-    by_case (Some q) (inr g) further = inr (further g)
+has-refs r (v ∷ vs) h = elim (in-cons r (reference_of v) (references vs) h) [ inl e ↦ inl e | inr g ↦ inr (has-refs r vs g) ]
 
 -- ---- frames
 

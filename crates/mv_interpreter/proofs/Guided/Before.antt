@@ -1,36 +1,26 @@
 -- What an accepted certificate says before an instruction, and that it goes on to what it says before each that may come next.
-use Rattle.mv_interpreter.proofs.Guided.Common.{◌≡◌, ℕ, ◌+◌, ◌-◌, ◌<◌, ◌≤◌, Bool, true, false, List, [], ◌∷◌, ◌++◌, map, length, refl, sym, ap, ◌∙◌}
-use Rattle.mv_interpreter.proofs.Guided.Common.{subst, Option, Some, None, option_map, arith, inl, inr, slice_get, nat_le, zip, list_all}
-use Rattle.mv_interpreter.proofs.Guided.Common.{option_map_or, and_parts, and_from, same_Some, Unavailable, Available, Instruction, Module}
-use Rattle.mv_interpreter.proofs.Guided.Common.{FunctionDefinition, Block, starts_from, Edge, edges_leq, Known, Stated, locals_leq, known_before}
-use Rattle.mv_interpreter.proofs.Guided.Common.{Point, Types, on_bind}
-use Rattle.std.proofs.Common.{take, drop}
-use Rattle.std.specs.Prelude.{slice_range}
-use Rattle.std.proofs.lemmas.Bool.{leb-true, false_from_ne_true}
-use Rattle.mv_move_types.specs.declared.borrow.Availability.{Availability}
-use Rattle.mv_move_types.specs.declared.borrow.Availability.TheVariants.{Maybe}
-use Rattle.mv_cfg.specs.Blocks.{blocks, leads_to}
-use Rattle.mv_move_types.specs.Flow.{ends_block, successors}
+use Rattle.mv_interpreter.proofs.Guided.Common.{◌≡◌, ℕ, ◌+◌, ◌-◌, List, [], ◌∷◌, ◌++◌, map, length, true, false, refl, sym, ◌∙◌, ap, subst, arith, Bool, Option, Some, option_map, inl, inr}
+use Rattle.mv_interpreter.proofs.Guided.Common.{◌<◌, ◌≤◌, take, and_parts, and_from, leb-true, false_from_ne_true, same_Some, list_all, option_map_or, slice_get, nat_le, zip, slice_range}
+use Rattle.mv_interpreter.proofs.Guided.Common.{ends_block, successors, Module, FunctionDefinition, Availability, Available, Instruction, Known, Stated, flow_holds, through, stated_at}
+use Rattle.mv_interpreter.proofs.Guided.Common.{known_before, known_after, blocks-tile, Block, starts_from, blocks, leads_to, edges_leq, Edge, on_bind, locals_leq, Types, Point, each}
+use Rattle.mv_machine.proofs.Binds.{map-is}
 use Rattle.mv_edges.proofs.Order.{edges_leq_itself}
-use Rattle.mv_certificate.specs.Certificate.{through, instructions_of, stated_at, flows_into, block_holds, flow_holds}
+use Rattle.mv_certificate.specs.{Certificate.instructions_of, Certificate.flows_into, Certificate.block_holds, Known.known_leq, Known.block_of}
 use Rattle.mv_locals_safety.specs.LocalsRules.{availability_leq, locals_after}
-use Rattle.mv_certificate.specs.Known.{known_leq, known_after, block_of}
 use Rattle.mv_borrow_graph.specs.BorrowRules.{edges_after}
 use Rattle.mv_type_states.specs.TypeRules.{types_after}
-use Rattle.mv_linker.proofs.Found.{each}
-use Rattle.mv_interpreter.proofs.Typing.FlowFacts.{range_split, BlockFacts, block_facts, starts_rise, ended_begin}
-use Rattle.mv_interpreter.proofs.Borrows.Standing.{Among}
+use Rattle.mv_interpreter.proofs.Typing.FlowFacts.{range_split, BlockFacts, block_facts, ended_begin, next_inside}
+use Rattle.mv_interpreter.proofs.{Borrows.Standing.Among, Lists.below-or-at}
 use Rattle.mv_interpreter.proofs.Borrows.Certified.{Inside, inside, held, flows, both-through}
-use Rattle.mv_interpreter.proofs.Guided.Tiles.{Tiles, tiles-blocks, starts-rise, holds_place, tile-found, tile-ordered, find-has, zip-parts, zip-maps, stated-maps, stated-has, next-is}
-use Rattle.mv_interpreter.proofs.Typing.Advances.{one_successor}
-use Rattle.mv_interpreter.proofs.Lists.{below-or-at}
+use Rattle.mv_interpreter.proofs.Guided.Tiles.{Tiles, tiles-zip, holds_place, tile-found, tile-ordered, find-has, zip-parts, zip-maps, stated-maps, stated-has, next-is}
+use Rattle.mv_cfg.proofs.Beginnings.{starts_from-ascending}
+use Rattle.std.proofs.Common.{drop}
 
 -- ---- each is below itself
 
 availability-self : (a : Availability) → availability_leq a a ≡ true
 availability-self Available = refl
-availability-self Unavailable = refl
-availability-self Maybe = refl
+availability-self a = refl
 
 pub locals-self : (ls : List Availability) → locals_leq ls ls ≡ true
 locals-self [] = refl
@@ -56,7 +46,7 @@ module _ (m : Module) (d : FunctionDefinition) (stated : Stated) where
   with_blocks = zip (blocks d.code) stated
 
   tiles : Tiles 0 with_blocks
-  tiles = tiles-blocks d.code (starts_from d.code 0 true d.code) 0 stated (starts-rise d.code 0 (length d.code) true d.code (omega arith))
+  tiles = tiles-zip 0 (length d.code) (blocks d.code) stated (blocks-tile d.code)
 
   -- before an instruction: the block that it stands in, what is stated there, and that this is carried to it
   pub record Before (at : ℕ) (k : Known) (ts : Types) : Type 0 where
@@ -94,22 +84,21 @@ module _ (m : Module) (d : FunctionDefinition) (stated : Stated) where
 
   -- where something is stated, it is known there
   pub begins-known : (j : ℕ) (k : Known) → stated_at with_blocks j ≡ Some k → known_before m d stated j ≡ Some (k, [])
-  begins-known j k e = from_place (stated-has with_blocks j k e)
-    where
-      from_place : (n : ℕ) × (z : Block × Option Known) × (slice_get with_blocks n ≡ Some z) × (z.0.first ≡ j) × (z.1 ≡ Some k) → known_before m d stated j ≡ Some (k, [])
-      from_place (n, z, there, first, says) =
-          let order : z.0.first ≤ z.0.last = tile-ordered 0 with_blocks n z tiles there in
-          let none : j - z.0.first ≡ 0 = omega (arith, first) in
-          before-known j k [] (record {
-            place = n;
-            block = z.0;
-            known = k;
-            is_block = (zip-parts (blocks d.code) stated n z there).0;
-            is_here = there ∙ ap (λ (o : Option Known). Some (z.0, o)) says;
-            not_before = omega (arith, first);
-            not_behind = omega (arith, first, order);
-            carried = subst (λ (c : ℕ). through known_after m d (take c (drop z.0.first d.code)) (k, []) ≡ Some (k, [])) (sym none) refl;
-          })
+  begins-known j k e =
+      let r = stated-has with_blocks j k e in
+      let first : r.1.0.first ≡ j = r.3 in
+      let order : r.1.0.first ≤ r.1.0.last = tile-ordered 0 with_blocks r.0 r.1 tiles r.2 in
+      let none : j - r.1.0.first ≡ 0 = omega (arith, first) in
+      before-known j k [] (record {
+        place = r.0;
+        block = r.1.0;
+        known = k;
+        is_block = (zip-parts (blocks d.code) stated r.0 r.1 r.2).0;
+        is_here = r.2 ∙ ap (λ (o : Option Known). Some (r.1.0, o)) r.4;
+        not_before = omega (arith, first);
+        not_behind = omega (arith, first, order);
+        carried = subst (λ (c : ℕ). through known_after m d (take c (drop r.1.0.first d.code)) (k, []) ≡ Some (k, [])) (sym none) refl;
+      })
 
   abbrev point : Types → Point
   point ts = record { home = m; function = d; types = ts }
@@ -139,18 +128,14 @@ module _ (m : Module) (d : FunctionDefinition) (stated : Stated) where
       edges_both : (flows_into edges_leq stated_edges start.edges 0 ≡ true) × (list_all (block_holds edges_after edges_leq m d stated_edges) stated_edges ≡ true)
       edges_both = and_parts (flows_into edges_leq stated_edges start.edges 0) (list_all (block_holds edges_after edges_leq m d stated_edges) stated_edges) edges_flow
 
-      mapped : {S : Type 0} (f : Known → S) (o : Option Known) (s : S) → option_map f o ≡ Some s → (k : Known) × (o ≡ Some k) × (f k ≡ s)
-      mapped f None s e = absurd cc
-      mapped f (Some k) s e = (k, refl, same_Some (f k) s e)
-
       -- both parts of what is known flow to one place
       both-flow : (j : ℕ) (ls : List Availability) (es : List Edge) → flows_into locals_leq stated_locals ls j ≡ true → flows_into edges_leq stated_edges es j ≡ true
           → (l : Known) × (known_before m d stated j ≡ Some (l, [])) × (locals_leq ls l.locals ≡ true) × (edges_leq es l.edges ≡ true)
       both-flow j ls es h g =
           let a = flows locals_after m d locals_leq stated_locals ls j h in
           let b = flows edges_after m d edges_leq stated_edges es j g in
-          let u = mapped (λ (k : Known). k.locals) (stated_at with_blocks j) a.0 (sym (stated-maps (λ (k : Known). k.locals) (blocks d.code) stated j) ∙ a.1) in
-          let v = mapped (λ (k : Known). k.edges) (stated_at with_blocks j) b.0 (sym (stated-maps (λ (k : Known). k.edges) (blocks d.code) stated j) ∙ b.1) in
+          let u = map-is (λ (k : Known). k.locals) (stated_at with_blocks j) a.0 (sym (stated-maps (λ (k : Known). k.locals) (blocks d.code) stated j) ∙ a.1) in
+          let v = map-is (λ (k : Known). k.edges) (stated_at with_blocks j) b.0 (sym (stated-maps (λ (k : Known). k.edges) (blocks d.code) stated j) ∙ b.1) in
           let one : v.0 ≡ u.0 = same_Some v.0 u.0 (sym v.1 ∙ u.1) in
           (u.0, begins-known j u.0 u.1, subst (λ x. locals_leq ls x ≡ true) (sym u.2) a.2, subst (λ x. edges_leq es x ≡ true) (sym v.2 ∙ ap (λ (k : Known). k.edges) one) b.2)
 
@@ -163,7 +148,7 @@ module _ (m : Module) (d : FunctionDefinition) (stated : Stated) where
       goes-on at k ts i e is =
           let b : Before at k ts = known-here at k ts e in
           let facts : BlockFacts d.code (starts_from d.code 0 true d.code) 0 b.block =
-          block_facts d.code (starts_from d.code 0 true d.code) 0 b.place b.block (starts_rise d.code 0 (length d.code) true d.code (omega arith)) b.is_block in
+          block_facts d.code (starts_from d.code 0 true d.code) 0 b.place b.block (starts_from-ascending d.code 0 (length d.code) true d.code (omega arith)) b.is_block in
           let low : b.block.first ≤ at = b.not_before in
           let high : at ≤ b.block.last = b.not_behind in
           let whole = range_split d.code b.block.first at (b.block.last + 1) i low (omega (arith, high)) is in
@@ -209,7 +194,7 @@ module _ (m : Module) (d : FunctionDefinition) (stated : Stated) where
               inner j a p =
                   let shut : ends_block i ≡ false = false_from_ne_true (ends_block i) (λ h. facts.alone (at + 1) (let low : b.block.first ≤ at = b.not_before in omega (arith, low)) (omega (arith, p))
                   (ended_begin d.code 0 at (at + 1) true i d.code is h (let short : b.block.last < length d.code = facts.inside in omega (arith, p, short)) (omega arith))) in
-                  let there : Among j ((at + 1) ∷ []) = subst (λ xs. Among j xs) (one_successor at i shut) a in (
+                  let there : Among j ((at + 1) ∷ []) = subst (λ xs. Among j xs) (next_inside at i shut) a in (
                     x.next,
                     x.next_types,
                     elim there [

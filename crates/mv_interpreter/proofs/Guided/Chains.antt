@@ -1,13 +1,10 @@
 -- The invariant as the theory of borrows has it, and back.
-use Rattle.mv_interpreter.proofs.Guided.Common.{◌≡◌, ℕ, List, [], ◌∷◌, map, length, sym, ◌∙◌, ap, Option, Module, Reference, Frame, State, frames}
-use Rattle.mv_interpreter.proofs.Guided.Common.{reference_of, Certificate, held_as, Fits, Stood, seen_of, point_of, layer_at, layers, StoodOn, Sound}
-use Rattle.mv_interpreter.proofs.Guided.Common.{AllPlaced, StoodFit, AllAgree, Guided}
-use Rattle.mv_borrow_graph.specs.Abstract.Stack.{Chain, Bottom, Above, Calls}
-use Rattle.mv_borrow_graph.specs.Abstract.Rows.{IsArgument}
+use Rattle.mv_interpreter.proofs.Guided.Common.{◌≡◌, ℕ, List, [], ◌∷◌, map, length, sym, ◌∙◌, ap, Option, Module, reference_of, Frame, State, frames, Reference, Chain, Certificate, Fits}
+use Rattle.mv_interpreter.proofs.Guided.Common.{Stood, seen_of, layer_at, layers, StoodOn, point_of, Sound, home_of, held_as, AllPlaced, StoodFit, AllAgree, Guided, AllCovered}
+use Rattle.mv_borrow_graph.specs.{Abstract.Stack.Bottom, Abstract.Stack.Above, Abstract.Stack.Calls, Abstract.Rows.IsArgument}
 use Rattle.mv_borrow_graph.proofs.Abstract.Stack.{chain_covers, chain_return}
-use Rattle.mv_interpreter.specs.Borrows.Stood.{home_of, Linked, LinkedTo}
+use Rattle.mv_interpreter.specs.{Borrows.Stood.Linked, Borrows.Stood.LinkedTo, Guided.Guided.FirstAlone}
 use Rattle.mv_interpreter.proofs.Borrows.Calls.{homed, calls-hold}
-use Rattle.mv_interpreter.specs.Guided.Guided.{AllCovered, FirstAlone}
 
 module _ (depends : ℕ → ℕ → Type 0) where
   -- a waiting frame and the one above it

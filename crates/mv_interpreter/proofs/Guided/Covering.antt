@@ -1,34 +1,23 @@
 -- The invariant in the words of the definition: what is known covers each frame, and frames stand as they should to one another.
-use Rattle.mv_interpreter.proofs.Guided.Common.{◌≡◌, ℕ, zero, suc, ◌<◌, List, [], ◌∷◌, ◌++◌, map, length, reverse, Bool, true, false, ◌⊎◌, inl, inr}
-use Rattle.mv_interpreter.proofs.Guided.Common.{refl, sym, ◌∙◌, ap, ap₂, subst, arith, Option, Some, None, slice_get, option_and_then, ◌==◌, list_any}
-use Rattle.mv_interpreter.proofs.Guided.Common.{and_parts, and_from, eq-eqb, eqb-true, reverse_onto, same_Some, Own, Glob, Module, Root, Local}
-use Rattle.mv_interpreter.proofs.Guided.Common.{Stored, Reference, Value, Frame, State, frames, reference_of, frame_references, Edge, Known}
-use Rattle.mv_interpreter.proofs.Guided.Common.{Certificate, root_of, held_as, local_of, Stood, seen_of, layer_at, StoodOn, InRefs, AsKnown}
-use Rattle.mv_interpreter.proofs.Guided.Common.{AllPlaced, Guided, StoreFacts}
+use Rattle.mv_interpreter.proofs.Guided.Common.{◌≡◌, ℕ, zero, suc, List, [], ◌∷◌, ◌++◌, map, length, true, false, refl, sym, ◌∙◌, ap, subst, arith, Bool, Option, Some, None, reverse, ◌⊎◌}
+use Rattle.mv_interpreter.proofs.Guided.Common.{inl, inr, ◌<◌, ap₂, and_parts, and_from, eq-eqb, eqb-true, or_left, or_right, or_cases, same_Some, option_and_then_some, list_any}
+use Rattle.mv_interpreter.proofs.Guided.Common.{slice_get, ◌==◌, option_and_then, IsTrue, Module, Own, Glob, Temp, Key, reference_of, frame_references, Frame, State, frames, Value, Root}
+use Rattle.mv_interpreter.proofs.Guided.Common.{Local, Stored, Reference, Live, InLocal, InStore, Known, Certificate, Edge, map-turned, InRefs, Holds, AsKnown, Stood, seen_of, layer_at}
+use Rattle.mv_interpreter.proofs.Guided.Common.{StoodOn, root_of, held_as, defined, ref_of, operands_of, StoreFacts, AllPlaced, Guided, AllCovered, Placed}
 use Rattle.std.proofs.Common.{◌≢◌, append_assoc}
-use Rattle.std.specs.Prelude.{slice_index_or, IsTrue, Contains, All, AllPairs}
-use Rattle.std.proofs.lemmas.Bool.{or_left, or_right, or_cases}
-use Rattle.std.proofs.lemmas.List.{append-nil, reverse-append, reverse-reverse}
-use Rattle.std.proofs.lemmas.List.Elements.{All-nil, All-cons}
-use Rattle.mv_move_types.specs.declared.tables.Key.{Key}
-use Rattle.mv_move_types.specs.declared.borrow.Node.{Node}
-use Rattle.mv_move_types.specs.declared.borrow.Node.TheVariants.{Slot, Temp}
+use Rattle.std.specs.Prelude.{slice_index_or, Contains, All, AllPairs}
+use Rattle.std.proofs.{lemmas.List.append-nil, lemmas.List.reverse-append, lemmas.List.reverse-reverse, lemmas.List.Elements.All-nil, lemmas.List.Elements.All-cons}
+use Rattle.mv_move_types.specs.{declared.borrow.Node.Node, declared.borrow.Node.TheVariants.Slot}
 use Rattle.mv_machine.specs.Live.{overlap}
 use Rattle.mv_edges.specs.Edges.{Label}
 use Rattle.mv_interpreter.specs.Borrows.Covers.{Seen, stack_references, reference_at, StandsFor, HasEdge, IsAcquired, IsOwn, IsLent, Covers}
-use Rattle.mv_interpreter.specs.Borrows.Invariant.{seen_under, IsCovered, acquires_of as acquires_in, KeepsOut, KeepsApart, StandTogether, Holds}
-use Rattle.mv_borrow_graph.specs.Abstract.Places.{Defined, Local as InLocal, Global as InStore, Label as TheLabel, Reach}
-use Rattle.mv_borrow_graph.specs.Abstract.Covers.{Glob as AtGlob, Ref as TheRef, Live, InList, Origin, FromOwn, FromStore, FromEntry, Leads, Covers as TheCovers}
-use Rattle.mv_borrow_graph.specs.Abstract.Lists.{refs_among, local_ref}
-use Rattle.mv_interpreter.specs.Borrows.View.{ref_of, node_of, label_from, label_of, operands_of, acquires_of, Member, edges_of, defined}
-use Rattle.mv_interpreter.proofs.Borrows.Edges.{node_of-inj}
-use Rattle.mv_interpreter.proofs.Borrows.Lists.{place-reverse, local-seen, stack-seen}
-use Rattle.mv_interpreter.proofs.Borrows.Free.{overlap-is}
-use Rattle.mv_interpreter.proofs.Borrows.Available.{known-at}
+use Rattle.mv_interpreter.specs.Borrows.Invariant.{seen_under, IsCovered, acquires_of as acquires_in, KeepsOut, KeepsApart, StandTogether}
+use Rattle.mv_interpreter.specs.Borrows.View.{node_of, label_from, label_of, acquires_of, Member, edges_of}
+use Rattle.mv_borrow_graph.specs.{Abstract.Places.Defined, Abstract.Places.Label as TheLabel, Abstract.Places.Reach, Abstract.Lists.refs_among}
+use Rattle.mv_borrow_graph.specs.Abstract.Covers.{Glob as AtGlob, Ref as TheRef, InList, Origin, FromOwn, FromStore, FromEntry, Leads, Covers as TheCovers}
+use Rattle.mv_interpreter.proofs.{Borrows.Edges.node_of-inj, Borrows.Lists.place-reverse, Borrows.Lists.local-seen, Borrows.Lists.stack-seen, Borrows.Free.overlap-is}
+use Rattle.mv_interpreter.proofs.{Borrows.Available.known-at, Lists.flat-some, Guided.Chains.sound-from, Typing.Frames.held_entry, Guided.Avoids.HasSome, Guided.Avoids.has-reverse}
 use Rattle.mv_interpreter.proofs.Borrows.Apart.{InStood, OutOf, ApartFrom, EachBelow, From, Together, all-out, all-apart, all-together}
-use Rattle.mv_interpreter.specs.Guided.Guided.{Placed, AllCovered}
-use Rattle.mv_interpreter.proofs.Guided.Chains.{sound-from}
-use Rattle.mv_interpreter.proofs.Lists.{map-turned}
 
 -- ---- lists by index
 
@@ -59,27 +48,10 @@ any-contains i (x ∷ xs) h =
     ]
 
 -- an argument is in a list
-abbrev HasOption : Option Reference → List (Option Reference) → Type 0
-HasOption o [] = ⊥
-HasOption o (x ∷ xs) = (x ≡ o) ⊎ HasOption o xs
-
-option-apart : (o : Option Reference) (xs ys : List (Option Reference)) → HasOption o (xs ++ ys) → HasOption o xs ⊎ HasOption o ys
-option-apart o [] ys h = inr h
-option-apart o (x ∷ xs) ys (inl h) = inl (inl h)
-option-apart o (x ∷ xs) ys (inr h) = elim (option-apart o xs ys h) [ inl t ↦ inl (inr t) | inr t ↦ inr t ]
-
-option-reverse : (o : Option Reference) (xs : List (Option Reference)) → HasOption o (reverse xs) → HasOption o xs
-option-reverse o [] h = h
-option-reverse o (x ∷ xs) h =
-    elim (option-apart o (reverse xs) (x ∷ []) (subst (HasOption o) (reverse_onto xs x []) h)) [
-      | inl t ↦ inr (option-reverse o xs t)
-      | inr t ↦ elim t [ inl u ↦ inl u | inr u ↦ absurd u ]
-    ]
-
-option-contains : (o : Option Reference) (xs : List (Option Reference)) → HasOption o xs → Contains xs o
-option-contains o [] h = absurd h
-option-contains o (x ∷ xs) (inl h) = (0, omega arith, h)
-option-contains o (x ∷ xs) (inr h) = let t = option-contains o xs h in (suc t.0, suc-less t.0 (length xs) t.1, t.2)
+option-contains : (r : Reference) (xs : List (Option Reference)) → HasSome r xs → Contains xs (Some r)
+option-contains r [] h = absurd h
+option-contains r (x ∷ xs) (inl h) = (0, omega arith, h)
+option-contains r (x ∷ xs) (inr h) = let t = option-contains r xs h in (suc t.0, suc-less t.0 (length xs) t.1, t.2)
 
 -- ---- places
 
@@ -99,15 +71,11 @@ root-inj (Stored j) (Stored k) e =
     same j k a b c =
         ap (λ (x : ℕ). let y : Key = record { address = x; place = j.place; index = j.index } in y) a ∙ ap (λ (x : ℕ). let y : Key = record { address = k.address; place = x; index = j.index } in y) b
         ∙ ap (λ (x : ℕ). let y : Key = record { address = k.address; place = k.place; index = x } in y) c
-root-inj (Local m k) (Stored j) e = absurd cc
-root-inj (Stored j) (Local m k) e = absurd cc
+root-inj a b e = absurd cc
 
 -- what a label reaches goes on by its list
 reach-more : (b : Bool) (l path : List ℕ) → Reach (label_from b l) path → (more : List ℕ) × (path ≡ l ++ more) × (b ≡ false → more ≡ [])
-reach-more true l path (rest, e) = (rest, e, λ h. absurd (differ h))
-  where
-    differ : true ≡ false → ⊥
-    differ z = cc
+reach-more true l path (rest, e) = (rest, e, λ (h : true ≡ false). absurd cc)
 reach-more false l path e = ([], e ∙ sym (append-nil l), λ h. refl)
 
 reach-label : (y : TheLabel) (l : Label) (path : List ℕ) → y ≡ label_of l → Reach y path → (more : List ℕ) × (path ≡ l.path ++ more) × (l.is_open ≡ false → more ≡ [])
@@ -126,28 +94,16 @@ module _ (x : Stood) (known : Known) (are_locals : AsKnown known.locals x.frame.
 
   -- a reference at a node is live there
   live-node : (n : Node) (r : Reference) → reference_at v n ≡ Some r → Live (layer_at x).frame (node_of place n) (ref_of r)
-  live-node (Slot l) r e = by_local (slice_get x.frame.locals l) refl e
-    where
-      by_local : (o : Option (Option Value)) → slice_get x.frame.locals l ≡ o
-          → option_and_then reference_of (option_and_then (λ (v : Option Value). v) o) ≡ Some r
-          → local_ref (map local_of x.frame.locals) l ≡ Some (ref_of r)
-      by_local None is g = absurd cc
-      by_local (Some None) is g = absurd cc
-      by_local (Some (Some w)) is g = local-seen x.frame.locals l w r is g
+  live-node (Slot l) r e =
+      option_and_then_some reference_of (option_and_then (λ (v : Option Value). v) (slice_get x.frame.locals l)) r e (λ w w_is g. local-seen x.frame.locals l w r (held_entry x.frame l w w_is) g)
   live-node (Temp k) r e =
-      stack-seen (operands_of v) k r (sym (place-reverse (operands_of v) k) ∙ ap (λ (l : List (Option Reference)). slice_get l k) references-turned ∙ found (slice_get (stack_references v) k) e)
-    where
-      found : (o : Option (Option Reference)) → option_and_then (λ (r : Option Reference). r) o ≡ Some r → o ≡ Some (Some r)
-      found None g = absurd cc
-      found (Some o) g = ap Some g
-  live-node (Own l) r e = absurd cc
-  live-node (Glob t) r e = absurd cc
+      stack-seen (operands_of v) k r (sym (place-reverse (operands_of v) k) ∙ ap (λ (l : List (Option Reference)). slice_get l k) references-turned ∙ flat-some (slice_get (stack_references v) k) r e)
+  live-node n r e = absurd cc
 
   stands-for : (n : Node) (r : Reference) → reference_at v n ≡ Some r → StandsFor v n r.place
-  stands-for (Slot l) r e = (r, e, refl)
-  stands-for (Temp k) r e = (r, e, refl)
   stands-for (Own l) r e = absurd cc
   stands-for (Glob t) r e = absurd cc
+  stands-for n r e = (r, e, refl)
 
   -- an edge of the theory is one that is known
   known-edge : (a b : Node) (y : TheLabel) → edges_of place known.edges (node_of place a) y (node_of place b)
@@ -227,7 +183,7 @@ module _ (x : Stood) (known : Known) (are_locals : AsKnown known.locals x.frame.
       ]
 
   -- a reference of the entry is an argument
-  entry-given : (os : List (Option Reference)) (g : TheRef) → InList g (refs_among (map held_as os)) → (a : Reference) × HasOption (Some a) os × (g ≡ ref_of a)
+  entry-given : (os : List (Option Reference)) (g : TheRef) → InList g (refs_among (map held_as os)) → (a : Reference) × HasSome a os × (g ≡ ref_of a)
   entry-given [] g i = absurd i
   entry-given (None ∷ os) g i = let t = entry-given os g i in (t.0, inr t.1, t.2)
   entry-given (Some a ∷ os) g (inl e) = (a, inl refl, e)
@@ -255,7 +211,7 @@ module _ (x : Stood) (known : Known) (are_locals : AsKnown known.locals x.frame.
           inr (
             t.0,
             more,
-            option-contains (Some t.0) x.frame.entered_with (option-reverse (Some t.0) x.frame.entered_with t.1),
+            option-contains t.0 x.frame.entered_with (subst (HasSome t.0) (reverse-reverse x.frame.entered_with) (has-reverse t.0 (reverse x.frame.entered_with) t.1)),
             root-inj r.place.root t.0.place.root (root ∙ ap (λ (z : TheRef). z.place.root) t.2),
             path ∙ ap (λ (z : TheRef). z.place.path ++ more) t.2,
             λ h. sym (ap (λ (z : TheRef). z.mutable) t.2) ∙ mutable h,
@@ -301,62 +257,49 @@ module _ (depends : ℕ → ℕ → Type 0) (modules : List Module) (certificate
 -- each frame is where one of these stands
 stood-at : (lent : List (Option Reference)) (fs : List Frame) (xs : List Stood) (k : ℕ) (d : Frame) → StoodOn lent fs xs → k < length fs
     → (w : Stood) × InStood w xs × (w.frame ≡ slice_index_or fs k d)
-stood-at lent [] xs k d st h = absurd (omega (arith, h))
-stood-at lent (f ∷ fs) [] k d st h = absurd st
 stood-at lent (f ∷ fs) (x ∷ xs) zero d st h = (x, inl refl, st.0)
 stood-at lent (f ∷ fs) (x ∷ xs) (suc k) d st h = let t = stood-at f.entered_with fs xs k d st.2 (omega (arith, h)) in (t.0, inr t.1, t.2)
+stood-at lent fs xs k d st h = absurd (grind arith)
 
 stood-get : (lent : List (Option Reference)) (fs : List Frame) (xs : List Stood) (k : ℕ) (f : Frame) → StoodOn lent fs xs → slice_get fs k ≡ Some f → (w : Stood) × InStood w xs × (w.frame ≡ f)
-stood-get lent [] xs k g st h = absurd cc
-stood-get lent (f ∷ fs) [] k g st h = absurd st
 stood-get lent (f ∷ fs) (x ∷ xs) zero g st h = (x, inl refl, st.0 ∙ same_Some f g h)
 stood-get lent (f ∷ fs) (x ∷ xs) (suc k) g st h = let t = stood-get f.entered_with fs xs k g st.2 h in (t.0, inr t.1, t.2)
+stood-get lent fs xs k g st h = absurd (grind arith)
 
 -- frames of one module stand together
 from-frames : (x : Stood) (lent : List (Option Reference)) (fs : List Frame) (xs : List Stood) (j k : ℕ) (f g : Frame) → StoodOn lent fs xs
     → From x xs → j < k → slice_get fs j ≡ Some f → slice_get fs k ≡ Some g → x.frame.function.place ≡ g.function.place
     → f.function.place ≡ x.frame.function.place
-from-frames x lent [] xs j k f g st r l e h same = absurd cc
-from-frames x lent (y ∷ fs) [] j k f g st r l e h same = absurd st
-from-frames x lent (y ∷ fs) (w ∷ ws) j zero f g st r l e h same = absurd (omega (arith, l))
 from-frames x lent (y ∷ fs) (w ∷ ws) zero (suc k) f g st r l e h same =
     let z = stood-get y.entered_with fs ws k g st.2 h in
     let here : w.frame ≡ f = st.0 ∙ same_Some y f e in
     ap (λ (u : Frame). u.function.place) (sym here) ∙ r.0 z.0 z.1 (same ∙ ap (λ (u : Frame). u.function.place) (sym z.2))
 from-frames x lent (y ∷ fs) (w ∷ ws) (suc j) (suc k) f g st r l e h same = from-frames x y.entered_with fs ws j k f g st.2 r.1 (omega (arith, l)) e h same
+from-frames x lent fs xs j k f g st r l e h same = absurd (grind arith)
 
 frames-together : (lent : List (Option Reference)) (fs : List Frame) (xs : List Stood) → StoodOn lent fs xs → Together xs → StandTogether fs
-frames-together lent [] xs st t i j k e f g a b p q r same = absurd cc
-frames-together lent (y ∷ fs) [] st t i j k e f g a b p q r same = absurd st
-frames-together lent (y ∷ fs) (x ∷ xs) st t i zero k e f g a b p q r same = absurd (omega (arith, a))
-frames-together lent (y ∷ fs) (x ∷ xs) st t i (suc j) zero e f g a b p q r same = absurd (omega (arith, b))
 frames-together lent (y ∷ fs) (x ∷ xs) st t zero (suc j) (suc k) e f g a b p q r same =
     let here : x.frame ≡ e = st.0 ∙ same_Some y e p in
     let place : x.frame.function.place ≡ e.function.place = ap (λ (u : Frame). u.function.place) here in
     from-frames x y.entered_with fs xs j k f g st.2 t.0 (omega (arith, b)) q r (place ∙ same) ∙ place
 frames-together lent (y ∷ fs) (x ∷ xs) st t (suc i) (suc j) (suc k) e f g a b p q r same = frames-together y.entered_with fs xs st.2 t.1 i j k e f g (omega (arith, a)) (omega (arith, b)) p q r same
+frames-together lent fs xs st t i j k e f g a b p q r same = absurd (grind arith)
 
 -- pairs of frames, an upper and a lower one
 module _ (P : Stood → Stood → Type 0) (Q : Frame → Frame → Type 0) (modules : List Module) (certificates : List Certificate)
     (gives : (u w : Stood) → Placed modules certificates u → P u w → Q u.frame w.frame) where
   frames-pairs : (lent : List (Option Reference)) (fs : List Frame) (xs : List Stood) → StoodOn lent fs xs → AllPlaced modules certificates xs → EachBelow P xs → AllPairs Q fs
-  frames-pairs lent [] xs st p e i j d a b = absurd (omega (arith, b))
-  frames-pairs lent (f ∷ fs) [] st p e i j d a b = absurd st
-  frames-pairs lent (f ∷ fs) (x ∷ xs) st p e i zero d a b = absurd (omega (arith, a))
   frames-pairs lent (f ∷ fs) (x ∷ xs) st p e zero (suc j) d a b =
       let w = stood-at f.entered_with fs xs j d st.2 (omega (arith, b)) in
       subst (λ z. Q z (slice_index_or fs j d)) st.0 (subst (λ z. Q x.frame z) w.2 (gives x w.0 p.0 (e.0 w.0 w.1)))
   frames-pairs lent (f ∷ fs) (x ∷ xs) st p e (suc i) (suc j) d a b = frames-pairs f.entered_with fs xs st.2 p.1 e.1 i j d (omega (arith, a)) (omega (arith, b))
+  frames-pairs lent fs xs st p e i j d a b = absurd (grind arith)
 
 out-is : (modules : List Module) (certificates : List Certificate) (u w : Stood) → Placed modules certificates u → OutOf u w → KeepsOut modules u.frame w.frame
 out-is modules certificates u w p out r key (k, less, is) root home acquired =
-    out r key (in-refs r (frame_references w.frame) k less is) root home (found (subst (λ xs. Contains xs key.index) acquires acquired))
-  where
-    acquires : acquires_in modules u.frame ≡ u.function.acquires
-    acquires = rw (p.is_home, p.is_function) refl
-
-    found : Contains u.function.acquires key.index → list_any (λ y. y == key.index) u.function.acquires ≡ true
-    found (n, l, e) = contains-any key.index u.function.acquires n l e
+    let acquires : acquires_in modules u.frame ≡ u.function.acquires = rw (p.is_home, p.is_function) refl in
+    let c = subst (λ xs. Contains xs key.index) acquires acquired in
+    out r key (in-refs r (frame_references w.frame) k less is) root home (contains-any key.index u.function.acquires c.0 c.1 c.2)
 
 apart-is : (modules : List Module) (certificates : List Certificate) (u w : Stood) → Placed modules certificates u → ApartFrom u w → KeepsApart u.frame w.frame
 apart-is modules certificates u w p far q r (k, less, is) (n, lower, there) mutable immutable over =

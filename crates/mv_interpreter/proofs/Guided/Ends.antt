@@ -1,14 +1,11 @@
 -- The parts of a rule, one after the other: each gives a value of which something holds, or fails otherwise than by what is lost or frozen.
-use Rattle.mv_interpreter.proofs.Guided.Common.{◌≡◌, ℕ, Bool, true, false, List, [], ◌∷◌, cond, refl, sym, subst, Option, Some, None, Result, Ok, Err}
-use Rattle.mv_interpreter.proofs.Guided.Common.{ok_or, nat_le, ⊤, for_each, Value, Ref, Failure, Aborts, Faults, TypeFault, LinkageFault, LostFault}
-use Rattle.mv_interpreter.proofs.Guided.Common.{DanglingFault, FrozenFault, StructTag, same_tag, operand, operands, as_number, as_boolean}
-use Rattle.mv_interpreter.proofs.Guided.Common.{as_reference}
+use Rattle.mv_interpreter.proofs.Guided.Common.{◌≡◌, ℕ, List, [], ◌∷◌, true, false, refl, sym, subst, Bool, Option, Some, None, Ok, Result, Err, nat_le, ok_or, ⊤, StructName, for_each}
+use Rattle.mv_interpreter.proofs.Guided.Common.{same_tag, StructTag, operand, operands, as_number, as_boolean, as_reference, as_address, as_signer, as_fields, Failure, Aborts, Faults}
+use Rattle.mv_interpreter.proofs.Guided.Common.{TypeFault, LinkageFault, LostFault, DanglingFault, FrozenFault, Value, Ref, Leaf, Struct, list_of}
 use Rattle.std.specs.Prelude.{length, reverse, take, drop}
+use Rattle.std.proofs.lemmas.Bool.{cond_both}
 use Rattle.mv_move_types.specs.declared.token.LeafKind.TheVariants.{Boolean, Number, Address, Signer}
 use Rattle.mv_move_types.specs.Results.{◌>>=◌, ◌>>◌, need}
-use Rattle.mv_move_types.specs.Names.{StructName}
-use Rattle.mv_machine.specs.Value.{Leaf, Struct, list_of}
-use Rattle.mv_machine.specs.StepParts.{as_address, as_signer, as_fields}
 
 -- a failure other than by what is lost or frozen
 abbrev pub Fine : Failure → Type 0
@@ -53,53 +50,31 @@ operand-well [] = tt
 operand-well (v ∷ s) = tt
 
 pub operands-well : (n : ℕ) (s : List Value) → Goes_well (operands n s)
-operands-well n s = by_case (nat_le n (length s))
-  where
-    by_case : (b : Bool) → Goes_well {A = List Value × List Value} (cond b (Ok (reverse (take n s), drop n s)) (Err (Faults TypeFault)))
-    by_case true = tt
-    by_case false = tt
+operands-well n s = cond_both (nat_le n (length s)) (Ok (reverse (take n s), drop n s)) (Err (Faults TypeFault)) (Goes_well {A = List Value × List Value}) (λ e. tt) (λ e. tt)
 
 pub number-well : (v : Value) → Goes_well (as_number v)
 number-well (Leaf (Number w) n) = tt
-number-well (Leaf Boolean n) = tt
-number-well (Leaf Address n) = tt
-number-well (Leaf Signer n) = tt
-number-well (Struct name fs) = tt
-number-well (Ref r) = tt
+number-well v = tt
 
 pub boolean-well : (v : Value) → Goes_well (as_boolean v)
-boolean-well (Leaf (Number w) n) = tt
 boolean-well (Leaf Boolean n) = tt
-boolean-well (Leaf Address n) = tt
-boolean-well (Leaf Signer n) = tt
-boolean-well (Struct name fs) = tt
-boolean-well (Ref r) = tt
+boolean-well v = tt
 
 pub address-well : (v : Value) → Goes_well (as_address v)
-address-well (Leaf (Number w) n) = tt
-address-well (Leaf Boolean n) = tt
 address-well (Leaf Address n) = tt
-address-well (Leaf Signer n) = tt
-address-well (Struct name fs) = tt
-address-well (Ref r) = tt
+address-well v = tt
 
 pub signer-well : (v : Value) → Goes_well (as_signer v)
-signer-well (Leaf (Number w) n) = tt
-signer-well (Leaf Boolean n) = tt
-signer-well (Leaf Address n) = tt
 signer-well (Leaf Signer n) = tt
-signer-well (Struct name fs) = tt
-signer-well (Ref r) = tt
+signer-well v = tt
 
 pub reference-well : (v : Value) → Goes_well (as_reference v)
-reference-well (Leaf k n) = tt
-reference-well (Struct name fs) = tt
 reference-well (Ref r) = tt
+reference-well v = tt
 
 pub fields-well : (name : StructName) (v : Value) → Goes_well (as_fields name v)
-fields-well name (Leaf k n) = tt
-fields-well name (Ref r) = tt
 fields-well name (Struct own fs) = tests (λ x. ⊤) (same_tag (StructTag own) (StructTag name)) (Faults TypeFault) (Ok (list_of fs)) tt (λ h. tt)
+fields-well name v = tt
 
 pub each-well : {A B : Type 0} (f : A → Result B Failure) (xs : List A) → ((x : A) → Goes_well (f x)) → Goes_well (for_each f xs)
 each-well f [] h = tt

@@ -1,17 +1,12 @@
 -- The invariant gives what the rules of types need of borrows at each step.
-use Rattle.mv_interpreter.proofs.Guided.Common.{◌≡◌, ℕ, List, sym, ◌∙◌, ap, subst, Option, Some, None, slice_get, option_and_then, same_Some, Glob}
-use Rattle.mv_interpreter.proofs.Guided.Common.{Token, Instruction, Ret, StLoc, MoveFrom, Module, FunctionDefinition, local_type, Value, State}
-use Rattle.mv_interpreter.proofs.Guided.Common.{reference_of, Point, no_edge_out, Certificate, on_bind, token_kind, operand_kind, Stood, Reaches}
-use Rattle.mv_interpreter.proofs.Guided.Common.{Guided, StoreFacts, TypeFacts}
-use Rattle.mv_move_types.specs.declared.instruction.Instruction.TheVariants.{MoveLoc}
+use Rattle.mv_interpreter.proofs.Guided.Common.{◌≡◌, ℕ, List, sym, ◌∙◌, ap, subst, Option, Some, None, same_Some, slice_get, option_and_then, Module, FunctionDefinition, local_type, Glob}
+use Rattle.mv_interpreter.proofs.Guided.Common.{Instruction, Ret, StLoc, MoveFrom, MoveLoc, Token, reference_of, State, Value, no_edge_out, Certificate, on_bind, Point, token_kind}
+use Rattle.mv_interpreter.proofs.Guided.Common.{operand_kind, Reaches, Stood, StoreFacts, TypeFacts, Guided}
 use Rattle.mv_borrow_graph.specs.BorrowRules.{edges_after}
-use Rattle.mv_interpreter.proofs.Borrows.Edges.{then-some}
+use Rattle.mv_interpreter.proofs.{Borrows.Edges.then-some, Guided.Before.Onward, Guided.Before.goes-on, Guided.Working.Working, Guided.Working.worked, Guided.Working.working}
+use Rattle.mv_interpreter.proofs.{Guided.Unfrozen.moved-free, Guided.Unfrozen.stored-free, Guided.Avoids.local-unreached, Guided.Avoids.struct-unreached, Guided.Avoids.leaving}
+use Rattle.mv_interpreter.proofs.{Guided.Accepted.flows-at}
 use Rattle.mv_interpreter.specs.Typing.Unreached.{Guarded, StepGuarded}
-use Rattle.mv_interpreter.proofs.Guided.Before.{Onward, goes-on}
-use Rattle.mv_interpreter.proofs.Guided.Working.{Working, worked, working}
-use Rattle.mv_interpreter.proofs.Guided.Unfrozen.{moved-free, stored-free}
-use Rattle.mv_interpreter.proofs.Guided.Avoids.{local-unreached, struct-unreached, leaving}
-use Rattle.mv_interpreter.proofs.Guided.Accepted.{flows-at}
 
 module _ (depends : ℕ → ℕ → Type 0) (modules : List Module) (certificates : List Certificate) (store : StoreFacts depends modules certificates)
     (s : State) (w : Working depends modules certificates s) (facts : TypeFacts modules s) where

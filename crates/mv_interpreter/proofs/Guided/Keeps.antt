@@ -1,74 +1,36 @@
 -- Each step of a state that is as the certificates say leads to such a state, and meets nothing lost or frozen.
-use Rattle.mv_interpreter.proofs.Guided.Common.{◌≡◌, ℕ, ◌+◌, List, [], ◌∷◌, ◌++◌, map, length, reverse, true, refl, sym, ◌∙◌, ap, ap₂, subst, Option}
-use Rattle.mv_interpreter.proofs.Guided.Common.{Some, Result, Ok, Err, inl, slice_get, ok_or, ⊤, list_all, and_parts, same_Some, Instruction, Ret}
-use Rattle.mv_interpreter.proofs.Guided.Common.{Call, local_of, alone, Module, FunctionDefinition, Value, Reference, Frame, State, reference_of}
-use Rattle.mv_interpreter.proofs.Guided.Common.{Failure, Faults, TypeFault, LinkageFault, entry, Known, Certificate, locals_leq, edges_leq, Point}
-use Rattle.mv_interpreter.proofs.Guided.Common.{Types, known_before, Here, Goes, Callee, ok-is, found-is, Fits, token_kind, operand_kind, Stood}
-use Rattle.mv_interpreter.proofs.Guided.Common.{seen_of, point_of, StoodOn, Sound, Reaches, callee-is, AsKnown, AllPlaced, StoodFit, AllAgree, Guided}
-use Rattle.mv_interpreter.proofs.Guided.Common.{StoreFacts, TypeFacts}
-use Rattle.std.specs.Prelude.{nat_lt}
+use Rattle.mv_interpreter.proofs.Guided.Common.{◌≡◌, ℕ, ◌+◌, List, [], ◌∷◌, ◌++◌, map, length, true, refl, sym, ◌∙◌, ap, subst, arith, Option, Some, Ok, reverse, inl, ap₂, Result, Err}
+use Rattle.mv_interpreter.proofs.Guided.Common.{and_parts, same_Some, list_all, slice_get, ok_or, ⊤, nat_lt, successors, Module, FunctionDefinition, Instruction, Ret, Call, ok-is}
+use Rattle.mv_interpreter.proofs.Guided.Common.{found-is, callee-is, return-is, reference_of, Frame, State, Callee, leaves, Here, Goes, Turn, Returns, Failure, Faults, TypeFault}
+use Rattle.mv_interpreter.proofs.Guided.Common.{LinkageFault, entry, Value, Reference, return_edges, Known, Certificate, known_before, edges_leq, Edge, locals_leq, Types, Point}
+use Rattle.mv_interpreter.proofs.Guided.Common.{map-turned, Fits, token_kind, operand_kind, Reaches, AsKnown, Stood, seen_of, StoodOn, point_of, Sound, local_of, alone, StoreFacts}
+use Rattle.mv_interpreter.proofs.Guided.Common.{TypeFacts, AllPlaced, StoodFit, AllAgree, Guided, Placed}
 use Rattle.mv_move_types.specs.declared.tables.Definition.{Definition}
-use Rattle.mv_move_types.specs.Flow.{successors}
 use Rattle.mv_locals_safety.specs.LocalsRules.{locals_after}
-use Rattle.mv_borrow_graph.specs.BorrowRules.{edges_after, call_edges, return_edges}
+use Rattle.mv_borrow_graph.specs.BorrowRules.{edges_after, call_edges}
 use Rattle.mv_type_states.specs.TypeRules.{types_after}
-use Rattle.mv_machine.specs.StepParts.{Turn, Returns}
-use Rattle.mv_machine.specs.StepControl.{call, return_results, leaves}
-use Rattle.mv_machine.specs.Step.{rule, step}
-use Rattle.mv_interpreter.proofs.Borrows.Edges.{then-some}
-use Rattle.mv_interpreter.proofs.Borrows.Same.{SameFrames}
-use Rattle.mv_interpreter.proofs.Borrows.Certified.{edges-below}
-use Rattle.mv_interpreter.proofs.Borrows.Standing.{IsTransfer, Stays}
-use Rattle.mv_interpreter.proofs.Borrows.Steps.{step-kept}
-use Rattle.mv_machine.proofs.Transfers.{return-is, ReturnedTo, returned, Called, called}
+use Rattle.mv_machine.specs.{StepControl.call, StepControl.return_results, Step.rule, Step.step}
+use Rattle.mv_interpreter.proofs.{Borrows.Edges.then-some, Borrows.Same.SameFrames, Borrows.Certified.edges-below, Borrows.Standing.IsTransfer, Borrows.Standing.Stays}
+use Rattle.mv_interpreter.proofs.{Borrows.Steps.step-kept, Borrows.Available.known-above, Borrows.Available.known-same, Guided.Before.Onward, Guided.Before.goes-on}
+use Rattle.mv_interpreter.proofs.{Guided.Before.starts-known, Guided.Chains.guided-from, Guided.Working.Working, Guided.Working.worked, Guided.Working.working, Guided.Rows.LocalsKnown}
+use Rattle.mv_interpreter.proofs.{Guided.Rows.RowEnds, Guided.Rows.rule-ends}
 use Rattle.mv_interpreter.proofs.Borrows.Invariant.{refit, sound-row, sound-call, sound-return, standing}
-use Rattle.mv_interpreter.proofs.Borrows.Available.{known-above, known-same}
-use Rattle.mv_interpreter.specs.Guided.Guided.{Placed}
-use Rattle.mv_interpreter.proofs.Guided.Before.{Onward, goes-on, starts-known}
 use Rattle.mv_interpreter.proofs.Guided.Ends.{Ends, Goes_well, given, after, tests, found-well}
-use Rattle.mv_interpreter.proofs.Guided.Chains.{guided-from}
 use Rattle.mv_interpreter.proofs.Guided.Results.{callee-agrees, returns-as, fit-refit, agree-refit}
-use Rattle.std.proofs.lemmas.List.{map-append}
-use Rattle.mv_interpreter.proofs.Guided.Working.{Working, worked, working}
-use Rattle.mv_interpreter.proofs.Guided.Rows.{LocalsKnown, RowEnds, rule-ends}
 use Rattle.mv_interpreter.proofs.Guided.Accepted.{flows-at, function-flows, own-parameters, entered-known}
-use Rattle.mv_interpreter.proofs.Lists.{map-turned}
+use Rattle.mv_machine.proofs.Transfers.{ReturnedTo, returned, Called, called}
+use Rattle.std.proofs.lemmas.List.{map-append}
 
 -- what a turn leads to is as the certificates say
 abbrev pub TurnGuided : (ℕ → ℕ → Type 0) → List Module → List Certificate → Turn → Type 0
 TurnGuided depends modules certificates (Goes t) = Guided depends modules certificates t
 TurnGuided depends modules certificates (Returns t) = ⊤
 
-placed-refit : (modules : List Module) (certificates : List Certificate) (lent : List (Option Reference)) (fs gs : List Frame) (xs : List Stood)
-    → StoodOn lent fs xs → SameFrames fs gs → AllPlaced modules certificates xs → AllPlaced modules certificates (refit xs gs)
-placed-refit modules certificates lent [] [] [] s q p = tt
-placed-refit modules certificates lent [] [] (x ∷ xs) s q p = absurd s
-placed-refit modules certificates lent [] (g ∷ gs) xs s q p = absurd q
-placed-refit modules certificates lent (f ∷ fs) [] xs s q p = absurd q
-placed-refit modules certificates lent (f ∷ fs) (g ∷ gs) [] s q p = absurd s
-placed-refit modules certificates lent (f ∷ fs) (g ∷ gs) (x ∷ xs) s q p =
-    let function = sym (q.0.function ∙ ap (λ (y : Frame). y.function) (sym s.0)) in
-    let at = sym (q.0.at ∙ ap (λ (y : Frame). y.at) (sym s.0)) in (
-      record {
-        certificate = p.0.certificate;
-        stated = p.0.stated;
-        known = p.0.known;
-        is_home = subst (λ (d : Definition). slice_get modules d.place ≡ Some x.home) function p.0.is_home;
-        is_function = subst (λ (d : Definition). slice_get x.home.functions d.index ≡ Some x.function) function p.0.is_function;
-        is_certificate = subst (λ (d : Definition). slice_get certificates d.place ≡ Some p.0.certificate) function p.0.is_certificate;
-        is_stated = subst (λ (d : Definition). slice_get p.0.certificate d.index ≡ Some p.0.stated) function p.0.is_stated;
-        is_known = subst (λ (n : ℕ). known_before x.home x.function p.0.stated n ≡ Some (p.0.known, x.types)) at p.0.is_known;
-        are_edges = p.0.are_edges;
-        are_locals = known-same p.0.known.locals x.frame.locals g.locals (ap (λ (y : Frame). map local_of y.locals) s.0 ∙ sym q.0.locals) p.0.are_locals;
-      },
-      placed-refit modules certificates f.entered_with fs gs xs s.2 q.1 p.1,
-    )
-
 -- a frame that goes on in its function
-pub placed-on : (modules : List Module) (certificates : List Certificate) (x : Stood) (p : Placed modules certificates x) (f : Frame) (l : Known) (us : Types)
-    → f.function ≡ x.frame.function → known_before x.home x.function p.stated f.at ≡ Some (l, us) → AsKnown l.locals f.locals
-    → Placed modules certificates (record { home = x.home; function = x.function; frame = f; lent = []; types = us; edges = l.edges })
-placed-on modules certificates x p f l us function is_known are_locals = record {
+pub placed-on : (modules : List Module) (certificates : List Certificate) (x : Stood) (p : Placed modules certificates x) (f : Frame) (lent : List (Option Reference))
+    (l : Known) (us : Types) (es : List Edge) → f.function ≡ x.frame.function → known_before x.home x.function p.stated f.at ≡ Some (l, us) → l.edges ≡ es
+    → AsKnown l.locals f.locals → Placed modules certificates (record { home = x.home; function = x.function; frame = f; lent = lent; types = us; edges = es })
+placed-on modules certificates x p f lent l us es function is_known are_edges are_locals = record {
   certificate = p.certificate;
   stated = p.stated;
   known = l;
@@ -77,16 +39,66 @@ placed-on modules certificates x p f l us function is_known are_locals = record 
   is_certificate = subst (λ (d : Definition). slice_get certificates d.place ≡ Some p.certificate) (sym function) p.is_certificate;
   is_stated = subst (λ (d : Definition). slice_get p.certificate d.index ≡ Some p.stated) (sym function) p.is_stated;
   is_known = is_known;
-  are_edges = refl;
+  are_edges = are_edges;
   are_locals = are_locals;
 }
 
+placed-refit : (modules : List Module) (certificates : List Certificate) (lent : List (Option Reference)) (fs gs : List Frame) (xs : List Stood)
+    → StoodOn lent fs xs → SameFrames fs gs → AllPlaced modules certificates xs → AllPlaced modules certificates (refit xs gs)
+placed-refit modules certificates lent [] [] [] s q p = tt
+placed-refit modules certificates lent (f ∷ fs) (g ∷ gs) (x ∷ xs) s q p =
+    let at = sym (q.0.at ∙ ap (λ (y : Frame). y.at) (sym s.0)) in (
+      placed-on modules certificates x p.0 g x.lent p.0.known x.types x.edges (q.0.function ∙ ap (λ (y : Frame). y.function) (sym s.0))
+          (subst (λ (n : ℕ). known_before x.home x.function p.0.stated n ≡ Some (p.0.known, x.types)) at p.0.is_known) p.0.are_edges
+          (known-same p.0.known.locals x.frame.locals g.locals (ap (λ (y : Frame). map local_of y.locals) s.0 ∙ sym q.0.locals) p.0.are_locals),
+      placed-refit modules certificates f.entered_with fs gs xs s.2 q.1 p.1,
+    )
+placed-refit modules certificates lent fs gs xs s q p = absurd (grind arith)
+
 -- the first frame's return doesn't go on
 last-returns : (h : Here) (t : State) → h.state.below ≡ [] → return_results h ≡ Ok (Goes t) → ⊥
-last-returns h t none e = let r = return-is h (Goes t) e in never (ok-is (Returns h.state) (Goes t) (sym (ap (leaves h r.results) none) ∙ r.left))
+last-returns h t none e =
+    let r = return-is h (Goes t) e in
+    let z : Returns h.state ≡ Goes t = ok-is (Returns h.state) (Goes t) (sym (ap (leaves h r.results) none) ∙ r.left) in
+    cc
+
+-- a Ret
+return-goes : (depends : ℕ → ℕ → Type 0) (modules : List Module) (certificates : List Certificate) → StoreFacts depends modules certificates
+    → (s t : State) (x v : Stood) (vs : List Stood) (sound : Sound depends s x (v ∷ vs)) → Fits (point_of x) (alone s.top)
+    → Fits (point_of v) (seen_of v) → Placed modules certificates v → AllPlaced modules certificates vs
+    → return_edges (point_of x) x.edges ≡ Some x.edges → StoodFit vs → AllAgree x.home x.function (v ∷ vs)
+    → return_results (record { modules = modules; home = x.home; function = x.function; state = s }) ≡ Ok (Goes t)
+    → Guided depends modules certificates t
+unfolding edges_after locals_after
+return-goes depends modules certificates store s t x v vs sound fits fits_v p ps free fit_vs agree e =
+    let link = sound.links.0 in
+    let ra = returns-as (record { modules = modules; home = x.home; function = x.function; state = s }) t e in
+    let results : map token_kind (reverse link.link.results) ≡ map operand_kind (map reference_of s.top.stack) =
+    map-turned token_kind link.link.results ∙ ap reverse (agree.0 link.link.index link.link.handle link.link.results link.link.is_call link.link.is_handle link.link.is_results ra.own ra.results ra.is_own ra.are_results)
+    ∙ sym (map-turned token_kind ra.results) ∙ ra.kinds in
+    let fl = flows-at depends modules certificates store v.frame.function.place v.frame.function.index v.home v.function p.certificate p.stated p.is_home p.is_function p.is_certificate p.is_stated in
+    let o = goes-on v.home v.function p.stated fl.start fl.locals fl.edges v.frame.at p.known v.types (Call link.link.index) p.is_known link.link.is_call in
+    let l = o.leads (v.frame.at + 1) (inl refl) in
+    let below = and_parts (locals_leq o.next.locals l.0.locals) (edges_leq o.next.edges l.0.edges) l.3 in
+    let same : o.next.edges ≡ link.edges = same_Some o.next.edges link.edges (sym o.edges ∙ ap (call_edges (point_of v) link.link.index) p.are_edges ∙ link.need) in
+    let locals : p.known.locals ≡ o.next.locals = same_Some p.known.locals o.next.locals o.locals in
+    let top = returned-top s.below sound.stood.2 (returned (record { modules = modules; home = x.home; function = x.function; state = s }) (Goes t) e) in
+    guided-from depends store.through store.no_cycle modules certificates t (record { home = v.home; function = v.function; frame = t.top; lent = []; types = l.1; edges = l.0.edges }) vs
+    (sound-return depends store.through store.no_cycle modules s x v vs sound t l.0.edges l.1 e fits fits_v free results
+    (edges-below v.frame.function.place link.edges l.0.edges (subst (λ es. edges_leq es l.0.edges ≡ true) same below.1))) (
+      placed-on modules certificates v p t.top [] l.0 l.1 l.0.edges top.0 (subst (λ n. known_before v.home v.function p.stated n ≡ Some (l.0, l.1)) (sym top.1) l.2) refl
+          (known-above o.next.locals l.0.locals t.top.locals below.0 (subst (λ z. AsKnown o.next.locals z) (sym top.2) (subst (λ z. AsKnown z v.frame.locals) locals p.are_locals))),
+      ps,
+    ) fit_vs agree.1
   where
-    never : Returns h.state ≡ Goes t → ⊥
-    never z = cc
+    returned-top : (fs : List Frame) → StoodOn s.top.entered_with fs (v ∷ vs) → ReturnedTo (record { modules = modules; home = x.home; function = x.function; state = s }) fs (Ok (Goes t))
+        → (t.top.function ≡ v.frame.function) × (t.top.at ≡ v.frame.at + 1) × (t.top.locals ≡ v.frame.locals)
+    returned-top [] st r = absurd st
+    returned-top (f ∷ fs) st r = (
+      ap (λ (y : Frame). y.function) r.top ∙ ap (λ (y : Frame). y.function) (sym st.0),
+      ap (λ (y : Frame). y.at) r.top ∙ ap (λ (y : Frame). y.at + 1) (sym st.0),
+      ap (λ (y : Frame). y.locals) r.top ∙ ap (λ (y : Frame). y.locals) (sym st.0),
+    )
 
 module _ (depends : ℕ → ℕ → Type 0) (modules : List Module) (certificates : List Certificate) (store : StoreFacts depends modules certificates)
     (s : State) (w : Working depends modules certificates s) (facts : TypeFacts modules s) where
@@ -99,7 +111,7 @@ module _ (depends : ℕ → ℕ → Type 0) (modules : List Module) (certificate
   abbrev p : Point
   p = record { home = w.home; function = w.function; types = w.types }
 
-  placed-here : Placed modules certificates x
+  abbrev placed-here : Placed modules certificates x
   placed-here = record {
     certificate = w.certificate;
     stated = w.stated;
@@ -116,7 +128,6 @@ module _ (depends : ℕ → ℕ → Type 0) (modules : List Module) (certificate
   -- any instruction but Call and Ret
   row-keeps : (i : Instruction) → (IsTransfer i → ⊥) → Reaches w.function.acquires i → (o : Onward w.home w.function w.stated s.top.at i w.known w.types) → Ends (LocalsKnown o.next.locals) (rule i h)
       → Ends (TurnGuided depends modules certificates) (rule i h)
-  unfolding placed-here
   row-keeps i transfer reaches o ends = by_result (rule i h) refl ends
     where
       by_result : (r : Result Turn Failure) → rule i h ≡ r → Ends (LocalsKnown o.next.locals) r → Ends (TurnGuided depends modules certificates) r
@@ -130,7 +141,7 @@ module _ (depends : ℕ → ℕ → Type 0) (modules : List Module) (certificate
           (record { home = w.home; function = w.function; frame = t.top; lent = []; types = l.1; edges = l.0.edges }) (refit w.waiting t.below)
           (sound-row depends store.through store.no_cycle modules s x w.waiting w.sound i t o.next.edges l.0.edges l.1 transfer reaches is w.fits facts.inside o.edges
           (edges-below t.top.function.place o.next.edges l.0.edges below.1)) (
-            placed-on modules certificates x placed-here t.top l.0 l.1 st.1 l.2 (known-above o.next.locals l.0.locals t.top.locals below.0 k),
+            placed-on modules certificates x placed-here t.top [] l.0 l.1 l.0.edges st.1 l.2 refl (known-above o.next.locals l.0.locals t.top.locals below.0 k),
             placed-refit modules certificates s.top.entered_with s.below t.below w.waiting w.sound.stood.2 st.3 w.placed,
           )
           (fit-refit s.top.entered_with s.below t.below w.waiting w.sound.stood.2 st.3 w.waiting_fit)
@@ -142,9 +153,6 @@ module _ (depends : ℕ → ℕ → Type 0) (modules : List Module) (certificate
   unfolding edges_after types_after
   call-keeps j at o well = by_result (call h j) refl well
     where
-      call-is : (a b : ℕ) → Call a ≡ Call b → a ≡ b
-      call-is a b z = cc
-
       -- the arguments that the waiting frame lent, and what is left on its stack
       called-stack : (t : State) (stack : List Value) (ws : List Stood)
           → StoodOn t.top.entered_with t.below
@@ -193,75 +201,19 @@ module _ (depends : ℕ → ℕ → Type 0) (modules : List Module) (certificate
               are_edges = refl {a = b.0.edges};
               are_locals = known-above fl.4.start.locals b.0.locals t.top.locals b.2 start;
             },
-            (
-              record {
-                certificate = w.certificate;
-                stated = w.stated;
-                known = w.known;
-                is_home = w.is_home;
-                is_function = w.is_function;
-                is_certificate = w.is_certificate;
-                is_stated = w.is_stated;
-                is_known = w.is_known;
-                are_edges = refl;
-                are_locals = w.are_locals;
-              },
-              w.placed,
-            ),
+            (placed-on modules certificates x placed-here (record (s.top) { stack = u.2.0 }) t.top.entered_with w.known w.types w.known.edges refl w.is_known refl w.are_locals, w.placed),
           )
           (waits-fit t u.2.0 (called-stack t u.2.0 w.waiting (u.2.1).stood.2 (called h j (Goes t) is)), w.waiting_fit) (
-            λ i handle results i_at handle_at results_at own own_results own_at own_results_at.
-                callee-agrees h j n.c n.is_callee handle results (subst (λ k. slice_get w.home.function_handles k ≡ Some handle)
-                (call-is i j (same_Some (Call i) (Call j) (sym i_at ∙ at))) handle_at) results_at
-                own own_results own_at own_results_at,
+            λ i handle results i_at handle_at results_at.
+                let same : i ≡ j = cc (i_at, at) in
+                callee-agrees h j n.c n.is_callee handle results (subst (λ k. slice_get w.home.function_handles k ≡ Some handle) same handle_at) results_at,
             w.agree,
           )
 
--- a Ret
-return-goes : (depends : ℕ → ℕ → Type 0) (modules : List Module) (certificates : List Certificate) → StoreFacts depends modules certificates
-    → (s t : State) (x v : Stood) (vs : List Stood) (sound : Sound depends s x (v ∷ vs)) → Fits (point_of x) (alone s.top)
-    → Fits (point_of v) (seen_of v) → Placed modules certificates v → AllPlaced modules certificates vs
-    → return_edges (point_of x) x.edges ≡ Some x.edges → StoodFit vs → AllAgree x.home x.function (v ∷ vs)
-    → return_results (record { modules = modules; home = x.home; function = x.function; state = s }) ≡ Ok (Goes t)
-    → Guided depends modules certificates t
-unfolding edges_after locals_after
-return-goes depends modules certificates store s t x v vs sound fits fits_v p ps free fit_vs agree e =
-    let link = sound.links.0 in
-    let ra = returns-as (record { modules = modules; home = x.home; function = x.function; state = s }) t e in
-    let results : map token_kind (reverse link.link.results) ≡ map operand_kind (map reference_of s.top.stack) =
-    map-turned token_kind link.link.results ∙ ap reverse (agree.0 link.link.index link.link.handle link.link.results link.link.is_call link.link.is_handle link.link.is_results ra.own ra.results ra.is_own ra.are_results)
-    ∙ sym (map-turned token_kind ra.results) ∙ ra.kinds in
-    let fl = flows-at depends modules certificates store v.frame.function.place v.frame.function.index v.home v.function p.certificate p.stated p.is_home p.is_function p.is_certificate p.is_stated in
-    let o = goes-on v.home v.function p.stated fl.start fl.locals fl.edges v.frame.at p.known v.types (Call link.link.index) p.is_known link.link.is_call in
-    let l = o.leads (v.frame.at + 1) (inl refl) in
-    let below = and_parts (locals_leq o.next.locals l.0.locals) (edges_leq o.next.edges l.0.edges) l.3 in
-    let same : o.next.edges ≡ link.edges = same_Some o.next.edges link.edges (sym o.edges ∙ ap (call_edges (point_of v) link.link.index) p.are_edges ∙ link.need) in
-    let locals : p.known.locals ≡ o.next.locals = same_Some p.known.locals o.next.locals o.locals in
-    let top = returned-top s.below sound.stood.2 (returned (record { modules = modules; home = x.home; function = x.function; state = s }) (Goes t) e) in
-    guided-from depends store.through store.no_cycle modules certificates t (record { home = v.home; function = v.function; frame = t.top; lent = []; types = l.1; edges = l.0.edges }) vs
-    (sound-return depends store.through store.no_cycle modules s x v vs sound t l.0.edges l.1 e fits fits_v free results
-    (edges-below v.frame.function.place link.edges l.0.edges (subst (λ es. edges_leq es l.0.edges ≡ true) same below.1))) (
-      placed-on modules certificates v p t.top l.0 l.1 top.0 (subst (λ n. known_before v.home v.function p.stated n ≡ Some (l.0, l.1)) (sym top.1) l.2)
-          (known-above o.next.locals l.0.locals t.top.locals below.0 (subst (λ z. AsKnown o.next.locals z) (sym top.2) (subst (λ z. AsKnown z v.frame.locals) locals p.are_locals))),
-      ps,
-    ) fit_vs agree.1
-  where
-    returned-top : (fs : List Frame) → StoodOn s.top.entered_with fs (v ∷ vs) → ReturnedTo (record { modules = modules; home = x.home; function = x.function; state = s }) fs (Ok (Goes t))
-        → (t.top.function ≡ v.frame.function) × (t.top.at ≡ v.frame.at + 1) × (t.top.locals ≡ v.frame.locals)
-    returned-top [] st r = absurd st
-    returned-top (f ∷ fs) st r = (
-      ap (λ (y : Frame). y.function) r.top ∙ ap (λ (y : Frame). y.function) (sym st.0),
-      ap (λ (y : Frame). y.at) r.top ∙ ap (λ (y : Frame). y.at + 1) (sym st.0),
-      ap (λ (y : Frame). y.locals) r.top ∙ ap (λ (y : Frame). y.locals) (sym st.0),
-    )
-
-module _ (depends : ℕ → ℕ → Type 0) (modules : List Module) (certificates : List Certificate) (store : StoreFacts depends modules certificates)
-    (s : State) (w : Working depends modules certificates s) (facts : TypeFacts modules s) where
   return-keeps : slice_get w.function.code s.top.at ≡ Some Ret → (o : Onward w.home w.function w.stated s.top.at Ret w.known w.types)
-      → Goes_well (return_results (record { modules = modules; home = w.home; function = w.function; state = s }))
-      → Ends (TurnGuided depends modules certificates) (return_results (record { modules = modules; home = w.home; function = w.function; state = s }))
+      → Goes_well (return_results h) → Ends (TurnGuided depends modules certificates) (return_results h)
   unfolding edges_after
-  return-keeps at o well = by_result (return_results (record { modules = modules; home = w.home; function = w.function; state = s })) refl well
+  return-keeps at o well = by_result (return_results h) refl well
     where
       free : return_edges (record { home = w.home; function = w.function; types = w.types }) w.known.edges ≡ Some w.known.edges
       free = o.edges ∙ ap Some (then-some _ w.known.edges o.next.edges o.edges).1
@@ -270,7 +222,7 @@ module _ (depends : ℕ → ℕ → Type 0) (modules : List Module) (certificate
       no-frames [] st = refl
       no-frames (f ∷ fs) st = absurd st
 
-      by_result : (r : Result Turn Failure) → return_results (record { modules = modules; home = w.home; function = w.function; state = s }) ≡ r
+      by_result : (r : Result Turn Failure) → return_results h ≡ r
           → Goes_well r → Ends (TurnGuided depends modules certificates) r
       by_result (Err e) is k = k
       by_result (Ok (Returns t)) is k = tt
@@ -278,17 +230,17 @@ module _ (depends : ℕ → ℕ → Type 0) (modules : List Module) (certificate
         where
           by_waiting : (ws : List Stood) → Sound depends s (worked s w.home w.function w.types w.known.edges) ws → StoodFit ws
               → AllPlaced modules certificates ws → AllAgree w.home w.function ws → Guided depends modules certificates t
-          by_waiting [] sound fit pl ag = absurd (last-returns (record { modules = modules; home = w.home; function = w.function; state = s }) t (no-frames s.below sound.stood.2) is)
+          by_waiting [] sound fit pl ag = absurd (last-returns h t (no-frames s.below sound.stood.2) is)
           by_waiting (v ∷ vs) sound fit pl ag =
               return-goes depends modules certificates store s t (worked s w.home w.function w.types w.known.edges) v vs sound w.fits fit.0 pl.0 pl.1 free fit.1 ag is
 
   rule-keeps : (i : Instruction) → slice_get w.function.code s.top.at ≡ Some i → Reaches w.function.acquires i → (o : Onward w.home w.function w.stated s.top.at i w.known w.types)
       → RowEnds depends store.through store.no_cycle modules s w.home w.function w.known w.types w.waiting w.sound w.fits w.are_locals facts.inside facts.rooted i o.next.locals
-      → Ends (TurnGuided depends modules certificates) (rule i (record { modules = modules; home = w.home; function = w.function; state = s }))
+      → Ends (TurnGuided depends modules certificates) (rule i h)
   unfolding rule
-  rule-keeps (Call j) at q o ends = call-keeps depends modules certificates store s w facts j at o ends
+  rule-keeps (Call j) at q o ends = call-keeps j at o ends
   rule-keeps Ret at q o ends = return-keeps at o ends
-  rule-keeps i at q o ends = row-keeps depends modules certificates store s w facts i (λ z. z) q o ends
+  rule-keeps i at q o ends = row-keeps i (λ z. z) q o ends
 
 -- every step
 pub step-keeps : (depends : ℕ → ℕ → Type 0) (modules : List Module) (certificates : List Certificate) → StoreFacts depends modules certificates
@@ -296,7 +248,6 @@ pub step-keeps : (depends : ℕ → ℕ → Type 0) (modules : List Module) (cer
 unfolding step
 step-keeps depends modules certificates store s g facts =
     let w = working depends modules certificates s g facts.fit in
-    let h : Here = record { modules = modules; home = w.home; function = w.function; state = s } in
     given (TurnGuided depends modules certificates) (entry modules s.top.function.place) _ w.home (ap (λ (o : Option Module). ok_or o (Faults LinkageFault)) w.is_home)
     (given (TurnGuided depends modules certificates) (entry w.home.functions s.top.function.index) _ w.function (ap (λ (o : Option FunctionDefinition). ok_or o (Faults LinkageFault)) w.is_function)
     (after (TurnGuided depends modules certificates) (ok_or (slice_get w.function.code s.top.at) (Faults TypeFault)) _ (found-well _ _ tt) (λ i i_is.

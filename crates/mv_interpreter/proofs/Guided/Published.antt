@@ -1,28 +1,18 @@
 -- Over published modules no run meets a fault, and each state that it comes to is as the certificates say.
-use Rattle.mv_interpreter.proofs.Guided.Common.{◌≡◌, ℕ, zero, suc, List, [], ◌∷◌, length, refl, sym, ◌∙◌, ap, subst, Option, Some, None, slice_get}
-use Rattle.mv_interpreter.proofs.Guided.Common.{and_parts, same_Some, Module, Certificate, State, StoreCertified, ok-is}
-use Rattle.std.specs.Prelude.{option_map, IsTrue}
-use Rattle.std.proofs.lemmas.Option.{slice_get-map}
+use Rattle.mv_interpreter.proofs.Guided.Common.{◌≡◌, ℕ, zero, suc, List, [], ◌∷◌, length, refl, sym, ◌∙◌, ap, subst, Some, and_parts, same_Some, slice_get-map, slice_get, IsTrue, Module}
+use Rattle.mv_interpreter.proofs.Guided.Common.{ok-is, State, Certificate, ComesTo, StoreCertified, ModuleAccepted, AcquiresHold}
+use Rattle.mv_module_text.proofs.Rows.{on_map}
+use Rattle.mv_interpreter.proofs.{Lists.All-at, Typing.First.begun, Typing.First.first_is, Guided.Whole.run_faultless, Guided.Whole.run_holds}
 use Rattle.mv_move_types.specs.Published.{PublishedModule}
-use Rattle.mv_acquires.specs.Acquires.{AcquiresHold}
-use Rattle.mv_certificate.specs.Certificate.{all_locals_hold, all_edges_hold}
-use Rattle.mv_certificate.specs.CertificateText.{IsCertificateText}
+use Rattle.mv_certificate.specs.{Certificate.all_locals_hold, Certificate.all_edges_hold, CertificateText.IsCertificateText}
 use Rattle.mv_certificate.proofs.OneCertificate.{one-certificate}
 use Rattle.mv_linker.specs.Link.{IsPublishable, IsStore, tables_in}
-use Rattle.mv_interpreter.specs.Typing.Accepted.{ModuleAccepted, StoreAccepted}
-use Rattle.mv_interpreter.specs.Guided.Outcome.{ComesTo}
-use Rattle.mv_interpreter.specs.Guided.Published.{AreCertificates, RunsAreFaultless, StatesHold}
-use Rattle.mv_interpreter.proofs.Typing.First.{begun, first_is}
-use Rattle.mv_interpreter.proofs.Guided.Whole.{run_faultless, run_holds}
-use Rattle.mv_interpreter.proofs.Lists.{All-at}
+use Rattle.mv_interpreter.specs.{Typing.Accepted.StoreAccepted, Guided.Published.AreCertificates, Guided.Published.RunsAreFaultless, Guided.Published.StatesHold}
 
 -- a module's tables are those of a published module
 of-tables : (store : List PublishedModule) (place : ℕ) (m : Module) → slice_get (tables_in store) place ≡ Some m → (p : PublishedModule) × (slice_get store place ≡ Some p) × (p.tables ≡ m)
-of-tables store place m e = by_case (slice_get store place) (sym (slice_get-map (λ (p : PublishedModule). p.tables) store place) ∙ e)
-  where
-    by_case : (o : Option PublishedModule) → option_map (λ (p : PublishedModule). p.tables) o ≡ Some m → (p : PublishedModule) × (o ≡ Some p) × (p.tables ≡ m)
-    by_case None g = absurd cc
-    by_case (Some p) g = (p, refl, same_Some p.tables m g)
+of-tables store place m e =
+    on_map (slice_get store place) (λ (p : PublishedModule). p.tables) m (sym (slice_get-map (λ (p : PublishedModule). p.tables) store place) ∙ e) (λ p p_at same. (p, p_at, same))
 
 -- the certificates that the modules of a store were published with
 pub certificates_from : (store : List PublishedModule) → ((k : ℕ) (p : PublishedModule) → slice_get store k ≡ Some p → IsPublishable p) → (cs : List Certificate) × AreCertificates store cs
@@ -41,41 +31,37 @@ module _ (store : List PublishedModule) (is : IsStore store) where
   -- the tables of such a store are accepted
   pub accepted : StoreAccepted (tables_in store)
   accepted = record {
-    each = λ place m at. each place m (of-tables store place m at);
     once = is.once;
     links = is.links;
+    each = λ place m at.
+        let p = of-tables store place m at in
+        let passed = All-at IsPublishable store place p.0 is.passed p.1 in
+        subst ModuleAccepted p.2 (record {
+          bounds = passed.sound.bounds;
+          defined = passed.sound.defined;
+          signed = passed.sound.signed;
+          abilities = passed.sound.abilities;
+          flow = passed.sound.flow;
+          types = passed.sound.types;
+          text = passed.spelled;
+        });
   }
-    where
-      each : (place : ℕ) (m : Module) → (p : PublishedModule) × (slice_get store place ≡ Some p) × (p.tables ≡ m) → ModuleAccepted m
-      each place m (p, at, same) =
-          let passed = All-at IsPublishable store place p is.passed at in
-          subst ModuleAccepted same (record {
-            bounds = passed.sound.bounds;
-            defined = passed.sound.defined;
-            signed = passed.sound.signed;
-            abilities = passed.sound.abilities;
-            flow = passed.sound.flow;
-            types = passed.sound.types;
-            text = (All-at IsPublishable store place p is.passed at).spelled;
-          })
 
   -- and certified by the certificates that its modules were published with
   pub published_certified : (certificates : List Certificate) → AreCertificates store certificates → StoreCertified (tables_in store) certificates
   published_certified certificates are = record {
     accepted = accepted;
-    certified = λ place m at. certified place m (of-tables store place m at);
     acquires = λ place m at. let p = of-tables store place m at in subst AcquiresHold p.2 (All-at IsPublishable store place p.0 is.passed p.1).acquires;
+    certified = λ place m at.
+        let p = of-tables store place m at in
+        let passed = All-at IsPublishable store place p.0 is.passed p.1 in
+        let own = passed.certificate in
+        let stated = are.each place p.0 p.1 in
+        let one : own.0 ≡ stated.0 = one-certificate p.0.tables p.0.certificate own.0 stated.0 passed.spelled own.1.0 stated.2 in
+        let parts = and_parts (all_locals_hold p.0.tables own.0) (all_edges_hold p.0.tables own.0) own.1.1 in
+        subst (λ (z : Module). (c : Certificate) × (slice_get certificates place ≡ Some c) × IsTrue (all_locals_hold z c) × IsTrue (all_edges_hold z c)) p.2
+        (stated.0, stated.1, subst (λ (c : Certificate). IsTrue (all_locals_hold p.0.tables c)) one parts.0, subst (λ (c : Certificate). IsTrue (all_edges_hold p.0.tables c)) one parts.1);
   }
-    where
-      certified : (place : ℕ) (m : Module) → (p : PublishedModule) × (slice_get store place ≡ Some p) × (p.tables ≡ m)
-          → (c : Certificate) × (slice_get certificates place ≡ Some c) × IsTrue (all_locals_hold m c) × IsTrue (all_edges_hold m c)
-      certified place m (p, at, same) =
-          let own = (All-at IsPublishable store place p is.passed at).certificate in
-          let stated = are.each place p at in
-          let one : own.0 ≡ stated.0 = one-certificate p.tables p.certificate own.0 stated.0 ((All-at IsPublishable store place p is.passed at).spelled) own.1.0 stated.2 in
-          let parts = and_parts (all_locals_hold p.tables own.0) (all_edges_hold p.tables own.0) own.1.1 in
-          subst (λ (z : Module). (c : Certificate) × (slice_get certificates place ≡ Some c) × IsTrue (all_locals_hold z c) × IsTrue (all_edges_hold z c)) same
-          (stated.0, stated.1, subst (λ (c : Certificate). IsTrue (all_locals_hold p.tables c)) one parts.0, subst (λ (c : Certificate). IsTrue (all_edges_hold p.tables c)) one parts.1)
 
 pub runs_faultless : RunsAreFaultless
 runs_faultless store storage call budget is stored typed =

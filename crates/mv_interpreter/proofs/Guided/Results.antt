@@ -1,23 +1,13 @@
 -- What stays as the types say while a frame waits; results are as the handle of the Call says.
-use Rattle.mv_interpreter.proofs.Guided.Common.{◌≡◌, ℕ, zero, suc, List, [], ◌∷◌, ◌++◌, map, reverse, Bool, true, false, refl, sym, ◌∙◌, ap, ap₂}
-use Rattle.mv_interpreter.proofs.Guided.Common.{subst, Option, Some, None, Ok, slice_get, option_and_then, and_parts, same_Some, FunctionHandle}
-use Rattle.mv_interpreter.proofs.Guided.Common.{ValueType, Call, OfLeaf, OfStruct, Token, Plain, ReferenceTo, MutableReferenceTo, for_each, Module}
-use Rattle.mv_interpreter.proofs.Guided.Common.{FunctionDefinition, struct_name, Value, Reference, Frame, State, reference_of, Faults, LinkageFault}
-use Rattle.mv_interpreter.proofs.Guided.Common.{entry, linked, tag_named, Tag, StructTag, same_tag, same_tags, declared, same_abilities, Here, Goes}
-use Rattle.mv_interpreter.proofs.Guided.Common.{Callee, ok-is, local_of, held_as, Fits, token_kind, operand_kind, Stood, seen_of, point_of, StoodOn}
-use Rattle.mv_interpreter.proofs.Guided.Common.{StoodFit, AllAgree, callee-is}
-use Rattle.std.specs.Bool.{beq}
-use Rattle.mv_machine.specs.Typing.{value_type_tag}
-use Rattle.mv_move_types.specs.Tags.{LeafTag, ReferenceTag}
+use Rattle.mv_interpreter.proofs.Guided.Common.{◌≡◌, ℕ, zero, suc, List, [], ◌∷◌, ◌++◌, map, true, false, refl, sym, ◌∙◌, ap, subst, arith, Bool, Option, Some, None, Ok, reverse, ap₂}
+use Rattle.mv_interpreter.proofs.Guided.Common.{and_parts, same_Some, slice_get, option_and_then, same_abilities, Module, FunctionDefinition, struct_name, declared, for_each, Tag}
+use Rattle.mv_interpreter.proofs.Guided.Common.{same_tags, StructTag, LeafTag, ReferenceTag, Call, FunctionHandle, Token, Plain, ReferenceTo, MutableReferenceTo, ValueType, OfLeaf}
+use Rattle.mv_interpreter.proofs.Guided.Common.{OfStruct, ok-is, on_ok, on_need, callee-is, signature-is, return-is, reference_of, Frame, State, Callee, Here, Goes, Faults, LinkageFault}
+use Rattle.mv_interpreter.proofs.Guided.Common.{entry, linked, tag_named, value_type_tag, Value, Reference, map-turned, Fits, token_kind, operand_kind, Stood, seen_of, StoodOn, point_of}
+use Rattle.mv_interpreter.proofs.Guided.Common.{held_as, local_of, StoodFit, AllAgree}
 use Rattle.mv_machine.specs.StepControl.{callee, signature_tags, return_results}
-use Rattle.mv_machine.proofs.Laws.{on_ok, on_need}
 use Rattle.mv_borrow_graph.specs.Abstract.Lists.{Value as TheValue, Plain as NoRef, Reference as Held}
-use Rattle.mv_interpreter.proofs.Borrows.Same.{SameSeen, SameFrames}
-use Rattle.mv_interpreter.proofs.Borrows.Operands.{tags-kinds}
-use Rattle.mv_interpreter.proofs.Borrows.Invariant.{refit}
-use Rattle.mv_interpreter.proofs.Lists.{map-turned}
-use Rattle.mv_interpreter.proofs.Typing.Tests.{beq-is}
-use Rattle.mv_machine.proofs.Transfers.{signature-is, return-is}
+use Rattle.mv_interpreter.proofs.{Borrows.Same.SameSeen, Borrows.Same.SameFrames, Borrows.Operands.tags-kinds, Borrows.Invariant.refit, Guided.Accepted.same-tags}
 
 -- ---- tags
 
@@ -47,25 +37,6 @@ named-kinds modules m (t ∷ ts) tags e =
     on_ok (for_each (tag_named modules m) ts) _ tags e1 (λ more more_is e2.
     ap₂ (λ (x : Option Bool) (xs : List (Option Bool)). x ∷ xs) (named-kind modules m t tag tag_is) (named-kinds modules m ts more more_is) ∙ ap (map tag_kind) (ok-is (tag ∷ more) tags e2)))
 
-same-kind-tags : (a b : Tag) → same_tag a b ≡ true → tag_kind a ≡ tag_kind b
-same-kind-tags (LeafTag j) (LeafTag k) h = refl
-same-kind-tags (StructTag a) (StructTag b) h = refl
-same-kind-tags (ReferenceTag i a) (ReferenceTag j b) h = ap Some (beq-is i j (and_parts (beq i j) (same_tag a b) h).0)
-same-kind-tags (LeafTag j) (StructTag b) h = absurd cc
-same-kind-tags (LeafTag j) (ReferenceTag i b) h = absurd cc
-same-kind-tags (StructTag a) (LeafTag k) h = absurd cc
-same-kind-tags (StructTag a) (ReferenceTag i b) h = absurd cc
-same-kind-tags (ReferenceTag i a) (LeafTag k) h = absurd cc
-same-kind-tags (ReferenceTag i a) (StructTag b) h = absurd cc
-
-same-kinds-tags : (xs ys : List Tag) → same_tags xs ys ≡ true → map tag_kind xs ≡ map tag_kind ys
-same-kinds-tags [] [] h = refl
-same-kinds-tags [] (y ∷ ys) h = absurd cc
-same-kinds-tags (x ∷ xs) [] h = absurd cc
-same-kinds-tags (x ∷ xs) (y ∷ ys) h =
-    let t = and_parts (same_tag x y) (same_tags xs ys) h in
-    ap₂ (λ (x : Option Bool) (xs : List (Option Bool)). x ∷ xs) (same-kind-tags x y t.0) (same-kinds-tags xs ys t.1)
-
 -- ---- results
 
 signature-kinds : (modules : List Module) (m : Module) (i : ℕ) (tags : List Tag) (ts : List Token) → signature_tags modules m i ≡ Ok tags → slice_get m.signatures i ≡ Some ts
@@ -84,7 +55,7 @@ callee-agrees h j c e handle results handle_at results_at own own_results own_at
     let one : handle ≡ is.handle = same_Some handle is.handle (sym handle_at ∙ is.is_handle) in
     let two : own ≡ is.own = same_Some own is.own (sym own_at ∙ is.is_own) in
     signature-kinds h.modules h.home is.handle.results c.results results is.are_results (subst (λ (z : FunctionHandle). slice_get h.home.signatures z.results ≡ Some results) one results_at)
-    ∙ same-kinds-tags c.results is.own_results (and_parts (same_tags c.parameters is.own_parameters) (same_tags c.results is.own_results) is.agree).1
+    ∙ ap (map tag_kind) (same-tags c.results is.own_results (and_parts (same_tags c.parameters is.own_parameters) (same_tags c.results is.own_results) is.agree).1)
     ∙ sym (signature-kinds h.modules c.home is.own.results is.own_results own_results is.are_own_results
     (subst (λ (z : FunctionHandle). slice_get c.home.signatures z.results ≡ Some own_results) two own_results_at))
 
@@ -124,21 +95,19 @@ held-kind (Some r) = refl
 -- what a local holds after a write is a reference where what it held was
 local-held : (xs ys : List (Option Value)) (l : ℕ) (v : Value) → map local_of xs ≡ map local_of ys → option_and_then (λ (o : Option Value). o) (slice_get ys l) ≡ Some v
     → (u : Value) × (option_and_then (λ (o : Option Value). o) (slice_get xs l) ≡ Some u) × (operand_kind (reference_of u) ≡ operand_kind (reference_of v))
-local-held [] [] l v h e = absurd cc
-local-held [] (y ∷ ys) l v h e = absurd cc
-local-held (x ∷ xs) [] l v h e = absurd cc
-local-held (x ∷ xs) (y ∷ ys) zero v h e = first x (heads h ∙ ap local_of e)
+local-held (x ∷ xs) (y ∷ ys) zero v h e =
+    let z : (local_of x ∷ map local_of xs) ≡ (local_of y ∷ map local_of ys) = h in
+    let heads : local_of x ≡ local_of y = cc in
+    first x (heads ∙ ap local_of e)
   where
-    heads : (local_of x ∷ map local_of xs) ≡ (local_of y ∷ map local_of ys) → local_of x ≡ local_of y
-    heads h = cc
-
     first : (x : Option Value) → local_of x ≡ Some (held_as (reference_of v)) → (u : Value) × (x ≡ Some u) × (operand_kind (reference_of u) ≡ operand_kind (reference_of v))
     first None g = absurd cc
     first (Some u) g = (u, refl, sym (held-kind (reference_of u)) ∙ ap kind_held (same_Some (held_as (reference_of u)) (held_as (reference_of v)) g) ∙ held-kind (reference_of v))
-local-held (x ∷ xs) (y ∷ ys) (suc l) v h e = local-held xs ys l v (tails h) e
-  where
-    tails : (local_of x ∷ map local_of xs) ≡ (local_of y ∷ map local_of ys) → map local_of xs ≡ map local_of ys
-    tails h = cc
+local-held (x ∷ xs) (y ∷ ys) (suc l) v h e =
+    let z : (local_of x ∷ map local_of xs) ≡ (local_of y ∷ map local_of ys) = h in
+    local-held xs ys l v (cc) e
+local-held [] [] l v h e = absurd cc
+local-held xs ys l v h e = absurd cc
 
 fits-same : (x : Stood) (g : Frame) → SameSeen x.frame g → Fits (point_of x) (seen_of x) → Fits (point_of x) (record { frame = g; lent = x.lent })
 fits-same x g q fits = record {
@@ -148,20 +117,14 @@ fits-same x g q fits = record {
 
 pub fit-refit : (lent : List (Option Reference)) (fs gs : List Frame) (xs : List Stood) → StoodOn lent fs xs → SameFrames fs gs → StoodFit xs → StoodFit (refit xs gs)
 fit-refit lent [] [] [] s q f = tt
-fit-refit lent [] [] (x ∷ xs) s q f = absurd s
-fit-refit lent [] (g ∷ gs) xs s q f = absurd q
-fit-refit lent (f ∷ fs) [] xs s q t = absurd q
-fit-refit lent (f ∷ fs) (g ∷ gs) [] s q t = absurd s
 fit-refit lent (f ∷ fs) (g ∷ gs) (x ∷ xs) s q t = (fits-same x g (subst (λ z. SameSeen z g) (sym s.0) q.0) t.0, fit-refit f.entered_with fs gs xs s.2 q.1 t.1)
+fit-refit lent fs gs xs s q f = absurd (grind arith)
 
 pub agree-refit : (home : Module) (function : FunctionDefinition) (lent : List (Option Reference)) (fs gs : List Frame) (xs : List Stood)
     → StoodOn lent fs xs → SameFrames fs gs → AllAgree home function xs → AllAgree home function (refit xs gs)
 agree-refit home function lent [] [] [] s q a = tt
-agree-refit home function lent [] [] (x ∷ xs) s q a = absurd s
-agree-refit home function lent [] (g ∷ gs) xs s q a = absurd q
-agree-refit home function lent (f ∷ fs) [] xs s q a = absurd q
-agree-refit home function lent (f ∷ fs) (g ∷ gs) [] s q a = absurd s
 agree-refit home function lent (f ∷ fs) (g ∷ gs) (x ∷ xs) s q a = (
   λ i handle results at. a.0 i handle results (subst (λ (n : ℕ). slice_get x.function.code n ≡ Some (Call i)) (q.0.at ∙ ap (λ (y : Frame). y.at) (sym s.0)) at),
   agree-refit x.home x.function f.entered_with fs gs xs s.2 q.1 a.1,
 )
+agree-refit home function lent fs gs xs s q a = absurd (grind arith)

@@ -1,54 +1,38 @@
 -- Every rule but those of Call and Ret leaves the locals as they are known then, and none meets what is lost or frozen.
-use Rattle.mv_interpreter.proofs.Guided.Common.{◌≡◌, ℕ, suc, ◌-◌, List, [], ◌∷◌, ◌++◌, map, length, Bool, true, false, refl, sym, ◌∙◌, ap, subst}
-use Rattle.mv_interpreter.proofs.Guided.Common.{arith, Option, Some, None, Result, Ok, slice_get, ok_or, ◌&&◌, ◌||◌, ◌==◌, nat_le, flat_map, ⊤}
-use Rattle.mv_interpreter.proofs.Guided.Common.{list_any, list_all, same_Some, Unavailable, Available, Glob, Instruction, Ret, StLoc, Call, MoveFrom}
-use Rattle.mv_interpreter.proofs.Guided.Common.{for_each, Module, FunctionDefinition, local_tokens, local_type, Stored, Reference, Value, Ref, Frame}
-use Rattle.mv_interpreter.proofs.Guided.Common.{State, reference_of, references, frame_references, Failure, Faults, Aborts, TypeFault, LostFault}
-use Rattle.mv_interpreter.proofs.Guided.Common.{FrozenFault, DanglingFault, entry, tag_named, StructTag, Edge, Known, Point, no_edge_out, Types, Here}
-use Rattle.mv_interpreter.proofs.Guided.Common.{Goes, operand, operands, as_reference, as_boolean, as_number, on_bind, alone, Stood, Sound, Fits}
-use Rattle.mv_interpreter.proofs.Guided.Common.{InRefs, found-is, Reaches, AsKnown, Rooted}
-use Rattle.std.proofs.Common.{not}
-use Rattle.std.specs.Prelude.{slice_set, bit_or, bit_and, bit_xor, nat_lt, is_some}
-use Rattle.mv_move_types.specs.declared.borrow.Availability.{Availability}
-use Rattle.mv_move_types.specs.declared.borrow.Node.TheVariants.{Temp}
-use Rattle.mv_move_types.specs.declared.token.Width.TheVariants.{U8, U16, U32, U64, U128}
-use Rattle.mv_move_types.specs.declared.instruction.Instruction.TheVariants.{Pop, BrTrue, BrFalse, Branch, LdU64, LdConst, LdTrue, LdFalse, CopyLoc}
-use Rattle.mv_move_types.specs.declared.instruction.Instruction.TheVariants.{MoveLoc, MutBorrowLoc, ImmBorrowLoc, MutBorrowField, ImmBorrowField}
-use Rattle.mv_move_types.specs.declared.instruction.Instruction.TheVariants.{Pack, Unpack, ReadRef, WriteRef, Add, Sub, Mul, Mod, Div, BitOr, BitAnd}
-use Rattle.mv_move_types.specs.declared.instruction.Instruction.TheVariants.{Xor, Or, And, Not, Eq, Neq, Lt, Gt, Le, Ge, Abort, Nop, Exists}
-use Rattle.mv_move_types.specs.declared.instruction.Instruction.TheVariants.{MutBorrowGlobal, ImmBorrowGlobal, MoveTo, FreezeRef, Shl, Shr, LdU8}
-use Rattle.mv_move_types.specs.declared.instruction.Instruction.TheVariants.{LdU128, CastU8, CastU64, CastU128, LdU16, LdU32, CastU16, CastU32}
-use Rattle.mv_move_types.specs.Tokens.{same_width}
-use Rattle.mv_machine.specs.State.{stored_at, with_place, place_value}
-use Rattle.mv_machine.specs.Live.{live, is_frozen_by}
+use Rattle.mv_interpreter.proofs.Guided.Common.{◌≡◌, ℕ, suc, ◌-◌, List, [], ◌∷◌, ◌++◌, map, length, true, false, refl, sym, ◌∙◌, ap, subst, arith, Bool, Option, Some, None, Ok, Result}
+use Rattle.mv_interpreter.proofs.Guided.Common.{same_Some, list_any, list_all, slice_get, ◌==◌, nat_le, ok_or, ⊤, ◌&&◌, ◌||◌, flat_map, nat_lt, Module, FunctionDefinition, local_tokens}
+use Rattle.mv_interpreter.proofs.Guided.Common.{local_type, StructTag, Availability, Available, Unavailable, Glob, Temp, Instruction, Ret, StLoc, MoveFrom, Call, MoveLoc, MutBorrowGlobal}
+use Rattle.mv_interpreter.proofs.Guided.Common.{ImmBorrowGlobal, Pop, CopyLoc, ReadRef, WriteRef, Eq, Neq, U8, found-is, reference_of, references, frame_references, live, is_frozen_by}
+use Rattle.mv_interpreter.proofs.Guided.Common.{Frame, State, stored_at, place_value, leaves, local_tag, local_place, Here, operand, operands, as_reference, Goes, as_address, as_signer}
+use Rattle.mv_interpreter.proofs.Guided.Common.{follow, Turn, Returns, with_stack, can_drop, Failure, Aborts, Faults, TypeFault, LostFault, DanglingFault, FrozenFault, entry, have_tags}
+use Rattle.mv_interpreter.proofs.Guided.Common.{Value, Stored, Reference, Ref, no_edge_out, Known, Edge, on_bind, Types, Point, InRefs, Fits, NoneInside, Reaches, AsKnown, Stood, Sound}
+use Rattle.mv_interpreter.proofs.Guided.Common.{alone, Rooted, Able}
+use Rattle.mv_interpreter.proofs.Guided.GoesWell.{parts_well, tag-well, own-struct-well, keyed-well, own-field-well, local-tag-well, signature-well, choice-well, other-well, binary-well}
+use Rattle.mv_interpreter.proofs.Guided.GoesWell.{comparison-well, shift-well, cast-well, logic-well, negation-well, freeze-well, constant-well, call-well}
+use Rattle.mv_interpreter.proofs.{Borrows.Edges.then-some, Borrows.Mutability.kinds-length, Borrows.Same.write-same, Borrows.Same.plain-tagged, Borrows.Free.struct-unfrozen}
+use Rattle.mv_interpreter.proofs.{Borrows.Free.write-unfrozen, Borrows.Free.return-unfrozen, Guided.Working.worked}
+use Rattle.mv_interpreter.proofs.Borrows.Available.{known-at, known-set, known-same, held-found, needed-holds, overwritten-drops, left-drops}
+use Rattle.mv_interpreter.proofs.Guided.Ends.{Ends, Goes_well, after, given, tests, passes, found-well, operand-well, operands-well, address-well, signer-well, reference-well, fields-well}
+use Rattle.mv_interpreter.proofs.Guided.Unfrozen.{fewer-live, from-taken, local-not-frozen, nothing-frozen, moved-free, stored-free}
+use Rattle.std.proofs.lemmas.Bool.{not_from_false}
+use Rattle.std.specs.Prelude.{slice_set, bit_or, bit_and, bit_xor, is_some}
+use Rattle.mv_move_types.specs.declared.token.Width.TheVariants.{U16, U32, U64, U128}
+use Rattle.mv_move_types.specs.declared.instruction.Instruction.TheVariants.{BrTrue, BrFalse, LdConst, MutBorrowLoc, ImmBorrowLoc, MutBorrowField, ImmBorrowField, Pack, Unpack, Add, Sub}
+use Rattle.mv_move_types.specs.declared.instruction.Instruction.TheVariants.{Mul, Mod, Div, BitOr, BitAnd, Xor, Or, And, Not, Lt, Gt, Le, Ge, Abort, Exists, MoveTo, FreezeRef, Shl, Shr}
+use Rattle.mv_move_types.specs.declared.instruction.Instruction.TheVariants.{CastU8, CastU64, CastU128, CastU16, CastU32}
+use Rattle.mv_machine.specs.{State.with_place, Typing.has_tag, Typing.tag_of, declared.Kind.TheVariants.Exists as AlreadyThere, declared.Kind.TheVariants.Missing, Step.rule}
+use Rattle.mv_machine.specs.{StepStructs.pack, StepStructs.unpack}
 use Rattle.mv_machine.specs.Numbers.{sum_of, difference_of, product_of, remainder_of, quotient_of, shifted_left, shifted_right}
-use Rattle.mv_machine.specs.Typing.{has_tag, have_tags, tag_of}
-use Rattle.mv_machine.specs.declared.Kind.TheVariants.{Exists as AlreadyThere, Missing}
+use Rattle.mv_machine.specs.StepParts.{gives, can_copy, may_drop, is_reference_tag}
+use Rattle.mv_machine.specs.StepLocals.{copy_local, move_local, store_local, borrow_local, pop, held}
+use Rattle.mv_machine.specs.StepReferences.{borrow_field, write_reference, read_reference, freeze}
+use Rattle.mv_machine.specs.StepGlobals.{borrow_global, move_from, move_to, exists, keyed_struct, key_at}
+use Rattle.mv_machine.specs.StepNumbers.{constant, binary, comparison, shift, cast, logic, negation, equality}
+use Rattle.mv_machine.specs.StepControl.{branch_if, abort, call, signature_tags, return_results, holds_frame}
 use Rattle.mv_locals_safety.specs.LocalsRules.{locals_after, needs_available, may_overwrite, may_leave}
 use Rattle.mv_borrow_graph.specs.BorrowRules.{edges_after, top_temp}
-use Rattle.mv_machine.specs.StepParts.{Turn, Returns, gives, with_stack, can_copy, can_drop, may_drop, is_reference_tag, as_address, as_fields, as_signer, follow}
-use Rattle.mv_machine.specs.Step.{rule}
-use Rattle.mv_machine.specs.StepLocals.{copy_local, move_local, store_local, borrow_local, pop, held, local_place, local_tag}
-use Rattle.mv_machine.specs.StepReferences.{borrow_field, write_reference, read_reference, freeze, own_field, lends}
-use Rattle.mv_machine.specs.StepGlobals.{borrow_global, move_from, move_to, exists, keyed_struct, key_at}
-use Rattle.mv_machine.specs.StepStructs.{pack, unpack, own_struct}
-use Rattle.mv_machine.specs.StepNumbers.{constant, constant_value, binary, comparison, shift, cast, logic, negation, equality}
-use Rattle.mv_machine.specs.StepControl.{branch_if, abort, call, signature_tags, return_results, leaves, holds_frame}
-use Rattle.mv_interpreter.specs.Borrows.Hypotheses.{NoneInside}
-use Rattle.mv_interpreter.proofs.Borrows.Edges.{then-some}
-use Rattle.mv_interpreter.proofs.Borrows.Mutability.{kinds-length}
-use Rattle.mv_interpreter.proofs.Borrows.Same.{write-same, plain-tagged}
 use Rattle.mv_machine.proofs.Binds.{held-is, operand-is, operands-is, reference-is, none-is}
-use Rattle.mv_interpreter.proofs.Borrows.Free.{struct-unfrozen, write-unfrozen, return-unfrozen}
-use Rattle.mv_interpreter.proofs.Borrows.Available.{known-at, known-set, known-same, held-found, needed-holds, overwritten-drops, left-drops}
-use Rattle.mv_interpreter.specs.Guided.Facts.{Able}
-use Rattle.mv_interpreter.proofs.Guided.Ends.{Ends, Goes_well, after, given, tests, passes, found-well, operand-well, operands-well, number-well}
-use Rattle.mv_interpreter.proofs.Guided.Ends.{boolean-well, address-well, signer-well, reference-well, fields-well, each-well}
-use Rattle.mv_interpreter.proofs.Guided.Working.{worked}
-use Rattle.mv_interpreter.proofs.Guided.GoesWell.{tag-well, own-struct-well, keyed-well, own-field-well, local-tag-well, signature-well, choice-well}
-use Rattle.mv_interpreter.proofs.Guided.GoesWell.{other-well, binary-well, comparison-well, shift-well, cast-well, logic-well, negation-well}
-use Rattle.mv_interpreter.proofs.Guided.GoesWell.{freeze-well, constant-well, call-well}
-use Rattle.mv_interpreter.proofs.Guided.Unfrozen.{fewer-live, from-taken, local-not-frozen, nothing-frozen, moved-free, stored-free}
+use Rattle.std.proofs.Common.{not}
 
 -- the locals of a state are as known
 abbrev pub LocalsKnown : List Availability → Turn → Type 0
@@ -68,9 +52,6 @@ module _ (depends : ℕ → ℕ → Type 0) (through : (a b c : ℕ) → depends
 
     abbrev x : Stood
     x = worked s home function types known.edges
-
-    turned : {b : Bool} → b ≡ false → not b ≡ true
-    turned e = rw e refl
 
     -- ---- rows that leave the locals
     module _ (ls : List Availability) (same : Some known.locals ≡ Some ls) where
@@ -109,65 +90,6 @@ module _ (depends : ℕ → ℕ → Type 0) (through : (a b c : ℕ) → depends
           passes _ (can_copy h v) (Faults LostFault) _
           (able r top.1 v (operand-is s.top.stack top e1 ∙ ap (λ (u : Value). u ∷ top.1) (reference-is top.0 r e2)) (found-is (place_value s r.place) _ v e3)) tt))))
 
-      constant-ends : (i : ℕ) → Ends (LocalsKnown ls) (constant h i)
-      unfolding constant
-      constant-ends i =
-          after _ (entry home.constants i) _ (found-well _ _ tt) (λ c e1.
-          after _ (constant_value c.token c.bytes) _ (constant-well c.token c.bytes) (λ v e2. stay))
-
-      branch-ends : (wanted : Bool) (target : ℕ) → Ends (LocalsKnown ls) (branch_if wanted h target)
-      unfolding branch_if
-      branch-ends wanted target =
-          after _ (operand s.top.stack) _ (operand-well s.top.stack) (λ top e1.
-          after _ (as_boolean top.0) _ (boolean-well top.0) (λ b e2. stay))
-
-      abort-ends : Ends (LocalsKnown ls) (abort h)
-      unfolding abort
-      abort-ends =
-          after _ (operand s.top.stack) _ (operand-well s.top.stack) (λ top e1.
-          after _ (as_number top.0) _ (number-well top.0) (λ n e2.
-          tests _ (same_width n.0 U64) (Faults TypeFault) _ tt (λ ok. tt)))
-
-      pack-ends : (i : ℕ) → Ends (LocalsKnown ls) (pack h i)
-      unfolding pack
-      pack-ends i =
-          after _ (own_struct h i) _ (own-struct-well h i) (λ struct e1.
-          after _ (operands (length struct.fields) s.top.stack) _ (operands-well (length struct.fields) s.top.stack) (λ taken e2.
-          after _ (for_each (λ f. tag_named modules home f.token) struct.fields) _ (each-well (λ f. tag_named modules home f.token) struct.fields (λ f. tag-well modules home f.token)) (λ tags e3.
-          tests _ (have_tags s taken.0 tags) (Faults TypeFault) _ tt (λ fit. stay))))
-
-      unpack-ends : (i : ℕ) → Ends (LocalsKnown ls) (unpack h i)
-      unfolding unpack
-      unpack-ends i =
-          after _ (own_struct h i) _ (own-struct-well h i) (λ struct e1.
-          after _ (operand s.top.stack) _ (operand-well s.top.stack) (λ top e2.
-          after _ (as_fields struct.name top.0) _ (fields-well struct.name top.0) (λ fields e3. stay)))
-
-      field-ends : (m : Bool) (i : ℕ) → Ends (LocalsKnown ls) (borrow_field m h i)
-      unfolding borrow_field
-      field-ends m i =
-          after _ (own_field h i) _ (own-field-well h i) (λ field e1.
-          after _ (operand s.top.stack) _ (operand-well s.top.stack) (λ top e2.
-          after _ (as_reference top.0) _ (reference-well top.0) (λ r e3.
-          tests _ (lends m r) (Faults TypeFault) _ tt (λ ok.
-          after _ (follow s r) _ (found-well _ _ tt) (λ v e4.
-          after _ (as_fields field.0.name v) _ (fields-well field.0.name v) (λ fields e5. stay))))))
-
-      exists-ends : (i : ℕ) → Ends (LocalsKnown ls) (exists h i)
-      unfolding exists
-      exists-ends i =
-          after _ (keyed_struct h i) _ (keyed-well h i) (λ struct e1.
-          after _ (operand s.top.stack) _ (operand-well s.top.stack) (λ top e2.
-          after _ (as_address top.0) _ (address-well top.0) (λ a e3. stay)))
-
-      global-ends : (m : Bool) (i : ℕ) → Ends (LocalsKnown ls) (borrow_global m h i)
-      unfolding borrow_global
-      global-ends m i =
-          after _ (keyed_struct h i) _ (keyed-well h i) (λ struct e1.
-          after _ (operand s.top.stack) _ (operand-well s.top.stack) (λ top e2.
-          after _ (as_address top.0) _ (address-well top.0) (λ a e3.
-          after _ (ok_or (stored_at s.storage (key_at h i a)) (Aborts Missing 0)) _ (found-well _ _ tt) (λ v e4. stay))))
-
       move-to-ends : (i : ℕ) → Ends (LocalsKnown ls) (move_to h i)
       unfolding move_to
       move-to-ends i =
@@ -181,7 +103,7 @@ module _ (depends : ℕ → ℕ → Type 0) (through : (a b c : ℕ) → depends
           after _ (as_signer v) _ (signer-well v) (λ a e6.
           tests _ (not (is_some (stored_at s.storage (key_at h i a)))) (Aborts AlreadyThere 0) _ tt (λ free.
           passes _ (not (is_frozen_by (live s) (record { root = Stored (key_at h i a); path = [] }))) (Faults FrozenFault) _
-          (turned (nothing-frozen s rooted (key_at h i a) (none-is (stored_at s.storage (key_at h i a)) free))) stay)))))))))
+          (not_from_false _ (nothing-frozen s rooted (key_at h i a) (none-is (stored_at s.storage (key_at h i a)) free))) stay)))))))))
 
       move-from-ends : (i : ℕ) (es : List Edge) → Reaches function.acquires (MoveFrom i) → edges_after p (MoveFrom i) known.edges ≡ Some es → Ends (LocalsKnown ls) (move_from h i)
       unfolding move_from edges_after
@@ -191,7 +113,7 @@ module _ (depends : ℕ → ℕ → Type 0) (through : (a b c : ℕ) → depends
           after _ (operand s.top.stack) _ (operand-well s.top.stack) (λ top e2.
           after _ (as_address top.0) _ (address-well top.0) (λ a e3.
           passes _ (not (is_frozen_by (live s) (record { root = Stored (key_at h i a); path = [] }))) (Faults FrozenFault) _
-          (turned (struct-unfrozen depends through no_cycle s x xs sound.stood sound.chain (key_at h i a) refl acquired free))
+          (not_from_false _ (struct-unfrozen depends through no_cycle s x xs sound.stood sound.chain (key_at h i a) refl acquired free))
           (after _ (ok_or (stored_at s.storage (key_at h i a)) (Aborts Missing 0)) _ (found-well _ _ tt) (λ v e4. stay)))))
 
       write-ends : (es : List Edge) → Able h types WriteRef → edges_after p WriteRef known.edges ≡ Some es → Ends (LocalsKnown ls) (write_reference h)
@@ -211,7 +133,7 @@ module _ (depends : ℕ → ℕ → Type 0) (through : (a b c : ℕ) → depends
           let operands_are : map reference_of s.top.stack ≡ Some r ∷ map reference_of top.1 = ap (map reference_of) stack_is in
           passes _ (can_drop h old) (Faults LostFault) _ (able r top.1 old stack_is followed)
           (passes _ (not (is_frozen_by (live (with_stack s lower.1)) r.place)) (Faults FrozenFault) _
-          (turned (write-unfrozen depends through no_cycle s x xs sound.stood sound.chain r (map reference_of top.1) operands_are mutable
+          (not_from_false _ (write-unfrozen depends through no_cycle s x xs sound.stood sound.chain r (map reference_of top.1) operands_are mutable
           (subst (λ n. no_edge_out (Temp n) known.edges ≡ true) (height types (map reference_of s.top.stack) (Some r)
           (map reference_of top.1) (kinds-length types (map reference_of s.top.stack) fits.stack) operands_are) free)
           (live (with_stack s lower.1)) (λ q i. fewer-live s top.0 top.1 q (operand-is s.top.stack top top_is)
@@ -253,7 +175,7 @@ module _ (depends : ℕ → ℕ → Type 0) (through : (a b c : ℕ) → depends
         let same = (needed-holds l known.locals before s.top.locals as_known before_is).0 in
         given _ (held h l) _ v.0 v.1
         (passes _ (not (is_frozen_by (live s) (local_place h l))) (Faults FrozenFault) _
-        (turned (local-not-frozen depends through no_cycle h types known.edges xs sound fits rooted l t t_is (moved-free p l t known.edges es g1) (live s) (λ r i. i)))
+        (not_from_false _ (local-not-frozen depends through no_cycle h types known.edges xs sound fits rooted l t t_is (moved-free p l t known.edges es g1) (live s) (λ r i. i)))
         (subst (λ z. AsKnown z (slice_set s.top.locals l None)) (ap (λ z. slice_set z l Unavailable) (sym same) ∙ same_Some _ ls e1)
         (known-set known.locals s.top.locals l Unavailable None as_known refl)))))
 
@@ -273,7 +195,7 @@ module _ (depends : ℕ → ℕ → Type 0) (through : (a b c : ℕ) → depends
         passes _ (may_drop h old) (Faults LostFault) _
         (overwritten-drops h p t a old (λ v is d. able v t (there ∙ ap Some is) t_is d) (known-at known.locals s.top.locals l a old as_known a_is there) drops.0)
         (passes _ (not (is_frozen_by (live (with_stack s top.1)) (local_place h l))) (Faults FrozenFault) _
-        (turned (local-not-frozen depends through no_cycle h types known.edges xs sound fits rooted l u u_is (stored-free p l u known.edges es g1)
+        (not_from_false _ (local-not-frozen depends through no_cycle h types known.edges xs sound fits rooted l u u_is (stored-free p l u known.edges es g1)
         (live (with_stack s top.1)) (λ r i. fewer-live s top.0 top.1 r (operand-is s.top.stack top top_is) i)))
         (subst (λ z. AsKnown z (slice_set s.top.locals l (Some top.0))) (sym drops.1) (known-set known.locals s.top.locals l Available (Some top.0) as_known refl))))))))))
 
@@ -291,7 +213,7 @@ module _ (depends : ℕ → ℕ → Type 0) (through : (a b c : ℕ) → depends
         tests _ (have_tags s taken.0 tags) (Faults TypeFault) _ tt (λ fit.
         passes _ (list_all (may_drop h) s.top.locals) (Faults LostFault) _ (left-drops h p ts known.locals s.top.locals (able ts ts_are) as_known leave)
         (passes _ (not (list_any (holds_frame s.top.number) (references taken.0 ++ flat_map frame_references s.below))) (Faults FrozenFault) _
-        (turned (return-unfrozen depends through no_cycle s x xs sound.stood sound.chain p (g ∙ ap Some stays) taken.0
+        (not_from_false _ (return-unfrozen depends through no_cycle s x xs sound.stood sound.chain p (g ∙ ap Some stays) taken.0
         (λ r i. from-taken r (length tags) s.top.stack (subst (λ (z : List Value). InRefs r (references z))
         (ap (λ (z : List Value × List Value). z.0) (operands-is (length tags) s.top.stack taken taken_is).1) i))))
         (ends-well s.below taken.0))))))))
@@ -308,26 +230,22 @@ module _ (depends : ℕ → ℕ → Type 0) (through : (a b c : ℕ) → depends
     -- every rule
     pub rule-ends : (i : Instruction) (ls : List Availability) (es : List Edge) → Reaches function.acquires i → Able h types i
         → locals_after p i known.locals ≡ Some ls → edges_after p i known.edges ≡ Some es → RowEnds i ls
-    unfolding rule locals_after
+    unfolding rule locals_after constant branch_if abort pack unpack borrow_field exists borrow_global
     rule-ends Pop ls es q able e g = pop-ends ls e able
     rule-ends Ret ls es q able e g = return-ends ls es able e g
-    rule-ends (BrTrue t) ls es q able e g = branch-ends ls e true t
-    rule-ends (BrFalse t) ls es q able e g = branch-ends ls e false t
-    rule-ends (Branch t) ls es q able e g = stay ls e
-    rule-ends (LdU64 n) ls es q able e g = stay ls e
-    rule-ends (LdConst i) ls es q able e g = constant-ends ls e i
-    rule-ends LdTrue ls es q able e g = stay ls e
-    rule-ends LdFalse ls es q able e g = stay ls e
+    rule-ends (BrTrue t) ls es q able e g = let now = stay ls e in let r : Ends (LocalsKnown ls) (branch_if true h t) = search (parts_well, now) depth 20 in r
+    rule-ends (BrFalse t) ls es q able e g = let now = stay ls e in let r : Ends (LocalsKnown ls) (branch_if false h t) = search (parts_well, now) depth 20 in r
+    rule-ends (LdConst i) ls es q able e g = let now = stay ls e in let r : Ends (LocalsKnown ls) (constant h i) = search (parts_well, constant-well, now) depth 20 in r
     rule-ends (CopyLoc l) ls es q able e g = copy-ends l ls able e
     rule-ends (MoveLoc l) ls es q able e g = move-ends l ls es e g
     rule-ends (StLoc l) ls es q able e g = store-ends l ls es able e g
     rule-ends (MutBorrowLoc l) ls es q able e g = borrow-ends true l ls e
     rule-ends (ImmBorrowLoc l) ls es q able e g = borrow-ends false l ls e
-    rule-ends (MutBorrowField i) ls es q able e g = field-ends ls e true i
-    rule-ends (ImmBorrowField i) ls es q able e g = field-ends ls e false i
+    rule-ends (MutBorrowField i) ls es q able e g = let now = stay ls e in let r : Ends (LocalsKnown ls) (borrow_field true h i) = search (parts_well, own-field-well, fields-well, now) depth 20 in r
+    rule-ends (ImmBorrowField i) ls es q able e g = let now = stay ls e in let r : Ends (LocalsKnown ls) (borrow_field false h i) = search (parts_well, own-field-well, fields-well, now) depth 20 in r
     rule-ends (Call i) ls es q able e g = call-well h i
-    rule-ends (Pack i) ls es q able e g = pack-ends ls e i
-    rule-ends (Unpack i) ls es q able e g = unpack-ends ls e i
+    rule-ends (Pack i) ls es q able e g = let now = stay ls e in let r : Ends (LocalsKnown ls) (pack h i) = search (parts_well, own-struct-well, tag-well, now) depth 20 in r
+    rule-ends (Unpack i) ls es q able e g = let now = stay ls e in let r : Ends (LocalsKnown ls) (unpack h i) = search (parts_well, own-struct-well, fields-well, now) depth 20 in r
     rule-ends ReadRef ls es q able e g = read-ends ls e able
     rule-ends WriteRef ls es q able e g = write-ends ls e es able g
     rule-ends Add ls es q able e g = gives-ends ls e (binary sum_of s.top.stack) (binary-well sum_of (λ w x y. choice-well _ _ _ tt) s.top.stack)
@@ -347,22 +265,18 @@ module _ (depends : ℕ → ℕ → Type 0) (through : (a b c : ℕ) → depends
     rule-ends Gt ls es q able e g = gives-ends ls e (comparison (λ x y. nat_lt y x) s.top.stack) (comparison-well (λ x y. nat_lt y x) s.top.stack)
     rule-ends Le ls es q able e g = gives-ends ls e (comparison nat_le s.top.stack) (comparison-well nat_le s.top.stack)
     rule-ends Ge ls es q able e g = gives-ends ls e (comparison (λ x y. nat_le y x) s.top.stack) (comparison-well (λ x y. nat_le y x) s.top.stack)
-    rule-ends Abort ls es q able e g = abort-ends ls e
-    rule-ends Nop ls es q able e g = stay ls e
-    rule-ends (Exists i) ls es q able e g = exists-ends ls e i
-    rule-ends (MutBorrowGlobal i) ls es q able e g = global-ends ls e true i
-    rule-ends (ImmBorrowGlobal i) ls es q able e g = global-ends ls e false i
+    rule-ends Abort ls es q able e g = let r : Ends (LocalsKnown ls) (abort h) = search parts_well depth 20 in r
+    rule-ends (Exists i) ls es q able e g = let now = stay ls e in let r : Ends (LocalsKnown ls) (exists h i) = search (parts_well, keyed-well, address-well, now) depth 20 in r
+    rule-ends (MutBorrowGlobal i) ls es q able e g = let now = stay ls e in let r : Ends (LocalsKnown ls) (borrow_global true h i) = search (parts_well, keyed-well, address-well, now) depth 20 in r
+    rule-ends (ImmBorrowGlobal i) ls es q able e g = let now = stay ls e in let r : Ends (LocalsKnown ls) (borrow_global false h i) = search (parts_well, keyed-well, address-well, now) depth 20 in r
     rule-ends (MoveFrom i) ls es q able e g = move-from-ends ls e i es q g
     rule-ends (MoveTo i) ls es q able e g = move-to-ends ls e i
     rule-ends FreezeRef ls es q able e g = gives-ends ls e (freeze h s.top.stack) (freeze-well h s.top.stack)
     rule-ends Shl ls es q able e g = gives-ends ls e (shift shifted_left s.top.stack) (shift-well shifted_left (λ w x y. choice-well _ _ _ tt) s.top.stack)
     rule-ends Shr ls es q able e g = gives-ends ls e (shift shifted_right s.top.stack) (shift-well shifted_right (λ w x y. choice-well _ _ _ tt) s.top.stack)
-    rule-ends (LdU8 n) ls es q able e g = stay ls e
-    rule-ends (LdU128 n) ls es q able e g = stay ls e
     rule-ends CastU8 ls es q able e g = gives-ends ls e (cast U8 s.top.stack) (cast-well U8 s.top.stack)
     rule-ends CastU64 ls es q able e g = gives-ends ls e (cast U64 s.top.stack) (cast-well U64 s.top.stack)
     rule-ends CastU128 ls es q able e g = gives-ends ls e (cast U128 s.top.stack) (cast-well U128 s.top.stack)
-    rule-ends (LdU16 n) ls es q able e g = stay ls e
-    rule-ends (LdU32 n) ls es q able e g = stay ls e
     rule-ends CastU16 ls es q able e g = gives-ends ls e (cast U16 s.top.stack) (cast-well U16 s.top.stack)
     rule-ends CastU32 ls es q able e g = gives-ends ls e (cast U32 s.top.stack) (cast-well U32 s.top.stack)
+    rule-ends i ls es q able e g = stay ls e

@@ -1,8 +1,6 @@
 -- The invariant taken apart at the frame at work.
-use Rattle.mv_interpreter.proofs.Guided.Common.{◌≡◌, ℕ, List, [], sym, subst, Option, Some, slice_get, Module, FunctionDefinition, Reference, Frame}
-use Rattle.mv_interpreter.proofs.Guided.Common.{State, Edge, Known, Certificate, Stated, Types, known_before, Fits, Stood, Sound, alone, AsKnown}
-use Rattle.mv_interpreter.proofs.Guided.Common.{AllPlaced, StoodFit, AllAgree, Guided}
-use Rattle.mv_interpreter.specs.Guided.Facts.{FrameFits}
+use Rattle.mv_interpreter.proofs.Guided.Common.{◌≡◌, ℕ, List, [], sym, subst, Option, Some, slice_get, Module, FunctionDefinition, Frame, State, Reference, Known, Certificate, Stated}
+use Rattle.mv_interpreter.proofs.Guided.Common.{known_before, Edge, Types, Fits, AsKnown, Stood, Sound, alone, FrameFits, AllPlaced, StoodFit, AllAgree, Guided}
 use Rattle.mv_interpreter.proofs.Guided.Chains.{sound-from}
 
 -- the frame at work, as its certificate sees it

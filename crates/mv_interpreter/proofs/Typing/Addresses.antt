@@ -1,15 +1,11 @@
 -- An address of 16 bytes is in its range.
-use Rattle.mv_interpreter.proofs.Typing.Common.{◌≡◌, ℕ, zero, suc, ◌+◌, ◌-◌, ◌*◌, ◌^◌, ◌<◌, ◌≤◌, true, List, [], ◌∷◌, length, refl, ap, subst, ◌∙◌}
-use Rattle.mv_interpreter.proofs.Typing.Common.{arith, IsTrue, ◌==◌, ◌&&◌, list_all, first_so, second_so, ltb-true, lt-ltb, Address, Module, each}
-use Rattle.mv_interpreter.proofs.Typing.Common.{in_range, SoundStore, StoreAccepted}
-use Rattle.std.specs.Prelude.{slice_index}
+use Rattle.mv_interpreter.proofs.Typing.Common.{◌≡◌, ℕ, zero, suc, ◌+◌, ◌-◌, ◌*◌, ◌^◌, ◌<◌, ◌≤◌, true, List, [], ◌∷◌, length, refl, ap, subst, ◌∙◌, arith, ltb-true, lt-ltb, pow-add}
+use Rattle.mv_interpreter.proofs.Typing.Common.{first_so, second_so, list_all, IsTrue, ◌==◌, ◌&&◌, slice_index, Module, Address, is_byte, is_index, constant_fits, token_fits, each}
+use Rattle.mv_interpreter.proofs.Typing.Common.{StoreAccepted, SoundStore, in_range}
 use Rattle.std.specs.Int.{sum_through, byte_worth}
-use Rattle.std.proofs.lemmas.Nat.{pow-add}
 use Rattle.std.proofs.Math.Nat.{mul-le-mul_right}
 use Rattle.mv_move_types.specs.Numbers.{big_endian}
-use Rattle.mv_module_text.specs.Fits.{is_byte, is_index, constant_fits, token_fits}
-use Rattle.mv_interpreter.proofs.Typing.Operands.{on_test}
-use Rattle.mv_interpreter.proofs.Typing.Store.{AddressesFit, sound_store}
+use Rattle.mv_interpreter.proofs.{Typing.Operands.on_test, Typing.Store.AddressesFit, Typing.Store.sound_store}
 
 worth : (i b : ℕ) → byte_worth i b ≡ b * 256 ^ i
 worth zero b = omega arith
@@ -26,19 +22,18 @@ one_more n =
     let sum : suc n ≡ 1 + n = omega arith in
     ap (λ (x : ℕ). 256 ^ x) sum ∙ pow-add 256 1 n
 
+joined : (s a b p r q : ℕ) → s + r ≤ q → r ≡ 256 * p → a ≡ b → b + p ≤ 256 * p → (s + a) + p ≤ q
+joined s a b p r q h e f g = omega (arith, h, e, f, g)
+
 -- the sum of the first bytes leaves room for the others
 room : (g : ℕ → ℕ) → ((i : ℕ) → g i < 256) → (n k : ℕ) → k ≤ n → sum_through (λ i. byte_worth (n - i) (g i)) k + 256 ^ (n - k) ≤ 256 ^ suc n
 room g small n zero h =
     let power : 256 ^ suc n ≡ 256 * 256 ^ n = one_more n in
     let first : byte_worth n (g 0) ≡ g 0 * 256 ^ n = worth n (g 0) in
     let fits : g 0 * 256 ^ n + 256 ^ n ≤ 256 * 256 ^ n = scaled (g 0) (256 ^ n) (small 0) in
-    subst (λ (x : ℕ). byte_worth x (g 0) + 256 ^ x ≤ 256 ^ suc n) whole (joined (byte_worth n (g 0)) (g 0 * 256 ^ n) (256 ^ n) (256 ^ suc n) first power fits)
-  where
-    whole : n ≡ n - 0
-    whole = omega arith
-
-    joined : (a b p q : ℕ) → a ≡ b → q ≡ 256 * p → b + p ≤ 256 * p → a + p ≤ q
-    joined a b p q e f h = omega (arith, e, f, h)
+    let whole : n ≡ n - 0 = omega arith in
+    subst (λ (x : ℕ). byte_worth x (g 0) + 256 ^ x ≤ 256 ^ suc n) whole
+    (omega (arith, joined 0 (byte_worth n (g 0)) (g 0 * 256 ^ n) (256 ^ n) (256 ^ suc n) (256 ^ suc n) (omega arith) power first fits))
 room g small n (suc k) h =
     let before = room g small n k (omega (arith, h)) in
     let exponent : n - k ≡ suc (n - suc k) = omega (arith, h) in
@@ -46,9 +41,6 @@ room g small n (suc k) h =
     let next : byte_worth (n - suc k) (g (suc k)) ≡ g (suc k) * 256 ^ (n - suc k) = worth (n - suc k) (g (suc k)) in
     let fits : g (suc k) * 256 ^ (n - suc k) + 256 ^ (n - suc k) ≤ 256 * 256 ^ (n - suc k) = scaled (g (suc k)) (256 ^ (n - suc k)) (small (suc k)) in
     joined (sum_through (λ i. byte_worth (n - i) (g i)) k) (byte_worth (n - suc k) (g (suc k))) (g (suc k) * 256 ^ (n - suc k)) (256 ^ (n - suc k)) (256 ^ (n - k)) (256 ^ suc n) before power next fits
-  where
-    joined : (s a b p r q : ℕ) → s + r ≤ q → r ≡ 256 * p → a ≡ b → b + p ≤ 256 * p → (s + a) + p ≤ q
-    joined s a b p r q h e f g = omega (arith, h, e, f, g)
 
 small_bytes : (bs : List ℕ) → list_all is_byte bs ≡ true → (i : ℕ) → slice_index bs i < 256
 small_bytes [] h i = omega arith

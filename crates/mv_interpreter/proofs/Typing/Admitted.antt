@@ -1,22 +1,14 @@
 -- A run that the ledger admits is a typed call.
-use Rattle.mv_interpreter.proofs.Typing.Common.{◌≡◌, ℕ, ◌^◌, true, List, [], ◌∷◌, ◌++◌, length, refl, subst, Option, Some, None, Result, Ok}
-use Rattle.mv_interpreter.proofs.Typing.Common.{slice_get, IsTrue, ◌&&◌, nat_le, nat_lt, ok_or, list_all, first_so, second_so, LeafKind, Boolean}
-use Rattle.mv_interpreter.proofs.Typing.Common.{Number, Address, Signer, OfLeaf, OfStruct, Token, Plain, ReferenceTo, MutableReferenceTo, Module}
-use Rattle.mv_interpreter.proofs.Typing.Common.{FunctionDefinition, Value, Leaf, Struct, Ref, same_kind, module_place, FunctionCall, address_fits}
-use Rattle.mv_interpreter.proofs.Typing.Common.{function_definition_fits, instruction_fits, below, function_in, instruction_in, local_count, token_in}
-use Rattle.mv_interpreter.proofs.Typing.Common.{function_is_typed, ends_well, on_bind, each, there_below, then_found, in_range, HasToken, HaveTokens}
-use Rattle.mv_interpreter.proofs.Typing.Common.{ModuleAccepted, StoreAccepted}
-use Rattle.mv_move_types.specs.Results.{◌>>=◌}
-use Rattle.mv_move_types.specs.Module.{parameter_tokens}
-use Rattle.mv_move_types.specs.Named.{function_place}
+use Rattle.mv_interpreter.proofs.Typing.Common.{◌≡◌, ℕ, ◌^◌, true, List, [], ◌∷◌, length, refl, subst, ◌++◌, Option, Some, None, Result, Ok, first_so, second_so, list_all, IsTrue, ◌&&◌}
+use Rattle.mv_interpreter.proofs.Typing.Common.{slice_get, nat_le, nat_lt, ok_or, Module, FunctionDefinition, module_place, function_place, same_kind, LeafKind, Signer, Token, Plain}
+use Rattle.mv_interpreter.proofs.Typing.Common.{ReferenceTo, MutableReferenceTo, OfLeaf, OfStruct, FunctionCall, Value, Leaf, Struct, Ref, below, function_in, instruction_in, local_count}
+use Rattle.mv_interpreter.proofs.Typing.Common.{token_in, ends_well, on_bind, address_fits, function_definition_fits, instruction_fits, each, there_below, then_found, function_is_typed}
+use Rattle.mv_interpreter.proofs.Typing.Common.{StoreAccepted, ModuleAccepted, in_range, HasToken, HaveTokens}
+use Rattle.mv_move_types.specs.{Results.◌>>=◌, Module.parameter_tokens}
 use Rattle.mv_machine.specs.Ledger.{LedgerState, RunRequest, modules_of, are_arguments, with_signer, admitted}
 use Rattle.mv_bounds.specs.Bounds.{function_handle_in}
 use Rattle.mv_machine.proofs.Laws.{on_need}
-use Rattle.mv_interpreter.proofs.Typing.Tests.{same_kind-is}
-use Rattle.mv_interpreter.proofs.Typing.Operands.{of_leaf}
-use Rattle.mv_interpreter.proofs.Typing.Advances.{start_typed}
-use Rattle.mv_interpreter.proofs.Typing.Names.{tokens_there}
-use Rattle.mv_interpreter.proofs.Typing.First.{Nowhere, CallTyped}
+use Rattle.mv_interpreter.proofs.{Typing.Tests.same_kind-is, Typing.Operands.of_leaf, Typing.Advances.start_typed, Typing.Names.tokens_there, Typing.First.Nowhere, Typing.First.CallTyped}
 
 -- what is found or is a reason against it
 pub on_there : {A B P : Type 0} (o : Option A) (d : ℕ) (f : A → Result B ℕ) (y : B) → (ok_or o d >>= f) ≡ Ok y → ((x : A) → o ≡ Some x → f x ≡ Ok y → P) → P
@@ -31,28 +23,20 @@ Ranged (Struct name fields ∷ vs) = ⊥
 Ranged (Ref r ∷ vs) = ⊥
 
 signed_ranged : (sender : ℕ) (ts : List Token) (vs : List Value) → IsTrue (address_fits sender) → Ranged vs → Ranged (with_signer sender ts vs)
-signed_ranged sender [] vs a h = h
 signed_ranged sender (Plain (OfLeaf Signer) ∷ ts) vs a h = (a, h)
-signed_ranged sender (Plain (OfLeaf Boolean) ∷ ts) vs a h = h
-signed_ranged sender (Plain (OfLeaf Address) ∷ ts) vs a h = h
-signed_ranged sender (Plain (OfLeaf (Number w)) ∷ ts) vs a h = h
-signed_ranged sender (Plain (OfStruct i) ∷ ts) vs a h = h
-signed_ranged sender (ReferenceTo t ∷ ts) vs a h = h
-signed_ranged sender (MutableReferenceTo t ∷ ts) vs a h = h
+signed_ranged sender ts vs a h = h
 
 module _ (modules : List Module) (home : Module) where
   pub arguments_typed : (ts : List Token) (vs : List Value) → are_arguments ts vs ≡ true → Ranged vs → HaveTokens modules Nowhere home vs ts
   arguments_typed [] [] h r = tt
-  arguments_typed [] (v ∷ vs) h r = absurd cc
-  arguments_typed (t ∷ ts) [] h r = absurd cc
   arguments_typed (Plain (OfLeaf k) ∷ ts) (Leaf j n ∷ vs) h r =
       let same : j ≡ k = same_kind-is j k (first_so (same_kind j k) (are_arguments ts vs) h) in
       (subst (λ (x : LeafKind). HasToken modules Nowhere home (Leaf j n) (Plain (OfLeaf x))) same (of_leaf modules Nowhere home j n r.0), arguments_typed ts vs (second_so (same_kind j k) (are_arguments ts vs) h) r.1)
-  arguments_typed (Plain (OfLeaf k) ∷ ts) (Struct name fields ∷ vs) h r = absurd r
-  arguments_typed (Plain (OfLeaf k) ∷ ts) (Ref q ∷ vs) h r = absurd r
+  arguments_typed (Plain (OfLeaf k) ∷ ts) (v ∷ vs) h r = absurd r
   arguments_typed (Plain (OfStruct i) ∷ ts) (v ∷ vs) h r = absurd cc
   arguments_typed (ReferenceTo t ∷ ts) (v ∷ vs) h r = absurd cc
   arguments_typed (MutableReferenceTo t ∷ ts) (v ∷ vs) h r = absurd cc
+  arguments_typed ts vs h r = absurd cc
 
 -- a function of an accepted store, called with arguments of its parameters' types
 pub call_typed : (modules : List Module) → StoreAccepted modules
@@ -108,8 +92,5 @@ admitted_typed s r call store sender ranged e =
     on_need (are_arguments tokens (with_signer r.sender tokens r.arguments)) _ _ call e7 (λ typed e8.
     on_need (nat_lt s.runs (2 ^ 32)) _ _ call e8 (λ room e9.
     let arguments = arguments_typed (modules_of s) home tokens (with_signer r.sender tokens r.arguments) typed (signed_ranged r.sender tokens r.arguments sender ranged) in
-    let same : record { function = record { place = place; index = index }; arguments = with_signer r.sender tokens r.arguments } ≡ call = ok_is _ call e9 in
+    let same : record { function = record { place = place; index = index }; arguments = with_signer r.sender tokens r.arguments } ≡ call = cc (e9) in
     subst (CallTyped (modules_of s)) same (call_typed (modules_of s) store place index home d tokens (with_signer r.sender tokens r.arguments) home_is d_is tokens_are arguments))))))))))
-  where
-    ok_is : (x y : FunctionCall) → (let z : Result FunctionCall ℕ = Ok x in z) ≡ Ok y → x ≡ y
-    ok_is x y h = cc

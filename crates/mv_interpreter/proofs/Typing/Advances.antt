@@ -1,46 +1,28 @@
 -- A typed instruction leads to typed instructions.
-use Rattle.mv_interpreter.proofs.Typing.Common.{◌≡◌, ℕ, zero, suc, ◌+◌, ◌-◌, ◌<◌, ◌≤◌, Bool, true, false, List, [], ◌∷◌, ◌++◌, length, take, drop}
-use Rattle.mv_interpreter.proofs.Typing.Common.{refl, sym, ap, subst, ◌∙◌, Option, Some, None, arith, ◌⊎◌, inl, inr, slice_get, IsTrue, nat_lt}
-use Rattle.mv_interpreter.proofs.Typing.Common.{nat_le, ◌||◌, ◌==◌, list_all, option_map_or, ltb-true, lt-ltb, eqb-true, and_from, eq-eqb, same_Some}
-use Rattle.mv_interpreter.proofs.Typing.Common.{Instruction, Ret, Module, FunctionDefinition, Types, function_is_typed, ends_well, instruction_in}
-use Rattle.mv_interpreter.proofs.Typing.Common.{local_count, instruction_fits, TypesAt, each, Advance}
-use Rattle.std.specs.Prelude.{slice_range}
-use Rattle.std.specs.List.{list_any}
-use Rattle.mv_move_types.specs.declared.instruction.Instruction.TheVariants.{BrTrue, BrFalse, Branch, Abort}
-use Rattle.mv_cfg.specs.Blocks.{BasicBlock, blocks, starts_from}
-use Rattle.mv_move_types.specs.Flow.{ends_block, targets, successors}
-use Rattle.mv_type_states.specs.TypeRules.{types_after}
-use Rattle.mv_type_states.specs.TypesHold.{types_through, block_is_typed}
-use Rattle.mv_cfg.specs.Blocks.{may_be_last}
+use Rattle.mv_interpreter.proofs.Typing.Common.{◌≡◌, ℕ, zero, suc, ◌+◌, ◌-◌, ◌<◌, ◌≤◌, true, List, [], ◌∷◌, length, refl, ap, subst, ◌∙◌, arith, ◌++◌, Option, Some, None, false, take}
+use Rattle.mv_interpreter.proofs.Typing.Common.{drop, sym, ◌⊎◌, inl, inr, ltb-true, lt-ltb, eqb-true, and_from, eq-eqb, false_from_ne_true, same_Some, list_all, list_any, option_map_or}
+use Rattle.mv_interpreter.proofs.Typing.Common.{IsTrue, ◌==◌, slice_get, nat_le, nat_lt, ◌||◌, slice_range, ends_block, successors, Module, FunctionDefinition, Instruction, Ret, BrTrue}
+use Rattle.mv_interpreter.proofs.Typing.Common.{BrFalse, Branch, Abort, instruction_in, local_count, IsAscending, ends_well, BasicBlock, starts_from, instruction_fits, each, Types}
+use Rattle.mv_interpreter.proofs.Typing.Common.{TypesAt, function_is_typed, types_through, Advance}
+use Rattle.mv_cfg.proofs.Beginnings.{starts_from-ascending}
+use Rattle.mv_cfg.specs.Blocks.{blocks, may_be_last}
+use Rattle.mv_move_types.specs.Flow.{targets}
+use Rattle.mv_type_states.specs.{TypeRules.types_after, TypesHold.block_is_typed}
 use Rattle.mv_linker.proofs.Found.{some_passes, there_at}
 use Rattle.mv_interpreter.specs.Typing.Facts.{AllAt}
-use Rattle.mv_interpreter.proofs.Typing.FlowFacts.{range_split, through_step, through_apart, through_join, through_one, Among, Rising, rising_bounds}
-use Rattle.mv_interpreter.proofs.Typing.FlowFacts.{starts_rise, targets_begin, ended_begin, BlockFacts, block_facts, begins_block}
+use Rattle.mv_interpreter.proofs.Typing.FlowFacts.{range_split, through_step, through_apart, through_join, through_one, Among, rising_bounds, targets_begin, ended_begin, BlockFacts}
+use Rattle.mv_interpreter.proofs.Typing.FlowFacts.{block_facts, begins_block, next_inside}
 use Rattle.mv_interpreter.proofs.Lists.{below-or-at}
-
--- where control goes on at the next instruction
-pub one_successor : (at : ℕ) (c : Instruction) → ends_block c ≡ false → successors at c ≡ (at + 1) ∷ []
-one_successor at (BrTrue t) e = absurd cc
-one_successor at (BrFalse t) e = absurd cc
-one_successor at (Branch t) e = absurd cc
-one_successor at Ret e = absurd cc
-one_successor at Abort e = absurd cc
-one_successor at _ e = refl
 
 -- the last instruction
 last_is : (code : List Instruction) (k : ℕ) (c : Instruction) → ends_well code ≡ true → slice_get code k ≡ Some c → k + 1 ≡ length code → may_be_last c ≡ true
-last_is [] k c h e l = absurd cc
 last_is (x ∷ []) zero c h e l = subst (λ (z : Instruction). may_be_last z ≡ true) (same_Some x c e) h
-last_is (x ∷ []) (suc k) c h e l = absurd cc
-last_is (x ∷ y ∷ code) zero c h e l = absurd (omega (arith, l))
 last_is (x ∷ y ∷ code) (suc k) c h e l = last_is (y ∷ code) k c h e (omega (arith, l))
+last_is code k c h e l = absurd (grind arith)
 
 -- types that end with no operand
 through_all : (r : Option Types) → option_map_or (λ stack. length stack == 0) r false ≡ true → r ≡ Some []
-through_all None h = absurd (differ h)
-  where
-    differ : false ≡ true → ⊥
-    differ e = cc
+through_all None h = let z : false ≡ true = h in absurd cc
 through_all (Some []) h = refl
 through_all (Some (x ∷ xs)) h = let long : suc (length xs) ≡ 0 = eqb-true (suc (length xs)) 0 h in absurd (omega (arith, long))
 
@@ -50,8 +32,8 @@ module _ (m : Module) (d : FunctionDefinition) (typed : IsTrue (function_is_type
   abbrev starts : List ℕ
   starts = starts_from d.code 0 true d.code
 
-  rising : Rising 0 (length d.code) starts
-  rising = starts_rise d.code 0 (length d.code) true d.code (omega arith)
+  rising : IsAscending 0 (length d.code) starts
+  rising = starts_from-ascending d.code 0 (length d.code) true d.code (omega arith)
 
   -- places in the code at which blocks begin
   abbrev AllBegin : List ℕ → Type 0
@@ -81,31 +63,25 @@ module _ (m : Module) (d : FunctionDefinition) (typed : IsTrue (function_is_type
 
   -- where a block's last instruction leads
   last_leads : (at : ℕ) (c : Instruction) → slice_get d.code at ≡ Some c → (at + 1 ≡ length d.code) ⊎ Among (at + 1) starts → AllBegin (successors at c)
-  last_leads at c e next = by_case c (each (instruction_in m (local_count m d) (length d.code)) d.code at c inside e) (λ t p. target t p) ended beyond
+  last_leads at c e next = by_case c (each (instruction_in m (local_count m d) (length d.code)) d.code at c inside e) (λ t p. target t p) beyond
     where
       target : (t : ℕ) → list_any (λ x. x == t) (targets c) ≡ true → t < length d.code → Among t starts
       target t p l = targets_begin d.code 0 t true d.code (some_passes (λ x. list_any (λ y. y == t) (targets x)) d.code at c e p) (omega arith) (omega (arith, l))
 
       beyond : may_be_last c ≡ false → Among (at + 1) starts
-      beyond not_last = elim next [ inl p ↦ absurd (apart (last_is d.code at c ends e p) not_last) | inr a ↦ a ]
-        where
-          apart : {b : Bool} → b ≡ true → b ≡ false → ⊥
-          apart p q = cc
-
-      ended : ends_block c ≡ true → may_be_last c ≡ false → Among (at + 1) starts
-      ended h not_last = beyond not_last
+      beyond not_last = elim next [ inl p ↦ let last = last_is d.code at c ends e p in absurd cc | inr a ↦ a ]
 
       first_or_rest : (t : ℕ) → ((t == t) || false) ≡ true
       first_or_rest t = ap (λ b. b || false) (eq-eqb t t refl)
 
       by_case : (c : Instruction) → instruction_in m (local_count m d) (length d.code) c ≡ true → ((t : ℕ) → list_any (λ x. x == t) (targets c) ≡ true → t < length d.code → Among t starts) →
-          (ends_block c ≡ true → may_be_last c ≡ false → Among (at + 1) starts) → (may_be_last c ≡ false → Among (at + 1) starts) → AllBegin (successors at c)
-      by_case (BrTrue t) i to_target ended beyond = (to_target t (first_or_rest t) (ltb-true t (length d.code) i), (beyond refl, tt))
-      by_case (BrFalse t) i to_target ended beyond = (to_target t (first_or_rest t) (ltb-true t (length d.code) i), (beyond refl, tt))
-      by_case (Branch t) i to_target ended beyond = (to_target t (first_or_rest t) (ltb-true t (length d.code) i), tt)
-      by_case Ret i to_target ended beyond = tt
-      by_case Abort i to_target ended beyond = tt
-      by_case _ i to_target ended beyond = (beyond refl, tt)
+          (may_be_last c ≡ false → Among (at + 1) starts) → AllBegin (successors at c)
+      by_case (BrTrue t) i to_target beyond = (to_target t (first_or_rest t) (ltb-true t (length d.code) i), (beyond refl, tt))
+      by_case (BrFalse t) i to_target beyond = (to_target t (first_or_rest t) (ltb-true t (length d.code) i), (beyond refl, tt))
+      by_case (Branch t) i to_target beyond = (to_target t (first_or_rest t) (ltb-true t (length d.code) i), tt)
+      by_case Ret i to_target beyond = tt
+      by_case Abort i to_target beyond = tt
+      by_case _ i to_target beyond = (beyond refl, tt)
 
   -- the function's beginning
   pub start_typed : TypesAt m d 0 []
@@ -156,8 +132,8 @@ module _ (m : Module) (d : FunctionDefinition) (typed : IsTrue (function_is_type
           → (at < b.last → TypesAt m d (at + 1) after) → (at ≡ b.last → after ≡ []) → (at < b.last → ends_block c ≡ true → ⊥)
           → (at < b.last) ⊎ (at ≡ b.last) → Advance m d at types
       by_place b f c after e rule small fit inner last within (inl p) =
-          let shut : ends_block c ≡ false = never (ends_block c) (within p) in
-          let one : successors at c ≡ (at + 1) ∷ [] = one_successor at c shut in
+          let shut : ends_block c ≡ false = false_from_ne_true (ends_block c) (within p) in
+          let one : successors at c ≡ (at + 1) ∷ [] = next_inside at c shut in
           let short : at + 1 < length d.code = omega (arith, p, f.inside) in
           record {
             instruction = c;
@@ -168,10 +144,6 @@ module _ (m : Module) (d : FunctionDefinition) (typed : IsTrue (function_is_type
             inside = subst (λ (ts : List ℕ). list_all (λ t. nat_lt t (length d.code)) ts ≡ true) (sym one) (and_from _ _ (lt-ltb (at + 1) (length d.code) short) refl);
             fits = fit;
           }
-        where
-          never : (b : Bool) → (b ≡ true → ⊥) → b ≡ false
-          never true h = absurd (h refl)
-          never false h = refl
       by_place b f c after e rule small fit inner last within (inr p) =
           let ends_here : (at + 1 ≡ length d.code) ⊎ Among (at + 1) starts = subst (λ (n : ℕ). (n + 1 ≡ length d.code) ⊎ Among (n + 1) starts) (sym p) f.ends in
           let all = all_begin (successors at c) (last_leads at c e ends_here) in

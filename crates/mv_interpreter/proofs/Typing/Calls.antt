@@ -1,34 +1,21 @@
 -- The rows of Call and Ret.
-use Rattle.mv_interpreter.proofs.Typing.Common.{◌≡◌, ℕ, ◌+◌, ◌<◌, ◌≤◌, Bool, true, false, cond, List, [], ◌∷◌, ◌++◌, map, length, reverse, refl, sym}
-use Rattle.mv_interpreter.proofs.Typing.Common.{ap, subst, ◌∙◌, Option, Some, None, Result, Ok, Err, eqb, arith, slice_get, not, ok_or, list_all}
-use Rattle.mv_interpreter.proofs.Typing.Common.{eqb-true, ne_eqb, same_Some, Token, Ret, ◌>>=ᵣ◌, need, for_each, Module, Root, Local, Stored, Value}
-use Rattle.mv_interpreter.proofs.Typing.Common.{Leaf, Struct, Ref, Frame, State, frames, root_value, local_in, local_value, references}
-use Rattle.mv_interpreter.proofs.Typing.Common.{local_references, Faults, LinkageFault, LostFault, FrozenFault, tag_named, have_tags, entry, Tag}
-use Rattle.mv_interpreter.proofs.Typing.Common.{LeafTag, StructTag, ReferenceTag, Types, tokens_named, Here, operands, Roots, Rooted, HaveTypes}
-use Rattle.mv_interpreter.proofs.Typing.Common.{TypesAt, on_bind, HaveTokens, LocalsHaveTokens, Numbered, AreWaiting, StateTyped, TurnTyped, Row}
-use Rattle.mv_interpreter.proofs.Typing.Common.{Avoid}
+use Rattle.mv_interpreter.proofs.Typing.Common.{◌≡◌, ℕ, ◌+◌, ◌<◌, ◌≤◌, true, List, [], ◌∷◌, length, refl, ap, subst, ◌∙◌, arith, ◌++◌, Option, Some, None, Result, Ok, Bool, false, sym}
+use Rattle.mv_interpreter.proofs.Typing.Common.{cond, map, reverse, Err, eqb, ne_eqb, none-some, list_all, list_any, slice_get, ok_or, not, flat_map, Module, need, for_each, ◌>>=ᵣ◌, Tag}
+use Rattle.mv_interpreter.proofs.Typing.Common.{LeafTag, StructTag, ReferenceTag, same_tokens, Ret, Call, FunctionHandle, Token, references, local_references, Frame, State, frames}
+use Rattle.mv_interpreter.proofs.Typing.Common.{root_value, local_in, local_value, Here, operands, may_drop, Callee, Faults, LinkageFault, entry, tag_named, LostFault, FrozenFault}
+use Rattle.mv_interpreter.proofs.Typing.Common.{have_tags, Value, Leaf, Struct, Ref, Root, Local, Stored, on_bind, tokens_named, lists_equal, Types, TypesAt, Row, CallFacts, Roots}
+use Rattle.mv_interpreter.proofs.Typing.Common.{HaveTypes, LentHaveTypes, HaveTokens, LocalsHaveTokens, Numbered, AreWaiting, StateTyped, TurnTyped, IsWaiting, Avoid, BelowAvoid}
 use Rattle.std.proofs.Common.{replicate}
-use Rattle.std.specs.Prelude.{flat_map}
-use Rattle.std.specs.List.{list_any}
 use Rattle.std.proofs.lemmas.List.{append-nil}
-use Rattle.mv_move_types.specs.declared.tables.FunctionHandle.{FunctionHandle}
-use Rattle.mv_move_types.specs.declared.instruction.Instruction.TheVariants.{Call}
-use Rattle.mv_machine.specs.Live.{reference_of, frame_references}
+use Rattle.mv_machine.specs.{Live.reference_of, Live.frame_references, StepControl.callee, StepControl.call}
+use Rattle.mv_machine.specs.Step.{return_results, signature_tags, leaves, holds_frame, entered_frame}
 use Rattle.mv_type_states.specs.TypeRules.{of_call, of_return}
-use Rattle.mv_move_types.specs.Tokens.{same_tokens}
-use Rattle.mv_machine.specs.Step.{return_results, signature_tags, leaves, holds_frame, may_drop, entered_frame}
-use Rattle.mv_machine.specs.StepControl.{Callee, callee, call}
-use Rattle.mv_interpreter.specs.Typing.HasType.{LentHaveTypes, fields_by_name}
-use Rattle.mv_type_states.proofs.Tokens.{lists_equal}
-use Rattle.mv_interpreter.specs.Typing.StateTyped.{IsWaiting}
-use Rattle.mv_interpreter.specs.Typing.Facts.{CallFacts}
-use Rattle.mv_interpreter.specs.Typing.Unreached.{BelowAvoid, Leaving}
-use Rattle.mv_interpreter.proofs.Typing.Parts.{Part, known, passes, tested, lost}
+use Rattle.mv_interpreter.specs.{Typing.HasType.fields_by_name, Typing.Unreached.Leaving}
+use Rattle.mv_interpreter.proofs.Typing.Parts.{Part, known, passes, tested, lost, needed}
 use Rattle.mv_interpreter.proofs.Typing.Operands.{on_test, takes_gives-is, joined, turned, take_operands}
 use Rattle.mv_interpreter.proofs.Typing.Keep.{Kept, ValueAvoids, Nothing, avoid_nothing, below_avoids_nothing, keep_value, keep_stack, keep_locals, keep_below}
-use Rattle.mv_interpreter.proofs.Typing.Roots.{tokens_have_tags, typed_have_tags}
-use Rattle.mv_interpreter.proofs.Typing.Frames.{pick_second}
-use Rattle.mv_interpreter.proofs.Typing.Structs.{have_tokens, names_length, tags_found}
+use Rattle.mv_interpreter.proofs.{Typing.Roots.tokens_have_tags, Typing.Roots.typed_have_tags, Typing.Frames.pick_second, Typing.Structs.have_tokens, Typing.Structs.names_length}
+use Rattle.mv_interpreter.proofs.{Typing.Structs.tags_found}
 
 -- no frame has a number at or above the bound
 above_all : (bound : ℕ) (fs : List Frame) (m k : ℕ) → Numbered bound fs → bound ≤ m → local_in fs m k ≡ None
@@ -40,21 +27,16 @@ above_all bound (f ∷ fs) m k h e =
 
 module _ (modules : List Module) (look look' : Roots) (kept : Kept modules look look' Nothing) where
   keep_types : (vs : List Value) (tags : List Tag) → HaveTypes (fields_by_name modules) look vs tags → HaveTypes (fields_by_name modules) look' vs tags
-  keep_types [] [] h = h
-  keep_types [] (t ∷ ts) h = h
-  keep_types (v ∷ vs) [] h = h
   keep_types (v ∷ vs) (t ∷ ts) h = (keep_value modules look look' Nothing kept v t (avoids v) h.0, keep_types vs ts h.1)
     where
       avoids : (v : Value) → ValueAvoids Nothing v
-      avoids (Leaf k n) = tt
-      avoids (Struct name fields) = tt
       avoids (Ref r) = λ p. p
+      avoids v = tt
+  keep_types vs tags h = h
 
 module _ (modules : List Module) (look : Roots) where
   lent_types : (vs : List Value) (tags : List Tag) → HaveTypes (fields_by_name modules) look vs tags → LentHaveTypes (fields_by_name modules) look (map reference_of vs) tags
   lent_types [] [] h = tt
-  lent_types [] (t ∷ ts) h = absurd h
-  lent_types (v ∷ vs) [] h = absurd h
   lent_types (Leaf k n ∷ vs) (LeafTag j ∷ ts) h = (refl, lent_types vs ts h.1)
   lent_types (Leaf k n ∷ vs) (StructTag u ∷ ts) h = (refl, lent_types vs ts h.1)
   lent_types (Leaf k n ∷ vs) (ReferenceTag m t ∷ ts) h = absurd h.0
@@ -62,15 +44,15 @@ module _ (modules : List Module) (look : Roots) where
   lent_types (Struct name fields ∷ vs) (StructTag u ∷ ts) h = (refl, lent_types vs ts h.1)
   lent_types (Struct name fields ∷ vs) (ReferenceTag m t ∷ ts) h = absurd h.0
   lent_types (Ref r ∷ vs) (t ∷ ts) h = (h.0, lent_types vs ts h.1)
+  lent_types vs tags h = absurd h
 
   -- the locals of a frame that is entered
   pub entered_locals : (home : Module) (vs : List Value) (ts others : List Token) → HaveTokens modules look home vs ts
       → LocalsHaveTokens modules look home (map Some vs ++ replicate (length others) None) (ts ++ others)
   entered_locals home [] [] [] h = tt
   entered_locals home [] [] (t ∷ others) h = (tt, entered_locals home [] [] others tt)
-  entered_locals home [] (t ∷ ts) others h = absurd h
-  entered_locals home (v ∷ vs) [] others h = absurd h
   entered_locals home (v ∷ vs) (t ∷ ts) others h = (h.0, entered_locals home vs ts others h.1)
+  entered_locals home vs ts others h = absurd h
 
 -- the caller as it waits
 abbrev waiting_frame : Frame → List Value → Frame
@@ -87,16 +69,9 @@ called s c arguments rest others = record s {
 module _ (h : Here) (k : ℕ) (types after : Types) (row : Row h (Call k) types after) (next : TypesAt h.home h.function (h.state.top.at + 1) after) where
   kept_called : (c : Callee) (arguments rest : List Value) (others : ℕ) → Kept h.modules (root_value h.state) (root_value (called h.state c arguments rest others)) Nothing
   kept_called c arguments rest others (Stored key) t far r = record { value = r.value; is_there = r.is_there; is_of = r.is_of }
-  kept_called c arguments rest others (Local m l) t far r = by_case (eqb h.state.entered m) refl
-    where
-      by_case : (a : Bool) → eqb h.state.entered m ≡ a → Rooted (fields_by_name h.modules) (root_value (called h.state c arguments rest others)) (Local m l) t
-      by_case false p = record { value = r.value; is_there = pick_second (eqb h.state.entered m) _ _ (Some r.value) p r.is_there; is_of = r.is_of }
-      by_case true p =
-          let same : h.state.entered ≡ m = eqb-true h.state.entered m p in
-          absurd (none_some (sym (above_all h.state.entered (frames h.state) m l row.stands.numbered (omega (arith, same))) ∙ r.is_there))
-        where
-          none_some : None ≡ Some r.value → ⊥
-          none_some e = cc
+  kept_called c arguments rest others (Local m l) t far r =
+      let p = ne_eqb h.state.entered m (λ same. none-some r.value (sym (above_all h.state.entered (frames h.state) m l row.stands.numbered (omega (arith, same))) ∙ r.is_there)) in
+      record { value = r.value; is_there = pick_second (eqb h.state.entered m) _ _ (Some r.value) p r.is_there; is_of = r.is_of }
 
   enters : (handle : FunctionHandle) (parameters results : List Token) → slice_get h.home.function_handles k ≡ Some handle
       → slice_get h.home.signatures handle.parameters ≡ Some parameters → slice_get h.home.signatures handle.results ≡ Some results
@@ -109,7 +84,7 @@ module _ (h : Here) (k : ℕ) (types after : Types) (row : Row h (Call k) types 
       let look' : Roots = root_value (called h.state c arguments rest (length f.others)) in
       let kept = kept_called c arguments rest (length f.others) in
       let tagged = keep_types h.modules (root_value h.state) look' kept arguments c.parameters
-      (tokens_have_tags h.modules h.state h.home arguments parameters c.parameters arguments_typed f.parameter_tags) in
+      (tokens_have_tags h.modules (root_value h.state) h.home arguments parameters c.parameters arguments_typed f.parameter_tags) in
       let own_arguments = have_tokens h.modules look' c.home arguments f.own_parameters c.parameters tagged f.own_parameter_tags in
       let waiting : IsWaiting h.modules look' (map reference_of arguments) c.results (waiting_frame h.state.top rest) = record {
         home = h.home;
@@ -169,7 +144,7 @@ module _ (h : Here) (k : ℕ) (types after : Types) (row : Row h (Call k) types 
       let look : Roots = root_value h.state in
       let taken = take_operands h.modules look h.home h.state.top.stack parameters parts.0 (subst (λ (ts : Types). HaveTokens h.modules look h.home h.state.top.stack ts) parts.1 row.stands.stack) in
       let long : length parameters ≡ length f.callee_is.parameters = sym (names_length h.home parameters f.callee_is.parameters f.parameter_tags) in
-      let typed = tokens_have_tags h.modules h.state h.home taken.arguments parameters f.callee_is.parameters taken.arguments_typed f.parameter_tags in
+      let typed = tokens_have_tags h.modules (root_value h.state) h.home taken.arguments parameters f.callee_is.parameters taken.arguments_typed f.parameter_tags in
       known (TurnTyped h.modules) (callee h k) _ f.callee_is f.is_found
       (known (TurnTyped h.modules) (operands (length f.callee_is.parameters) h.state.top.stack) _ (taken.arguments, taken.rest)
       (subst (λ (n : ℕ). operands n h.state.top.stack ≡ Ok (taken.arguments, taken.rest)) long taken.is_taken)
@@ -198,13 +173,10 @@ module _ (h : Here) (types after : Types) (row : Row h Ret types after) where
 
   kept_returned : (f : Frame) (fs : List Frame) (stack : List Value) → h.state.below ≡ f ∷ fs → Kept h.modules (root_value h.state) (root_value (resumed f fs stack)) gone
   kept_returned f fs stack e (Stored key) t far r = record { value = r.value; is_there = r.is_there; is_of = r.is_of }
-  kept_returned f fs stack e (Local m k) t far r = by_case (eqb h.state.top.number m) refl
-    where
-      by_case : (a : Bool) → eqb h.state.top.number m ≡ a → Rooted (fields_by_name h.modules) (root_value (resumed f fs stack)) (Local m k) t
-      by_case true p = absurd (far (k, ap (λ (n : ℕ). Local n k) (sym (eqb-true h.state.top.number m p))))
-      by_case false p =
-          let there : local_in h.state.below m k ≡ Some r.value = subst (λ (x : Bool). cond x (local_value h.state.top k) (local_in h.state.below m k) ≡ Some r.value) p r.is_there in
-          record { value = r.value; is_there = subst (λ (gs : List Frame). local_in gs m k ≡ Some r.value) e there; is_of = r.is_of }
+  kept_returned f fs stack e (Local m k) t far r =
+      let p = ne_eqb h.state.top.number m (λ same. far (k, ap (λ (n : ℕ). Local n k) (sym same))) in
+      let there : local_in h.state.below m k ≡ Some r.value = subst (λ (x : Bool). cond x (local_value h.state.top k) (local_in h.state.below m k) ≡ Some r.value) p r.is_there in
+      record { value = r.value; is_there = subst (λ (gs : List Frame). local_in gs m k ≡ Some r.value) e there; is_of = r.is_of }
 
   leave : (fs : List Frame) (results : List Token) (arguments rest : List Value) → h.state.below ≡ fs → types ≡ reverse results ++ []
       → tokens_named h.home results ≡ Some row.stands.results → operands (length results) h.state.top.stack ≡ Ok (arguments, rest)
@@ -223,7 +195,7 @@ module _ (h : Here) (types after : Types) (row : Row h Ret types after) where
       let taken = take_operands h.modules look' h.home h.state.top.stack results [] all in
       let arguments_are : taken.arguments ≡ arguments = pair_first taken.arguments arguments taken.rest rest (operands (length results) h.state.top.stack) taken.is_taken taken_is in
       let typed : HaveTokens h.modules look' h.home arguments results = subst (λ (vs : List Value). HaveTokens h.modules look' h.home vs results) arguments_are taken.arguments_typed in
-      let tagged = tokens_have_tags h.modules s' h.home arguments results row.stands.results typed named in
+      let tagged = tokens_have_tags h.modules (root_value s') h.home arguments results row.stands.results typed named in
       let given = have_tokens h.modules look' c.home arguments c.results row.stands.results tagged c.are_results in
       let under = keep_stack h.modules (root_value h.state) look' gone kept c.home f.stack c.under below_free.1.1 c.stack in
       let lower : f.number < h.state.top.number = n.0 in
@@ -256,37 +228,18 @@ module _ (h : Here) (types after : Types) (row : Row h Ret types after) where
       on_test (same_tokens types (reverse results)) [] after e2 (λ same given.
       let types_are : types ≡ reverse results ++ [] = lists_equal types (reverse results) same ∙ sym (append-nil (reverse results)) in
       let look : Roots = root_value h.state in
-      let named : tokens_named h.home results ≡ Some row.stands.results = names handle results handle_is results_are in
+      let named : tokens_named h.home results ≡ Some row.stands.results = rw (handle_is, results_are) at row.stands.are_results in
       let taken = take_operands h.modules look h.home h.state.top.stack results [] (subst (λ (ts : Types). HaveTokens h.modules look h.home h.state.top.stack ts) types_are row.stands.stack) in
-      let typed = tokens_have_tags h.modules h.state h.home taken.arguments results row.stands.results taken.arguments_typed named in
+      let typed = tokens_have_tags h.modules (root_value h.state) h.home taken.arguments results row.stands.results taken.arguments_typed named in
       let long : length results ≡ length row.stands.results = sym (names_length h.home results row.stands.results named) in
       known (TurnTyped h.modules) (entry h.home.function_handles h.function.handle) _ handle (ap (λ (x : Option FunctionHandle). ok_or x (Faults LinkageFault)) handle_is)
-      (known (TurnTyped h.modules) (entry h.home.signatures handle.results >>=ᵣ for_each (tag_named h.modules h.home)) _ row.stands.results (tags_are handle results results_are named)
+      (known (TurnTyped h.modules) (entry h.home.signatures handle.results >>=ᵣ for_each (tag_named h.modules h.home)) _ row.stands.results
+      (rw results_are (tags_found h row.facts results row.stands.results named))
       (known (TurnTyped h.modules) (operands (length row.stands.results) h.state.top.stack) _ (taken.arguments, taken.rest)
       (subst (λ (n : ℕ). operands n h.state.top.stack ≡ Ok (taken.arguments, taken.rest)) long taken.is_taken)
       (passes (TurnTyped h.modules) (eqb (length taken.rest) 0) _ _ (nothing_left h.modules look h.home taken.rest taken.rest_typed)
       (passes (TurnTyped h.modules) (have_tags h.state taken.arguments row.stands.results) _ _ (typed_have_tags (fields_by_name h.modules) h.state taken.arguments row.stands.results typed)
       (tested (TurnTyped h.modules) (need (list_all (may_drop h) h.state.top.locals) (Faults LostFault)) _ (lost (list_all (may_drop h) h.state.top.locals))
       (tested (TurnTyped h.modules) (need (not (list_any (holds_frame h.state.top.number) (references taken.arguments ++ flat_map frame_references h.state.below)))
-      (Faults FrozenFault)) _ (never_frozen (not (list_any (holds_frame h.state.top.number) (references taken.arguments ++ flat_map frame_references h.state.below))))
+      (Faults FrozenFault)) _ (needed _ (Faults FrozenFault) tt)
       (leave h.state.below results taken.arguments taken.rest refl types_are named taken.is_taken row.stands.below row.stands.numbered.1 free.0 free.1))))))))))
-    where
-      never_frozen : (b : Bool) → Part (λ x. Unit {0}) (need b (Faults FrozenFault))
-      never_frozen true = tt
-      never_frozen false = tt
-
-      names : (handle : FunctionHandle) (results : List Token) → slice_get h.home.function_handles h.function.handle ≡ Some handle
-          → slice_get h.home.signatures handle.results ≡ Some results → tokens_named h.home results ≡ Some row.stands.results
-      names handle results e g =
-          on_bind (slice_get h.home.function_handles h.function.handle) _ row.stands.results row.stands.are_results (λ other other_is e1.
-          let one : other ≡ handle = same_Some other handle (sym other_is ∙ e) in
-          on_bind (slice_get h.home.signatures other.results) (tokens_named h.home) row.stands.results e1 (λ ts ts_are e2.
-          let two : ts ≡ results = same_Some ts results (sym ts_are ∙ ap (λ (x : FunctionHandle). slice_get h.home.signatures x.results) one ∙ g) in
-          subst (λ (x : List Token). tokens_named h.home x ≡ Some row.stands.results) two e2))
-
-      tags_are : (handle : FunctionHandle) (results : List Token) → slice_get h.home.signatures handle.results ≡ Some results
-          → tokens_named h.home results ≡ Some row.stands.results
-          → (entry h.home.signatures handle.results >>=ᵣ for_each (tag_named h.modules h.home)) ≡ Ok row.stands.results
-      tags_are handle results g named =
-          subst (λ (x : Option (List Token)). (ok_or x (Faults LinkageFault) >>=ᵣ for_each (tag_named h.modules h.home)) ≡ Ok row.stands.results)
-          (sym g) (tags_found h row.facts results row.stands.results named)

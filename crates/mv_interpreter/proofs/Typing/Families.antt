@@ -1,21 +1,14 @@
 -- Rows of operands alone: numbers, bools, constants.
-use Rattle.mv_interpreter.proofs.Typing.Common.{◌≡◌, ℕ, ◌+◌, ◌-◌, ◌*◌, ◌^◌, ◌<◌, ◌≤◌, Bool, true, false, List, [], ◌∷◌, refl, sym, ap, ◌∙◌, subst}
-use Rattle.mv_interpreter.proofs.Typing.Common.{Some, Ok, eqb, arith, IsTrue, nat_lt, nat_le, not, lt-ltb, ltb-true, same_Some, Boolean, Number}
-use Rattle.mv_interpreter.proofs.Typing.Common.{Address, Signer, OfLeaf, OfStruct, Token, Plain, ReferenceTo, MutableReferenceTo, Module, Value, Leaf}
-use Rattle.mv_interpreter.proofs.Typing.Common.{Types, boolean, takes_gives, taken, top_type, truth, on_bind, Roots, HasToken, HaveTokens}
+use Rattle.mv_interpreter.proofs.Typing.Common.{◌≡◌, ℕ, ◌+◌, ◌-◌, ◌*◌, ◌^◌, ◌<◌, ◌≤◌, true, List, [], ◌∷◌, refl, ap, subst, ◌∙◌, arith, Some, Ok, Bool, false, sym, cond, Err, eqb}
+use Rattle.mv_interpreter.proofs.Typing.Common.{ltb-true, lt-ltb, same_Some, IsTrue, nat_le, nat_lt, not, bit_and, bit_or, bit_xor, Module, width_bits, same_width, LeafKind, Boolean}
+use Rattle.mv_interpreter.proofs.Typing.Common.{Number, Token, Plain, OfLeaf, Width, U8, sum_of, difference_of, product_of, remainder_of, quotient_of, shifted_left, shifted_right, truth}
+use Rattle.mv_interpreter.proofs.Typing.Common.{Aborts, Value, Leaf, on_bind, Types, boolean, takes_gives, taken, top_type, number, in_range, Roots, HasToken, HaveTokens}
 use Rattle.std.proofs.Common.{◌/◌, ◌%◌}
-use Rattle.std.specs.Prelude.{bit_and, bit_or, bit_xor}
-use Rattle.std.proofs.Math.Nat.{div-le_self}
-use Rattle.std.proofs.Math.Pow.{pow_pos}
-use Rattle.std.proofs.lemmas.Nat.{or_lt, xor_lt, and_le_l}
-use Rattle.mv_move_types.specs.declared.token.Width.{Width}
-use Rattle.mv_move_types.specs.declared.token.Width.TheVariants.{U8}
-use Rattle.mv_move_types.specs.Tokens.{width_bits, same_width}
-use Rattle.mv_type_states.specs.TypeRules.{number, top_width, of_two_numbers, of_shift, of_cast, width_of}
-use Rattle.mv_machine.specs.Numbers.{Operator, fitting, sum_of, difference_of, product_of, remainder_of, quotient_of, shifted_left, shifted_right}
+use Rattle.std.proofs.{Math.Nat.div-le_self, Math.Pow.pow_pos, lemmas.Nat.or_lt, lemmas.Nat.xor_lt, lemmas.Nat.and_le_l}
+use Rattle.mv_type_states.specs.TypeRules.{top_width, of_two_numbers, of_shift, of_cast, width_of}
+use Rattle.mv_machine.specs.{Numbers.Operator, Numbers.fitting, declared.Kind.TheVariants.Arith}
 use Rattle.mv_machine.specs.StepNumbers.{binary, comparison, shift, cast, logic, negation}
-use Rattle.mv_interpreter.proofs.Typing.Tests.{same_width-same}
-use Rattle.mv_interpreter.proofs.Typing.Parts.{Part, some, passes}
+use Rattle.mv_interpreter.proofs.{Typing.Tests.same_width-same, Typing.Parts.Part, Typing.Parts.some, Typing.Parts.passes}
 use Rattle.mv_interpreter.proofs.Typing.Operands.{takes_gives-is, taken-is, top_type-is, leaf, of_leaf}
 
 -- ---- operators keep their width
@@ -34,12 +27,18 @@ fits-lt w n h = ltb-true n (2 ^ width_bits w) h
 pub lt-fits : (w : Width) (n : ℕ) → n < 2 ^ width_bits w → Fits w n
 lt-fits w n h = lt-ltb n (2 ^ width_bits w) h
 
+-- a number that fits where a test passes, or an abort
+kept : (w : Width) (b : Bool) (n : ℕ) → (b ≡ true → n < 2 ^ width_bits w) → Part (Fits w) (cond b (Ok n) (Err (Aborts Arith 0)))
+kept w true n h = lt-fits w n (h refl)
+kept w false n h = tt
+
+-- and where a test fails
+kept_past : (w : Width) (b : Bool) (n : ℕ) → (b ≡ false → n < 2 ^ width_bits w) → Part (Fits w) (cond b (Err (Aborts Arith 0)) (Ok n))
+kept_past w true n h = tt
+kept_past w false n h = lt-fits w n (h refl)
+
 pub fitting_fits : (w : Width) (n : ℕ) → Part (Fits w) (fitting w n)
-fitting_fits w n = by_case (nat_lt n (2 ^ width_bits w)) refl
-  where
-    by_case : (b : Bool) → nat_lt n (2 ^ width_bits w) ≡ b → Part (Fits w) (fitting w n)
-    by_case true e = rw e e
-    by_case false e = rw e tt
+fitting_fits w n = kept w (nat_lt n (2 ^ width_bits w)) n (ltb-true n (2 ^ width_bits w))
 
 pub sum_keeps : Keeps sum_of
 sum_keeps w x y h k = fitting_fits w (x + y)
@@ -48,25 +47,13 @@ pub product_keeps : Keeps product_of
 product_keeps w x y h k = fitting_fits w (x * y)
 
 pub difference_keeps : Keeps difference_of
-difference_keeps w x y h k = by_case (nat_le y x) refl
-  where
-    by_case : (b : Bool) → nat_le y x ≡ b → Part (Fits w) (difference_of w x y)
-    by_case true e = let l : x < 2 ^ width_bits w = fits-lt w x h in rw e (lt-fits w (x - y) (omega (arith, l)))
-    by_case false e = rw e tt
+difference_keeps w x y h k = kept w (nat_le y x) (x - y) (λ e. let l : x < 2 ^ width_bits w = fits-lt w x h in omega (arith, l))
 
 pub remainder_keeps : Keeps remainder_of
-remainder_keeps w x y h k = by_case (eqb y 0) refl
-  where
-    by_case : (b : Bool) → eqb y 0 ≡ b → Part (Fits w) (remainder_of w x y)
-    by_case true e = rw e tt
-    by_case false e = let l : x < 2 ^ width_bits w = fits-lt w x h in rw e (lt-fits w (x % y) (omega (arith, l)))
+remainder_keeps w x y h k = kept_past w (eqb y 0) (x % y) (λ e. let l : x < 2 ^ width_bits w = fits-lt w x h in omega (arith, l))
 
 pub quotient_keeps : Keeps quotient_of
-quotient_keeps w x y h k = by_case (eqb y 0) refl
-  where
-    by_case : (b : Bool) → eqb y 0 ≡ b → Part (Fits w) (quotient_of w x y)
-    by_case true e = rw e tt
-    by_case false e = let l : x < 2 ^ width_bits w = fits-lt w x h in rw e (lt-fits w (x / y) (omega (arith, l)))
+quotient_keeps w x y h k = kept_past w (eqb y 0) (x / y) (λ e. let l : x < 2 ^ width_bits w = fits-lt w x h in omega (arith, l))
 
 pub or_keeps : Keeps (λ w x y. Ok (bit_or x y))
 or_keeps w x y h k = lt-fits w (bit_or x y) (or_lt (width_bits w) x y (fits-lt w x h) (fits-lt w y k))
@@ -87,73 +74,53 @@ KeepsLeft operator = (w : Width) (x y : ℕ) → Fits w x → Part (Fits w) (ope
 below_divisor : (m n : ℕ) → 0 < m → n % m < m
 below_divisor m n p = omega arith
 
-power_is_positive : (k : ℕ) → 0 < 2 ^ k
-power_is_positive k = pow_pos k
-
 pub left_keeps : KeepsLeft shifted_left
-left_keeps w x y h = by_case (nat_lt y (width_bits w)) refl
-  where
-    by_case : (b : Bool) → nat_lt y (width_bits w) ≡ b → Part (Fits w) (shifted_left w x y)
-    by_case true e = rw e (lt-fits w (x * 2 ^ y % 2 ^ width_bits w) (below_divisor (2 ^ width_bits w) (x * 2 ^ y) (power_is_positive (width_bits w))))
-    by_case false e = rw e tt
+left_keeps w x y h = kept w (nat_lt y (width_bits w)) (x * 2 ^ y % 2 ^ width_bits w) (λ e. below_divisor (2 ^ width_bits w) (x * 2 ^ y) (pow_pos (width_bits w)))
 
 pub right_keeps : KeepsLeft shifted_right
-right_keeps w x y h = by_case (nat_lt y (width_bits w)) refl
-  where
-    by_case : (b : Bool) → nat_lt y (width_bits w) ≡ b → Part (Fits w) (shifted_right w x y)
-    by_case true e =
-        let l : x < 2 ^ width_bits w = fits-lt w x h in
-        let m : x / 2 ^ y ≤ x = div-le_self x (2 ^ y) in
-        rw e (lt-fits w (x / 2 ^ y) (omega (arith, l, m)))
-    by_case false e = rw e tt
+right_keeps w x y h =
+    let l : x < 2 ^ width_bits w = fits-lt w x h in
+    let m : x / 2 ^ y ≤ x = div-le_self x (2 ^ y) in
+    kept w (nat_lt y (width_bits w)) (x / 2 ^ y) (λ e. omega (arith, l, m))
 
 -- a type whose number has a width
 pub top_width-is : (types : Types) (w : Width) → top_width types ≡ Some w → (below : Types) × (types ≡ number w ∷ below)
 top_width-is (Plain (OfLeaf (Number v)) ∷ below) w e = (below, ap (λ (u : Width). number u ∷ below) (same_Some v w e))
-top_width-is [] w e = absurd cc
-top_width-is (Plain (OfLeaf Boolean) ∷ below) w e = absurd cc
-top_width-is (Plain (OfLeaf Address) ∷ below) w e = absurd cc
-top_width-is (Plain (OfLeaf Signer) ∷ below) w e = absurd cc
-top_width-is (Plain (OfStruct h) ∷ below) w e = absurd cc
-top_width-is (ReferenceTo t ∷ below) w e = absurd cc
-top_width-is (MutableReferenceTo t ∷ below) w e = absurd cc
+top_width-is types w e = absurd cc
 
 pub width_of-is : (t : Token) (w : Width) → width_of t ≡ Some w → t ≡ number w
 width_of-is (Plain (OfLeaf (Number v))) w e = ap number (same_Some v w e)
-width_of-is (Plain (OfLeaf Boolean)) w e = absurd cc
-width_of-is (Plain (OfLeaf Address)) w e = absurd cc
-width_of-is (Plain (OfLeaf Signer)) w e = absurd cc
-width_of-is (Plain (OfStruct h)) w e = absurd cc
-width_of-is (ReferenceTo t) w e = absurd cc
-width_of-is (MutableReferenceTo t) w e = absurd cc
+width_of-is t w e = absurd cc
 
 -- ---- the rules
 module _ (modules : List Module) (look : Roots) (home : Module) where
-  -- two numbers of one width
-  pub record TwoNumbers (stack : List Value) (w : Width) (below : Types) : Type 0 where
-    pub right : ℕ
-    pub left : ℕ
-    pub rest : List Value
-    pub are : stack ≡ Leaf (Number w) right ∷ Leaf (Number w) left ∷ rest
-    pub right_fits : Fits w right
-    pub left_fits : Fits w left
-    pub typed : HaveTokens modules look home rest below
+  -- a leaf on top
+  record OneLeaf (stack : List Value) (k : LeafKind) (below : Types) : Type 0 where
+    n : ℕ
+    rest : List Value
+    are : stack ≡ Leaf k n ∷ rest
+    fits : IsTrue (in_range k n)
+    typed : HaveTokens modules look home rest below
 
-  two_numbers : (stack : List Value) (w : Width) (below : Types) → HaveTokens modules look home stack (number w ∷ number w ∷ below) → TwoNumbers stack w below
-  two_numbers [] w below h = absurd h
-  two_numbers (b ∷ []) w below h = absurd h.1
-  two_numbers (b ∷ a ∷ rest) w below h =
-      let y = leaf modules look home b (Number w) h.0 in
-      let x = leaf modules look home a (Number w) h.1.0 in
-      record {
-        right = y.number;
-        left = x.number;
-        rest = rest;
-        are = subst (λ c. b ∷ a ∷ rest ≡ c ∷ Leaf (Number w) x.number ∷ rest) y.is_leaf (ap (λ (c : Value). b ∷ c ∷ rest) x.is_leaf);
-        right_fits = y.fits;
-        left_fits = x.fits;
-        typed = h.1.1;
-      }
+  one_leaf : (stack : List Value) (k : LeafKind) (below : Types) → HaveTokens modules look home stack (Plain (OfLeaf k) ∷ below) → OneLeaf stack k below
+  one_leaf [] k below h = absurd h
+  one_leaf (v ∷ rest) k below h = let x = leaf modules look home v k h.0 in record { n = x.number; rest = rest; are = ap (λ (c : Value). c ∷ rest) x.is_leaf; fits = x.fits; typed = h.1 }
+
+  -- two leaves on top
+  record TwoLeaves (stack : List Value) (j k : LeafKind) (below : Types) : Type 0 where
+    right : ℕ
+    left : ℕ
+    rest : List Value
+    are : stack ≡ Leaf j right ∷ Leaf k left ∷ rest
+    right_fits : IsTrue (in_range j right)
+    left_fits : IsTrue (in_range k left)
+    typed : HaveTokens modules look home rest below
+
+  two_leaves : (stack : List Value) (j k : LeafKind) (below : Types) → HaveTokens modules look home stack (Plain (OfLeaf j) ∷ Plain (OfLeaf k) ∷ below) → TwoLeaves stack j k below
+  two_leaves stack j k below h =
+      let y = one_leaf stack j (Plain (OfLeaf k) ∷ below) h in
+      let x = one_leaf y.rest k below y.typed in
+      record { right = y.n; left = x.n; rest = x.rest; are = y.are ∙ ap (λ (c : List Value). Leaf j y.n ∷ c) x.are; right_fits = y.fits; left_fits = x.fits; typed = x.typed }
 
   pub of_two_numbers-is : (given : Width → Token) (types after : Types) → of_two_numbers given types ≡ Some after
       → (w : Width) × (below : Types) × (types ≡ number w ∷ number w ∷ below) × (after ≡ given w ∷ below)
@@ -168,7 +135,7 @@ module _ (modules : List Module) (look : Roots) (home : Module) where
   binary_typed operator keeps stack types after h e =
       let parts = of_two_numbers-is number types after e in
       let w : Width = parts.0 in
-      let n = two_numbers stack w parts.1 (subst (λ (ts : Types). HaveTokens modules look home stack ts) parts.2 h) in
+      let n = two_leaves stack (Number w) (Number w) parts.1 (subst (λ (ts : Types). HaveTokens modules look home stack ts) parts.2 h) in
       subst (λ (s : List Value). Part (λ (s : List Value). HaveTokens modules look home s after) (binary operator s)) (sym n.are)
       (passes (λ (s : List Value). HaveTokens modules look home s after) (same_width w w) _ _ (same_width-same w)
       (some (λ (s : List Value). HaveTokens modules look home s after) (Fits w) (operator w n.left n.right) _ (keeps w n.left n.right n.left_fits n.right_fits) (λ m fits.
@@ -188,7 +155,7 @@ module _ (modules : List Module) (look : Roots) (home : Module) where
   comparison_typed test stack types after h e =
       let parts = of_two_numbers-is (λ w. boolean) types after e in
       let w : Width = parts.0 in
-      let n = two_numbers stack w parts.1 (subst (λ (ts : Types). HaveTokens modules look home stack ts) parts.2 h) in
+      let n = two_leaves stack (Number w) (Number w) parts.1 (subst (λ (ts : Types). HaveTokens modules look home stack ts) parts.2 h) in
       subst (λ (s : List Value). Part (Typed after) (comparison test s)) (sym n.are)
       (passes (Typed after) (same_width w w) _ _ (same_width-same w)
       (subst (λ (ts : Types). HaveTokens modules look home (truth (test n.left n.right) ∷ n.rest) ts) (sym parts.3) (of_truth (test n.left n.right), n.typed)))
@@ -202,18 +169,10 @@ module _ (modules : List Module) (look : Roots) (home : Module) where
       let wide = top_width-is below w w_is in
       let all : types ≡ number U8 ∷ number w ∷ wide.0 = taken-is (number U8 ∷ []) types below below_is ∙ ap (λ (ts : Types). number U8 ∷ ts) wide.1 in
       let same : after ≡ number w ∷ wide.0 = sym (same_Some below after e2) ∙ wide.1 in
-      at w wide.0 same stack (subst (λ (ts : Types). HaveTokens modules look home stack ts) all h)))
-    where
-      at : (w : Width) (below : Types) → after ≡ number w ∷ below → (stack : List Value) → HaveTokens modules look home stack (number U8 ∷ number w ∷ below) → Part (Typed after) (shift operator stack)
-      at w below same [] k = absurd k
-      at w below same (b ∷ []) k = absurd k.1
-      at w below same (b ∷ a ∷ rest) k =
-          let y = leaf modules look home b (Number U8) k.0 in
-          let x = leaf modules look home a (Number w) k.1.0 in
-          subst (λ (c : Value). Part (Typed after) (shift operator (c ∷ a ∷ rest))) (sym y.is_leaf)
-          (subst (λ (c : Value). Part (Typed after) (shift operator (Leaf (Number U8) y.number ∷ c ∷ rest))) (sym x.is_leaf)
-          (some (Typed after) (Fits w) (operator w x.number y.number) _ (keeps w x.number y.number x.fits) (λ m fits.
-          subst (λ (ts : Types). HaveTokens modules look home (Leaf (Number w) m ∷ rest) ts) (sym same) (of_leaf modules look home (Number w) m fits, k.1.1))))
+      let n = two_leaves stack (Number U8) (Number w) wide.0 (subst (λ (ts : Types). HaveTokens modules look home stack ts) all h) in
+      subst (λ (s : List Value). Part (Typed after) (shift operator s)) (sym n.are)
+      (some (Typed after) (Fits w) (operator w n.left n.right) _ (keeps w n.left n.right n.left_fits) (λ m fits.
+      subst (λ (ts : Types). HaveTokens modules look home (Leaf (Number w) m ∷ n.rest) ts) (sym same) (of_leaf modules look home (Number w) m fits, n.typed)))))
 
   pub cast_typed : (w : Width) (stack : List Value) (types after : Types) → HaveTokens modules look home stack types → of_cast w types ≡ Some after →
       Part (λ (s : List Value). HaveTokens modules look home s after) (cast w stack)
@@ -222,15 +181,10 @@ module _ (modules : List Module) (look : Roots) (home : Module) where
       on_bind (top_type types) _ after e (λ top top_is e1.
       on_bind (width_of top.0) _ after e1 (λ v v_is e2.
       let all : types ≡ number v ∷ top.1 = top_type-is types top top_is ∙ ap (λ (t : Token). t ∷ top.1) (width_of-is top.0 v v_is) in
-      at v top.1 (sym (same_Some (number w ∷ top.1) after e2)) stack (subst (λ (ts : Types). HaveTokens modules look home stack ts) all h)))
-    where
-      at : (v : Width) (below : Types) → after ≡ number w ∷ below → (stack : List Value) → HaveTokens modules look home stack (number v ∷ below) → Part (Typed after) (cast w stack)
-      at v below same [] k = absurd k
-      at v below same (a ∷ rest) k =
-          let x = leaf modules look home a (Number v) k.0 in
-          subst (λ (c : Value). Part (Typed after) (cast w (c ∷ rest))) (sym x.is_leaf)
-          (some (Typed after) (Fits w) (fitting w x.number) _ (fitting_fits w x.number) (λ m fits.
-          subst (λ (ts : Types). HaveTokens modules look home (Leaf (Number w) m ∷ rest) ts) (sym same) (of_leaf modules look home (Number w) m fits, k.1)))
+      let x = one_leaf stack (Number v) top.1 (subst (λ (ts : Types). HaveTokens modules look home stack ts) all h) in
+      subst (λ (s : List Value). Part (Typed after) (cast w s)) (sym x.are)
+      (some (Typed after) (Fits w) (fitting w x.n) _ (fitting_fits w x.n) (λ m fits.
+      subst (λ (ts : Types). HaveTokens modules look home (Leaf (Number w) m ∷ x.rest) ts) (same_Some (number w ∷ top.1) after e2) (of_leaf modules look home (Number w) m fits, x.typed)))))
 
   pub logic_typed : (operator : Bool → Bool → Bool) (stack : List Value) (types after : Types) → HaveTokens modules look home stack types
       → takes_gives (boolean ∷ boolean ∷ []) (boolean ∷ []) types ≡ Some after
@@ -238,29 +192,16 @@ module _ (modules : List Module) (look : Roots) (home : Module) where
   unfolding logic
   logic_typed operator stack types after h e =
       let parts = takes_gives-is (boolean ∷ boolean ∷ []) (boolean ∷ []) types after e in
-      at parts.0 parts.2 stack (subst (λ (ts : Types). HaveTokens modules look home stack ts) parts.1 h)
-    where
-      at : (below : Types) → after ≡ boolean ∷ below → (stack : List Value) → HaveTokens modules look home stack (boolean ∷ boolean ∷ below) → Part (Typed after) (logic operator stack)
-      at below same [] k = absurd k
-      at below same (b ∷ []) k = absurd k.1
-      at below same (b ∷ a ∷ rest) k =
-          let y = leaf modules look home b Boolean k.0 in
-          let x = leaf modules look home a Boolean k.1.0 in
-          subst (λ (c : Value). Part (Typed after) (logic operator (c ∷ a ∷ rest))) (sym y.is_leaf)
-          (subst (λ (c : Value). Part (Typed after) (logic operator (Leaf Boolean y.number ∷ c ∷ rest))) (sym x.is_leaf)
-          (subst (λ (ts : Types). HaveTokens modules look home (truth (operator (not (eqb x.number 0)) (not (eqb y.number 0))) ∷ rest) ts)
-          (sym same) (of_truth (operator (not (eqb x.number 0)) (not (eqb y.number 0))), k.1.1)))
+      let n = two_leaves stack Boolean Boolean parts.0 (subst (λ (ts : Types). HaveTokens modules look home stack ts) parts.1 h) in
+      let said : Bool = operator (not (eqb n.left 0)) (not (eqb n.right 0)) in
+      subst (λ (s : List Value). Part (Typed after) (logic operator s)) (sym n.are)
+      (subst (λ (ts : Types). HaveTokens modules look home (truth said ∷ n.rest) ts) (sym parts.2) (of_truth said, n.typed))
 
   pub negation_typed : (stack : List Value) (types after : Types) → HaveTokens modules look home stack types → takes_gives (boolean ∷ []) (boolean ∷ []) types ≡ Some after →
       Part (λ (s : List Value). HaveTokens modules look home s after) (negation stack)
   unfolding negation
   negation_typed stack types after h e =
       let parts = takes_gives-is (boolean ∷ []) (boolean ∷ []) types after e in
-      at parts.0 parts.2 stack (subst (λ (ts : Types). HaveTokens modules look home stack ts) parts.1 h)
-    where
-      at : (below : Types) → after ≡ boolean ∷ below → (stack : List Value) → HaveTokens modules look home stack (boolean ∷ below) → Part (Typed after) (negation stack)
-      at below same [] k = absurd k
-      at below same (a ∷ rest) k =
-          let x = leaf modules look home a Boolean k.0 in
-          subst (λ (c : Value). Part (Typed after) (negation (c ∷ rest))) (sym x.is_leaf)
-          (subst (λ (ts : Types). HaveTokens modules look home (truth (not (not (eqb x.number 0))) ∷ rest) ts) (sym same) (of_truth (not (not (eqb x.number 0))), k.1))
+      let x = one_leaf stack Boolean parts.0 (subst (λ (ts : Types). HaveTokens modules look home stack ts) parts.1 h) in
+      subst (λ (s : List Value). Part (Typed after) (negation s)) (sym x.are)
+      (subst (λ (ts : Types). HaveTokens modules look home (truth (not (not (eqb x.n 0))) ∷ x.rest) ts) (sym parts.2) (of_truth (not (not (eqb x.n 0))), x.typed))

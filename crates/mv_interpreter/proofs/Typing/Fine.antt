@@ -1,27 +1,16 @@
 -- A storage that the ledger calls fine is typed, and a typed one is fine.
-use Rattle.mv_interpreter.proofs.Typing.Common.{◌≡◌, ℕ, true, false, List, [], ◌∷◌, map, refl, sym, ap, subst, ◌∙◌, Option, Some, slice_get, IsTrue}
-use Rattle.mv_interpreter.proofs.Typing.Common.{◌&&◌, list_all, option_map_or, first_so, second_so, same_Some, and_from, LeafKind, Boolean, Number}
-use Rattle.mv_interpreter.proofs.Typing.Common.{Address, Signer, OfLeaf, OfStruct, Token, Plain, ReferenceTo, MutableReferenceTo, Abilities}
-use Rattle.mv_interpreter.proofs.Typing.Common.{StructName, Module, struct_name, Field, Value, Leaf, Struct, Ref, Values, NoMore, More, same_kind}
-use Rattle.mv_interpreter.proofs.Typing.Common.{Storage, Tag, LeafTag, StructTag, module_place, address_fits, below, token_named, tokens_named}
-use Rattle.mv_interpreter.proofs.Typing.Common.{on_bind, each, then_found, in_range, IsOf, AreOf, EntryTyped, StorageTyped, ModuleAccepted}
-use Rattle.mv_interpreter.proofs.Typing.Common.{StoreAccepted}
-use Rattle.mv_move_types.specs.Options.{find_index}
-use Rattle.mv_move_types.specs.Names.{same_struct}
-use Rattle.mv_move_types.specs.Module.{StructDefinition, name_at}
-use Rattle.mv_machine.specs.State.{Entry}
-use Rattle.mv_move_types.specs.Named.{is_struct, module_named}
-use Rattle.mv_machine.specs.Typed.{leaf_fits}
-use Rattle.mv_bounds.specs.Bounds.{struct_in, field_in}
-use Rattle.mv_signatures.specs.Signatures.{may_be_field}
-use Rattle.mv_move_types.specs.Named.{definition_of}
-use Rattle.mv_machine.specs.Typed.{is_of_type, are_of_types, is_of_struct, abilities_at, is_fine_entry, is_fine_storage}
-use Rattle.mv_linker.proofs.NameLemmas.{same_struct-is, same_struct-same}
+use Rattle.mv_interpreter.proofs.Typing.Common.{◌≡◌, ℕ, true, List, [], ◌∷◌, refl, ap, subst, ◌∙◌, Option, Some, false, sym, map, and_from, same_Some, option_and_then_some, first_so}
+use Rattle.mv_interpreter.proofs.Typing.Common.{second_so, list_all, option_map_or, IsTrue, ◌&&◌, slice_get, Module, struct_name, StructDefinition, name_at, module_place, module_named}
+use Rattle.mv_interpreter.proofs.Typing.Common.{definition_of, StructName, Tag, LeafTag, StructTag, same_kind, Field, Abilities, LeafKind, Signer, Token, Plain, ReferenceTo}
+use Rattle.mv_interpreter.proofs.Typing.Common.{MutableReferenceTo, OfLeaf, OfStruct, Storage, Entry, abilities_at, Value, Leaf, Struct, Ref, Values, NoMore, More, below, struct_in}
+use Rattle.mv_interpreter.proofs.Typing.Common.{field_in, on_bind, address_fits, each, then_found, same_struct-same, token_named, tokens_named, StoreAccepted, ModuleAccepted, in_range}
+use Rattle.mv_interpreter.proofs.Typing.Common.{IsOf, AreOf, EntryTyped, StorageTyped, may_be_field}
+use Rattle.mv_interpreter.proofs.{Typing.Operands.on_names, Typing.Tests.same_kind-is, Typing.Tests.same_kind-same, Typing.Names.tokens_there, Typing.OwnDefinitions.field_tokens}
+use Rattle.mv_interpreter.proofs.{Typing.Callees.on_found}
+use Rattle.mv_move_types.specs.{Options.find_index, Names.same_struct, Named.is_struct}
+use Rattle.mv_machine.specs.Typed.{leaf_fits, is_of_type, are_of_types, is_of_struct, is_fine_entry, is_fine_storage}
+use Rattle.mv_linker.proofs.NameLemmas.{same_struct-is}
 use Rattle.mv_interpreter.specs.Typing.HasType.{fields_by_name}
-use Rattle.mv_interpreter.proofs.Typing.Tests.{same_kind-is, same_kind-same}
-use Rattle.mv_interpreter.proofs.Typing.Names.{tokens_there}
-use Rattle.mv_interpreter.proofs.Typing.OwnDefinitions.{field_tokens}
-use Rattle.mv_interpreter.proofs.Typing.Callees.{on_found, on_and_then}
 
 -- what the phases say of a struct's definition: its fields' types have names, and none is a reference or a signer
 pub record Defined (modules : List Module) (m : Module) (fields : List Field) : Type 0 where
@@ -32,7 +21,7 @@ pub record Defined (modules : List Module) (m : Module) (fields : List Field) : 
 pub definition_defined : (modules : List Module) → StoreAccepted modules → (name : StructName) (d : Module × List Field) → definition_of modules name ≡ Some d → Defined modules d.0 d.1
 definition_defined modules store name d e =
     on_bind (module_named modules name.home) _ d e (λ m m_is e1.
-    on_and_then (slice_get modules) (module_place modules name.home) m m_is (λ place place_is m_at.
+    option_and_then_some (slice_get modules) (module_place modules name.home) m m_is (λ place place_is m_at.
     on_bind (find_index (is_struct m name) m.structs) _ d e1 (λ i i_is e2.
     on_bind (slice_get m.structs i) _ d e2 (λ s s_at e3.
     let a : ModuleAccepted m = store.each place m m_at in
@@ -46,10 +35,8 @@ definition_defined modules store name d e =
     subst (λ (x : Module × List Field). Defined modules x.0 x.1) (same_Some (m, s.fields) d e3) here))))
 
 pub leaf_ranges : (k : LeafKind) (n : ℕ) → leaf_fits k n ≡ true → IsTrue (in_range k n)
-leaf_ranges Boolean n h = h
-leaf_ranges (Number w) n h = h
-leaf_ranges Address n h = h
 leaf_ranges Signer n h = absurd cc
+leaf_ranges k n h = h
 
 module _ (modules : List Module) (store : StoreAccepted modules) where
   -- the table's entry of a defined struct
@@ -82,27 +69,20 @@ module _ (modules : List Module) (store : StoreAccepted modules) where
         on_bind (struct_name m i) (λ n. Some (StructTag n)) tag e (λ n n_is e1.
         let tag_is : StructTag name ≡ tag = ap StructTag (sym (same_struct-is own name is_name) ∙ same_Some own n (sym own_is ∙ n_is)) ∙ same_Some (StructTag n) tag e1 in
         subst (λ (x : Tag). IsOf (fields_by_name modules) (Struct name fields) x) tag_is (refl, parts.1.tags, by_name name parts.0 parts.2 parts.1.tags parts.1.are_tags, all)))
-    of_type m (Plain (OfLeaf k)) (Struct name fields) tag h e = absurd cc
-    of_type m (Plain (OfLeaf k)) (Ref r) tag h e = absurd cc
-    of_type m (Plain (OfStruct i)) (Leaf j n) tag h e = absurd cc
-    of_type m (Plain (OfStruct i)) (Ref r) tag h e = absurd cc
-    of_type m (ReferenceTo t) (Leaf j n) tag h e = absurd cc
-    of_type m (ReferenceTo t) (Struct name fields) tag h e = absurd cc
     of_type m (ReferenceTo t) (Ref r) tag h e = absurd cc
-    of_type m (MutableReferenceTo t) (Leaf j n) tag h e = absurd cc
-    of_type m (MutableReferenceTo t) (Struct name fields) tag h e = absurd cc
     of_type m (MutableReferenceTo t) (Ref r) tag h e = absurd cc
+    of_type m t v tag h e = absurd cc
 
     of_types : (m : Module) (fs : List Field) (vs : Values) (tags : List Tag) → are_of_types modules m fs vs ≡ true
         → tokens_named m (map (λ (f : Field). f.token) fs) ≡ Some tags → AreOf (fields_by_name modules) vs tags
     of_types m [] NoMore tags h e = subst (AreOf (fields_by_name modules) NoMore) (same_Some [] tags e) tt
-    of_types m [] (More v vs) tags h e = absurd cc
-    of_types m (f ∷ fs) NoMore tags h e = absurd cc
     of_types m (f ∷ fs) (More v vs) tags h e =
-        on_bind (token_named m f.token) _ tags e (λ tag tag_is e1.
-        on_bind (tokens_named m (map (λ (f : Field). f.token) fs)) (λ rest. Some (tag ∷ rest)) tags e1 (λ rest rest_is e2.
-        subst (AreOf (fields_by_name modules) (More v vs)) (same_Some (tag ∷ rest) tags e2)
-        (of_type m f.token v tag (first_so (is_of_type modules m f.token v) (are_of_types modules m fs vs) h) tag_is, of_types m fs vs rest (second_so (is_of_type modules m f.token v) (are_of_types modules m fs vs) h) rest_is)))
+        on_names m f.token (map (λ (f : Field). f.token) fs) tags e (λ tag rest tag_is rest_is whole.
+        subst (AreOf (fields_by_name modules) (More v vs)) whole (
+          of_type m f.token v tag (first_so (is_of_type modules m f.token v) (are_of_types modules m fs vs) h) tag_is,
+          of_types m fs vs rest (second_so (is_of_type modules m f.token v) (are_of_types modules m fs vs) h) rest_is,
+        ))
+    of_types m fs vs tags h e = absurd cc
 
   fine_entry : (e : Entry) → is_fine_entry modules e ≡ true → EntryTyped modules e
   fine_entry e h =
@@ -118,8 +98,6 @@ module _ (modules : List Module) (store : StoreAccepted modules) where
       })
     where
       of_own : (name : StructName) (v : Value) → is_of_struct modules name v ≡ true → IsOf (fields_by_name modules) v (StructTag name)
-      of_own name (Leaf j n) h = absurd cc
-      of_own name (Ref r) h = absurd cc
       of_own name (Struct own fields) h =
           let parts = found_definition own fields (second_so (same_struct name own)
           (option_map_or (λ (d : Module × List Field). are_of_types modules d.0 d.1 fields) (definition_of modules own) false) h) in (
@@ -128,6 +106,7 @@ module _ (modules : List Module) (store : StoreAccepted modules) where
             by_name own parts.0 parts.2 parts.1.tags parts.1.are_tags,
             of_types parts.0.0 parts.0.1 fields parts.1.tags parts.3 parts.1.are_tags,
           )
+      of_own name v h = absurd cc
 
   -- a storage that the ledger calls fine is typed
   pub fine_storage : (es : Storage) → IsTrue (is_fine_storage modules es) → StorageTyped modules es
@@ -143,10 +122,8 @@ module _ (modules : List Module) (store : StoreAccepted modules) where
   defined_by_name name tags e = on_bind (definition_of modules name) _ tags e (λ d d_is e1. (d, d_is, e1))
 
   leaf_fits_back : (k : LeafKind) (n : ℕ) → may_be_field (Plain (OfLeaf k)) ≡ true → IsTrue (in_range k n) → leaf_fits k n ≡ true
-  leaf_fits_back Boolean n m h = h
-  leaf_fits_back (Number w) n m h = h
-  leaf_fits_back Address n m h = h
   leaf_fits_back Signer n m h = absurd cc
+  leaf_fits_back k n m h = h
 
   -- a struct's fields are tested by its definition
   tested_by : (name : StructName) (fields : Values) (d : Module × List Field) → definition_of modules name ≡ Some d → are_of_types modules d.0 d.1 fields ≡ true →
@@ -173,24 +150,21 @@ module _ (modules : List Module) (store : StoreAccepted modules) where
     to_type m (Plain (OfStruct i)) (Leaf j n) tag b e h =
         on_bind (struct_name m i) (λ n. Some (StructTag n)) tag e (λ own own_is e1.
         absurd (subst (λ (x : Tag). IsOf (fields_by_name modules) (Leaf j n) x) (sym (same_Some (StructTag own) tag e1)) h))
-    to_type m (ReferenceTo t) v tag b e h = absurd cc
-    to_type m (MutableReferenceTo t) v tag b e h = absurd cc
+    to_type m t v tag b e h = absurd cc
 
     to_types : (m : Module) (fs : List Field) (vs : Values) (tags : List Tag) → list_all (λ (f : Field). may_be_field f.token) fs ≡ true
         → tokens_named m (map (λ (f : Field). f.token) fs) ≡ Some tags → AreOf (fields_by_name modules) vs tags → are_of_types modules m fs vs ≡ true
     to_types m [] NoMore tags b e h = refl
     to_types m [] (More v vs) tags b e h = absurd (subst (AreOf (fields_by_name modules) (More v vs)) (sym (same_Some [] tags e)) h)
     to_types m (f ∷ fs) NoMore tags b e h =
-        on_bind (token_named m f.token) _ tags e (λ tag tag_is e1.
-        on_bind (tokens_named m (map (λ (f : Field). f.token) fs)) (λ rest. Some (tag ∷ rest)) tags e1 (λ rest rest_is e2.
-        absurd (subst (AreOf (fields_by_name modules) NoMore) (sym (same_Some (tag ∷ rest) tags e2)) h)))
+        on_names m f.token (map (λ (f : Field). f.token) fs) tags e (λ tag rest tag_is rest_is whole.
+        absurd (subst (AreOf (fields_by_name modules) NoMore) (sym whole) h))
     to_types m (f ∷ fs) (More v vs) tags b e h =
-        on_bind (token_named m f.token) _ tags e (λ tag tag_is e1.
-        on_bind (tokens_named m (map (λ (f : Field). f.token) fs)) (λ rest. Some (tag ∷ rest)) tags e1 (λ rest rest_is e2.
-        let here : AreOf (fields_by_name modules) (More v vs) (tag ∷ rest) = subst (AreOf (fields_by_name modules) (More v vs)) (sym (same_Some (tag ∷ rest) tags e2)) h in
+        on_names m f.token (map (λ (f : Field). f.token) fs) tags e (λ tag rest tag_is rest_is whole.
+        let here : AreOf (fields_by_name modules) (More v vs) (tag ∷ rest) = subst (AreOf (fields_by_name modules) (More v vs)) (sym whole) h in
         and_from (is_of_type modules m f.token v) (are_of_types modules m fs vs)
         (to_type m f.token v tag (first_so (may_be_field f.token) (list_all (λ (f : Field). may_be_field f.token) fs) b) tag_is here.0)
-        (to_types m fs vs rest (second_so (may_be_field f.token) (list_all (λ (f : Field). may_be_field f.token) fs) b) rest_is here.1)))
+        (to_types m fs vs rest (second_so (may_be_field f.token) (list_all (λ (f : Field). may_be_field f.token) fs) b) rest_is here.1))
 
   typed_entry : (e : Entry) → EntryTyped modules e → is_fine_entry modules e ≡ true
   typed_entry e t =
@@ -198,12 +172,11 @@ module _ (modules : List Module) (store : StoreAccepted modules) where
       (sym t.is_named) (is_own t.name e.value t.typed))) t.has_key
     where
       is_own : (name : StructName) (v : Value) → IsOf (fields_by_name modules) v (StructTag name) → is_of_struct modules name v ≡ true
-      is_own name (Leaf j n) h = absurd h
-      is_own name (Ref r) h = absurd h
       is_own name (Struct own fields) h =
           let d = defined_by_name own h.1 h.2 in
           and_from _ _ (subst (λ (x : StructName). same_struct name x ≡ true) (sym h.0) (same_struct-same name))
           (tested_by own fields d.0 d.1 (to_types d.0.0 d.0.1 fields h.1 (definition_defined modules store own d.0 d.1).may_be d.2 h.3))
+      is_own name v h = absurd h
 
   -- a typed storage is one that the ledger calls fine
   pub typed_is_fine : (es : Storage) → StorageTyped modules es → IsTrue (is_fine_storage modules es)

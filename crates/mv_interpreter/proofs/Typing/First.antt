@@ -1,11 +1,11 @@
 -- The first state of a run is typed, and so the whole run meets no fault of types, links or dangling references.
-use Rattle.mv_interpreter.proofs.Typing.Common.{◌≡◌, List, [], ◌++◌, length, refl, Ok, arith, Module, Storage, root_value, references, FunctionCall, Roots, StateTyped, StorageTyped}
+use Rattle.mv_interpreter.proofs.Typing.Common.{◌≡◌, List, [], length, refl, arith, ◌++◌, Ok, none-some, Module, references, FunctionCall, root_value, Storage, Roots, StateTyped}
+use Rattle.mv_interpreter.proofs.Typing.Common.{StorageTyped}
 use Rattle.mv_machine.specs.Run.{first_state}
-pub use Rattle.mv_interpreter.specs.Typing.CallTyped.{Nowhere, CallTyped}
-pub use Rattle.mv_machine.proofs.Runs.{begun}
 use Rattle.mv_interpreter.proofs.Typing.Keep.{Kept, Nothing, avoid_nothing, keep_stack}
 use Rattle.mv_interpreter.proofs.Typing.Calls.{entered_locals}
-use Rattle.std.proofs.lemmas.Option.{none-some}
+pub use Rattle.mv_interpreter.specs.Typing.CallTyped.{Nowhere, CallTyped}
+pub use Rattle.mv_machine.proofs.Runs.{begun}
 
 from_nowhere : (modules : List Module) (look : Roots) → Kept modules Nowhere look Nothing
 from_nowhere modules look root t far r = absurd (none-some r.value r.is_there)

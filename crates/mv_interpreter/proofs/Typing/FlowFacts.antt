@@ -1,36 +1,33 @@
 -- Blocks: where they begin and end, and how types are carried through them.
-use Rattle.mv_interpreter.proofs.Typing.Common.{◌≡◌, ℕ, zero, suc, ◌+◌, ◌-◌, ◌<◌, ◌≤◌, Bool, true, false, cond, List, [], ◌∷◌, ◌++◌, length, take}
-use Rattle.mv_interpreter.proofs.Typing.Common.{drop, refl, sym, ap, subst, Some, None, eqb, arith, ◌⊎◌, inl, inr, slice_get, nat_le, ◌||◌, eqb-true}
-use Rattle.mv_interpreter.proofs.Typing.Common.{eqb-false, same_Some, Instruction, Module, FunctionDefinition, Types, on_bind}
-use Rattle.std.specs.Prelude.{slice_range}
-use Rattle.mv_cfg.specs.Blocks.{BasicBlock, blocks_at, block_between, starts_from, is_target}
-use Rattle.mv_move_types.specs.Flow.{ends_block}
+use Rattle.mv_interpreter.proofs.Typing.Common.{◌≡◌, ℕ, zero, suc, ◌+◌, ◌-◌, ◌<◌, ◌≤◌, true, List, [], ◌∷◌, length, refl, ap, subst, arith, ◌++◌, Some, None, Bool, false, take, drop, sym}
+use Rattle.mv_interpreter.proofs.Typing.Common.{◌⊎◌, inl, inr, cond, eqb, eqb-true, eqb-false, or_right, same_Some, slice_get, nat_le, ◌||◌, slice_range, ends_block, Module}
+use Rattle.mv_interpreter.proofs.Typing.Common.{FunctionDefinition, Instruction, IsAscending, BasicBlock, starts_from, on_bind, Types, types_through}
+use Rattle.mv_move_types.specs.declared.instruction.Exit.{Exit}
+use Rattle.mv_move_types.specs.declared.instruction.Exit.TheVariants.{Next, Fork, Jump, Leave}
+use Rattle.mv_move_types.specs.Instructions.{exit_of}
+use Rattle.mv_move_types.specs.Flow.{exit_ends_block, exit_successors, successors}
+use Rattle.mv_cfg.specs.Blocks.{blocks_at, block_between, is_target}
 use Rattle.mv_type_states.specs.TypeRules.{types_after}
-use Rattle.mv_type_states.specs.TypesHold.{types_through}
 
 -- ---- lists
 
 -- a list up to an element, the element, and the rest
 take_split : {A : Type 0} (ys : List A) (n r k : ℕ) (c : A) → k ≡ n + suc r → slice_get ys n ≡ Some c → (rest : List A) × (take k ys ≡ take n ys ++ c ∷ rest) × (r ≡ 0 → rest ≡ [])
-take_split [] n r k c e g = absurd cc
-take_split (y ∷ ys) n r zero c e g = absurd (omega (arith, e))
 take_split (y ∷ ys) zero r (suc k) c e g = (take k ys, ap (λ z. z ∷ take k ys) (same_Some y c g), λ z. let none : k ≡ 0 = omega (arith, e, z) in ap (λ n. take n ys) none)
 take_split (y ∷ ys) (suc n) r (suc k) c e g =
     let lower : k ≡ n + suc r = omega (arith, e) in
     let rest = take_split ys n r k c lower g in
     (rest.0, ap (λ zs. y ∷ zs) rest.1, rest.2)
+take_split ys n r k c e g = absurd (grind arith)
 
 get_drop : {A : Type 0} (xs : List A) (a n k : ℕ) (c : A) → k ≡ a + n → slice_get xs k ≡ Some c → slice_get (drop a xs) n ≡ Some c
 get_drop xs zero n k c e g = let same : k ≡ n = omega (arith, e) in subst (λ m. slice_get xs m ≡ Some c) same g
-get_drop [] (suc a) n k c e g = absurd cc
-get_drop (x ∷ xs) (suc a) n zero c e g = absurd (omega (arith, e))
 get_drop (x ∷ xs) (suc a) n (suc k) c e g = let lower : k ≡ a + n = omega (arith, e) in get_drop xs a n k c lower g
+get_drop xs a n k c e g = absurd (grind arith)
 
 pub range_split : {A : Type 0} (xs : List A) (a at b : ℕ) (c : A) → a ≤ at → at < b → slice_get xs at ≡ Some c
     → (rest : List A) × (slice_range xs a b ≡ slice_range xs a at ++ c ∷ rest) × (b ≡ at + 1 → rest ≡ [])
 range_split xs a at b c low high e =
-    let n : ℕ = at - a in
-    let r : ℕ = b - at - 1 in
     let whole : b - a ≡ (at - a) + suc (b - at - 1) = omega (arith, low, high) in
     let place : at ≡ a + (at - a) = omega (arith, low) in
     let parts = take_split (drop a xs) (at - a) (b - at - 1) (b - a) c whole (get_drop xs a (at - a) at c place e) in
@@ -55,10 +52,7 @@ through_apart m d [] ys ts r e = (ts, refl, e)
 through_apart m d (x ∷ xs) ys ts r e =
     let s = through_step m d x (xs ++ ys) ts r e in
     let rest = through_apart m d xs ys s.0 r s.3 in
-    (rest.0, joined s.0 rest.0 s.1 s.2 rest.1, rest.2)
-  where
-    joined : (after mid : Types) → types_after m d x ts ≡ Some after → nat_le (length after) 128 ≡ true → types_through m d xs after ≡ Some mid → types_through m d (x ∷ xs) ts ≡ Some mid
-    joined after mid p q k = rw (p, q) k
+    (rest.0, rw (s.1, s.2) rest.1, rest.2)
 
 pub through_join : (m : Module) (d : FunctionDefinition) (xs ys : List Instruction) (ts mid r : Types) → types_through m d xs ts ≡ Some mid
     → types_through m d ys mid ≡ Some r → types_through m d (xs ++ ys) ts ≡ Some r
@@ -66,10 +60,7 @@ through_join m d [] ys ts mid r e g = subst (λ (x : Types). types_through m d y
 through_join m d (x ∷ xs) ys ts mid r e g =
     let s = through_step m d x xs ts mid e in
     let rest = through_join m d xs ys s.0 mid r s.3 g in
-    joined s.0 s.1 s.2 rest
-  where
-    joined : (after : Types) → types_after m d x ts ≡ Some after → nat_le (length after) 128 ≡ true → types_through m d (xs ++ ys) after ≡ Some r → types_through m d (x ∷ (xs ++ ys)) ts ≡ Some r
-    joined after p q k = rw (p, q) k
+    rw (s.1, s.2) rest
 
 pub through_one : (m : Module) (d : FunctionDefinition) (i : Instruction) (ts after : Types) → types_after m d i ts ≡ Some after
     → nat_le (length after) 128 ≡ true → types_through m d (i ∷ []) ts ≡ Some after
@@ -77,39 +68,27 @@ through_one m d i ts after e g = rw (e, g) refl
 
 -- ---- where blocks begin
 
+-- where nothing ends the block control goes on to the next instruction
+pub next_inside : (i : ℕ) (c : Instruction) → ends_block c ≡ false → successors i c ≡ (i + 1) ∷ []
+next_inside i c e = only_next (exit_of c) e
+  where
+    only_next : (x : Exit) → exit_ends_block x ≡ false → exit_successors i x ≡ (i + 1) ∷ []
+    only_next Next e = refl
+    only_next (Fork t) e = cc
+    only_next (Jump t) e = cc
+    only_next Leave e = cc
+
 unfoldable pub Among : ℕ → List ℕ → Type 0
 Among x [] = ⊥
 Among x (y ∷ ys) = (y ≡ x) ⊎ Among x ys
 
--- numbers that rise from one bound to another
-pub Rising : ℕ → ℕ → List ℕ → Type 0
-Rising low high [] = Unit {0}
-Rising low high (x ∷ xs) = (low ≤ x) × (x < high) × Rising (x + 1) high xs
-
-rising_lower : (low lower high : ℕ) (xs : List ℕ) → lower ≤ low → Rising low high xs → Rising lower high xs
-unfolding Rising
-rising_lower low lower high [] h r = tt
-rising_lower low lower high (x ∷ xs) h r = (omega (arith, h, r.0), r.1, r.2)
-
-pub rising_bounds : (low high x : ℕ) (xs : List ℕ) → Rising low high xs → Among x xs → (low ≤ x) × (x < high)
-unfolding Rising Among
+pub rising_bounds : (low high x : ℕ) (xs : List ℕ) → IsAscending low high xs → Among x xs → (low ≤ x) × (x < high)
+unfolding Among
 rising_bounds low high x [] r a = absurd a
-rising_bounds low high x (y ∷ ys) r (inl e) = (omega (arith, r.0, e), omega (arith, r.1, e))
+rising_bounds low high x (y ∷ ys) r (inl e) = (omega (arith, r.0, e), omega (arith, r.1.0, e))
 rising_bounds low high x (y ∷ ys) r (inr a) =
-    let rest = rising_bounds (y + 1) high x ys r.2 a in
+    let rest = rising_bounds (y + 1) high x ys r.1.1 a in
     (omega (arith, r.0, rest.0), rest.1)
-
-pub starts_rise : (code : List Instruction) (i n : ℕ) (b : Bool) (cs : List Instruction) → n ≡ i + length cs → Rising i n (starts_from code i b cs)
-unfolding Rising
-starts_rise code i n b [] e = tt
-starts_rise code i n b (c ∷ cs) e =
-    let long : n ≡ (i + 1) + length cs = omega (arith, e) in
-    let ih = starts_rise code (i + 1) n (ends_block c) cs long in
-    by_case (b || is_target code i) ih
-  where
-    by_case : (f : Bool) → Rising (i + 1) n (starts_from code (i + 1) (ends_block c) cs) → Rising i n (cond f (i ∷ []) [] ++ starts_from code (i + 1) (ends_block c) cs)
-    by_case true ih = (omega arith, omega (arith, e), ih)
-    by_case false ih = rising_lower (i + 1) i n (starts_from code (i + 1) (ends_block c) cs) (omega arith) ih
 
 later : (f : Bool) (i x : ℕ) (xs : List ℕ) → Among x xs → Among x (cond f (i ∷ []) [] ++ xs)
 unfolding Among
@@ -121,14 +100,10 @@ unfolding Among
 targets_begin code i j b [] h low high = absurd (omega (arith, low, high))
 targets_begin code i j b (c ∷ cs) h low high = by_case (eqb i j) refl (λ l g. targets_begin code (i + 1) j (ends_block c) cs h l g)
   where
-    or_true : (b c : Bool) → c ≡ true → (b || c) ≡ true
-    or_true true c e = refl
-    or_true false c e = e
-
     by_case : (f : Bool) → eqb i j ≡ f → (i + 1 ≤ j → j < (i + 1) + length cs → Among j (starts_from code (i + 1) (ends_block c) cs)) → Among j (starts_from code i b (c ∷ cs))
     by_case true e ih =
         let same : i ≡ j = eqb-true i j e in
-        let flag : (b || is_target code i) ≡ true = or_true b (is_target code i) (subst (λ (x : ℕ). is_target code x ≡ true) (sym same) h) in
+        let flag : (b || is_target code i) ≡ true = or_right b (is_target code i) (subst (λ (x : ℕ). is_target code x ≡ true) (sym same) h) in
         rw flag (inl same)
     by_case false e ih =
         let far : i ≡ j → ⊥ = eqb-false i j e in
@@ -137,8 +112,6 @@ targets_begin code i j b (c ∷ cs) h low high = by_case (eqb i j) refl (λ l g.
 pub ended_begin : (code : List Instruction) (i k j : ℕ) (b : Bool) (c : Instruction) (cs : List Instruction) → slice_get cs k ≡ Some c
     → ends_block c ≡ true → suc k < length cs → j ≡ i + suc k → Among j (starts_from code i b cs)
 unfolding Among
-ended_begin code i k j b c [] e h l at = absurd cc
-ended_begin code i zero j b c (x ∷ []) e h l at = absurd (omega (arith, l))
 ended_begin code i zero j b c (x ∷ y ∷ cs) e h l at =
     let ends : ends_block x ≡ true = subst (λ (z : Instruction). ends_block z ≡ true) (sym (same_Some x c e)) h in
     let here : i + 1 ≡ j = omega (arith, at) in
@@ -147,6 +120,7 @@ ended_begin code i zero j b c (x ∷ y ∷ cs) e h l at =
 ended_begin code i (suc k) j b c (x ∷ cs) e h l at =
     let there : j ≡ (i + 1) + suc k = omega (arith, at) in
     later (b || is_target code i) i j (starts_from code (i + 1) (ends_block x) cs) (ended_begin code (i + 1) k j (ends_block x) c cs e h (omega (arith, l)) there)
+ended_begin code i k j b c cs e h l at = absurd (grind arith)
 
 -- ---- blocks
 
@@ -157,34 +131,32 @@ pub record BlockFacts (code : List Instruction) (starts : List ℕ) (low : ℕ) 
   pub alone : (j : ℕ) → b.first < j → j ≤ b.last → Among j starts → ⊥
   pub ends : (b.last + 1 ≡ length code) ⊎ Among (b.last + 1) starts
 
-pub block_facts : (code : List Instruction) (starts : List ℕ) (low k : ℕ) (b : BasicBlock) → Rising low (length code) starts
+pub block_facts : (code : List Instruction) (starts : List ℕ) (low k : ℕ) (b : BasicBlock) → IsAscending low (length code) starts
     → slice_get (blocks_at code starts) k ≡ Some b → BlockFacts code starts low b
-unfolding Rising Among
-block_facts code [] low k b r e = absurd cc
-block_facts code (i ∷ []) low (suc k) b r e = absurd cc
+unfolding Among
 block_facts code (i ∷ []) low zero b r e =
     subst (λ (x : BasicBlock). BlockFacts code (i ∷ []) low x) (same_Some (block_between code i (length code)) b e) (record {
       at_least = r.0;
-      in_order = omega (arith, r.1);
-      inside = omega (arith, r.1);
+      in_order = omega (arith, r.1.0);
+      inside = omega (arith, r.1.0);
       alone = λ j l h a. elim a [ inl p ↦ absurd (omega (arith, l, p)) | inr p ↦ absurd p ];
-      ends = inl (omega (arith, r.1));
+      ends = inl (omega (arith, r.1.0));
     })
 block_facts code (i ∷ j ∷ starts) low zero b r e =
     subst (λ (x : BasicBlock). BlockFacts code (i ∷ j ∷ starts) low x) (same_Some (block_between code i j) b e) (record {
       at_least = r.0;
-      in_order = omega (arith, r.2.0);
-      inside = omega (arith, r.2.0, r.2.1);
+      in_order = omega (arith, r.1.1.0);
+      inside = omega (arith, r.1.1.0, r.1.1.1.0);
       alone = never;
-      ends = inr (inr (inl (omega (arith, r.2.0))));
+      ends = inr (inr (inl (omega (arith, r.1.1.0))));
     })
   where
     never : (x : ℕ) → i < x → x ≤ j - 1 → Among x (i ∷ j ∷ starts) → ⊥
     never x l h (inl p) = absurd (omega (arith, l, p))
     never x l h (inr (inl p)) = absurd (omega (arith, l, h, p))
-    never x l h (inr (inr a)) = let beyond = rising_bounds (j + 1) (length code) x starts r.2.2 a in absurd (omega (arith, h, beyond.0))
+    never x l h (inr (inr a)) = let beyond = rising_bounds (j + 1) (length code) x starts r.1.1.1.1 a in absurd (omega (arith, h, beyond.0))
 block_facts code (i ∷ j ∷ starts) low (suc k) b r e =
-    let f = block_facts code (j ∷ starts) (i + 1) k b r.2 e in
+    let f = block_facts code (j ∷ starts) (i + 1) k b r.1.1 e in
     record {
       at_least = omega (arith, r.0, f.at_least);
       in_order = f.in_order;
@@ -192,6 +164,7 @@ block_facts code (i ∷ j ∷ starts) low (suc k) b r e =
       alone = λ x l h a. elim a [ inl p ↦ absurd (omega (arith, l, p, f.at_least)) | inr p ↦ f.alone x l h p ];
       ends = elim f.ends [ inl p ↦ inl p | inr p ↦ inr (inr p) ];
     }
+block_facts code starts low k b r e = absurd cc
 
 pub begins_block : (code : List Instruction) (starts : List ℕ) (j : ℕ) → Among j starts → (k : ℕ) × (b : BasicBlock) × (slice_get (blocks_at code starts) k ≡ Some b) × (b.first ≡ j)
 unfolding Among

@@ -1,15 +1,11 @@
 -- A write to a local of some frame: what the locals of all frames hold then.
-use Rattle.mv_interpreter.proofs.Typing.Common.{◌≡◌, ℕ, zero, suc, ◌<◌, ◌≤◌, Bool, true, false, cond, List, [], ◌∷◌, map, refl, sym, ap, ap₂, subst}
-use Rattle.mv_interpreter.proofs.Typing.Common.{◌∙◌, Option, Some, None, eqb, arith, slice_get, option_and_then, eqb-true, ne_eqb, same_Some, Token}
-use Rattle.mv_interpreter.proofs.Typing.Common.{Module, Reference, Value, Leaf, Struct, Ref, Frame, local_value, local_in, Tag, LeafTag, StructTag}
-use Rattle.mv_interpreter.proofs.Typing.Common.{ReferenceTag, Table, Roots, IsOf, HasType, HasToken, LocalHasToken, LocalsHaveTokens, Numbered}
-use Rattle.mv_interpreter.proofs.Typing.Common.{AreWaiting}
-use Rattle.std.specs.Prelude.{slice_set}
-use Rattle.mv_machine.specs.State.{with_local}
+use Rattle.mv_interpreter.proofs.Typing.Common.{◌≡◌, ℕ, zero, suc, ◌<◌, ◌≤◌, true, List, [], ◌∷◌, refl, ap, subst, ◌∙◌, arith, Option, Some, Bool, false, sym, ap₂, cond, map, eqb}
+use Rattle.mv_interpreter.proofs.Typing.Common.{eqb-true, ne_eqb, eqb-false, same_Some, slice_get, slice_set, Module, Tag, ReferenceTag, Token, Frame, local_in, local_value, with_local}
+use Rattle.mv_interpreter.proofs.Typing.Common.{Value, Leaf, Struct, Ref, Reference, slice_get-set_other, Roots, IsOf, Table, HasType, HasToken, LocalsHaveTokens, Numbered, AreWaiting}
+use Rattle.mv_interpreter.proofs.Typing.Common.{LocalHasToken}
+use Rattle.mv_storage.proofs.PlaceLemmas.{slice_get-set_same}
+use Rattle.mv_interpreter.proofs.{Lists.flat-some, Typing.Within.one_type, Typing.Roots.is_plain, Typing.Keep.waits_with}
 use Rattle.mv_interpreter.specs.Typing.HasType.{fields_by_name}
-use Rattle.mv_interpreter.proofs.Typing.Within.{one_type}
-use Rattle.mv_interpreter.proofs.Typing.Roots.{set_same, set_other, is_plain}
-use Rattle.mv_interpreter.proofs.Typing.Keep.{waits_with}
 
 -- frames with smaller numbers don't change
 pub written_below : (n l : ℕ) (v : Value) (k : ℕ) (fs : List Frame) → Numbered k fs → k ≤ n → map (with_local n l v) fs ≡ fs
@@ -37,12 +33,7 @@ pick_second true x y z e p = absurd cc
 
 -- what a local holds, as an entry
 pub held_entry : (f : Frame) (l : ℕ) (v : Value) → local_value f l ≡ Some v → slice_get f.locals l ≡ Some (Some v)
-held_entry f l v e = by_case (slice_get f.locals l) e
-  where
-    by_case : (x : Option (Option Value)) → option_and_then (λ v. v) x ≡ Some v → x ≡ Some (Some v)
-    by_case None e = absurd cc
-    by_case (Some None) e = absurd cc
-    by_case (Some (Some w)) e = ap (λ (x : Value). Some (Some x)) (same_Some w v e)
+held_entry f l v e = flat-some (slice_get f.locals l) v e
 
 module _ (table : Table) (n l : ℕ) (old new : Value) (base : Tag) (old_typed : IsOf table old base) (new_typed : IsOf table new base) where
   -- in the frame itself
@@ -51,14 +42,14 @@ module _ (table : Table) (n l : ℕ) (old new : Value) (base : Tag) (old_typed :
   written_here f k v t there e typed = by_case (eqb l k) refl
     where
       by_case : (b : Bool) → eqb l k ≡ b → (w : Value) × (local_value (record f { locals = slice_set f.locals l (Some new) }) k ≡ Some w) × IsOf table w t
-      by_case false far = (v, rw (set_other f.locals l k (Some new) far) e, typed)
+      by_case false far = (v, rw (slice_get-set_other f.locals l k (Some new) (eqb-false l k far)) e, typed)
       by_case true near =
           let same : l ≡ k = eqb-true l k near in
           let at_l : local_value f l ≡ Some v = subst (λ (x : ℕ). local_value f x ≡ Some v) (sym same) e in
           let value : v ≡ old = same_Some v old (sym at_l ∙ there) in
           let tag : base ≡ t = one_type table old base t old_typed (subst (λ (x : Value). IsOf table x t) value typed) in
           let set_at : slice_get (slice_set f.locals l (Some new)) k ≡ Some (Some new) =
-          subst (λ (x : ℕ). slice_get (slice_set f.locals l (Some new)) x ≡ Some (Some new)) same (set_same f.locals l (Some old) (Some new) (held_entry f l old there)) in
+          subst (λ (x : ℕ). slice_get (slice_set f.locals l (Some new)) x ≡ Some (Some new)) same (slice_get-set_same f.locals l (Some old) (Some new) (held_entry f l old there)) in
           (new, rw set_at refl, subst (λ (x : Tag). IsOf table new x) tag new_typed)
 
   -- in all frames
@@ -91,11 +82,10 @@ module _ (table : Table) (n l : ℕ) (old new : Value) (base : Tag) (old_typed :
 module _ (modules : List Module) (n l : ℕ) (old new : Value) (base : Tag) (old_typed : IsOf (fields_by_name modules) old base) (new_typed : IsOf (fields_by_name modules) new base) (look : Roots) where
   -- a type of what is no reference is its type
   plain_typed : (v : Value) (t : Tag) → IsOf (fields_by_name modules) v base → HasType (fields_by_name modules) look v t → IsOf (fields_by_name modules) v t
-  plain_typed v (LeafTag k) e h = h
-  plain_typed v (StructTag u) e h = h
   plain_typed (Leaf k m) (ReferenceTag b t) e h = absurd h
   plain_typed (Struct name fields) (ReferenceTag b t) e h = absurd h
   plain_typed (Ref r) (ReferenceTag b t) e h = absurd e
+  plain_typed v t e h = h
 
   pub replaced_typed : (home : Module) (t : Token) → HasToken modules look home old t → HasToken modules look home new t
   replaced_typed home t h =
@@ -105,10 +95,9 @@ module _ (modules : List Module) (n l : ℕ) (old new : Value) (base : Tag) (old
   -- the locals of a frame after the write
   locals_written : (home : Module) (vs : List (Option Value)) (ts : List Token) (k : ℕ) → slice_get vs k ≡ Some (Some old)
       → LocalsHaveTokens modules look home vs ts → LocalsHaveTokens modules look home (slice_set vs k (Some new)) ts
-  locals_written home [] ts k e h = absurd cc
-  locals_written home (v ∷ vs) [] k e h = absurd h
   locals_written home (v ∷ vs) (t ∷ ts) zero e h = (replaced_typed home t (subst (λ (x : Option Value). LocalHasToken modules look home x t) (same_Some v (Some old) e) h.0), h.1)
   locals_written home (v ∷ vs) (t ∷ ts) (suc k) e h = (h.0, locals_written home vs ts k e h.1)
+  locals_written home vs ts k e h = absurd (grind arith)
 
   -- a frame after the write is the frame with such locals
   pub record Written (f : Frame) (home : Module) (ts : List Token) : Type 0 where

@@ -1,34 +1,23 @@
 -- Rows of the storage.
-use Rattle.mv_interpreter.proofs.Typing.Common.{◌≡◌, ℕ, ◌+◌, Bool, true, false, List, [], ◌∷◌, refl, sym, ap, subst, ◌∙◌, Option, Some, None, Ok}
-use Rattle.mv_interpreter.proofs.Typing.Common.{slice_get, ok_or, not, IsTrue, option_map_or, same_Some, Key, Address, Signer, ValueType, OfLeaf}
-use Rattle.mv_interpreter.proofs.Typing.Common.{OfStruct, Token, Plain, ReferenceTo, Instruction, Abilities, StructName, Root, Local, Stored}
-use Rattle.mv_interpreter.proofs.Typing.Common.{Reference, Value, Leaf, Struct, Ref, Storage, root_value, stored_at, with_stored, same_key}
-use Rattle.mv_interpreter.proofs.Typing.Common.{references, Faults, DanglingFault, has_tag, Tag, LeafTag, StructTag, ReferenceTag, Types, boolean}
-use Rattle.mv_interpreter.proofs.Typing.Common.{takes_gives, address_fits, value_type_named, token_named, Here, OwnStruct, operand, as_reference}
-use Rattle.mv_interpreter.proofs.Typing.Common.{follow, with_stack, goes_on, untouched, truth, gives, in_range, Table, Roots, IsOf, Rooted, AtOnce}
-use Rattle.mv_interpreter.proofs.Typing.Common.{HasType, TypesAt, on_bind, then_found, same_key-to, HasToken, HaveTokens, TurnTyped, StorageTyped}
-use Rattle.mv_interpreter.proofs.Typing.Common.{Row, Facts, Avoid, Unreached}
-use Rattle.std.specs.Prelude.{is_some}
-use Rattle.mv_move_types.specs.Results.{◌>>=◌}
-use Rattle.mv_move_types.specs.Module.{struct_abilities, name_at}
-use Rattle.mv_machine.specs.declared.Kind.TheVariants.{Exists as AlreadyThere, Missing}
-use Rattle.mv_machine.specs.State.{without_stored}
-use Rattle.mv_machine.specs.Typing.{Aborts}
-use Rattle.mv_type_states.specs.TypeRules.{address, keyed_type, of_global, of_move_to}
-use Rattle.mv_machine.specs.Typed.{abilities_at}
+use Rattle.mv_interpreter.proofs.Typing.Common.{◌≡◌, ℕ, ◌+◌, true, List, [], ◌∷◌, refl, ap, subst, ◌∙◌, Option, Some, None, Ok, Bool, false, sym, false_from_ne_true, same_Some, none-some}
+use Rattle.mv_interpreter.proofs.Typing.Common.{option_map_or, IsTrue, slice_get, ok_or, not, is_some, name_at, StructName, Tag, LeafTag, StructTag, ReferenceTag, Instruction, Key}
+use Rattle.mv_interpreter.proofs.Typing.Common.{Abilities, Address, Signer, Token, Plain, ReferenceTo, ValueType, OfLeaf, OfStruct, references, root_value, Storage, stored_at, with_stored}
+use Rattle.mv_interpreter.proofs.Typing.Common.{same_key, without_stored, Here, OwnStruct, operand, as_reference, follow, with_stack, goes_on, truth, untouched, gives, abilities_at}
+use Rattle.mv_interpreter.proofs.Typing.Common.{Faults, DanglingFault, has_tag, Aborts, Value, Leaf, Ref, Root, Local, Stored, Reference, on_bind, address_fits, then_found, token_named}
+use Rattle.mv_interpreter.proofs.Typing.Common.{value_type_named, same_key-to, Types, boolean, takes_gives, TypesAt, Row, Facts, in_range, Roots, IsOf, Table, HasType, AtOnce, HasToken}
+use Rattle.mv_interpreter.proofs.Typing.Common.{HaveTokens, TurnTyped, StorageTyped, Avoid, Unreached}
+use Rattle.mv_move_types.specs.{Results.◌>>=◌, Module.struct_abilities}
+use Rattle.mv_machine.specs.{declared.Kind.TheVariants.Exists as AlreadyThere, declared.Kind.TheVariants.Missing, StepGlobals.exists, StepGlobals.borrow_global, StepGlobals.move_from}
 use Rattle.mv_machine.specs.Step.{keyed_struct, move_to, key_at, as_signer, with_storage}
-use Rattle.mv_machine.specs.StepGlobals.{exists, borrow_global, move_from}
-use Rattle.mv_interpreter.specs.Typing.HasType.{fields_by_name}
-use Rattle.mv_interpreter.specs.Typing.Unreached.{Unlent}
+use Rattle.mv_machine.proofs.Binds.{none-is}
+use Rattle.mv_type_states.specs.TypeRules.{address, keyed_type, of_global, of_move_to}
+use Rattle.mv_interpreter.specs.{Typing.HasType.fields_by_name, Typing.Unreached.Unlent}
 use Rattle.mv_interpreter.proofs.Typing.Parts.{Part, known, passes, tried, tested, frozen}
 use Rattle.mv_interpreter.proofs.Typing.Operands.{on_test, takes_gives-is, one_operand, leaf}
 use Rattle.mv_interpreter.proofs.Typing.Keep.{Kept, Nothing, avoid_nothing, none_to_nothing, keep_stack, keep_locals, keep_below}
-use Rattle.mv_interpreter.proofs.Typing.Roots.{place_of, typed_has_tag}
-use Rattle.mv_interpreter.proofs.Typing.Stays.{gives_typed, moved, top_typed}
-use Rattle.mv_interpreter.proofs.Typing.Families.{of_truth}
+use Rattle.mv_interpreter.proofs.{Typing.Roots.place_of, Typing.Roots.typed_has_tag, Typing.Stays.gives_typed, Typing.Stays.moved, Typing.Stays.top_typed, Typing.Families.of_truth}
+use Rattle.mv_interpreter.proofs.{Typing.References.immutable}
 use Rattle.mv_interpreter.proofs.Typing.Storage.{stored_other, unstored_other, stored_typed, typed_with, typed_without}
-use Rattle.mv_interpreter.proofs.Typing.References.{immutable}
-use Rattle.std.proofs.lemmas.Option.{none-some}
 
 -- an own struct with key
 pub record KeyedFacts (h : Here) (k : ℕ) (u : ValueType) : Type 0 where
@@ -51,6 +40,18 @@ keyed_facts h facts home_at k u e =
     let abilities_are : abilities_at h.modules h.state.top.function.place k ≡ Some a =
     then_found (slice_get h.modules h.state.top.function.place) _ h.home (Some a) home_at (then_found (slice_get h.home.structs k) _ d (Some a) d_is a_is) in
     record { struct = own.struct; is_found = rw (own.is_found, key) refl; names = subst (λ (x : ValueType). value_type_named h.home x ≡ Some (StructTag own.struct.name)) same name; key = own.key; has_key = subst (λ (x : Option Abilities). IsTrue (option_map_or (λ a. a.key) x false)) (sym abilities_are) able })))
+
+-- what is stored under an own struct's key is one
+pub stored_struct : (h : Here) (k : ℕ) (u : ValueType) (f : KeyedFacts h k u) (a : ℕ) (v : Value) → StorageTyped h.modules h.state.storage
+    → stored_at h.state.storage (key_at h k a) ≡ Some v → IsOf (fields_by_name h.modules) v (StructTag f.struct.name)
+stored_struct h k u f a v typed there =
+    let entry = stored_typed h.modules h.state.storage (key_at h k a) v typed there in
+    subst (λ (n : StructName). IsOf (fields_by_name h.modules) v (StructTag n)) (same_Some entry.name f.struct.name (sym entry.is_named ∙ f.key)) entry.typed
+
+-- the number of a signer
+pub signer_leaf : (table : Table) (v : Value) → IsOf table v (LeafTag Signer) → (n : ℕ) × (v ≡ Leaf Signer n) × IsTrue (address_fits n)
+signer_leaf table (Leaf k n) e = (n, ap (λ x. Leaf x n) e.0, subst (λ x. IsTrue (in_range x n)) e.0 e.1)
+signer_leaf table v e = absurd e
 
 module _ (h : Here) (i : Instruction) (types after : Types) (row : Row h i types after) (next : TypesAt h.home h.function (h.state.top.at + 1) after) where
   -- an address on top, and what is given for it
@@ -82,12 +83,6 @@ module _ (h : Here) (i : Instruction) (types after : Types) (row : Row h i types
       (subst (λ (ts : Types). HaveTokens h.modules (root_value h.state) h.home (truth (is_some (stored_at h.state.storage (key_at h k x.a))) ∷ x.rest) ts) (sym x.given_is)
       (of_truth h.modules (root_value h.state) h.home (is_some (stored_at h.state.storage (key_at h k x.a))), x.typed)))))
 
-  -- what is stored under an own struct's key is one
-  stored_struct : (k : ℕ) (u : ValueType) (f : KeyedFacts h k u) (a : ℕ) (v : Value) → stored_at h.state.storage (key_at h k a) ≡ Some v → IsOf (fields_by_name h.modules) v (StructTag f.struct.name)
-  stored_struct k u f a v there =
-      let entry = stored_typed h.modules h.state.storage (key_at h k a) v row.stands.storage there in
-      subst (λ (n : StructName). IsOf (fields_by_name h.modules) v (StructTag n)) (same_Some entry.name f.struct.name (sym entry.is_named ∙ f.key)) entry.typed
-
   pub borrows_global : (m : Bool) (given : ValueType → Token) → ((t : ValueType) (tag : Tag) → value_type_named h.home t ≡ Some tag → token_named h.home (given t) ≡ Some (ReferenceTag m tag)) →
       (k : ℕ) → of_global given h.home k types ≡ Some after → Part (TurnTyped h.modules) (borrow_global m h k)
   unfolding borrow_global
@@ -99,9 +94,6 @@ module _ (h : Here) (i : Instruction) (types after : Types) (row : Row h i types
       (known (TurnTyped h.modules) (operand h.state.top.stack) _ (Leaf Address x.a, x.rest) (ap operand x.are)
       (by_case u f x (stored_at h.state.storage (key_at h k x.a)) refl)))
     where
-      reference : ℕ → Reference
-      reference a = record { is_mutable = m; place = record { root = Stored (key_at h k a); path = [] } }
-
       by_case : (u : ValueType) (f : KeyedFacts h k u) (x : AtAddress k (given u)) (found : Option Value) → stored_at h.state.storage (key_at h k x.a) ≡ found →
           Part (TurnTyped h.modules) (ok_or found (Aborts Missing 0) >>= λ v. gives h (Ok (Ref (record { is_mutable = m; place = record { root = Stored (key_at h k x.a); path = [] } }) ∷ x.rest)))
       by_case u f x None there = tt
@@ -112,7 +104,7 @@ module _ (h : Here) (i : Instruction) (types after : Types) (row : Row h i types
             record {
               tag = ReferenceTag m (StructTag f.struct.name);
               names = names u (StructTag f.struct.name) f.names;
-              typed = (refl, record { base = StructTag f.struct.name; root = record { value = v; is_there = there; is_of = stored_struct k u f x.a v there }; leads = AtOnce });
+              typed = (refl, record { base = StructTag f.struct.name; root = record { value = v; is_there = there; is_of = stored_struct h k u f x.a v row.stands.storage there }; leads = AtOnce });
             },
             x.typed,
           ))
@@ -131,11 +123,9 @@ module _ (h : Here) (i : Instruction) (types after : Types) (row : Row h i types
 
   kept_without : (key : Key) → Kept h.modules (root_value h.state) (root_value (with_storage h.state (without_stored h.state.storage key))) (λ root. root ≡ Stored key)
   kept_without key (Local m l) t far r = record { value = r.value; is_there = r.is_there; is_of = r.is_of }
-  kept_without key (Stored other) t far r = by_case (same_key key other) refl
-    where
-      by_case : (a : Bool) → same_key key other ≡ a → Rooted (fields_by_name h.modules) (root_value (with_storage h.state (without_stored h.state.storage key))) (Stored other) t
-      by_case false p = record { value = r.value; is_there = unstored_other h.state.storage key other p ∙ r.is_there; is_of = r.is_of }
-      by_case true p = absurd (far (ap Stored (sym (same_key-to key other p))))
+  kept_without key (Stored other) t far r =
+      let p = false_from_ne_true (same_key key other) (λ p. far (ap Stored (sym (same_key-to key other p)))) in
+      record { value = r.value; is_there = unstored_other h.state.storage key other p ∙ r.is_there; is_of = r.is_of }
 
   pub takes_out : (k : ℕ) → of_global Plain h.home k types ≡ Some after → Unlent h.state k → Part (TurnTyped h.modules) (move_from h k)
   unfolding move_from
@@ -159,24 +149,15 @@ module _ (h : Here) (i : Instruction) (types after : Types) (row : Row h i types
           let avoided : Avoid gone (references (Leaf Address x.a ∷ x.rest)) = subst (λ (vs : List Value). Avoid gone (references vs)) x.are unreached.0.1 in
           let rest_typed = keep_stack h.modules (root_value h.state) (root_value (with_storage h.state storage)) gone kept h.home x.rest x.below avoided x.typed in
           let v_typed : HasToken h.modules (root_value (with_storage h.state storage)) h.home v (Plain u) =
-          record { tag = StructTag f.struct.name; names = f.names; typed = stored_struct k u f x.a v there } in
+          record { tag = StructTag f.struct.name; names = f.names; typed = stored_struct h k u f x.a v row.stands.storage there } in
           restored gone storage (v ∷ x.rest) kept unreached (typed_without h.modules h.state.storage (key_at h k x.a) row.stands.storage)
           (subst (λ (ts : Types). HaveTokens h.modules (root_value (with_storage h.state storage)) h.home (v ∷ x.rest) ts) (sym x.given_is) (v_typed, rest_typed))
 
   kept_with : (key : Key) (v : Value) → stored_at h.state.storage key ≡ None → Kept h.modules (root_value h.state) (root_value (with_storage h.state (with_stored h.state.storage key v))) Nothing
   kept_with key v none (Local m l) t far r = record { value = r.value; is_there = r.is_there; is_of = r.is_of }
-  kept_with key v none (Stored other) t far r = by_case (same_key key other) refl
-    where
-      by_case : (a : Bool) → same_key key other ≡ a → Rooted (fields_by_name h.modules) (root_value (with_storage h.state (with_stored h.state.storage key v))) (Stored other) t
-      by_case false p = record { value = r.value; is_there = stored_other h.state.storage key other v p ∙ r.is_there; is_of = r.is_of }
-      by_case true p =
-          let there : stored_at h.state.storage key ≡ Some r.value = subst (λ (x : Key). stored_at h.state.storage x ≡ Some r.value) (sym (same_key-to key other p)) r.is_there in
-          absurd (none-some r.value (sym none ∙ there))
-
-  signer_leaf : (table : Table) (v : Value) → IsOf table v (LeafTag Signer) → (n : ℕ) × (v ≡ Leaf Signer n) × IsTrue (address_fits n)
-  signer_leaf table (Leaf k n) e = (n, ap (λ x. Leaf x n) e.0, subst (λ x. IsTrue (in_range x n)) e.0 e.1)
-  signer_leaf table (Struct name fields) e = absurd e
-  signer_leaf table (Ref r) e = absurd e
+  kept_with key v none (Stored other) t far r =
+      let p = false_from_ne_true (same_key key other) (λ p. none-some r.value (sym none ∙ subst (λ x. stored_at h.state.storage x ≡ Some r.value) (sym (same_key-to key other p)) r.is_there)) in
+      record { value = r.value; is_there = stored_other h.state.storage key other v p ∙ r.is_there; is_of = r.is_of }
 
   pub puts_in : (k : ℕ) → of_move_to h.home k types ≡ Some after → Part (TurnTyped h.modules) (move_to h k)
   unfolding move_to
@@ -206,14 +187,10 @@ module _ (h : Here) (i : Instruction) (types after : Types) (row : Row h i types
       (tried (TurnTyped h.modules) (not (is_some (stored_at h.state.storage (key_at h k signer.0)))) (Aborts AlreadyThere 0) _ tt (λ free.
       tested (TurnTyped h.modules) (untouched h.state (record { root = Stored (key_at h k signer.0); path = [] })) _ (frozen h.state (record { root = Stored (key_at h k signer.0); path = [] }))
       (let key : Key = key_at h k signer.0 in
-      let none : stored_at h.state.storage key ≡ None = nothing_there (stored_at h.state.storage key) free in
+      let none : stored_at h.state.storage key ≡ None = none-is (stored_at h.state.storage key) free in
       let storage : Storage = with_stored h.state.storage key top.0 in
       let kept = kept_with key top.0 none in
       restored Nothing storage under.1 kept (none_to_nothing h.state)
       (typed_with h.modules h.state.storage key top.0 row.stands.storage (record { name = f.struct.name; fits = signer.2; is_named = f.key; has_key = f.has_key; typed = value_is }))
       (subst (λ (ts : Types). HaveTokens h.modules (root_value (with_storage h.state storage)) h.home under.1 ts) (sym parts.2)
       (keep_stack h.modules look (root_value (with_storage h.state storage)) Nothing kept h.home under.1 parts.0 (avoid_nothing (references under.1)) under.4)))))))))))))
-    where
-      nothing_there : (x : Option Value) → not (is_some x) ≡ true → x ≡ None
-      nothing_there None e = refl
-      nothing_there (Some v) e = absurd cc

@@ -1,11 +1,9 @@
 -- What stays typed when something changes at the roots.
-use Rattle.mv_interpreter.proofs.Typing.Common.{List, [], ◌∷◌, Option, Some, None, Token, Module, Root, Reference, Value, Leaf, Struct, Ref, Frame}
-use Rattle.mv_interpreter.proofs.Typing.Common.{State, references, local_references, Tag, LeafTag, StructTag, ReferenceTag, Roots, Rooted, PointsTo}
-use Rattle.mv_interpreter.proofs.Typing.Common.{HasType, HasToken, HaveTokens, LocalsHaveTokens, AreWaiting, Avoid, Unreached}
+use Rattle.mv_interpreter.proofs.Typing.Common.{List, [], ◌∷◌, Option, Some, None, Module, Tag, ReferenceTag, Token, references, local_references, Frame, State, Value, Leaf, Struct, Ref}
+use Rattle.mv_interpreter.proofs.Typing.Common.{Root, Reference, Roots, Rooted, HasType, PointsTo, LentHaveTypes, HasToken, HaveTokens, LocalsHaveTokens, AreWaiting, IsWaiting, Avoid}
+use Rattle.mv_interpreter.proofs.Typing.Common.{Unreached, BelowAvoid}
 use Rattle.std.specs.Prelude.{filter_map}
-use Rattle.mv_interpreter.specs.Typing.HasType.{LentHaveTypes, fields_by_name}
-use Rattle.mv_interpreter.specs.Typing.StateTyped.{IsWaiting}
-use Rattle.mv_interpreter.specs.Typing.Unreached.{FrameAvoids, BelowAvoid}
+use Rattle.mv_interpreter.specs.{Typing.HasType.fields_by_name, Typing.Unreached.FrameAvoids}
 
 -- nothing is gone
 abbrev pub Nothing : Root → Type 0
@@ -29,9 +27,8 @@ ValueAvoids gone (Struct name fields) = Unit {0}
 ValueAvoids gone (Ref r) = gone r.place.root → ⊥
 
 pub first_avoids : (gone : Root → Type 0) (v : Value) (vs : List Value) → Avoid gone (references (v ∷ vs)) → ValueAvoids gone v × Avoid gone (references vs)
-first_avoids gone (Leaf k n) vs h = (tt, h)
-first_avoids gone (Struct name fields) vs h = (tt, h)
 first_avoids gone (Ref r) vs h = (h.0, h.1)
+first_avoids gone v vs h = (tt, h)
 
 -- a waiting frame with other locals, where its values have their types at other roots
 abbrev pub waits_with : (modules : List Module) (look look' : Roots) (lent : List (Option Reference)) (given : List Tag)
@@ -76,45 +73,35 @@ module _ (modules : List Module) (look look' : Roots) (gone : Root → Type 0) (
   keep_reference r t a h = record { base = h.base; root = kept r.place.root h.base a h.root; leads = h.leads }
 
   pub keep_value : (v : Value) (t : Tag) → ValueAvoids gone v → HasType (fields_by_name modules) look v t → HasType (fields_by_name modules) look' v t
-  keep_value v (LeafTag k) a h = h
-  keep_value v (StructTag name) a h = h
-  keep_value (Leaf k n) (ReferenceTag m t) a h = h
-  keep_value (Struct name fields) (ReferenceTag m t) a h = h
   keep_value (Ref r) (ReferenceTag m t) a h = (h.0, keep_reference r t a h.1)
+  keep_value v t a h = h
 
   module _ (home : Module) where
     pub keep_token : (v : Value) (t : Token) → ValueAvoids gone v → HasToken modules look home v t → HasToken modules look' home v t
     keep_token v t a h = record { tag = h.tag; names = h.names; typed = keep_value v h.tag a h.typed }
 
     pub keep_stack : (vs : List Value) (ts : List Token) → Avoid gone (references vs) → HaveTokens modules look home vs ts → HaveTokens modules look' home vs ts
-    keep_stack [] [] a h = h
-    keep_stack [] (t ∷ ts) a h = h
-    keep_stack (v ∷ vs) [] a h = h
     keep_stack (v ∷ vs) (t ∷ ts) a h =
         let both = first_avoids gone v vs a in
         (keep_token v t both.0 h.0, keep_stack vs ts both.1 h.1)
+    keep_stack vs ts a h = h
 
     first_local_avoids : (v : Value) (vs : List (Option Value)) → Avoid gone (local_references (Some v ∷ vs)) → ValueAvoids gone v × Avoid gone (local_references vs)
-    first_local_avoids (Leaf k n) vs h = (tt, h)
-    first_local_avoids (Struct name fields) vs h = (tt, h)
     first_local_avoids (Ref r) vs h = (h.0, h.1)
+    first_local_avoids v vs h = (tt, h)
 
     pub keep_locals : (vs : List (Option Value)) (ts : List Token) → Avoid gone (local_references vs) → LocalsHaveTokens modules look home vs ts → LocalsHaveTokens modules look' home vs ts
-    keep_locals [] [] a h = h
-    keep_locals [] (t ∷ ts) a h = h
-    keep_locals (v ∷ vs) [] a h = h
     keep_locals (None ∷ vs) (t ∷ ts) a h = (tt, keep_locals vs ts a h.1)
     keep_locals (Some v ∷ vs) (t ∷ ts) a h =
         let both = first_local_avoids v vs a in
         (keep_token v t both.0 h.0, keep_locals vs ts both.1 h.1)
+    keep_locals vs ts a h = h
 
   pub keep_lent : (rs : List (Option Reference)) (ts : List Tag) → Avoid gone (filter_map (λ r. r) rs)
       → LentHaveTypes (fields_by_name modules) look rs ts → LentHaveTypes (fields_by_name modules) look' rs ts
-  keep_lent [] [] a h = h
-  keep_lent [] (t ∷ ts) a h = h
-  keep_lent (r ∷ rs) [] a h = h
   keep_lent (None ∷ rs) (t ∷ ts) a h = (h.0, keep_lent rs ts a h.1)
   keep_lent (Some r ∷ rs) (t ∷ ts) a h = (keep_value (Ref r) t a.0 h.0, keep_lent rs ts a.1 h.1)
+  keep_lent rs ts a h = h
 
   pub keep_waiting : (lent : List (Option Reference)) (given : List Tag) (f : Frame) → Avoid gone (filter_map (λ r. r) lent) → FrameAvoids gone f
       → IsWaiting modules look lent given f → IsWaiting modules look' lent given f

@@ -1,25 +1,18 @@
 -- Rows of locals.
-use Rattle.mv_interpreter.proofs.Typing.Common.{◌≡◌, ℕ, ◌+◌, Bool, true, false, List, [], ◌∷◌, refl, sym, ap, subst, ◌∙◌, Option, Some, None, Ok, eqb}
-use Rattle.mv_interpreter.proofs.Typing.Common.{◌⊎◌, inl, inr, slice_get, not, ok_or, eqb-true, eqb-false, same_Some, ValueType, Token, Plain}
-use Rattle.mv_interpreter.proofs.Typing.Common.{ReferenceTo, MutableReferenceTo, Instruction, ◌>>=◌, ◌>>=ᵣ◌, need, Module, Root, Local, Stored, Value}
-use Rattle.mv_interpreter.proofs.Typing.Common.{Leaf, Struct, Ref, State, root_value, references, Faults, LinkageFault, LostFault, entry, Tag}
-use Rattle.mv_interpreter.proofs.Typing.Common.{ReferenceTag, Types, plain_of, taken, token_named, value_type_named, Here, goes_on, with_stack}
-use Rattle.mv_interpreter.proofs.Typing.Common.{operand, untouched, Roots, IsOf, Rooted, AtOnce, HasType, TypesAt, on_bind, HasToken, HaveTokens}
-use Rattle.mv_interpreter.proofs.Typing.Common.{LocalHasToken, TurnTyped, Row, Avoid, Unreached}
-use Rattle.mv_move_types.specs.Module.{local_tokens}
+use Rattle.mv_interpreter.proofs.Typing.Common.{◌≡◌, ℕ, ◌+◌, true, List, [], ◌∷◌, refl, ap, subst, ◌∙◌, Option, Some, None, Ok, Bool, false, sym, ◌⊎◌, inl, inr, eqb, eqb-true, eqb-false}
+use Rattle.mv_interpreter.proofs.Typing.Common.{same_Some, slice_get, ok_or, not, Module, local_tokens, ◌>>=◌, need, Tag, ReferenceTag, Instruction, Token, Plain, ValueType, references}
+use Rattle.mv_interpreter.proofs.Typing.Common.{State, root_value, Here, operand, with_stack, goes_on, may_drop, with_own_local, untouched, can_copy, Faults, LinkageFault, entry}
+use Rattle.mv_interpreter.proofs.Typing.Common.{LostFault, Value, Leaf, Struct, Ref, Root, Local, Stored, on_bind, token_named, value_type_named, Types, taken, plain_of, TypesAt, Row}
+use Rattle.mv_interpreter.proofs.Typing.Common.{Roots, Rooted, IsOf, HasType, AtOnce, HasToken, HaveTokens, TurnTyped, LocalHasToken, Avoid, Unreached, token_abilities}
 use Rattle.mv_type_states.specs.TypeRules.{of_copy, of_borrow_local}
 use Rattle.mv_move_types.specs.Module.{local_type}
-use Rattle.mv_abilities.specs.Abilities.{token_abilities}
-use Rattle.mv_machine.specs.Step.{held, move_local, borrow_local, local_place, local_tag, may_drop}
-use Rattle.mv_machine.specs.StepLocals.{copy_local, store_local, with_own_local}
-use Rattle.mv_machine.specs.StepParts.{can_copy}
-use Rattle.mv_interpreter.specs.Typing.HasType.{fields_by_name}
-use Rattle.mv_interpreter.specs.Typing.Unreached.{Unborrowed}
+use Rattle.mv_machine.specs.Step.{held, move_local, borrow_local, local_place, local_tag}
+use Rattle.mv_machine.specs.StepLocals.{copy_local, store_local}
+use Rattle.mv_interpreter.specs.{Typing.HasType.fields_by_name, Typing.Unreached.Unborrowed}
 use Rattle.mv_interpreter.proofs.Typing.Parts.{Part, known, some, passes, tried, tested, lost, frozen}
-use Rattle.mv_interpreter.proofs.Typing.Operands.{on_test, taken-is}
+use Rattle.mv_interpreter.proofs.{Typing.Operands.on_test, Typing.Operands.taken-is, Typing.Stays.stays_at, Typing.Stays.moved, Typing.Stays.top_typed}
 use Rattle.mv_interpreter.proofs.Typing.Keep.{Kept, Nothing, none_to_nothing, keep_stack, keep_locals, keep_below}
 use Rattle.mv_interpreter.proofs.Typing.Roots.{named_plain, plain_is, typed_has_tag, local_at, local_set, other_roots, own_root}
-use Rattle.mv_interpreter.proofs.Typing.Stays.{stays_at, moved, top_typed}
 
 -- two roots are one or not
 pub root_is : (root : Root) (n l : ℕ) → (root ≡ Local n l) ⊎ (root ≡ Local n l → ⊥)
@@ -55,17 +48,15 @@ module _ (modules : List Module) (s : State) (l : ℕ) (new : Option Value) wher
 
   pub stays_but : (old : Option Value) → slice_get s.top.locals l ≡ Some old → Unborrowed s l → StaysBut modules s (root_value (with_own_local s l new))
   stays_but None there free = record { gone = Nothing; kept = kept_all None there (λ v t e k. absurd cc); avoids = none_to_nothing s }
-  stays_but (Some (Ref r)) there free = record { gone = Nothing; kept = kept_all (Some (Ref r)) there (λ v t e k. no_reference v t (same_Some (Ref r) v e) k); avoids = none_to_nothing s }
-    where
-      no_reference : (v : Value) (t : Tag) → Ref r ≡ v → IsOf (fields_by_name modules) v t → ⊥
-      no_reference v t e k = subst (λ (x : Value). IsOf (fields_by_name modules) x t) (sym e) k
+  stays_but (Some (Ref r)) there free =
+      let never = λ (v : Value) (t : Tag) (e : Some (Ref r) ≡ Some v) (k : IsOf (fields_by_name modules) v t). subst (λ x. IsOf (fields_by_name modules) x t) (sym (same_Some (Ref r) v e)) k in
+      record { gone = Nothing; kept = kept_all (Some (Ref r)) there never; avoids = none_to_nothing s }
   stays_but (Some (Leaf k n)) there free = record { gone = (λ root. root ≡ Local s.top.number l); kept = kept_others; avoids = free (Leaf k n) there refl }
   stays_but (Some (Struct name fields)) there free = record { gone = (λ root. root ≡ Local s.top.number l); kept = kept_others; avoids = free (Struct name fields) there refl }
 
 pub plain_of-is : (t : Token) (u : ValueType) → plain_of t ≡ Some u → t ≡ Plain u
 plain_of-is (Plain t) u e = ap Plain (same_Some t u e)
-plain_of-is (ReferenceTo t) u e = absurd cc
-plain_of-is (MutableReferenceTo t) u e = absurd cc
+plain_of-is t u e = absurd cc
 
 module _ (h : Here) (i : Instruction) (types after : Types) (row : Row h i types after) (next : TypesAt h.home h.function (h.state.top.at + 1) after) where
   -- the local's declared type, and what it holds
@@ -91,9 +82,7 @@ module _ (h : Here) (i : Instruction) (types after : Types) (row : Row h i types
       by_case : (v : Option Value) → slice_get h.state.top.locals l ≡ Some v → LocalHasToken h.modules (root_value h.state) h.home v t
           → Part (λ v. HasToken h.modules (root_value h.state) h.home v t × (slice_get h.state.top.locals l ≡ Some (Some v))) (held h l)
       by_case None e k = rw e tt
-      by_case (Some v) e k =
-          subst (λ (x : Option (Option Value)). Part (λ v. HasToken h.modules (root_value h.state) h.home v t × (slice_get h.state.top.locals l ≡ Some (Some v)))
-          (ok_or x (Faults LinkageFault) >>=ᵣ λ local. ok_or local (Faults LostFault))) (sym e) (k, e)
+      by_case (Some v) e k = rw e (k, refl)
 
   pub copies : (l : ℕ) → of_copy h.home h.function l types ≡ Some after → Part (TurnTyped h.modules) (copy_local h l)
   unfolding copy_local

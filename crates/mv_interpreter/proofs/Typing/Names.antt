@@ -1,19 +1,14 @@
 -- Types that an accepted module names are there in the store.
-use Rattle.mv_interpreter.proofs.Typing.Common.{◌≡◌, ℕ, zero, suc, ◌+◌, Bool, true, false, List, [], ◌∷◌, refl, sym, ap, subst, ◌∙◌, Option, Some}
-use Rattle.mv_interpreter.proofs.Typing.Common.{None, Result, Ok, arith, slice_get, ok_or, ◌&&◌, beq, list_all, option_map_or, first_so, second_so}
-use Rattle.mv_interpreter.proofs.Typing.Common.{and_from, same_Some, ValueType, OfLeaf, OfStruct, Token, Plain, ReferenceTo, MutableReferenceTo}
-use Rattle.mv_interpreter.proofs.Typing.Common.{Abilities, ◌>>=◌, ◌>>=ᵣ◌, ◌>>◌, need, StructName, Module, struct_name, Failure, Faults, LinkageFault}
-use Rattle.mv_interpreter.proofs.Typing.Common.{tag_named, Tag, LeafTag, StructTag, ReferenceTag, below, token_in, structs_are_there}
-use Rattle.mv_interpreter.proofs.Typing.Common.{value_type_named, token_named, tokens_named, on_bind, each, there_below}
-use Rattle.std.specs.Cmp.{booleans_Decides}
-use Rattle.mv_move_types.specs.declared.tables.StructHandle.{StructHandle}
+use Rattle.mv_interpreter.proofs.Typing.Common.{◌≡◌, ℕ, zero, suc, ◌+◌, true, List, [], ◌∷◌, refl, ap, subst, ◌∙◌, arith, Option, Some, None, Result, Ok, Bool, false, sym, and_from}
+use Rattle.mv_interpreter.proofs.Typing.Common.{same_Some, beq, first_so, second_so, booleans_Decides, list_all, option_map_or, ◌&&◌, slice_get, Module, struct_name, StructName, ◌>>=◌}
+use Rattle.mv_interpreter.proofs.Typing.Common.{◌>>=ᵣ◌, Tag, LeafTag, StructTag, ReferenceTag, StructHandle, Abilities, Token, Plain, ReferenceTo, MutableReferenceTo, ValueType, OfLeaf}
+use Rattle.mv_interpreter.proofs.Typing.Common.{OfStruct, tag_named, Failure, below, token_in, on_bind, each, there_below, structs_are_there, token_named, tokens_named, value_type_named}
+use Rattle.mv_interpreter.proofs.Typing.Common.{Named}
 use Rattle.mv_machine.specs.Typing.{struct_tag, value_type_tag}
-use Rattle.mv_move_types.specs.Named.{declared}
-use Rattle.mv_move_types.specs.AbilitySets.{same_abilities}
+use Rattle.mv_move_types.specs.{Named.declared, AbilitySets.same_abilities}
 use Rattle.mv_bounds.specs.Bounds.{InBounds, value_type_in, struct_handle_in}
 use Rattle.mv_linker.specs.StoreRules.{struct_is_there}
 use Rattle.mv_linker.proofs.OwnDefinitions.{module_there, struct_name_by}
-use Rattle.mv_interpreter.specs.Typing.Facts.{Named}
 
 module _ (m : Module) (bounds : InBounds m) where
   pub struct_there : (h : ℕ) → below h m.struct_handles ≡ true → (name : StructName) × (struct_name m h ≡ Some name)
@@ -39,10 +34,7 @@ module _ (m : Module) (bounds : InBounds m) where
   tokens_there (t ∷ ts) e =
       let first = token_there t (first_so (token_in m t) (list_all (token_in m) ts) e) in
       let rest = tokens_there ts (second_so (token_in m t) (list_all (token_in m) ts) e) in
-      (first.tag ∷ rest.0, joined t ts first.tag rest.0 first.names rest.1)
-    where
-      joined : (t : Token) (ts : List Token) (tag : Tag) (rest : List Tag) → token_named m t ≡ Some tag → tokens_named m ts ≡ Some rest → tokens_named m (t ∷ ts) ≡ Some (tag ∷ rest)
-      joined t ts tag rest p q = rw (p, q) refl
+      (first.tag ∷ rest.0, rw (first.names, rest.1) refl)
 
 same_abilities-turned : (a b : Abilities) → same_abilities a b ≡ true → same_abilities b a ≡ true
 same_abilities-turned a b h =
@@ -76,17 +68,8 @@ module _ (modules : List Module) (m : Module) (links : structs_are_there modules
     where
       by_case : (handle : StructHandle) → slice_get m.struct_handles h ≡ Some handle → (a : Option Abilities) → declared modules name ≡ a
           → option_map_or (same_abilities handle.abilities) a false ≡ true → struct_tag modules m h ≡ Ok (StructTag name)
-      by_case handle handle_is None p q = absurd (differ q)
-        where
-          differ : false ≡ true → ⊥
-          differ e = cc
-      by_case handle handle_is (Some a) p q =
-          let turned : same_abilities a handle.abilities ≡ true = same_abilities-turned handle.abilities a q in
-          subst (λ (x : Option StructHandle). (ok_or x (Faults LinkageFault) >>=ᵣ λ handle. ok_or (struct_name m h) (Faults LinkageFault) >>=ᵣ λ name. ok_or (declared modules name)
-          (Faults LinkageFault) >>=ᵣ λ abilities. need (same_abilities abilities handle.abilities) (Faults LinkageFault) >> Ok (StructTag name)) ≡ Ok (StructTag name)) (sym handle_is)
-          (subst (λ (x : Option StructName). (ok_or x (Faults LinkageFault) >>=ᵣ λ name. ok_or (declared modules name) (Faults LinkageFault) >>=ᵣ λ abilities. need (same_abilities abilities handle.abilities) (Faults LinkageFault) >> Ok (StructTag name)) ≡ Ok (StructTag name)) (sym e)
-          (subst (λ (x : Option Abilities). (ok_or x (Faults LinkageFault) >>=ᵣ λ abilities. need (same_abilities abilities handle.abilities) (Faults LinkageFault) >> Ok (StructTag name)) ≡ Ok (StructTag name)) (sym p)
-          (subst (λ (b : Bool). (need b (Faults LinkageFault) >> Ok (StructTag name)) ≡ Ok (StructTag name)) (sym turned) refl)))
+      by_case handle handle_is None p q = let z : false ≡ true = q in absurd cc
+      by_case handle handle_is (Some a) p q = rw (e, handle_is, p, same_abilities-turned handle.abilities a q) refl
 
   value_tag_is : (t : ValueType) (tag : Tag) → value_type_named m t ≡ Some tag → value_type_tag modules m t ≡ Ok tag
   value_tag_is (OfLeaf k) tag e = ap Ok (same_Some (LeafTag k) tag e)

@@ -1,16 +1,14 @@
 -- Operands by their types: what the rules of types say of the stack, and what the stack then is.
-use Rattle.mv_interpreter.proofs.Typing.Common.{◌≡◌, ℕ, suc, Bool, true, false, List, [], ◌∷◌, ◌++◌, length, take, drop, reverse, refl, sym, ap, ap₂}
-use Rattle.mv_interpreter.proofs.Typing.Common.{◌∙◌, subst, Some, Ok, arith, IsTrue, same_Some, LeafKind, ValueType, OfLeaf, Token, Plain, Module}
-use Rattle.mv_interpreter.proofs.Typing.Common.{Value, Leaf, Struct, Ref, LeafTag, taken, takes_gives, top_type, operands, Roots, in_range, HasType}
-use Rattle.mv_interpreter.proofs.Typing.Common.{HasToken, HaveTokens, on_bind}
+use Rattle.mv_interpreter.proofs.Typing.Common.{◌≡◌, ℕ, suc, true, List, [], ◌∷◌, length, refl, ap, subst, ◌∙◌, arith, ◌++◌, Some, Ok, Bool, false, take, drop, sym, ap₂, reverse}
+use Rattle.mv_interpreter.proofs.Typing.Common.{same_Some, IsTrue, Module, for_each, Tag, LeafTag, same_tokens, same_value_type, LeafKind, Token, Plain, ValueType, OfLeaf, operands}
+use Rattle.mv_interpreter.proofs.Typing.Common.{tag_named, Value, Leaf, on_bind, token_named, tokens_named, lists_equal, tokens_equal, takes_gives, taken, in_range, Roots, HasType}
+use Rattle.mv_interpreter.proofs.Typing.Common.{HasToken, HaveTokens}
 use Rattle.std.proofs.Common.{leb, length-append}
 use Rattle.std.proofs.lemmas.List.{length-reverse, reverse-append, reverse-reverse, take-append-drop}
-use Rattle.std.proofs.Math.Seq.{take-append_seam, drop-append_seam}
-use Rattle.std.proofs.lemmas.Bool.{le-leb}
-use Rattle.mv_move_types.specs.Tokens.{same_value_type, same_tokens}
+use Rattle.std.proofs.{Math.Seq.take-append_seam, Math.Seq.drop-append_seam, lemmas.Bool.le-leb}
 use Rattle.mv_interpreter.specs.Typing.HasType.{fields_by_name}
 use Rattle.std.specs.Bool.{then_some}
-use Rattle.mv_type_states.proofs.Tokens.{tokens_equal, lists_equal}
+pub use Rattle.mv_type_states.proofs.HeightLemmas.{top_some as top_type-is}
 
 -- ---- tests of types
 
@@ -25,6 +23,19 @@ pub on_test : {A P : Type 0} (b : Bool) (x y : A) → then_some b x ≡ Some y �
 on_test true x y e go = go refl (same_Some x y e)
 on_test false x y e go = absurd cc
 
+-- names of types, one after the other
+pub on_names : {P : Type 0} (m : Module) (t : Token) (ts : List Token) (tags : List Tag) → tokens_named m (t ∷ ts) ≡ Some tags
+    → ((tag : Tag) (rest : List Tag) → token_named m t ≡ Some tag → tokens_named m ts ≡ Some rest → tag ∷ rest ≡ tags → P) → P
+on_names m t ts tags e go =
+    on_bind (token_named m t) _ tags e (λ tag tag_is e1.
+    on_bind (tokens_named m ts) (λ rest. Some (tag ∷ rest)) tags e1 (λ rest rest_is e2. go tag rest tag_is rest_is (same_Some (tag ∷ rest) tags e2)))
+
+-- and their tags
+pub tags_by : (modules : List Module) (m : Module) → ((t : Token) (tag : Tag) → token_named m t ≡ Some tag → tag_named modules m t ≡ Ok tag) → (ts : List Token) (tags : List Tag)
+    → tokens_named m ts ≡ Some tags → for_each (tag_named modules m) ts ≡ Ok tags
+tags_by modules m each [] tags e = ap Ok (same_Some [] tags e)
+tags_by modules m each (t ∷ ts) tags e = on_names m t ts tags e (λ tag rest tag_is rest_is whole. rw (each t tag tag_is, tags_by modules m each ts rest rest_is) (ap Ok whole))
+
 -- what is taken is on top, the last uppermost
 pub taken-is : (wanted stack below : List Token) → taken wanted stack ≡ Some below → stack ≡ reverse wanted ++ below
 taken-is wanted stack below e =
@@ -38,11 +49,6 @@ takes_gives-is wanted given stack after e =
     on_bind (taken wanted stack) (λ below. Some (reverse given ++ below)) after e (λ below below_is e1.
     (below, taken-is wanted stack below below_is, sym (same_Some (reverse given ++ below) after e1)))
 
--- a type that was on top
-pub top_type-is : (stack : List Token) (x : Token × List Token) → top_type stack ≡ Some x → stack ≡ x.0 ∷ x.1
-top_type-is [] x e = absurd cc
-top_type-is (t ∷ ts) x e = let p : (t, ts) ≡ x = same_Some (t, ts) x e in ap (λ (y : Token × List Token). y.0 ∷ y.1) p
-
 -- ---- values by their types
 
 -- a value of a leaf's type is a leaf
@@ -54,8 +60,7 @@ pub record IsLeaf (v : Value) (k : LeafKind) : Type 0 where
 module _ (modules : List Module) (look : Roots) (home : Module) where
   leaf_by_tag : (v : Value) (k : LeafKind) → HasType (fields_by_name modules) look v (LeafTag k) → IsLeaf v k
   leaf_by_tag (Leaf j n) k h = record { number = n; is_leaf = ap (λ i. Leaf i n) h.0; fits = subst (λ i. IsTrue (in_range i n)) h.0 h.1 }
-  leaf_by_tag (Struct name fields) k h = absurd h
-  leaf_by_tag (Ref r) k h = absurd h
+  leaf_by_tag v k h = absurd h
 
   -- a value of a leaf's type
   pub leaf : (v : Value) (k : LeafKind) → HasToken modules look home v (Plain (OfLeaf k)) → IsLeaf v k
@@ -83,19 +88,17 @@ module _ (modules : List Module) (look : Roots) (home : Module) where
   -- and put together again
   pub joined : (xs ys : List Value) (as' bs : List Token) → HaveTokens modules look home xs as' → HaveTokens modules look home ys bs → HaveTokens modules look home (xs ++ ys) (as' ++ bs)
   joined [] ys [] bs h k = k
-  joined [] ys (a ∷ as') bs h k = absurd h
-  joined (x ∷ xs) ys [] bs h k = absurd h
   joined (x ∷ xs) ys (a ∷ as') bs h k = (h.0, joined xs ys as' bs h.1 k)
+  joined xs ys as' bs h k = absurd h
 
   -- in the other order
   pub turned : (xs : List Value) (as' : List Token) → HaveTokens modules look home xs as' → HaveTokens modules look home (reverse xs) (reverse as')
   turned [] [] h = tt
-  turned [] (a ∷ as') h = absurd h
-  turned (x ∷ xs) [] h = absurd h
   turned (x ∷ xs) (a ∷ as') h =
       let both : HaveTokens modules look home (reverse xs ++ x ∷ []) (reverse as' ++ a ∷ []) = joined (reverse xs) (x ∷ []) (reverse as') (a ∷ []) (turned xs as' h.1) (h.0, tt) in
       subst (λ (vs : List Value). HaveTokens modules look home vs (reverse (a ∷ as'))) (sym (reverse-append (x ∷ []) xs))
       (subst (λ (ts : List Token). HaveTokens modules look home (reverse xs ++ x ∷ []) ts) (sym (reverse-append (a ∷ []) as')) both)
+  turned xs as' h = absurd h
 
   -- the operands of these types, lowest first, and those below
   pub record Taken (stack : List Value) (wanted below : List Token) : Type 0 where
@@ -106,12 +109,9 @@ module _ (modules : List Module) (look : Roots) (home : Module) where
     pub rest_typed : HaveTokens modules look home rest below
 
   operands-split : (n : ℕ) (xs ys : List Value) → length xs ≡ n → operands n (xs ++ ys) ≡ Ok (reverse xs, ys)
-  operands-split n xs ys e = subst (λ m. operands m (xs ++ ys) ≡ Ok (reverse xs, ys)) e at_length
-    where
-      at_length : operands (length xs) (xs ++ ys) ≡ Ok (reverse xs, ys)
-      at_length =
-          let enough : leb (length xs) (length (xs ++ ys)) ≡ true = le-leb (length xs) (length (xs ++ ys)) (omega (arith, length-append xs ys)) in
-          rw (enough, take-append_seam xs ys, drop-append_seam xs ys) refl
+  operands-split n xs ys e =
+      let enough : leb (length xs) (length (xs ++ ys)) ≡ true = le-leb (length xs) (length (xs ++ ys)) (omega (arith, length-append xs ys)) in
+      rw (sym e, enough, take-append_seam xs ys, drop-append_seam xs ys) refl
 
   pub take_operands : (stack : List Value) (wanted below : List Token) → HaveTokens modules look home stack (reverse wanted ++ below) → Taken stack wanted below
   take_operands stack wanted below h =

@@ -1,23 +1,12 @@
 -- What the store says of the own module's structs.
-use Rattle.mv_interpreter.proofs.Typing.Common.{◌≡◌, ℕ, Bool, true, List, [], ◌∷◌, map, refl, ap, subst, ◌∙◌, Option, Some, Result, Ok, slice_get}
-use Rattle.mv_interpreter.proofs.Typing.Common.{ok_or, not, list_all, first_so, second_so, and_from, same_Some, Token, Plain, ReferenceTo}
-use Rattle.mv_interpreter.proofs.Typing.Common.{MutableReferenceTo, ◌>>=ᵣ◌, ◌>>◌, need, StructName, Module, struct_name, Field, Faults, LinkageFault}
-use Rattle.mv_interpreter.proofs.Typing.Common.{entry, Tag, below, token_in, tokens_named, token_named, Here, OwnStruct, is_reference_tag, on_bind}
-use Rattle.mv_interpreter.proofs.Typing.Common.{each, there_below, then_found, ModuleAccepted, StoreAccepted}
-use Rattle.mv_move_types.specs.declared.tables.StructHandle.{StructHandle}
-use Rattle.mv_move_types.specs.Names.{ModuleName}
-use Rattle.mv_move_types.specs.Module.{StructDefinition, own_name}
-use Rattle.mv_machine.specs.Typing.{linked}
-use Rattle.mv_move_types.specs.Named.{definition_of}
-use Rattle.mv_bounds.specs.Bounds.{struct_in, field_in}
-use Rattle.mv_signatures.specs.Signatures.{may_be_field}
-use Rattle.mv_machine.specs.Step.{own_struct}
-use Rattle.mv_linker.proofs.NameLemmas.{same_module-same}
+use Rattle.mv_interpreter.proofs.Typing.Common.{◌≡◌, ℕ, true, List, [], ◌∷◌, refl, ap, subst, ◌∙◌, Option, Some, Result, Ok, Bool, map, and_from, same_Some, first_so, second_so, list_all}
+use Rattle.mv_interpreter.proofs.Typing.Common.{slice_get, ok_or, not, Module, struct_name, own_name, StructDefinition, definition_of, StructName, ModuleName, ◌>>◌, need, ◌>>=ᵣ◌, Tag}
+use Rattle.mv_interpreter.proofs.Typing.Common.{Field, StructHandle, Token, Plain, Here, OwnStruct, is_reference_tag, Faults, LinkageFault, entry, below, token_in, struct_in, field_in}
+use Rattle.mv_interpreter.proofs.Typing.Common.{each, there_below, then_found, same_module-same, token_named, tokens_named, StoreAccepted, ModuleAccepted, are_plain, may_be_field}
+use Rattle.mv_interpreter.proofs.{Typing.Operands.on_names, Typing.Roots.named_plain, Typing.Names.tokens_there}
+use Rattle.mv_machine.specs.{Typing.linked, Step.own_struct}
 use Rattle.mv_linker.proofs.OwnDefinitions.{own-definition, owns-structs}
-use Rattle.mv_interpreter.specs.Typing.HasType.{fields_by_name}
-use Rattle.mv_interpreter.specs.Typing.Facts.{OwnFacts, are_plain}
-use Rattle.mv_interpreter.proofs.Typing.Roots.{named_plain}
-use Rattle.mv_interpreter.proofs.Typing.Names.{tokens_there}
+use Rattle.mv_interpreter.specs.{Typing.HasType.fields_by_name, Typing.Facts.OwnFacts}
 
 -- one part after the other
 pub then_ok : {A B E : Type 0} (r : Result A E) (f : A → Result B E) (x : A) (y : B) → r ≡ Ok x → f x ≡ Ok y → (r >>=ᵣ f) ≡ Ok y
@@ -34,16 +23,14 @@ fields_plain : (m : Module) (fs : List Field) (tags : List Tag) → list_all (λ
     → tokens_named m (map (λ (f : Field). f.token) fs) ≡ Some tags → are_plain tags ≡ true
 fields_plain m [] tags h e = subst (λ (x : List Tag). are_plain x ≡ true) (same_Some [] tags e) refl
 fields_plain m (f ∷ fs) tags h e =
-    on_bind (token_named m f.token) _ tags e (λ tag tag_is e1.
-    on_bind (tokens_named m (map (λ (f : Field). f.token) fs)) (λ rest. Some (tag ∷ rest)) tags e1 (λ rest rest_is e2.
+    on_names m f.token (map (λ (f : Field). f.token) fs) tags e (λ tag rest tag_is rest_is whole.
     let here : not (is_reference_tag tag) ≡ true = plain f.token tag (first_so (may_be_field f.token) (list_all (λ (f : Field). may_be_field f.token) fs) h) tag_is in
     let others = fields_plain m fs rest (second_so (may_be_field f.token) (list_all (λ (f : Field). may_be_field f.token) fs) h) rest_is in
-    subst (λ (x : List Tag). are_plain x ≡ true) (same_Some (tag ∷ rest) tags e2) (and_from _ _ here others)))
+    subst (λ (x : List Tag). are_plain x ≡ true) whole (and_from _ _ here others))
   where
     plain : (t : Token) (tag : Tag) → may_be_field t ≡ true → token_named m t ≡ Some tag → not (is_reference_tag tag) ≡ true
     plain (Plain u) tag p q = ap not (named_plain m u tag q)
-    plain (ReferenceTo u) tag p q = absurd cc
-    plain (MutableReferenceTo u) tag p q = absurd cc
+    plain t tag p q = absurd cc
 
 pub own_facts : (h : Here) → StoreAccepted h.modules → slice_get h.modules h.state.top.function.place ≡ Some h.home → (i : ℕ) (d : StructDefinition)
     → slice_get h.home.structs i ≡ Some d → OwnFacts h i d

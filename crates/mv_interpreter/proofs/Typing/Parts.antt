@@ -1,8 +1,8 @@
 -- The parts of a rule, one after the other: each gives a value of which something holds, or fails harmlessly.
-use Rattle.mv_interpreter.proofs.Typing.Common.{◌≡◌, Bool, true, false, refl, sym, subst, Result, Ok, Err, ◌>>◌, need, Failure, Faults, LostFault, FrozenFault, State, untouched, not}
+use Rattle.mv_interpreter.proofs.Typing.Common.{◌≡◌, true, refl, subst, Result, Ok, Bool, false, sym, Err, not, ◌>>◌, need, State, untouched, Faults, LostFault, FrozenFault, Failure}
+use Rattle.mv_interpreter.proofs.Typing.Common.{Place}
 use Rattle.mv_move_types.specs.Results.{◌>>=◌}
 use Rattle.mv_interpreter.specs.Typing.StateTyped.{Harmless}
-use Rattle.mv_machine.specs.Value.{Place}
 use Rattle.mv_machine.specs.Live.{live, is_frozen_by}
 
 -- a part gives a value of which P holds, or fails harmlessly
@@ -35,15 +35,15 @@ module _ {B : Type 0} (P : B → Type 0) where
   tested (Ok x) r h go = go
   tested (Err e) r h go = h
 
+-- a test whose failure is harmless
+pub needed : (b : Bool) (e : Failure) → Harmless e → Part (λ x. Unit {0}) (need b e)
+needed true e h = tt
+needed false e h = h
+
 -- what may be lost is no matter of types
 pub lost : (b : Bool) → Part (λ x. Unit {0}) (need b (Faults LostFault))
-lost true = tt
-lost false = tt
+lost b = needed b (Faults LostFault) tt
 
 -- nor is what is frozen
 pub frozen : (s : State) (p : Place) → Part (λ x. Unit {0}) (untouched s p)
-frozen s p = by_case (not (is_frozen_by (live s) p))
-  where
-    by_case : (b : Bool) → Part (λ x. Unit {0}) (need b (Faults FrozenFault))
-    by_case true = tt
-    by_case false = tt
+frozen s p = needed (not (is_frozen_by (live s) p)) (Faults FrozenFault) tt

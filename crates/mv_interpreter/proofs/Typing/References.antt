@@ -1,26 +1,17 @@
 -- Rows of references that change nothing: fields, reads, freezing.
-use Rattle.mv_interpreter.proofs.Typing.Common.{◌≡◌, ℕ, zero, suc, ◌+◌, Bool, true, false, List, [], ◌∷◌, map, refl, sym, ap, subst, ◌∙◌, Option}
-use Rattle.mv_interpreter.proofs.Typing.Common.{Some, Ok, slice_get, ok_or, option_map, same_Some, ValueType, OfStruct, Token, Plain, ReferenceTo}
-use Rattle.mv_interpreter.proofs.Typing.Common.{MutableReferenceTo, Instruction, ◌>>=◌, StructName, need, Module, Field, Reference, Value, Leaf}
-use Rattle.mv_interpreter.proofs.Typing.Common.{Struct, Ref, Values, root_value, Faults, LostFault, DanglingFault, Tag, StructTag, ReferenceTag}
-use Rattle.mv_interpreter.proofs.Typing.Common.{Types, top_type, plain_of, token_named, tokens_named, value_type_named, Here, OwnStruct, follow}
-use Rattle.mv_interpreter.proofs.Typing.Common.{as_reference, operand, Table, Roots, IsOf, AreOf, PointsTo, HasType, TypesAt, on_bind, HasToken}
-use Rattle.mv_interpreter.proofs.Typing.Common.{HaveTokens, TurnTyped, Row, Facts}
-use Rattle.std.proofs.lemmas.Option.{slice_get-map}
-use Rattle.mv_machine.specs.Value.{list_of}
-use Rattle.mv_type_states.specs.TypeRules.{target_of, mutable_target_of, field_types, of_mutable_field, of_immutable_field, of_read, of_freeze}
-use Rattle.mv_move_types.specs.Tokens.{same_value_type}
-use Rattle.mv_abilities.specs.Abilities.{value_type_abilities}
-use Rattle.mv_machine.specs.StepReferences.{extended, own_field, borrow_field, read_reference, freeze, lends}
-use Rattle.mv_machine.specs.StepParts.{as_fields, can_copy}
-use Rattle.mv_interpreter.specs.Typing.HasType.{fields_by_name}
-use Rattle.mv_linker.proofs.NameLemmas.{same_struct-same}
-use Rattle.mv_interpreter.proofs.Typing.Within.{leads_on}
+use Rattle.mv_interpreter.proofs.Typing.Common.{◌≡◌, ℕ, zero, suc, ◌+◌, true, List, [], ◌∷◌, refl, ap, subst, ◌∙◌, Option, Some, Ok, Bool, false, sym, map, same_Some, slice_get, ok_or}
+use Rattle.mv_interpreter.proofs.Typing.Common.{option_map, Module, StructName, ◌>>=◌, need, Tag, StructTag, ReferenceTag, same_value_type, Instruction, Field, Token, Plain, ReferenceTo}
+use Rattle.mv_interpreter.proofs.Typing.Common.{MutableReferenceTo, ValueType, OfStruct, root_value, Here, OwnStruct, operand, as_reference, follow, can_copy, as_fields, Faults, LostFault}
+use Rattle.mv_interpreter.proofs.Typing.Common.{DanglingFault, Value, Struct, Ref, Values, Reference, list_of, on_bind, same_struct-same, token_named, tokens_named, value_type_named}
+use Rattle.mv_interpreter.proofs.Typing.Common.{Types, top_type, plain_of, mutable_target_of, TypesAt, Row, Facts, Roots, IsOf, AreOf, Table, HasType, PointsTo, HasToken, HaveTokens}
+use Rattle.mv_interpreter.proofs.Typing.Common.{TurnTyped, value_type_abilities}
+use Rattle.mv_interpreter.proofs.Typing.Operands.{on_names, on_test, takes_gives-is, top_type-is, same_value_type-is}
+use Rattle.mv_interpreter.proofs.{Typing.Within.leads_on, Typing.Roots.place_of, Typing.Roots.is_plain, Typing.Stays.gives_typed, Typing.Stays.top_typed, Typing.Locals.plain_of-is}
 use Rattle.mv_interpreter.proofs.Typing.Parts.{Part, known, passes, tested, lost}
-use Rattle.mv_interpreter.proofs.Typing.Operands.{on_test, takes_gives-is, top_type-is, same_value_type-is}
-use Rattle.mv_interpreter.proofs.Typing.Roots.{place_of, is_plain}
-use Rattle.mv_interpreter.proofs.Typing.Stays.{gives_typed, top_typed}
-use Rattle.mv_interpreter.proofs.Typing.Locals.{plain_of-is}
+use Rattle.std.proofs.lemmas.Option.{slice_get-map}
+use Rattle.mv_type_states.specs.TypeRules.{target_of, field_types, of_mutable_field, of_immutable_field, of_read, of_freeze}
+use Rattle.mv_machine.specs.StepReferences.{extended, own_field, borrow_field, read_reference, freeze, lends}
+use Rattle.mv_interpreter.specs.Typing.HasType.{fields_by_name}
 
 -- a value of a reference's type
 pub record IsReference (modules : List Module) (look : Roots) (home : Module) (v : Value) (is_mutable : Bool) (u : ValueType) : Type 0 where
@@ -33,9 +24,8 @@ pub record IsReference (modules : List Module) (look : Roots) (home : Module) (v
 
 module _ (modules : List Module) (look : Roots) (home : Module) where
   by_tag : (v : Value) (m : Bool) (u : ValueType) (tag : Tag) → value_type_named home u ≡ Some tag → HasType (fields_by_name modules) look v (ReferenceTag m tag) → IsReference modules look home v m u
-  by_tag (Leaf k n) m u tag e h = absurd h
-  by_tag (Struct name fields) m u tag e h = absurd h
   by_tag (Ref r) m u tag e h = record { reference = r; tag = tag; is_reference = refl; mutable = h.0; names = e; points = h.1 }
+  by_tag v m u tag e h = absurd h
 
   named_reference : (v : Value) (m : Bool) (u : ValueType) (whole : Tag) → (value_type_named home u >>= λ tag. Some (ReferenceTag m tag)) ≡ Some whole
       → HasType (fields_by_name modules) look v whole → IsReference modules look home v m u
@@ -56,9 +46,8 @@ module _ (modules : List Module) (look : Roots) (home : Module) where
   either v (MutableReferenceTo t) u e h = (true, subst (λ (x : ValueType). IsReference modules look home v true x) (same_Some t u e) (mutable_one v t h))
 
   pub mutable_target-is : (t : Token) (u : ValueType) → mutable_target_of t ≡ Some u → t ≡ MutableReferenceTo u
-  mutable_target-is (Plain t) u e = absurd cc
-  mutable_target-is (ReferenceTo t) u e = absurd cc
   mutable_target-is (MutableReferenceTo t) u e = ap MutableReferenceTo (same_Some t u e)
+  mutable_target-is t u e = absurd cc
 
   -- references by their types
   pub of_reference : (m : Bool) (given : ValueType → Token) → ((t : ValueType) (tag : Tag) → value_type_named home t ≡ Some tag → token_named home (given t) ≡ Some (ReferenceTag m tag)) →
@@ -74,32 +63,26 @@ mutable_names home t tag e = rw e refl
 -- the fields of a value of a struct
 pub struct_fields : (table : Table) (w : Value) (name : StructName) → IsOf table w (StructTag name)
     → (fields : Values) × (ts : List Tag) × (as_fields name w ≡ Ok (list_of fields)) × (table name ≡ Some ts) × AreOf table fields ts
-struct_fields table (Leaf k n) name h = absurd h
-struct_fields table (Ref r) name h = absurd h
 struct_fields table (Struct own fields) name h = (
   fields,
   h.1,
-  subst (λ (x : StructName). as_fields x (Struct own fields) ≡ Ok (list_of fields)) h.0 own_fields,
+  subst (λ (x : StructName). as_fields x (Struct own fields) ≡ Ok (list_of fields)) h.0 (rw (same_struct-same own) refl),
   subst (λ (x : StructName). table x ≡ Some h.1) h.0 h.2,
   h.3,
 )
-  where
-    own_fields : as_fields own (Struct own fields) ≡ Ok (list_of fields)
-    own_fields = rw (same_struct-same own) refl
+struct_fields table w name h = absurd h
 
 -- the tag of one type of a list
 pub tokens_at : (m : Module) (ts : List Token) (tags : List Tag) (k : ℕ) (t : Token) → tokens_named m ts ≡ Some tags → slice_get ts k ≡ Some t
     → (tag : Tag) × (token_named m t ≡ Some tag) × (slice_get tags k ≡ Some tag)
 tokens_at m [] tags k t e g = absurd cc
 tokens_at m (u ∷ ts) tags zero t e g =
-    on_bind (token_named m u) _ tags e (λ tag tag_is e1.
-    on_bind (tokens_named m ts) (λ rest. Some (tag ∷ rest)) tags e1 (λ rest rest_is e2.
-    (tag, subst (λ (x : Token). token_named m x ≡ Some tag) (same_Some u t g) tag_is, subst (λ (x : List Tag). slice_get x 0 ≡ Some tag) (same_Some (tag ∷ rest) tags e2) refl)))
+    on_names m u ts tags e (λ tag rest tag_is rest_is whole.
+    (tag, subst (λ (x : Token). token_named m x ≡ Some tag) (same_Some u t g) tag_is, subst (λ (x : List Tag). slice_get x 0 ≡ Some tag) whole refl))
 tokens_at m (u ∷ ts) tags (suc k) t e g =
-    on_bind (token_named m u) _ tags e (λ tag tag_is e1.
-    on_bind (tokens_named m ts) (λ rest. Some (tag ∷ rest)) tags e1 (λ rest rest_is e2.
+    on_names m u ts tags e (λ tag rest tag_is rest_is whole.
     let found = tokens_at m ts rest k t rest_is g in
-    (found.0, found.1, subst (λ (x : List Tag). slice_get x (suc k) ≡ Some found.0) (same_Some (tag ∷ rest) tags e2) found.2)))
+    (found.0, found.1, subst (λ (x : List Tag). slice_get x (suc k) ≡ Some found.0) whole found.2))
 
 -- what a field handle stands for
 pub record FieldFacts (h : Here) (i : ℕ) (struct plain : ValueType) : Type 0 where

@@ -1,36 +1,26 @@
 -- Each instruction by its row, a step, and a whole run.
-use Rattle.mv_interpreter.proofs.Typing.Common.{ℕ, ◌+◌, true, false, List, length, refl, ap, Option, Result, Ok, slice_get, not, ok_or, nat_lt}
-use Rattle.mv_interpreter.proofs.Typing.Common.{nat_le, ◌==◌, ◌||◌, ◌&&◌, list_all, second_so, Boolean, Number, ReferenceTo, MutableReferenceTo}
-use Rattle.mv_interpreter.proofs.Typing.Common.{Instruction, Ret, Module, FunctionDefinition, Value, State, root_value, Failure, Faults, TypeFault}
-use Rattle.mv_interpreter.proofs.Typing.Common.{LinkageFault, entry, Types, Here, gives, TypesAt, HaveTokens, StateTyped, TurnTyped, Row, Advance}
-use Rattle.mv_interpreter.proofs.Typing.Common.{SoundStore}
-use Rattle.std.specs.Prelude.{bit_and, bit_or, bit_xor, ◌^◌}
-use Rattle.mv_move_types.specs.declared.token.Width.TheVariants.{U8, U16, U32, U64, U128}
-use Rattle.mv_move_types.specs.declared.instruction.Instruction.TheVariants.{Pop, BrTrue, BrFalse, Branch, LdU64, LdConst, LdTrue, LdFalse, CopyLoc}
-use Rattle.mv_move_types.specs.declared.instruction.Instruction.TheVariants.{MoveLoc, StLoc, MutBorrowLoc, ImmBorrowLoc, MutBorrowField}
-use Rattle.mv_move_types.specs.declared.instruction.Instruction.TheVariants.{ImmBorrowField, Call, Pack, Unpack, ReadRef, WriteRef, Add, Sub, Mul}
-use Rattle.mv_move_types.specs.declared.instruction.Instruction.TheVariants.{Mod, Div, BitOr, BitAnd, Xor, Or, And, Not, Eq, Neq, Lt, Gt, Le, Ge}
-use Rattle.mv_move_types.specs.declared.instruction.Instruction.TheVariants.{Abort, Nop, Exists, MutBorrowGlobal, ImmBorrowGlobal, MoveFrom, MoveTo}
-use Rattle.mv_move_types.specs.declared.instruction.Instruction.TheVariants.{FreezeRef, Shl, Shr, LdU8, LdU128, CastU8, CastU64, CastU128, LdU16}
-use Rattle.mv_move_types.specs.declared.instruction.Instruction.TheVariants.{LdU32, CastU16, CastU32}
-use Rattle.mv_machine.specs.Numbers.{sum_of, difference_of, product_of, remainder_of, quotient_of, shifted_left, shifted_right}
-use Rattle.mv_move_types.specs.Flow.{successors}
+use Rattle.mv_interpreter.proofs.Typing.Common.{ℕ, ◌+◌, true, List, length, refl, ap, Option, Result, Ok, false, second_so, list_all, ◌==◌, ◌&&◌, slice_get, nat_le, nat_lt, ok_or, ◌||◌}
+use Rattle.mv_interpreter.proofs.Typing.Common.{not, bit_and, bit_or, bit_xor, successors, Module, FunctionDefinition, Instruction, Ret, BrTrue, BrFalse, Branch, Abort, Call, Boolean}
+use Rattle.mv_interpreter.proofs.Typing.Common.{Number, ReferenceTo, MutableReferenceTo, U8, U64, sum_of, difference_of, product_of, remainder_of, quotient_of, shifted_left, shifted_right}
+use Rattle.mv_interpreter.proofs.Typing.Common.{State, root_value, Here, gives, Faults, LinkageFault, entry, Failure, TypeFault, Value, Types, TypesAt, SoundStore, Advance, Row}
+use Rattle.mv_interpreter.proofs.Typing.Common.{HaveTokens, StateTyped, TurnTyped}
+use Rattle.std.specs.Prelude.{◌^◌}
+use Rattle.mv_move_types.specs.declared.token.Width.TheVariants.{U16, U32, U128}
+use Rattle.mv_move_types.specs.declared.instruction.Instruction.TheVariants.{Pop, LdU64, LdConst, LdTrue, LdFalse, CopyLoc, MoveLoc, StLoc, MutBorrowLoc, ImmBorrowLoc, MutBorrowField}
+use Rattle.mv_move_types.specs.declared.instruction.Instruction.TheVariants.{ImmBorrowField, Pack, Unpack, ReadRef, WriteRef, Add, Sub, Mul, Mod, Div, BitOr, BitAnd, Xor, Or, And, Not, Eq}
+use Rattle.mv_move_types.specs.declared.instruction.Instruction.TheVariants.{Neq, Lt, Gt, Le, Ge, Nop, Exists, MutBorrowGlobal, ImmBorrowGlobal, MoveFrom, MoveTo, FreezeRef, Shl, Shr}
+use Rattle.mv_move_types.specs.declared.instruction.Instruction.TheVariants.{LdU8, LdU128, CastU8, CastU64, CastU128, LdU16, LdU32, CastU16, CastU32}
 use Rattle.mv_type_states.specs.TypeRules.{types_after}
-use Rattle.mv_machine.specs.Step.{rule, step}
-use Rattle.mv_machine.specs.StepLocals.{pop}
-use Rattle.mv_machine.specs.StepReferences.{read_reference}
+use Rattle.mv_machine.specs.{Step.rule, Step.step, StepLocals.pop, StepReferences.read_reference}
 use Rattle.mv_interpreter.specs.Typing.Unreached.{Guarded, StepGuarded}
-use Rattle.mv_interpreter.proofs.Typing.Parts.{Part, known, passes}
+use Rattle.mv_interpreter.proofs.{Typing.Parts.Part, Typing.Parts.known, Typing.Parts.passes, Typing.Write.writes, Typing.Structs.packs, Typing.Structs.unpacks, Typing.Calls.calls}
+use Rattle.mv_interpreter.proofs.{Typing.Calls.returns}
 use Rattle.mv_interpreter.proofs.Typing.Stays.{gives_typed, here_of, advance_of, row_of}
-use Rattle.mv_interpreter.proofs.Typing.Families.{binary_typed, comparison_typed, shift_typed, cast_typed, logic_typed, negation_typed, sum_keeps}
-use Rattle.mv_interpreter.proofs.Typing.Families.{difference_keeps, product_keeps, remainder_keeps, quotient_keeps, or_keeps, and_keeps, xor_keeps}
-use Rattle.mv_interpreter.proofs.Typing.Families.{left_keeps, right_keeps}
+use Rattle.mv_interpreter.proofs.Typing.Families.{binary_typed, comparison_typed, shift_typed, cast_typed, logic_typed, negation_typed, sum_keeps, difference_keeps, product_keeps}
+use Rattle.mv_interpreter.proofs.Typing.Families.{remainder_keeps, quotient_keeps, or_keeps, and_keeps, xor_keeps, left_keeps, right_keeps}
 use Rattle.mv_interpreter.proofs.Typing.Locals.{copies, moves, stores, borrows}
 use Rattle.mv_interpreter.proofs.Typing.References.{mutable_field, immutable_field, reads, freezes, immutable_names, mutable_names}
-use Rattle.mv_interpreter.proofs.Typing.Write.{writes}
 use Rattle.mv_interpreter.proofs.Typing.Globals.{tells, borrows_global, takes_out, puts_in}
-use Rattle.mv_interpreter.proofs.Typing.Structs.{packs, unpacks}
-use Rattle.mv_interpreter.proofs.Typing.Calls.{calls, returns}
 use Rattle.mv_interpreter.proofs.Typing.Small.{loads, constants, pops, equalities, branches, goes, aborts}
 
 -- a row that changes the operands alone

@@ -1,27 +1,17 @@
 -- The small rows: loads, constants, Pop, Eq, branches, Abort, Nop.
-use Rattle.mv_interpreter.proofs.Typing.Common.{◌≡◌, ℕ, ◌+◌, Bool, true, false, cond, List, [], ◌∷◌, refl, sym, ap, subst, ◌∙◌, Option, Some, Ok, eqb}
-use Rattle.mv_interpreter.proofs.Typing.Common.{slice_get, not, ok_or, IsTrue, ◌&&◌, beq, same_Some, LeafKind, Boolean, Number, OfLeaf, Token, Plain}
-use Rattle.mv_interpreter.proofs.Typing.Common.{Instruction, need, Value, Leaf, root_value, Faults, TypeFault, LinkageFault, LostFault, tag_of}
-use Rattle.mv_interpreter.proofs.Typing.Common.{has_tag, entry, Tag, Types, boolean, top_type, plain_of, taken, token_named, Here, operand}
-use Rattle.mv_interpreter.proofs.Typing.Common.{is_reference_tag, truth, HasType, in_range, TypesAt, on_bind, HasToken, HaveTokens, TurnTyped, Row}
-use Rattle.mv_move_types.specs.declared.token.Width.TheVariants.{U64}
-use Rattle.mv_move_types.specs.Module.{Constant}
-use Rattle.mv_machine.specs.Value.{same_value}
-use Rattle.mv_move_types.specs.Numbers.{leaf_number}
-use Rattle.mv_type_states.specs.TypeRules.{number, of_pop, of_equality, of_constant}
-use Rattle.mv_abilities.specs.Abilities.{token_abilities}
-use Rattle.mv_machine.specs.StepLocals.{pop}
-use Rattle.mv_machine.specs.StepNumbers.{equality, constant, constant_value}
-use Rattle.mv_machine.specs.StepControl.{branch_if, abort}
-use Rattle.mv_machine.specs.StepParts.{pushes, can_drop, goes_to}
+use Rattle.mv_interpreter.proofs.Typing.Common.{◌≡◌, ℕ, ◌+◌, true, List, [], ◌∷◌, refl, ap, subst, ◌∙◌, Option, Some, Ok, Bool, false, sym, cond, eqb, same_Some, beq, IsTrue, ◌&&◌}
+use Rattle.mv_interpreter.proofs.Typing.Common.{slice_get, ok_or, not, Constant, leaf_number, need, Tag, Instruction, LeafKind, Boolean, Number, Token, Plain, OfLeaf, U64, root_value}
+use Rattle.mv_interpreter.proofs.Typing.Common.{Here, operand, is_reference_tag, truth, can_drop, Faults, LinkageFault, entry, LostFault, has_tag, tag_of, TypeFault, Value, Leaf, on_bind}
+use Rattle.mv_interpreter.proofs.Typing.Common.{token_named, Types, boolean, taken, top_type, plain_of, number, TypesAt, Row, ConstantFacts, in_range, HasType, HasToken, HaveTokens}
+use Rattle.mv_interpreter.proofs.Typing.Common.{TurnTyped, token_abilities}
+use Rattle.mv_machine.specs.{Value.same_value, StepLocals.pop, StepNumbers.equality, StepNumbers.constant, StepNumbers.constant_value, StepControl.branch_if, StepControl.abort}
+use Rattle.mv_machine.specs.{StepParts.pushes, StepParts.goes_to}
+use Rattle.mv_type_states.specs.TypeRules.{of_pop, of_equality, of_constant}
 use Rattle.mv_interpreter.specs.Typing.HasType.{fields_by_name}
-use Rattle.mv_interpreter.specs.Typing.Facts.{ConstantFacts}
 use Rattle.mv_interpreter.proofs.Typing.Parts.{Part, known, passes, tested, lost}
 use Rattle.mv_interpreter.proofs.Typing.Operands.{on_test, taken-is, top_type-is, one_operand, leaf, of_leaf}
-use Rattle.mv_interpreter.proofs.Typing.Roots.{named_plain, typed_tag, typed_has_tag}
-use Rattle.mv_interpreter.proofs.Typing.Stays.{stays_at, top_typed}
-use Rattle.mv_interpreter.proofs.Typing.Locals.{plain_of-is}
-use Rattle.mv_interpreter.proofs.Typing.Families.{of_truth}
+use Rattle.mv_interpreter.proofs.{Typing.Roots.named_plain, Typing.Roots.typed_tag, Typing.Roots.typed_has_tag, Typing.Stays.stays_at, Typing.Stays.top_typed, Typing.Locals.plain_of-is}
+use Rattle.mv_interpreter.proofs.{Typing.Families.of_truth}
 
 pub constant_is : (t : Token) (kind : LeafKind) (bytes : List ℕ) (n : ℕ) → t ≡ Plain (OfLeaf kind) → leaf_number kind bytes ≡ Some n → constant_value t bytes ≡ Ok (Leaf kind n)
 constant_is t kind bytes n e g = subst (λ (x : Token). constant_value x bytes ≡ Ok (Leaf kind n)) (sym e) (rw g refl)

@@ -1,11 +1,9 @@
 -- The row at which a typed state stands, and the typed state that a rule leads to in the same frame.
-use Rattle.mv_interpreter.proofs.Typing.Common.{ℕ, ◌+◌, List, Option, Result, Ok, Err, Instruction, Module, Value, Storage, Frame, State, root_value}
-use Rattle.mv_interpreter.proofs.Typing.Common.{Failure, Types, Here, gives, TypesAt, HaveTokens, LocalsHaveTokens, Numbered, AreWaiting}
-use Rattle.mv_interpreter.proofs.Typing.Common.{StorageTyped, StateTyped, TurnTyped, Row, SoundStore, Advance, ◌≡◌, ◌∷◌, subst, Token, HasToken}
-use Rattle.mv_machine.specs.State.{Event}
-use Rattle.mv_machine.specs.StepParts.{with_top}
-use Rattle.mv_interpreter.proofs.Typing.Parts.{Part}
-use Rattle.mv_interpreter.proofs.Typing.Operands.{one_operand}
+use Rattle.mv_interpreter.proofs.Typing.Common.{◌≡◌, ℕ, ◌+◌, List, ◌∷◌, subst, Option, Result, Ok, Err, Module, Instruction, Token, Frame, State, root_value, Storage, Here, gives, Failure}
+use Rattle.mv_interpreter.proofs.Typing.Common.{Value, Types, TypesAt, SoundStore, Advance, Row, HasToken, HaveTokens, LocalsHaveTokens, Numbered, AreWaiting, StateTyped, TurnTyped}
+use Rattle.mv_interpreter.proofs.Typing.Common.{StorageTyped}
+use Rattle.mv_machine.specs.{State.Event, StepParts.with_top}
+use Rattle.mv_interpreter.proofs.{Typing.Parts.Part, Typing.Operands.one_operand}
 
 -- the state with these locals, operands and frames below, this storage and these events, at this instruction of the frame at work
 abbrev pub moved_to : State → ℕ → List (Option Value) → List Value → List Frame → Storage → List Event → State

@@ -1,7 +1,7 @@
 -- Look-ups in a storage that was changed.
-use Rattle.mv_interpreter.proofs.Typing.Common.{◌≡◌, Bool, true, false, cond, List, [], ◌∷◌, refl, sym, subst, Some, same_Some, Key, Module, Value}
-use Rattle.mv_interpreter.proofs.Typing.Common.{Storage, same_key, stored_at, with_stored, same_key-to, EntryTyped, StorageTyped}
-use Rattle.mv_machine.specs.State.{Entry, key_before, without_stored}
+use Rattle.mv_interpreter.proofs.Typing.Common.{◌≡◌, true, List, [], ◌∷◌, refl, subst, Some, Bool, false, sym, cond, same_Some, Module, Key, Storage, stored_at, with_stored, same_key}
+use Rattle.mv_interpreter.proofs.Typing.Common.{Entry, without_stored, Value, same_key-to, EntryTyped, StorageTyped}
+use Rattle.mv_machine.specs.State.{key_before}
 use Rattle.mv_storage.proofs.Keys.{same_key-refl}
 
 -- an entry of this key and value

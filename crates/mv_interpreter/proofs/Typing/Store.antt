@@ -1,24 +1,14 @@
 -- An accepted store gives what the rows rest on.
-use Rattle.mv_interpreter.proofs.Typing.Common.{◌≡◌, ℕ, suc, ◌+◌, ◌*◌, ◌^◌, ◌<◌, Bool, true, List, [], ◌∷◌, ◌++◌, length, refl, ap, subst, ◌∙◌}
-use Rattle.mv_interpreter.proofs.Typing.Common.{Option, Some, None, arith, slice_get, IsTrue, ◌&&◌, ◌==◌, nat_lt, list_all, first_so, second_so}
-use Rattle.mv_interpreter.proofs.Typing.Common.{ltb-true, lt-ltb, eqb-true, and_from, same_Some, LeafKind, Boolean, Number, Address, Signer, OfLeaf}
-use Rattle.mv_interpreter.proofs.Typing.Common.{OfStruct, Token, Plain, ReferenceTo, MutableReferenceTo, Module, FunctionDefinition, token_in}
-use Rattle.mv_interpreter.proofs.Typing.Common.{function_in, below, instruction_in, local_count, function_is_typed, ends_well}
-use Rattle.mv_interpreter.proofs.Typing.Common.{function_definition_fits, instruction_fits, structs_are_there, Here, on_bind, each, in_range}
-use Rattle.mv_interpreter.proofs.Typing.Common.{SoundStore, ModuleAccepted, StoreAccepted}
-use Rattle.std.specs.Prelude.{is_some, slice_index}
-use Rattle.std.proofs.lemmas.Nat.{pow-add}
-use Rattle.mv_move_types.specs.Module.{Constant, local_tokens}
-use Rattle.mv_move_types.specs.Tokens.{width_bits}
-use Rattle.mv_move_types.specs.Numbers.{leaf_number, little_endian}
+use Rattle.mv_interpreter.proofs.Typing.Common.{◌≡◌, ℕ, suc, ◌+◌, ◌*◌, ◌^◌, ◌<◌, true, List, [], ◌∷◌, length, refl, ap, subst, ◌∙◌, arith, ◌++◌, Option, Some, None, Bool, ltb-true, lt-ltb}
+use Rattle.mv_interpreter.proofs.Typing.Common.{eqb-true, and_from, pow-add, same_Some, first_so, second_so, list_all, IsTrue, ◌==◌, ◌&&◌, slice_get, nat_lt, slice_index, is_some, Module}
+use Rattle.mv_interpreter.proofs.Typing.Common.{FunctionDefinition, local_tokens, Constant, leaf_number, width_bits, LeafKind, Address, Boolean, Number, Signer, Token, Plain, OfLeaf, Here}
+use Rattle.mv_interpreter.proofs.Typing.Common.{below, function_in, instruction_in, local_count, token_in, ends_well, on_bind, function_definition_fits, instruction_fits, is_byte}
+use Rattle.mv_interpreter.proofs.Typing.Common.{is_index, constant_fits, token_fits, each, structs_are_there, function_is_typed, StoreAccepted, ModuleAccepted, SoundStore, Named}
+use Rattle.mv_interpreter.proofs.Typing.Common.{ConstantFacts, in_range}
+use Rattle.mv_move_types.specs.Numbers.{little_endian}
 use Rattle.mv_signatures.specs.Signatures.{is_constant}
-use Rattle.mv_module_text.specs.Fits.{constant_fits, is_byte, token_fits, is_index}
-use Rattle.mv_interpreter.specs.Typing.Facts.{Named, ConstantFacts}
-use Rattle.mv_interpreter.proofs.Typing.Operands.{on_test}
-use Rattle.mv_interpreter.proofs.Typing.Advances.{advances}
-use Rattle.mv_interpreter.proofs.Typing.Names.{token_there, tag_is_found}
-use Rattle.mv_interpreter.proofs.Typing.OwnDefinitions.{own_facts}
-use Rattle.mv_interpreter.proofs.Typing.Callees.{call_facts}
+use Rattle.mv_interpreter.proofs.{Typing.Operands.on_test, Typing.Advances.advances, Typing.Names.token_there, Typing.Names.tag_is_found, Typing.OwnDefinitions.own_facts}
+use Rattle.mv_interpreter.proofs.{Typing.Callees.call_facts}
 
 all_append : {A : Type 0} (p : A → Bool) (xs ys : List A) → list_all p xs ≡ true → list_all p ys ≡ true → list_all p (xs ++ ys) ≡ true
 all_append p [] ys h k = k
@@ -37,19 +27,13 @@ local_named m d a tokens l t e g =
 
 -- constants of bytes
 little_bound : (bs : List ℕ) → list_all is_byte bs ≡ true → little_endian bs < 2 ^ (8 * length bs)
-little_bound [] h = lit_one
-  where
-    lit_one : 0 < 2 ^ (8 * 0)
-    lit_one = omega arith
+little_bound [] h = omega arith
 little_bound (b ∷ bs) h =
     let byte : b < 256 = ltb-true b 256 (first_so (is_byte b) (list_all is_byte bs) h) in
     let rest : little_endian bs < 2 ^ (8 * length bs) = little_bound bs (second_so (is_byte b) (list_all is_byte bs) h) in
     let eight : 8 * suc (length bs) ≡ 8 + 8 * length bs = omega arith in
     let power : 2 ^ (8 * suc (length bs)) ≡ 256 * 2 ^ (8 * length bs) = ap (λ (n : ℕ). 2 ^ n) eight ∙ pow-add 2 8 (8 * length bs) in
-    joined b (little_endian bs) (2 ^ (8 * length bs)) (2 ^ (8 * suc (length bs))) byte rest power
-  where
-    joined : (b x p q : ℕ) → b < 256 → x < p → q ≡ 256 * p → b + 256 * x < q
-    joined b x p q h k e = omega (arith, h, k, e)
+    omega (arith, byte, rest, power)
 
 -- the address of 16 bytes fits: what is left to show of a constant
 abbrev pub AddressesFit : List Module → Type 0
@@ -88,9 +72,7 @@ constant_facts m a addresses i c c_at = by_token c.token c.bytes refl (each is_c
     by_token : (t : Token) (bs : List ℕ) → c.token ≡ t → is_constant (record { token = t; bytes = c.bytes }) ≡ true → list_all is_byte c.bytes ≡ true
         → ((n : ℕ) → leaf_number Address c.bytes ≡ Some n → IsTrue (in_range Address n)) → ConstantFacts c
     by_token (Plain (OfLeaf kind)) bs e h b f = by_kind kind (leaf_number kind c.bytes) e refl h b f
-    by_token (Plain (OfStruct k)) bs e h b f = absurd cc
-    by_token (ReferenceTo t) bs e h b f = absurd cc
-    by_token (MutableReferenceTo t) bs e h b f = absurd cc
+    by_token t bs e h b f = absurd cc
 
 -- an accepted store is sound for types
 pub sound_store : (modules : List Module) → StoreAccepted modules → AddressesFit modules → SoundStore modules

@@ -1,52 +1,36 @@
 -- Rows of struct values, and lists of values by their tags.
-use Rattle.mv_interpreter.proofs.Typing.Common.{◌≡◌, ℕ, suc, ◌+◌, Bool, true, false, List, [], ◌∷◌, ◌++◌, map, length, reverse, refl, sym, ap, subst}
-use Rattle.mv_interpreter.proofs.Typing.Common.{◌∙◌, Some, Ok, slice_get, not, first_so, second_so, same_Some, OfStruct, Token, Plain, Instruction}
-use Rattle.mv_interpreter.proofs.Typing.Common.{for_each, Module, Field, Value, Struct, Values, NoMore, More, root_value, Tag, StructTag, tag_named}
-use Rattle.mv_interpreter.proofs.Typing.Common.{have_tags, Types, token_named, tokens_named, value_type_named, Here, OwnStruct, operand, operands}
-use Rattle.mv_interpreter.proofs.Typing.Common.{with_stack, goes_on, is_reference_tag, Roots, IsOf, AreOf, HasType, HaveTypes, TypesAt, on_bind}
-use Rattle.mv_interpreter.proofs.Typing.Common.{HasToken, HaveTokens, TurnTyped, Row, Facts}
-use Rattle.std.proofs.lemmas.List.{length-map}
-use Rattle.mv_machine.specs.Value.{list_of, fields_of}
-use Rattle.mv_type_states.specs.TypeRules.{of_pack, of_unpack}
-use Rattle.mv_machine.specs.Step.{own_struct, pack}
-use Rattle.mv_machine.specs.StepStructs.{unpack, noted}
-use Rattle.mv_machine.specs.StepParts.{as_fields}
-use Rattle.mv_interpreter.specs.Typing.HasType.{fields_by_name}
-use Rattle.mv_interpreter.specs.Typing.Facts.{are_plain}
-use Rattle.mv_interpreter.proofs.Typing.Parts.{Part, known, passes}
-use Rattle.mv_interpreter.proofs.Typing.Operands.{takes_gives-is, joined, turned, take_operands}
+use Rattle.mv_interpreter.proofs.Typing.Common.{◌≡◌, ℕ, suc, ◌+◌, true, List, [], ◌∷◌, length, refl, ap, subst, ◌∙◌, ◌++◌, Some, Ok, Bool, false, sym, map, reverse, same_Some, first_so}
+use Rattle.mv_interpreter.proofs.Typing.Common.{second_so, slice_get, not, Module, for_each, Tag, StructTag, Instruction, Field, Token, Plain, OfStruct, root_value, Here, operands}
+use Rattle.mv_interpreter.proofs.Typing.Common.{OwnStruct, operand, with_stack, goes_on, is_reference_tag, as_fields, tag_named, have_tags, Value, Struct, Values, NoMore, More, list_of}
+use Rattle.mv_interpreter.proofs.Typing.Common.{on_bind, tokens_named, value_type_named, Types, TypesAt, Row, Facts, are_plain, Roots, HaveTypes, IsOf, AreOf, HasType, HasToken}
+use Rattle.mv_interpreter.proofs.Typing.Common.{HaveTokens, TurnTyped}
+use Rattle.mv_interpreter.proofs.Typing.Operands.{on_names, tags_by, on_names, tags_by, takes_gives-is, joined, turned, take_operands}
+use Rattle.mv_interpreter.proofs.{Typing.Parts.Part, Typing.Parts.known, Typing.Parts.passes, Typing.References.struct_fields, Typing.Stays.moved, Typing.Stays.top_typed}
 use Rattle.mv_interpreter.proofs.Typing.Roots.{is_plain, plain_is, tokens_have_tags, typed_have_tags}
-use Rattle.mv_interpreter.proofs.Typing.References.{struct_fields}
-use Rattle.mv_interpreter.proofs.Typing.Stays.{moved, top_typed}
-use Rattle.std.proofs.lemmas.Bool.{not-true}
+use Rattle.std.proofs.{lemmas.List.length-map, lemmas.Bool.not-true}
+use Rattle.mv_machine.specs.{Value.fields_of, Step.own_struct, Step.pack, StepStructs.unpack, StepStructs.noted}
+use Rattle.mv_type_states.specs.TypeRules.{of_pack, of_unpack}
+use Rattle.mv_interpreter.specs.Typing.HasType.{fields_by_name}
 
 -- the tags of a list of types are found
 pub tags_found : (h : Here) → Facts h → (ts : List Token) (tags : List Tag) → tokens_named h.home ts ≡ Some tags → for_each (tag_named h.modules h.home) ts ≡ Ok tags
-tags_found h facts [] tags e = ap Ok (same_Some [] tags e)
-tags_found h facts (t ∷ ts) tags e =
-    on_bind (token_named h.home t) _ tags e (λ tag tag_is e1.
-    on_bind (tokens_named h.home ts) (λ rest. Some (tag ∷ rest)) tags e1 (λ rest rest_is e2.
-    let first : tag_named h.modules h.home t ≡ Ok tag = facts.tag t tag tag_is in
-    let others : for_each (tag_named h.modules h.home) ts ≡ Ok rest = tags_found h facts ts rest rest_is in
-    rw (first, others) (ap Ok (same_Some (tag ∷ rest) tags e2))))
+tags_found h facts ts tags e = tags_by h.modules h.home facts.tag ts tags e
 
 -- and those of fields
 pub field_tags_found : (h : Here) → Facts h → (fs : List Field) (tags : List Tag) → tokens_named h.home (map (λ (f : Field). f.token) fs) ≡ Some tags
     → for_each (λ (f : Field). tag_named h.modules h.home f.token) fs ≡ Ok tags
 field_tags_found h facts [] tags e = ap Ok (same_Some [] tags e)
 field_tags_found h facts (f ∷ fs) tags e =
-    on_bind (token_named h.home f.token) _ tags e (λ tag tag_is e1.
-    on_bind (tokens_named h.home (map (λ (f : Field). f.token) fs)) (λ rest. Some (tag ∷ rest)) tags e1 (λ rest rest_is e2.
+    on_names h.home f.token (map (λ (f : Field). f.token) fs) tags e (λ tag rest tag_is rest_is whole.
     let first : tag_named h.modules h.home f.token ≡ Ok tag = facts.tag f.token tag tag_is in
     let others : for_each (λ (f : Field). tag_named h.modules h.home f.token) fs ≡ Ok rest = field_tags_found h facts fs rest rest_is in
-    rw (first, others) (ap Ok (same_Some (tag ∷ rest) tags e2))))
+    rw (first, others) (ap Ok whole))
 
 pub names_length : (m : Module) (ts : List Token) (tags : List Tag) → tokens_named m ts ≡ Some tags → length tags ≡ length ts
 names_length m [] tags e = ap length (sym (same_Some [] tags e))
 names_length m (t ∷ ts) tags e =
-    on_bind (token_named m t) _ tags e (λ tag tag_is e1.
-    on_bind (tokens_named m ts) (λ rest. Some (tag ∷ rest)) tags e1 (λ rest rest_is e2.
-    ap length (sym (same_Some (tag ∷ rest) tags e2)) ∙ ap suc (names_length m ts rest rest_is)))
+    on_names m t ts tags e (λ tag rest tag_is rest_is whole.
+    ap length (sym whole) ∙ ap suc (names_length m ts rest rest_is))
 
 module _ (modules : List Module) (look : Roots) where
   -- values of tags are of the types that a module names so
@@ -58,29 +42,25 @@ module _ (modules : List Module) (look : Roots) where
       nothing [] h = tt
       nothing (v ∷ vs) h = absurd h
   have_tokens home [] (t ∷ ts) tags h e =
-      on_bind (token_named home t) _ tags e (λ tag tag_is e1.
-      on_bind (tokens_named home ts) (λ rest. Some (tag ∷ rest)) tags e1 (λ rest rest_is e2.
-      subst (λ (x : List Tag). HaveTypes (fields_by_name modules) look [] x) (sym (same_Some (tag ∷ rest) tags e2)) h))
+      on_names home t ts tags e (λ tag rest tag_is rest_is whole.
+      subst (λ (x : List Tag). HaveTypes (fields_by_name modules) look [] x) (sym whole) h)
   have_tokens home (v ∷ vs) (t ∷ ts) tags h e =
-      on_bind (token_named home t) _ tags e (λ tag tag_is e1.
-      on_bind (tokens_named home ts) (λ rest. Some (tag ∷ rest)) tags e1 (λ rest rest_is e2.
+      on_names home t ts tags e (λ tag rest tag_is rest_is whole.
       let both : HaveTypes (fields_by_name modules) look (v ∷ vs) (tag ∷ rest) =
-      subst (λ (x : List Tag). HaveTypes (fields_by_name modules) look (v ∷ vs) x) (sym (same_Some (tag ∷ rest) tags e2)) h in
-      (record { tag = tag; names = tag_is; typed = both.0 }, have_tokens home vs ts rest both.1 rest_is)))
+      subst (λ (x : List Tag). HaveTypes (fields_by_name modules) look (v ∷ vs) x) (sym whole) h in
+      (record { tag = tag; names = tag_is; typed = both.0 }, have_tokens home vs ts rest both.1 rest_is))
 
   -- the values of fields
   pub fields_typed : (vs : List Value) (tags : List Tag) → are_plain tags ≡ true → HaveTypes (fields_by_name modules) look vs tags → AreOf (fields_by_name modules) (fields_of vs) tags
   fields_typed [] [] p h = tt
-  fields_typed [] (t ∷ ts) p h = absurd h
-  fields_typed (v ∷ vs) [] p h = absurd h
   fields_typed (v ∷ vs) (t ∷ ts) p h =
       (plain_is (fields_by_name modules) look v t (not-true (is_reference_tag t) (first_so (not (is_reference_tag t)) (are_plain ts) p)) h.0, fields_typed vs ts (second_so (not (is_reference_tag t)) (are_plain ts) p) h.1)
+  fields_typed vs tags p h = absurd h
 
   pub typed_fields : (fields : Values) (tags : List Tag) → AreOf (fields_by_name modules) fields tags → HaveTypes (fields_by_name modules) look (list_of fields) tags
   typed_fields NoMore [] h = tt
-  typed_fields NoMore (t ∷ ts) h = absurd h
-  typed_fields (More v vs) [] h = absurd h
   typed_fields (More v vs) (t ∷ ts) h = (is_plain (fields_by_name modules) look v t h.0, typed_fields vs ts h.1)
+  typed_fields fields tags h = absurd h
 
 module _ (h : Here) (i : Instruction) (types after : Types) (row : Row h i types after) (next : TypesAt h.home h.function (h.state.top.at + 1) after) where
   -- one more in the events, and these operands
@@ -104,7 +84,7 @@ module _ (h : Here) (i : Instruction) (types after : Types) (row : Row h i types
       subst (λ (n : ℕ). operands n h.state.top.stack ≡ Ok (taken.arguments, taken.rest)) long taken.is_taken in
       let tags_are : for_each (λ (f : Field). tag_named h.modules h.home f.token) own.struct.fields ≡ Ok own.tags =
       subst (λ (fs : List Field). for_each (λ (f : Field). tag_named h.modules h.home f.token) fs ≡ Ok own.tags) (sym own.fields) (field_tags_found h row.facts d.fields own.tags own.are_tags) in
-      let typed = tokens_have_tags h.modules h.state h.home taken.arguments wanted own.tags taken.arguments_typed own.are_tags in
+      let typed = tokens_have_tags h.modules (root_value h.state) h.home taken.arguments wanted own.tags taken.arguments_typed own.are_tags in
       let fields = fields_typed h.modules look taken.arguments own.tags own.plain typed in
       let new : Value = Struct own.struct.name (fields_of taken.arguments) in
       let new_typed : HasToken h.modules look h.home new (Plain (OfStruct d.handle)) =

@@ -1,9 +1,6 @@
 -- What the tests of numbers, bytes and kinds mean.
-use Rattle.mv_interpreter.proofs.Typing.Common.{◌≡◌, Bool, true, beq, LeafKind, Number, same_kind, OfLeaf, Plain}
-use Rattle.std.specs.Cmp.{booleans_Decides}
-use Rattle.mv_move_types.specs.declared.token.Width.{Width}
-use Rattle.mv_move_types.specs.Tokens.{same_width}
-use Rattle.mv_type_states.proofs.Tokens.{tokens_equal, token_same}
+use Rattle.mv_interpreter.proofs.Typing.Common.{◌≡◌, true, Bool, beq, booleans_Decides, same_kind, same_width, LeafKind, Number, Plain, OfLeaf, Width, tokens_equal}
+use Rattle.mv_type_states.proofs.Tokens.{token_same}
 
 pub same_width-same : (w : Width) → same_width w w ≡ true
 same_width-same w = token_same (Plain (OfLeaf (Number w)))

@@ -1,16 +1,11 @@
 -- The whole: a run over an accepted store, which a predicate watches all along, meets no fault.
-use Rattle.mv_interpreter.proofs.Typing.Common.{◌≡◌, ℕ, zero, suc, ◌+◌, Bool, true, false, List, length, refl, sym, subst, Result, Ok, Err, nat_lt}
-use Rattle.mv_interpreter.proofs.Typing.Common.{Module, Storage, State, frames, Failure, Faults, TypeFault, LinkageFault, LostFault, DanglingFault}
-use Rattle.mv_interpreter.proofs.Typing.Common.{FrozenFault, FunctionCall, StateTyped, StorageTyped, TurnTyped, SoundStore, StoreAccepted}
-use Rattle.mv_machine.specs.Typing.{Aborts}
+use Rattle.mv_interpreter.proofs.Typing.Common.{◌≡◌, ℕ, zero, suc, ◌+◌, true, List, length, refl, subst, Result, Ok, Bool, false, sym, Err, nat_lt, Module, FunctionCall, State, frames}
+use Rattle.mv_interpreter.proofs.Typing.Common.{Storage, Faults, LostFault, FrozenFault, Failure, Aborts, StoreAccepted, SoundStore, StateTyped, TurnTyped, StorageTyped}
 use Rattle.mv_machine.specs.Step.{Turn, Goes, Returns, step}
 use Rattle.mv_machine.specs.Run.{run, outcome_from, turns, follows, goes_with}
-use Rattle.mv_interpreter.specs.Typing.Watched.{Clean, Watches, Faultless}
-use Rattle.mv_interpreter.specs.Typing.Laws.{StepTyped, EveryStepIsTyped}
-use Rattle.mv_interpreter.proofs.Typing.Parts.{Part}
-use Rattle.mv_interpreter.proofs.Typing.Rule.{step_typed, counted_typed}
+use Rattle.mv_interpreter.specs.{Typing.Watched.Clean, Typing.Watched.Watches, Typing.Watched.Faultless, Typing.Laws.StepTyped, Typing.Laws.EveryStepIsTyped}
+use Rattle.mv_interpreter.proofs.{Typing.Parts.Part, Typing.Rule.step_typed, Typing.Rule.counted_typed, Typing.Addresses.accepted_is_sound}
 use Rattle.mv_interpreter.proofs.Typing.First.{CallTyped, begun, first_typed, first_is}
-use Rattle.mv_interpreter.proofs.Typing.Addresses.{accepted_is_sound}
 
 -- a part that gives what P says of it, and fails only by an abort
 abbrev pub Safe : {A : Type 0} → (A → Type 0) → Result A Failure → Type 0
@@ -19,13 +14,10 @@ Safe P (Err (Aborts kind n)) = Unit {0}
 Safe P (Err (Faults fault)) = ⊥
 
 safe : {A : Type 0} (P : A → Type 0) (r : Result A Failure) → Part P r → Clean r → Safe P r
-safe P (Ok x) p c = p
 safe P (Err (Aborts kind n)) p c = tt
-safe P (Err (Faults TypeFault)) p c = p
-safe P (Err (Faults LinkageFault)) p c = p
-safe P (Err (Faults DanglingFault)) p c = p
 safe P (Err (Faults LostFault)) p c = c
 safe P (Err (Faults FrozenFault)) p c = c
+safe P r p c = p
 
 -- a step of a typed state meets no fault, and leads to a typed state
 pub step_safe : (modules : List Module) (P : State → Type 0) (s : State) → SoundStore modules → Watches modules P → StateTyped modules s → P s → Safe (TurnTyped modules) (step modules s)

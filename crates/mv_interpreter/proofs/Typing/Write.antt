@@ -1,37 +1,28 @@
 -- The row of a write through a reference.
-use Rattle.mv_interpreter.proofs.Typing.Common.{◌≡◌, ℕ, ◌+◌, Bool, true, false, cond, List, [], ◌∷◌, map, refl, sym, ap, subst, ◌∙◌, Option, Some}
-use Rattle.mv_interpreter.proofs.Typing.Common.{eqb, arith, ok_or, option_map, option_and_then, eqb-true, same_Some, Key, Token, Plain}
-use Rattle.mv_interpreter.proofs.Typing.Common.{MutableReferenceTo, Instruction, need, Root, Local, Stored, Reference, Value, Frame, State, frames}
-use Rattle.mv_interpreter.proofs.Typing.Common.{root_value, local_in, local_value, stored_at, with_stored, same_key, Faults, TypeFault, LostFault}
-use Rattle.mv_interpreter.proofs.Typing.Common.{DanglingFault, has_tag, tag_of, Tag, StructTag, Types, top_type, taken, Here, operand, as_reference}
-use Rattle.mv_interpreter.proofs.Typing.Common.{follow, with_stack, goes_on, untouched, Roots, IsOf, Rooted, HasType, TypesAt, HaveTokens}
-use Rattle.mv_interpreter.proofs.Typing.Common.{LocalsHaveTokens, TurnTyped, Numbered, AreWaiting, EntryTyped, Row, references, local_references}
-use Rattle.mv_interpreter.proofs.Typing.Common.{on_bind, same_key-to}
-use Rattle.mv_machine.specs.Value.{Place, with_value_at}
-use Rattle.mv_machine.specs.State.{with_local, with_root, with_place}
-use Rattle.mv_type_states.specs.TypeRules.{mutable_target_of, of_write}
-use Rattle.mv_abilities.specs.Abilities.{value_type_abilities}
-use Rattle.mv_machine.specs.StepReferences.{write_reference}
-use Rattle.mv_machine.specs.StepParts.{can_drop}
+use Rattle.mv_interpreter.proofs.Typing.Common.{◌≡◌, ℕ, ◌+◌, true, List, [], ◌∷◌, refl, ap, subst, ◌∙◌, arith, Option, Some, Bool, false, sym, inl, inr, cond, map, eqb, eqb-true}
+use Rattle.mv_interpreter.proofs.Typing.Common.{same_Some, ok_or, option_and_then, option_map, need, Tag, StructTag, Instruction, Key, Token, Plain, MutableReferenceTo, references}
+use Rattle.mv_interpreter.proofs.Typing.Common.{local_references, Frame, State, frames, root_value, local_in, local_value, stored_at, with_stored, same_key, with_local, Here, operand}
+use Rattle.mv_interpreter.proofs.Typing.Common.{as_reference, follow, with_stack, goes_on, untouched, can_drop, Faults, LostFault, DanglingFault, has_tag, tag_of, TypeFault, Value, Root}
+use Rattle.mv_interpreter.proofs.Typing.Common.{Local, Stored, Reference, Place, with_value_at, on_bind, same_key-to, Types, taken, top_type, mutable_target_of, TypesAt, Row, Roots}
+use Rattle.mv_interpreter.proofs.Typing.Common.{Rooted, IsOf, HasType, HaveTokens, LocalsHaveTokens, Numbered, AreWaiting, TurnTyped, EntryTyped, value_type_abilities}
+use Rattle.mv_machine.specs.{State.with_root, State.with_place, StepReferences.write_reference}
+use Rattle.mv_type_states.specs.TypeRules.{of_write}
 use Rattle.mv_interpreter.specs.Typing.HasType.{fields_by_name}
-use Rattle.mv_interpreter.proofs.Typing.Within.{one_type, write_within}
+use Rattle.mv_interpreter.proofs.{Typing.Within.one_type, Typing.Within.write_within, Typing.References.mutable_one, Typing.References.mutable_target-is, Typing.Stays.moved}
+use Rattle.mv_interpreter.proofs.{Typing.Stays.top_typed}
 use Rattle.mv_interpreter.proofs.Typing.Parts.{Part, known, passes, tested, lost, frozen}
 use Rattle.mv_interpreter.proofs.Typing.Operands.{on_test, taken-is, top_type-is, one_operand}
 use Rattle.mv_interpreter.proofs.Typing.Keep.{Kept, Nothing, avoid_nothing, below_avoids_nothing, keep_stack, keep_locals, keep_below}
 use Rattle.mv_interpreter.proofs.Typing.Roots.{place_of, typed_tag, typed_has_tag, is_plain, plain_is, named_plain}
 use Rattle.mv_interpreter.proofs.Typing.Frames.{written_below, written_in, frame_written, below_written}
 use Rattle.mv_interpreter.proofs.Typing.Storage.{entry_of, stored_same, stored_other, stored_typed, typed_with}
-use Rattle.mv_interpreter.proofs.Typing.References.{mutable_one, mutable_target-is}
-use Rattle.mv_interpreter.proofs.Typing.Stays.{moved, top_typed}
+use Rattle.std.proofs.lemmas.Bool.{cases_Bool}
 
 -- the numbers stay
 pub numbers_stay : (n l : ℕ) (v : Value) (bound : ℕ) (fs : List Frame) → Numbered bound fs → Numbered bound (map (with_local n l v) fs)
 numbers_stay n l v bound [] h = tt
-numbers_stay n l v bound (f ∷ fs) h = by_case (eqb f.number n) refl (numbers_stay n l v f.number fs h.1)
-  where
-    by_case : (a : Bool) → eqb f.number n ≡ a → Numbered f.number (map (with_local n l v) fs) → Numbered bound (map (with_local n l v) (f ∷ fs))
-    by_case true p ih = rw p (h.0, ih)
-    by_case false p ih = rw p (h.0, ih)
+numbers_stay n l v bound (f ∷ fs) h =
+    elim (cases_Bool (eqb f.number n)) [ inl p ↦ rw p (h.0, numbers_stay n l v f.number fs h.1) | inr p ↦ rw p (h.0, numbers_stay n l v f.number fs h.1) ]
 
 module _ (h : Here) (i : Instruction) (types after : Types) (row : Row h i types after) (next : TypesAt h.home h.function (h.state.top.at + 1) after) (old new : Value) (base : Tag)
     (old_typed : IsOf (fields_by_name h.modules) old base) (new_typed : IsOf (fields_by_name h.modules) new base)

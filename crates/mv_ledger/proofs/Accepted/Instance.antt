@@ -1,37 +1,18 @@
 -- The words at work: a module of a coin, with mint, burn and a function that borrows what is stored, is published over the empty ledger, and its runs are admitted.
-use Rattle.std.proofs.Common.{◌≡◌, ℕ, zero, suc, ◌<◌, sym, true, false, List, [], ◌∷◌, length, refl, ap, ◌∙◌, Bool, subst, Some, Ok, arith}
-use Rattle.std.specs.Prelude.{slice_get, slice_index_or, Option, Contains, IsSome, ◌↔◌, ◌&&◌}
+use Rattle.mv_ledger.proofs.Common.{[], ◌<◌, ◌∙◌, ◌∷◌, ◌≡◌, Bool, List, Ok, Option, Some, ap, arith, false, length, refl, subst, suc, sym, true, zero, ℕ, IsPermutation-refl, ◌&&◌, ◌↔◌, Contains}
+use Rattle.mv_ledger.proofs.Common.{IsSome, slice_get, slice_index_or, FunctionDefinition, Module, StructDefinition, PublishedModule, CopyLoc, ImmBorrowGlobal, ImmBorrowLoc, MoveFrom, MoveLoc}
+use Rattle.mv_ledger.proofs.Common.{MoveTo, Pack, Pop, Ret, StLoc, Unpack, Field, Public, Address, Number, Signer, Plain, Reference, OfLeaf, OfStruct, U64, IsReadByText, HasText, IsModuleText}
+use Rattle.mv_ledger.proofs.Common.{headers_from, ordered_text, tables, Holds, defined_by, directly, further, BasicBlock, IsReached, at_start, blocks, IsSound, AreBytes, LedgerState, Offer}
+use Rattle.mv_ledger.proofs.Common.{RunRequest, empty_ledger, with_bundle, Leaf, Certificate, Known, certificate_text, IsStore, Reaches, depends_on, depends_at_once, depends_further, IsSoundLedger}
+use Rattle.mv_ledger.proofs.Common.{IsPublished, Passes}
 use Rattle.mv_move_types.specs.declared.borrow.Availability.TheVariants.{Unavailable, Available}
-use Rattle.mv_move_types.specs.declared.tables.Visibility.TheVariants.{Public}
-use Rattle.mv_move_types.specs.declared.token.Width.TheVariants.{U64}
-use Rattle.mv_move_types.specs.declared.token.LeafKind.TheVariants.{Number, Address, Signer}
-use Rattle.mv_move_types.specs.declared.token.ValueType.TheVariants.{OfLeaf, OfStruct}
-use Rattle.mv_move_types.specs.declared.token.Token.TheVariants.{Plain, Reference}
-use Rattle.mv_move_types.specs.declared.instruction.Instruction.TheVariants.{Pop, Ret, CopyLoc, MoveLoc, StLoc, ImmBorrowLoc, Call, Pack, Unpack, MoveTo, MoveFrom, ImmBorrowGlobal}
-use Rattle.mv_move_types.specs.Module.{Module, StructDefinition, FunctionDefinition}
-use Rattle.mv_move_types.specs.declared.tables.Field.{Field}
-use Rattle.mv_machine.specs.Value.{Leaf}
-use Rattle.mv_cfg.specs.Blocks.{BasicBlock, blocks, at_start, IsReached}
-use Rattle.mv_certificate.specs.Certificate.{Known}
-use Rattle.mv_certificate.specs.Certificate.{Certificate}
-use Rattle.mv_certificate.specs.Shape.{StatedFits, AllStatedFit, known_fits}
-use Rattle.mv_certificate.specs.CertificateText.{certificate_text}
-use Rattle.mv_binary_format.specs.ModuleText.{HasText, IsModuleText, tables, headers_from, ordered_text}
-use Rattle.mv_bounds.specs.Definitions.{Holds, defined_by, directly, further}
-use Rattle.mv_linker.specs.StoreRules.{depends_on, Reaches, directly as depends_at_once, further as depends_further}
-use Rattle.mv_machine.specs.Ledger.{Offer, LedgerState, RunRequest, empty_ledger, with_bundle, admitted}
-use Rattle.mv_move_types.specs.Published.{PublishedModule}
+use Rattle.mv_move_types.specs.declared.instruction.Instruction.TheVariants.{Call}
 use Rattle.mv_uleb.specs.Uleb.{uleb}
-use Rattle.mv_module_text.specs.Laws.{AreBytes}
-use Rattle.mv_binary_format.specs.Laws.{IsReadByText}
-use Rattle.mv_type_states.specs.Sound.{IsSound}
-use Rattle.mv_ledger.specs.Publishing.{Passes, IsPublished}
-use Rattle.std.proofs.lemmas.List.Sorted.{IsPermutation-refl}
-use Rattle.mv_type_states.specs.TypeRules.{types_after}
 use Rattle.mv_locals_safety.specs.LocalsRules.{locals_after}
+use Rattle.mv_type_states.specs.TypeRules.{types_after}
 use Rattle.mv_borrow_graph.specs.BorrowRules.{edges_after}
-use Rattle.mv_linker.specs.Link.{IsStore}
-use Rattle.mv_ledger.specs.Accepted.SoundLedger.{IsSoundLedger}
+use Rattle.mv_machine.specs.Ledger.{admitted}
+use Rattle.mv_certificate.specs.Shape.{StatedFits, AllStatedFit, known_fits}
 use Rattle.mv_ledger.proofs.Accepted.Stores.{published_store}
 use Rattle.mv_ledger.proofs.Accepted.Sound.{RunFits, empty_sound, published_sound}
 

@@ -1,30 +1,14 @@
 -- No run of a sound ledger meets a fault, and each answered record leaves it sound.
-use Rattle.std.proofs.Common.{◌≡◌, ℕ, List, refl, sym, subst, Option, Some, Result, Ok, Err}
-use Rattle.std.specs.Prelude.{IsTrue}
-use Rattle.mv_move_types.specs.Published.{PublishedModule, with_modules}
-use Rattle.mv_module_text.specs.Fits.{address_fits}
-use Rattle.mv_binary_format.specs.Laws.{IsReadByText}
-use Rattle.mv_machine.specs.State.{Storage, Event}
-use Rattle.mv_machine.specs.Typed.{is_fine_storage}
-use Rattle.mv_machine.specs.Run.{RunOutcome, Returned, Aborted, Exhausted, Faulted, FunctionCall, run}
-use Rattle.mv_machine.specs.Lines.{Reply, Published, Refused, Rejected, Returned as RanToEnd, Aborted as RanToAbort, Exhausted as RanOut, Told}
-use Rattle.mv_machine.specs.Ledger.{Offer, LedgerState, Request, RunRequest, Publish, Run, Show, Audit, BadRun, Bad, modules_of, empty_ledger}
-use Rattle.mv_machine.specs.Ledger.{with_bundle, with_run, with_returned, admitted, attempted, settled, Answers}
-use Rattle.mv_linker.specs.Link.{IsStore, tables_in}
+use Rattle.mv_ledger.proofs.Common.{◌≡◌, Err, IsTrue, List, Ok, Option, Result, Some, refl, subst, sym, ℕ, PublishedModule, with_modules, IsReadByText, address_fits, WhereSome, Answers, Audit, Bad}
+use Rattle.mv_ledger.proofs.Common.{BadRun, LedgerState, Offer, Publish, Request, Run, RunRequest, Show, admitted, attempted, empty_ledger, modules_of, settled, with_bundle, with_returned}
+use Rattle.mv_ledger.proofs.Common.{with_run, RanToAbort, RanOut, Published, Refused, Reply, RanToEnd, AtReturn, Aborted, Exhausted, Faulted, FunctionCall, Returned, RunOutcome, run, Event}
+use Rattle.mv_ledger.proofs.Common.{Storage, is_fine_storage, IsStore, tables_in, runs_faultless, Ranged, admitted_typed, fine_storage, typed_is_fine, StorageTyped, IsVetted, IsSoundLedger}
+use Rattle.mv_ledger.proofs.Common.{Conserves, IsFineStorage, IsPublished, Spells}
+use Rattle.mv_machine.specs.Lines.{Rejected, Told}
 use Rattle.mv_linker.proofs.Joining.Empty.{no_modules}
-use Rattle.mv_interpreter.specs.Typing.StateTyped.{StorageTyped}
 use Rattle.mv_interpreter.specs.Typing.Watched.{Faultless}
-use Rattle.mv_interpreter.proofs.Typing.Fine.{fine_storage, typed_is_fine}
-use Rattle.mv_interpreter.proofs.Typing.Admitted.{Ranged, admitted_typed}
-use Rattle.mv_interpreter.proofs.Guided.Published.{runs_faultless}
-use Rattle.mv_ledger.specs.Publishing.{Spells, IsPublished}
-use Rattle.mv_machine.specs.Returns.{AtReturn}
-use Rattle.mv_ledger.specs.Counting.Conservation.{IsFineStorage, Conserves}
-use Rattle.mv_ledger.specs.Accepted.SoundLedger.{IsSoundLedger}
-use Rattle.mv_ledger.specs.Accepted.Records.{IsVetted}
 use Rattle.mv_ledger.proofs.Bundles.Heirs.{Inherits, inherited}
 use Rattle.mv_ledger.proofs.Bundles.Staying.{storage-stays}
-use Rattle.mv_machine.proofs.Binds.{WhereSome}
 use Rattle.mv_ledger.proofs.Counting.Admitted.{admitted-entry}
 use Rattle.mv_ledger.proofs.Counting.Declared.{declared-stays}
 use Rattle.mv_ledger.proofs.Counting.Conserved.{run-conserves}
@@ -130,13 +114,9 @@ pub answered_sound : IsReadByText → (old new : LedgerState) (request : Request
 answered_sound reads old new (Publish sender offers) (Published n) sound fits a v =
     subst IsSoundLedger (sym v.2) (published_sound old sender offers v.0 sound (published_store reads old sender offers v.0 sound.store fits v.1) v.1)
 answered_sound reads old new (Publish sender offers) (Refused phase) sound fits a v = subst IsSoundLedger (sym a) sound
-answered_sound reads old new (Publish sender offers) (Rejected reason) sound fits a v = absurd a
-answered_sound reads old new (Publish sender offers) (RanToEnd steps) sound fits a v = absurd a
-answered_sound reads old new (Publish sender offers) (RanToAbort kind number steps) sound fits a v = absurd a
-answered_sound reads old new (Publish sender offers) (RanOut stop steps) sound fits a v = absurd a
-answered_sound reads old new (Publish sender offers) (Told lines) sound fits a v = absurd a
 answered_sound reads old new (Run r) reply sound fits a v = attempted_sound old new reply r sound fits a
 answered_sound reads old new (Show format) reply sound fits a v = subst IsSoundLedger (sym a.1) sound
 answered_sound reads old new (Audit format) reply sound fits a v = subst IsSoundLedger (sym a.1) sound
 answered_sound reads old new BadRun reply sound fits a v = subst IsSoundLedger (sym a.1) sound
 answered_sound reads old new Bad reply sound fits a v = subst IsSoundLedger (sym a.1) sound
+answered_sound _ _ _ _ _ _ _ a _ = absurd a

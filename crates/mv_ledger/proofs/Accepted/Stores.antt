@@ -1,25 +1,8 @@
 -- Stores are accepted, and a bundle that is published over one leaves one.
-use Rattle.std.proofs.Common.{◌≡◌, ℕ, List, [], ◌∷◌, Some, sym, subst}
-use Rattle.std.specs.Prelude.{All, IsTrue}
-use Rattle.std.specs.List.{AllByRecursion, list_all}
-use Rattle.std.proofs.lemmas.List.Elements.{All-head, All-tail, All-nil, All-cons}
-use Rattle.mv_move_types.specs.Module.{Module}
-use Rattle.mv_move_types.specs.Published.{PublishedModule, with_modules}
-use Rattle.mv_module_text.specs.Laws.{AreBytes}
-use Rattle.mv_binary_format.specs.Laws.{IsReadByText}
-use Rattle.mv_binary_format.specs.Parsing.{module_of}
-use Rattle.mv_signatures.specs.Signatures.{entry_fits}
-use Rattle.mv_abilities.specs.Abilities.{AbilitiesHold}
-use Rattle.mv_certificate.specs.Certificate.{Certificate}
-use Rattle.mv_certificate.specs.CertificateText.{IsCertificateText}
-use Rattle.mv_machine.specs.Ledger.{Offer, LedgerState}
-use Rattle.mv_linker.specs.Link.{IsPublishable, IsStore, tables_in}
+use Rattle.mv_ledger.proofs.Common.{[], ◌∷◌, ◌≡◌, IsTrue, List, Some, subst, sym, ℕ, All-cons, All-head, All-nil, All-tail, AllByRecursion, list_all, All, Module, PublishedModule, with_modules}
+use Rattle.mv_ledger.proofs.Common.{IsReadByText, module_of, entry_fits, AbilitiesHold, AreBytes, LedgerState, Offer, Certificate, IsCertificateText, IsPublishable, IsStore, tables_in}
+use Rattle.mv_ledger.proofs.Common.{certificates_from, published_certified, All-at, StoreAccepted, IsAbleStore, AllPass, IsPublished, Passes}
 use Rattle.mv_linker.proofs.Joining.Joined.{joined-store}
-use Rattle.mv_interpreter.specs.Typing.Accepted.{StoreAccepted}
-use Rattle.mv_interpreter.proofs.Guided.Published.{certificates_from, published_certified}
-use Rattle.mv_interpreter.proofs.Lists.{All-at}
-use Rattle.mv_ledger.specs.Publishing.{Passes, AllPass, IsPublished}
-use Rattle.mv_ledger.specs.Counting.Fine.{IsAbleStore}
 use Rattle.mv_ledger.proofs.Spelling.{OffersAreBytes, read-spelled}
 
 -- the tables of a store are accepted
@@ -54,12 +37,10 @@ passed_publishable reads o p c are text certificate passes = record {
 
 passed_all : IsReadByText → (offers : List Offer) (ps : List PublishedModule) → OffersAreBytes offers → AllPass offers ps → All IsPublishable ps
 passed_all reads [] [] are a = All-nil IsPublishable
-passed_all reads [] (p ∷ ps) are a = absurd a
-passed_all reads (o ∷ os) [] are a = absurd a
 passed_all reads (o ∷ os) (p ∷ ps) are a = All-cons IsPublishable p ps (passed_publishable reads o p a.2.0 are.0 a.0 a.1 a.2.1) (passed_all reads os ps are.1 a.3)
+passed_all _ _ _ _ a = absurd a
 
 -- a bundle that is published over a store leaves one
 pub published_store : IsReadByText → (s : LedgerState) (sender : ℕ) (offers : List Offer) (bundle : List PublishedModule) → IsStore s.published → OffersAreBytes offers
-    → IsPublished s sender offers bundle →
-    IsStore (with_modules s.published bundle)
+    → IsPublished s sender offers bundle → IsStore (with_modules s.published bundle)
 published_store reads s sender offers bundle store are published = joined-store (Some sender) s.published bundle store (passed_all reads offers bundle are published.0) published.1

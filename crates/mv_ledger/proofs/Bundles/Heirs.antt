@@ -1,21 +1,12 @@
 -- What stands in a module's place after a bundle: the module itself, or one of its name that may replace it. Its structs stay.
-use Rattle.mv_ledger.proofs.Bundles.Common.{[], ℕ, ◌++◌, ◌+◌, ◌∙◌, ◌∷◌, ◌≡◌, ◌⊎◌, Bool, List, None, Option, Some, ap, append-nil, ap₂, cond, false, inl, inr, map, option_map, refl, subst, suc, sym}
-use Rattle.mv_ledger.proofs.Bundles.Common.{true, zero, same_Some, first_so, second_so, AllByRecursion, enumerate_from, filter, list_all, option_map_or, ◌&&◌, ◌||◌, fold, not, option_and_then}
-use Rattle.mv_ledger.proofs.Bundles.Common.{slice_get, bytes_eq, Module, StructDefinition, name_at, name_of_struct, own_name, struct_abilities, definition_of, have_one_name, is_module, is_struct}
-use Rattle.mv_ledger.proofs.Bundles.Common.{module_named, module_place, ModuleName, StructName, same_module, find_index, PublishedModule, has_name_of, with_module, with_modules, each, then_found}
-use Rattle.mv_ledger.proofs.Bundles.Common.{is_module-is, same_module-same, IsStore, are_compatible, tables_in, own_of_store, AreScarce, scarce_indices, Tally}
+use Rattle.mv_ledger.proofs.Common.{[], ◌++◌, ◌+◌, ◌∙◌, ◌∷◌, ◌≡◌, ◌⊎◌, Bool, List, None, Option, Some, ap, append-nil, ap₂, arith, false, inl, inr, map, refl, subst, suc, sym, true, zero, ℕ}
+use Rattle.mv_ledger.proofs.Common.{and_parts, cond_both, same_Some, first_so, second_so, AllByRecursion, enumerate_from, filter, list_all, option_map_or, ◌&&◌, ◌||◌, fold, not, option_and_then}
+use Rattle.mv_ledger.proofs.Common.{slice_get, bytes_eq, same_abilities, Module, StructDefinition, name_at, name_of_struct, own_name, struct_abilities, definition_of, have_one_name, is_module}
+use Rattle.mv_ledger.proofs.Common.{is_struct, module_named, module_place, ModuleName, StructName, same_module, find_index, PublishedModule, has_name_of, with_module, with_modules}
+use Rattle.mv_ledger.proofs.Common.{is_scarce_struct, Field, Abilities, on_bind, each, found_at, then_found, same_abilities-is, is_module-is, same_module-same, IsStore, are_compatible, tables_in}
+use Rattle.mv_ledger.proofs.Common.{function_stays, may_replace, same_fields, same_struct_definition, structs_stay, own_of_store, mapped_at, IsOwn, AreScarce, scarce_indices, Tally}
 use Rattle.std.proofs.lemmas.Slice.Eq.{bytes_eq-Decides}
-use Rattle.mv_move_types.specs.declared.token.Abilities.{Abilities}
-use Rattle.mv_move_types.specs.declared.tables.Field.{Field}
-use Rattle.mv_move_types.specs.AbilitySets.{same_abilities}
-use Rattle.mv_linker.specs.Upgrades.{same_fields, same_struct_definition, structs_stay, function_stays, may_replace}
-use Rattle.mv_move_types.specs.Scarce.{is_scarce_struct}
-use Rattle.mv_linker.proofs.Joining.Upgraded.{same_abilities-is}
-use Rattle.mv_module_text.proofs.Texts.{on_bind}
-use Rattle.mv_interpreter.specs.Owned.{IsOwn}
-use Rattle.mv_interpreter.proofs.Lists.{mapped_at}
-use Rattle.mv_ledger.proofs.Bundles.Stores.{one_own}
-use Rattle.mv_ledger.proofs.Bundles.Places.{had}
+use Rattle.mv_ledger.proofs.Bundles.Places.{had, one_own}
 
 -- a test of an option that passes had something to test
 pub tested : {A : Type 0} (test : A → Bool) (o : Option A) → option_map_or test o false ≡ true → (x : A) × (o ≡ Some x) × (test x ≡ true)
@@ -30,22 +21,19 @@ IsHeir m n = (n ≡ m) ⊎ ((own_name m ≡ own_name n) × (may_replace m n ≡ 
 abbrev pub Inherits : List Module → List Module → Type 0
 Inherits old new = (place : ℕ) (m : Module) → slice_get old place ≡ Some m → (n : Module) × (slice_get new place ≡ Some n) × IsHeir m n
 
+-- a module stands at the place of another: itself, or a new one of its name
+abbrev TakesPlace : PublishedModule → PublishedModule → ℕ → List PublishedModule → Type 0
+TakesPlace new p place ps = (q : PublishedModule) × (slice_get ps place ≡ Some q) × ((q ≡ p) ⊎ ((q ≡ new) × (has_name_of new.tables p ≡ true)))
+
 -- one more module takes the place of the one of its name, or leaves it
-placed_with : (ps : List PublishedModule) (new p : PublishedModule) (place : ℕ) → slice_get ps place ≡ Some p →
-    (q : PublishedModule) × (slice_get (with_module ps new) place ≡ Some q) × ((q ≡ p) ⊎ ((q ≡ new) × (has_name_of new.tables p ≡ true)))
+placed_with : (ps : List PublishedModule) (new p : PublishedModule) (place : ℕ) → slice_get ps place ≡ Some p → TakesPlace new p place (with_module ps new)
 placed_with [] new p place e = absurd cc
-placed_with (x ∷ xs) new p zero e = by_case (has_name_of new.tables x) refl (same_Some x p e)
-  where
-    by_case : (b : Bool) → has_name_of new.tables x ≡ b → x ≡ p
-        → (q : PublishedModule) × (slice_get (cond b (new ∷ xs) (x ∷ with_module xs new)) zero ≡ Some q) × ((q ≡ p) ⊎ ((q ≡ new) × (has_name_of new.tables p ≡ true)))
-    by_case true h same = (new, refl, inr (refl, subst (λ (y : PublishedModule). has_name_of new.tables y ≡ true) same h))
-    by_case false h same = (x, refl, inl same)
-placed_with (x ∷ xs) new p (suc place) e = by_case (has_name_of new.tables x) (placed_with xs new p place e)
-  where
-    by_case : (b : Bool) → (q : PublishedModule) × (slice_get (with_module xs new) place ≡ Some q) × ((q ≡ p) ⊎ ((q ≡ new) × (has_name_of new.tables p ≡ true))) →
-        (q : PublishedModule) × (slice_get (cond b (new ∷ xs) (x ∷ with_module xs new)) (suc place) ≡ Some q) × ((q ≡ p) ⊎ ((q ≡ new) × (has_name_of new.tables p ≡ true)))
-    by_case true ih = (p, e, inl refl)
-    by_case false ih = ih
+placed_with (x ∷ xs) new p zero e =
+    let same : x ≡ p = same_Some x p e in
+    cond_both (has_name_of new.tables x) (new ∷ xs) (x ∷ with_module xs new) (TakesPlace new p zero)
+    (λ h. (new, refl, inr (refl, subst (λ (y : PublishedModule). has_name_of new.tables y ≡ true) same h))) (λ h. (x, refl, inl same))
+placed_with (x ∷ xs) new p (suc place) e =
+    cond_both (has_name_of new.tables x) (new ∷ xs) (x ∷ with_module xs new) (TakesPlace new p (suc place)) (λ h. (p, e, inl refl)) (λ h. placed_with xs new p place e)
 
 -- a bundle has a module only for what it may replace
 abbrev MayFollow : Module → PublishedModule → Type 0
@@ -77,15 +65,9 @@ joined_place m (n ∷ bundle) ps place q offers at heir =
 
 offered : (m : Module) (bundle : List PublishedModule) → list_all (λ n. not (have_one_name m n) || may_replace m n) (tables_in bundle) ≡ true → AllByRecursion (MayFollow m) bundle
 offered m [] h = tt
-offered m (n ∷ bundle) h = (
-  λ one. second (have_one_name m n.tables) (may_replace m n.tables) one
-      (first_so (not (have_one_name m n.tables) || may_replace m n.tables) (list_all (λ n. not (have_one_name m n) || may_replace m n) (tables_in bundle)) h),
-  offered m bundle (second_so (not (have_one_name m n.tables) || may_replace m n.tables) (list_all (λ n. not (have_one_name m n) || may_replace m n) (tables_in bundle)) h),
-)
-  where
-    second : (a b : Bool) → a ≡ true → (not a || b) ≡ true → b ≡ true
-    second true b e k = k
-    second false b e k = absurd cc
+offered m (n ∷ bundle) h =
+    let both = and_parts (not (have_one_name m n.tables) || may_replace m n.tables) (list_all (λ n. not (have_one_name m n) || may_replace m n) (tables_in bundle)) h in
+    (λ one. grind (arith, both.0), offered m bundle both.1)
 
 get-mapped : {A B : Type 0} (f : A → B) (xs : List A) (i : ℕ) (x : A) → slice_get xs i ≡ Some x → slice_get (map f xs) i ≡ Some (f x)
 get-mapped f [] i x e = absurd cc
@@ -130,25 +112,13 @@ module _ (m : Module) (d : StructDefinition) (n : Module) (e : StructDefinition)
 -- a definition that stays stands in its place
 stays-at : (m n : Module) (ds es : List StructDefinition) (i : ℕ) (d : StructDefinition) → structs_stay m ds n es ≡ true → slice_get ds i ≡ Some d →
     (e : StructDefinition) × (slice_get es i ≡ Some e) × (same_struct_definition m d n e ≡ true)
-stays-at m n [] es i d h e = absurd cc
-stays-at m n (x ∷ xs) [] i d h e = absurd cc
 stays-at m n (x ∷ xs) (y ∷ ys) zero d h e = (y, refl, subst (λ z. same_struct_definition m z n y ≡ true) (same_Some x d e) (first_so (same_struct_definition m x n y) (structs_stay m xs n ys) h))
 stays-at m n (x ∷ xs) (y ∷ ys) (suc i) d h e = stays-at m n xs ys i d (second_so (same_struct_definition m x n y) (structs_stay m xs n ys) h) e
+stays-at m n _ _ i d h e = absurd cc
 
 -- what is found by its place passes the test
 pub found-passes : {A : Type 0} (test : A → Bool) (xs : List A) (i : ℕ) (x : A) → find_index test xs ≡ Some i → slice_get xs i ≡ Some x → test x ≡ true
-found-passes test [] i x e g = absurd cc
-found-passes test (y ∷ ys) i x e g = by_case (λ j. found-passes test ys j x) (test y) refl (find_index test ys) refl e
-  where
-    by_case : ((j : ℕ) → find_index test ys ≡ Some j → slice_get ys j ≡ Some x → test x ≡ true) → (b : Bool) → test y ≡ b → (o : Option ℕ) → find_index test ys ≡ o → cond b (Some 0)
-        (option_map suc o) ≡ Some i → test x ≡ true
-    by_case ih true s o o_is h =
-        let first : slice_get (y ∷ ys) 0 ≡ Some x = subst (λ n. slice_get (y ∷ ys) n ≡ Some x) (sym (same_Some 0 i h)) g in
-        subst (λ z. test z ≡ true) (same_Some y x first) s
-    by_case ih false s None o_is h = absurd cc
-    by_case ih false s (Some j) o_is h =
-        let rest : slice_get (y ∷ ys) (suc j) ≡ Some x = subst (λ n. slice_get (y ∷ ys) n ≡ Some x) (sym (same_Some (suc j) i h)) g in
-        ih j o_is rest
+found-passes test xs i x e g = let f = found_at test xs i e in subst (λ z. test z ≡ true) (same_Some f.entry x (sym f.at ∙ g)) f.passes
 
 pub on_and_then : {A B P : Type 0} (f : A → Option B) (o : Option A) (y : B) → option_and_then f o ≡ Some y → ((x : A) → o ≡ Some x → f x ≡ Some y → P) → P
 on_and_then f None y e go = absurd cc
@@ -176,8 +146,7 @@ pub record Stayed (m : Module) (d : StructDefinition) (name : StructName) (n : M
 
 module _ (old new : List PublishedModule) (old_store : IsStore old) (new_store : IsStore new) (inherits : Inherits (tables_in old) (tables_in new)) where
   pub stayed : (place i : ℕ) (m n : Module) (d : StructDefinition) (name : StructName) → slice_get (tables_in old) place ≡ Some m → slice_get (tables_in new) place ≡ Some n → IsHeir m n
-      → slice_get m.structs i ≡ Some d
-      → name_of_struct m d ≡ Some name → Stayed m d name n i
+      → slice_get m.structs i ≡ Some d → name_of_struct m d ≡ Some name → Stayed m d name n i
   stayed place i m n d name m_at n_at (inl e) at named =
       subst (λ (x : Module). Stayed m d name x i) (sym e) (record { definition = d; is_there = at; is_named = named; abilities = refl; fields = inl (refl, refl) })
   stayed place i m n d name m_at n_at (inr h) at named =
@@ -222,29 +191,16 @@ indices-stay m n k (d ∷ ds) (e ∷ es) h =
     let ih = indices-stay m n (k + 1) ds es (second_so (same_struct_definition m d n e) (structs_stay m ds n es) h) in
     let same : is_scarce_struct n e ≡ is_scarce_struct m d =
     ap (λ (o : Option Abilities). option_map_or (λ (a : Abilities). not a.copy && not a.drop) o false)
-    (sym (abilities-same m d n e (first_so (same_struct_definition m d n e) (structs_stay m ds n es) h))) in (
-      ih.0,
-      ap (λ (b : Bool). map (λ (p : ℕ × StructDefinition). p.0)
-          (cond b ((k, e) ∷ filter (λ p. is_scarce_struct n p.1) (enumerate_from (k + 1) es)) (filter (λ p. is_scarce_struct n p.1) (enumerate_from (k + 1) es)))) same
-          ∙ by_case (is_scarce_struct m d) ih.0 ih.1,
-    )
-  where
-    by_case : (b : Bool) (rest : List ℕ) → indices_from (k + 1) n es ≡ indices_from (k + 1) m ds ++ rest
-        → map (λ (p : ℕ × StructDefinition). p.0) (cond b ((k, e) ∷ filter (λ p. is_scarce_struct n p.1) (enumerate_from (k + 1) es))
-        (filter (λ p. is_scarce_struct n p.1) (enumerate_from (k + 1) es)))
-        ≡ map (λ (p : ℕ × StructDefinition). p.0) (cond b ((k, d) ∷ filter (λ p. is_scarce_struct m p.1) (enumerate_from (k + 1) ds))
-        (filter (λ p. is_scarce_struct m p.1) (enumerate_from (k + 1) ds))) ++ rest
-    by_case true rest ih = ap (λ (xs : List ℕ). k ∷ xs) ih
-    by_case false rest ih = ih
+    (sym (abilities-same m d n e (first_so (same_struct_definition m d n e) (structs_stay m ds n es) h))) in
+    (ih.0, grind (arith, same, ih.1))
 
 -- the tallies at a place are a module's, or there are none
 had-scarce : (ms : List Module) (tss : List (List Tally)) → AreScarce ms tss → (i : ℕ)
     → ((m : Module) × (slice_get ms i ≡ Some m) × (map (λ (t : Tally). t.index) (had tss i) ≡ scarce_indices m)) ⊎ (had tss i ≡ [])
 had-scarce [] [] h i = inr refl
-had-scarce [] (ts ∷ tss) h i = absurd h
-had-scarce (m ∷ ms) [] h i = absurd h
 had-scarce (m ∷ ms) (ts ∷ tss) h zero = inl (m, refl, h.0)
 had-scarce (m ∷ ms) (ts ∷ tss) h (suc i) = had-scarce ms tss h.1 i
+had-scarce _ _ h _ = absurd h
 
 -- the structs of the tallies that stand at a place come first among those of its module
 pub had-first : (old new : List Module) (tss : List (List Tally)) → AreScarce old tss → Inherits old new → (i : ℕ) (n : Module) → slice_get new i ≡ Some n

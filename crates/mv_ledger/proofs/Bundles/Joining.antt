@@ -1,8 +1,7 @@
 -- A bundle that may join, and was placed: the store and the tallies after it.
-use Rattle.mv_ledger.proofs.Bundles.Common.{[], ℕ, ◌+◌, ◌<◌, ◌∙◌, ◌∷◌, ◌≡◌, ◌≤◌, List, Option, ap, ap₂, arith, cond, false, length, refl, subst, suc, sym, true, leb-true, ltb-false, ltb-true}
-use Rattle.mv_ledger.proofs.Bundles.Common.{length-map, first_so, second_so, list_all, ◌&&◌, All, count_by, nat_le, nat_lt, Module, PublishedModule, with_modules, address_fits, Offer, Publish}
-use Rattle.mv_ledger.proofs.Bundles.Common.{IsStore, MayJoin, tables_in, AddsTallies, ArePlacedFor, AreWithin, is_published, with_placed, ArePlaced, AreScarce, IsNamed, IsSmall, all_of, Placed, Tally}
-use Rattle.mv_ledger.specs.RecordText.{IsShaped, offer_fits}
+use Rattle.mv_ledger.proofs.Common.{[], ◌+◌, ◌<◌, ◌∙◌, ◌∷◌, ◌≡◌, ◌≤◌, List, Option, ap, ap₂, arith, cond, false, leb-true, length, refl, subst, suc, sym, true, ℕ, ltb-false, ltb-true, length-map}
+use Rattle.mv_ledger.proofs.Common.{All, count_by, nat_le, nat_lt, Module, PublishedModule, with_modules, Offer, Publish, IsStore, MayJoin, tables_in, IsShaped, AddsTallies, ArePlacedFor}
+use Rattle.mv_ledger.proofs.Common.{AreWithin, is_published, with_placed, ArePlaced, AreScarce, IsNamed, IsSmall, all_of, Placed, Tally}
 use Rattle.mv_ledger.proofs.Bundles.Places.{AreSpotted, EachIs, had, had-at, all-spotted, count-joined, each-first, each-joined, each-length, spotted-within, had-found}
 use Rattle.mv_ledger.proofs.Bundles.Heirs.{inherited}
 use Rattle.mv_ledger.proofs.Bundles.TalliesJoined.{tallies-added, scarce-added, named-added, small-added}
@@ -10,16 +9,14 @@ use Rattle.mv_ledger.proofs.Bundles.TalliesJoined.{tallies-added, scarce-added, 
 -- a publish record has few offers
 pub few-offers : (payload : List ℕ) (sender : ℕ) (offers : List Offer) → IsShaped 1 payload (Publish sender offers) → length offers ≤ 16
 few-offers payload sender offers asked =
-    leb-true (length offers) 16
-    (second_so (address_fits sender && nat_le 1 (length offers)) (nat_le (length offers) 16)
-    (first_so (address_fits sender && nat_le 1 (length offers) && nat_le (length offers) 16) (list_all offer_fits offers) asked.2))
+    let few : nat_le (length offers) 16 ≡ true = grind (arith, asked.2) in
+    leb-true (length offers) 16 few
 
 -- each module of a bundle is placed
 pub placed-length : (old : List Module) (tss : List (List Tally)) (next : ℕ) (ms : List Module) (placed : List Placed) → ArePlacedFor old tss next ms placed → length placed ≡ length ms
 placed-length old tss next [] [] h = refl
-placed-length old tss next [] (p ∷ ps) h = absurd h
-placed-length old tss next (m ∷ ms) [] h = absurd h
 placed-length old tss next (m ∷ ms) (p ∷ ps) h = ap suc (placed-length old tss (cond (is_published old m) next (next + 1)) ms ps h.2)
+placed-length _ _ _ _ _ h = absurd h
 
 -- a bundle that may join a whole store, and where each of its modules is to stand
 pub record IsPlacedBundle (old bundle : List PublishedModule) (tss : List (List Tally)) (placed : List Placed) (sender : Option ℕ) : Type 0 where

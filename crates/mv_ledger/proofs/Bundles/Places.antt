@@ -1,13 +1,43 @@
 -- Where the modules of a bundle stand in the store that it joins, and the tallies of each module then.
-use Rattle.mv_ledger.proofs.Bundles.Common.{[], ℕ, ◌++◌, ◌+◌, ◌<◌, ◌∙◌, ◌∷◌, ◌≡◌, ◌≤◌, Bool, List, None, Option, Some, ap, append-nil, ap₂, arith, cond, drop, false, length, map, option_map, refl}
-use Rattle.mv_ledger.proofs.Bundles.Common.{subst, suc, sym, true, zero, zero-add, le-leb, le-ltb, lt-leb, lt-ltb, drop_all, length-map, All-append, All-map, All-nil, first_so, second_so}
-use Rattle.mv_ledger.proofs.Bundles.Common.{AllByRecursion, list_any, option_map_or, ◌||◌, All, count_by, fold, nat_le, nat_lt, not, option_and_then, slice_get, unwrap_or, Module, own_name}
-use Rattle.mv_ledger.proofs.Bundles.Common.{have_one_name, is_module, module_place, ModuleName, find_index, PublishedModule, has_name_of, with_module, with_modules, tables_in, ArePlacedFor, AreWithin}
-use Rattle.mv_ledger.proofs.Bundles.Common.{fresh_tally, place_for, tallies_at, with_placed, ArePlaced, AreScarce, scarce_indices, Placed, Tally}
-use Rattle.std.proofs.lemmas.List.Sums.{sum_by-cons}
-use Rattle.mv_bounds.specs.Definitions.{all_differ}
-use Rattle.mv_linker.specs.Stored.{with_at}
-use Rattle.mv_ledger.proofs.Bundles.Stores.{one_name-turns, one_name-same}
+use Rattle.mv_ledger.proofs.Common.{[], ◌++◌, ◌+◌, ◌<◌, ◌∙◌, ◌∷◌, ◌≡◌, ◌≤◌, Bool, List, None, Option, Some, ap, append-nil, ap₂, arith, cond, drop, false, length, map, refl, subst, suc, sym, true}
+use Rattle.mv_ledger.proofs.Common.{zero, zero-add, ℕ, nat_tests, drop_all, length-map, All-append, All-map, All-nil, sum_by-cons, first_so, second_so, AllByRecursion, list_any, option_map_or}
+use Rattle.mv_ledger.proofs.Common.{◌&&◌, ◌==◌, ◌||◌, All, count_by, fold, nat_le, nat_lt, not, option_and_then, slice_get, unwrap_or, bytes_eq, Module, own_name, have_one_name, is_module}
+use Rattle.mv_ledger.proofs.Common.{module_place, ModuleName, same_module, PublishedModule, has_name_of, with_module, with_modules, all_differ, is_module-is, tables_in, with_at, on_found}
+use Rattle.mv_ledger.proofs.Common.{ArePlacedFor, AreWithin, fresh_tally, place_for, tallies_at, with_placed, ArePlaced, AreScarce, scarce_indices, Placed, Tally}
+
+-- ---- modules of one name
+
+-- equality of bytes is symmetric
+nat-turns : (a b : ℕ) → (a == b) ≡ (b == a)
+nat-turns a b = grind (arith, nat_tests)
+
+bytes-turn : (a b : List ℕ) → bytes_eq a b ≡ bytes_eq b a
+bytes-turn [] [] = refl
+bytes-turn [] (y ∷ ys) = refl
+bytes-turn (x ∷ xs) [] = refl
+bytes-turn (x ∷ xs) (y ∷ ys) = ap₂ (λ a b. a && b) (nat-turns x y) (bytes-turn xs ys)
+
+module-turns : (a b : ModuleName) → same_module a b ≡ same_module b a
+module-turns a b = ap₂ (λ s t. s && t) (nat-turns a.address b.address) (bytes-turn a.name b.name)
+
+-- so two modules have one name whichever comes first
+pub one_name-turns : (m n : Module) → have_one_name m n ≡ have_one_name n m
+one_name-turns m n = step (own_name m) (own_name n)
+  where
+    step : (a b : Option ModuleName)
+        → option_map_or (λ name. option_map_or (λ own. same_module own name) b false) a false ≡ option_map_or (λ name. option_map_or (λ own. same_module own name) a false) b false
+    step None None = refl
+    step None (Some b) = refl
+    step (Some a) None = refl
+    step (Some a) (Some b) = module-turns b a
+
+-- modules with one name have the same name
+pub one_own : (m n : Module) → have_one_name m n ≡ true → own_name m ≡ own_name n
+one_own m n h = on_found (λ name. is_module name n) (own_name m) h (λ name is own. is ∙ sym (is_module-is name n own))
+
+-- so that a third has the name of both or of none
+pub one_name-same : (k m n : Module) → have_one_name m n ≡ true → have_one_name k m ≡ have_one_name k n
+one_name-same k m n h = ap (λ (o : Option ModuleName). option_map_or (λ name. option_map_or (λ own. same_module own name) o false) (own_name k) false) (one_own m n h)
 
 -- the place that a module of this name takes: that of the one of its name, or the next one
 abbrev pub spot_of : Option ModuleName → List PublishedModule → ℕ
@@ -25,30 +55,17 @@ is_there cur m = list_any (have_one_name m) (tables_in cur)
 -- a module that isn't there takes the next place
 spot-next : (cur : List PublishedModule) (m : Module) → is_there cur m ≡ false → spot cur m ≡ length cur
 spot-next [] m e = refl
-spot-next (q ∷ qs) m e = step (have_one_name m q.tables) e (spot-next qs m)
-  where
-    step : (b : Bool) → (b || is_there qs m) ≡ false → (is_there qs m ≡ false → spot qs m ≡ length qs) → cond b 0 (suc (spot qs m)) ≡ suc (length qs)
-    step true e ih = absurd cc
-    step false e ih = ap suc (ih e)
+spot-next (q ∷ qs) m e = grind (arith, spot-next qs m)
 
 -- one that is there takes one of theirs
 pub spot-below : (cur : List PublishedModule) (m : Module) → is_there cur m ≡ true → spot cur m < length cur
 spot-below [] m e = absurd cc
-spot-below (q ∷ qs) m e = step (have_one_name m q.tables) e (spot-below qs m)
-  where
-    step : (b : Bool) → (b || is_there qs m) ≡ true → (is_there qs m ≡ true → spot qs m < length qs) → cond b 0 (suc (spot qs m)) < suc (length qs)
-    step true e ih = omega arith
-    step false e ih = let lt : spot qs m < length qs = ih e in omega (arith, lt)
+spot-below (q ∷ qs) m e = grind (arith, spot-below qs m)
 
 -- where the one of a name is
 pub found : (name : ModuleName) (old : List PublishedModule) → module_place (tables_in old) name ≡ cond (list_any (is_module name) (tables_in old)) (Some (spot_of (Some name) old)) None
 found name [] = refl
-found name (q ∷ qs) = step (is_module name q.tables) (list_any (is_module name) (tables_in qs)) (find_index (is_module name) (tables_in qs)) (spot_of (Some name) qs) (found name qs)
-  where
-    step : (b there : Bool) (o : Option ℕ) (k : ℕ) → o ≡ cond there (Some k) None → cond b (Some 0) (option_map suc o) ≡ cond (b || there) (Some (cond b 0 (suc k))) None
-    step true there o k e = refl
-    step false true o k e = ap (option_map suc) e
-    step false false o k e = ap (option_map suc) e
+found name (q ∷ qs) = grind (arith, found name qs)
 
 -- where the module is whose name a module has
 pub place-found : (old : List PublishedModule) (m : Module) → option_and_then (module_place (tables_in old)) (own_name m) ≡ cond (is_there old m) (Some (spot old m)) None
@@ -64,48 +81,21 @@ place-found old m = by_name (own_name m)
     by_name (Some name) = found name old
 
 place_is : (old : List PublishedModule) (next : ℕ) (m : Module) → place_for (tables_in old) next m ≡ cond (is_there old m) (spot old m) next
-place_is old next m = ap (λ (o : Option ℕ). unwrap_or o next) (place-found old m) ∙ picked (is_there old m) (spot old m)
-  where
-    picked : (b : Bool) (k : ℕ) → unwrap_or (cond b (Some k) None) next ≡ cond b k next
-    picked true k = refl
-    picked false k = refl
+place_is old next m = grind (arith, place-found old m)
 
 -- ---- one more module leaves where the others stand
 
 there-with : (cur : List PublishedModule) (n : PublishedModule) (m : Module) → have_one_name m n.tables ≡ false → is_there (with_module cur n) m ≡ is_there cur m
 there-with [] n m e = ap (λ (b : Bool). b || false) e
-there-with (q ∷ qs) n m e = by_case (has_name_of n.tables q) refl (there-with qs n m e)
-  where
-    by_case : (b : Bool) → has_name_of n.tables q ≡ b → is_there (with_module qs n) m ≡ is_there qs m
-        → is_there (cond b (n ∷ qs) (q ∷ with_module qs n)) m ≡ (have_one_name m q.tables || is_there qs m)
-    by_case true h ih = ap (λ (b : Bool). b || is_there qs m) (one_name-same m n.tables q.tables h)
-    by_case false h ih = ap (λ (b : Bool). have_one_name m q.tables || b) ih
+there-with (q ∷ qs) n m e = grind (arith, there-with qs n m e, one_name-same m n.tables q.tables)
 
 spot-with : (cur : List PublishedModule) (n : PublishedModule) (m : Module) → is_there cur m ≡ true → spot (with_module cur n) m ≡ spot cur m
 spot-with [] n m e = absurd cc
-spot-with (q ∷ qs) n m e = by_case (has_name_of n.tables q) refl (spot-with qs n m)
-  where
-    rest : (c : Bool) → (c || is_there qs m) ≡ true → (is_there qs m ≡ true → spot (with_module qs n) m ≡ spot qs m) → cond c 0 (suc (spot (with_module qs n) m)) ≡ cond c 0 (suc (spot qs m))
-    rest true h ih = refl
-    rest false h ih = ap suc (ih h)
-
-    by_case : (b : Bool) → has_name_of n.tables q ≡ b → (is_there qs m ≡ true → spot (with_module qs n) m ≡ spot qs m)
-        → spot (cond b (n ∷ qs) (q ∷ with_module qs n)) m ≡ cond (have_one_name m q.tables) 0 (suc (spot qs m))
-    by_case true h ih = ap (λ (b : Bool). cond b 0 (suc (spot qs m))) (one_name-same m n.tables q.tables h)
-    by_case false h ih = rest (have_one_name m q.tables) e ih
+spot-with (q ∷ qs) n m e = grind (arith, spot-with qs n m, one_name-same m n.tables q.tables)
 
 pub length-with : (cur : List PublishedModule) (n : PublishedModule) → length (with_module cur n) ≡ cond (is_there cur n.tables) (length cur) (length cur + 1)
 length-with [] n = refl
-length-with (q ∷ qs) n = by_case (has_name_of n.tables q) (length-with qs n)
-  where
-    next : (b : Bool) (x k : ℕ) → x ≡ cond b k (k + 1) → suc x ≡ cond b (suc k) (suc k + 1)
-    next true x k e = ap suc e
-    next false x k e = omega (arith, e)
-
-    by_case : (b : Bool) → length (with_module qs n) ≡ cond (is_there qs n.tables) (length qs) (length qs + 1)
-        → length (cond b (n ∷ qs) (q ∷ with_module qs n)) ≡ cond (b || is_there qs n.tables) (suc (length qs)) (suc (length qs) + 1)
-    by_case true ih = refl
-    by_case false ih = next (is_there qs n.tables) (length (with_module qs n)) (length qs) ih
+length-with (q ∷ qs) n = grind (arith, length-with qs n)
 
 -- ---- a bundle, module by module
 
@@ -116,10 +106,8 @@ had tss place = unwrap_or (slice_get tss place) []
 -- the modules of a bundle take their places one after the other, each with its tallies
 abbrev pub AreSpotted : (ℕ → List Tally) → List PublishedModule → List PublishedModule → List Placed → Type 0
 AreSpotted own cur [] [] = Unit {0}
-AreSpotted own cur [] (p ∷ ps) = ⊥
-AreSpotted own cur (n ∷ ns) [] = ⊥
-AreSpotted own cur (n ∷ ns) (p ∷ ps) =
-    (p.place ≡ spot cur n.tables) × (p.tallies.items ≡ tallies_at p.place n.tables (own p.place)) × AreSpotted own (with_module cur n) ns ps
+AreSpotted own cur (n ∷ ns) (p ∷ ps) = (p.place ≡ spot cur n.tables) × (p.tallies.items ≡ tallies_at p.place n.tables (own p.place)) × AreSpotted own (with_module cur n) ns ps
+AreSpotted _ _ _ _ = ⊥
 
 -- a module has its place among these as among the old ones
 abbrev IsLocated : List PublishedModule → List PublishedModule → PublishedModule → Type 0
@@ -133,22 +121,13 @@ located-next : (old cur : List PublishedModule) (n : PublishedModule) (ns : List
     → AllByRecursion (IsLocated old (with_module cur n)) ns
 located-next old cur n [] e h = tt
 located-next old cur n (m ∷ ms) e h =
-    let other : have_one_name m.tables n.tables ≡ false = one_name-turns m.tables n.tables ∙ first (have_one_name n.tables m.tables) (list_any (have_one_name n.tables) (tables_in ms)) e in (
-      (there-with cur n m.tables other ∙ h.0.0, λ there. spot-with cur n m.tables (h.0.0 ∙ there) ∙ h.0.1 there),
-      located-next old cur n ms (second (have_one_name n.tables m.tables) (list_any (have_one_name n.tables) (tables_in ms)) e) h.1,
-    )
-  where
-    first : (a b : Bool) → (a || b) ≡ false → a ≡ false
-    first false b k = refl
-    first true b k = absurd cc
-
-    second : (a b : Bool) → (a || b) ≡ false → b ≡ false
-    second false b k = k
-    second true b k = absurd cc
+    let apart : have_one_name n.tables m.tables ≡ false = grind arith in
+    let rest : list_any (have_one_name n.tables) (tables_in ms) ≡ false = grind arith in
+    let other : have_one_name m.tables n.tables ≡ false = one_name-turns m.tables n.tables ∙ apart in
+    ((there-with cur n m.tables other ∙ h.0.0, λ there. spot-with cur n m.tables (h.0.0 ∙ there) ∙ h.0.1 there), located-next old cur n ms rest h.1)
 
 not-is : (b : Bool) → not b ≡ true → b ≡ false
-not-is true h = absurd cc
-not-is false h = refl
+not-is b h = grind arith
 
 module _ (old : List PublishedModule) (tss : List (List Tally)) where
   -- the next place after one more
@@ -164,8 +143,6 @@ module _ (old : List PublishedModule) (tss : List (List Tally)) where
   spotted : (cur bundle : List PublishedModule) (placed : List Placed) (next : ℕ) → all_differ have_one_name (tables_in bundle) ≡ true → AllByRecursion (IsLocated old cur) bundle → next ≡ length cur
       → ArePlacedFor (tables_in old) tss next (tables_in bundle) placed → AreSpotted (had tss) cur bundle placed
   spotted cur [] [] next differ located is for = tt
-  spotted cur [] (p ∷ ps) next differ located is for = for
-  spotted cur (n ∷ ns) [] next differ located is for = for
   spotted cur (n ∷ ns) (p ∷ ps) next differ located is for = (
     for.0 ∙ place_is old next n.tables ∙ place-so cur n next located.0 is (is_there old n.tables) refl,
     for.1,
@@ -175,52 +152,38 @@ module _ (old : List PublishedModule) (tss : List (List Tally)) where
         (first_so (not (list_any (have_one_name n.tables) (tables_in ns))) (all_differ have_one_name (tables_in ns)) differ)) located.1)
         (next-is cur n next located.0 is) for.2,
   )
+  spotted _ _ _ _ _ _ _ for = for
+
+  joined-place : (there : Bool) (old cur spot next place : ℕ) → (there ≡ true → spot < old) → old ≤ cur → next ≡ cur → place ≡ cond there spot next
+      → cond there cur (cur + 1) ≡ cur + cond (nat_le old place) 1 0
+  joined-place there old cur spot next place below least is at = grind (arith, nat_tests)
+
+  joined-long : (there : Bool) (old cur new : ℕ) → old ≤ cur → new ≡ cond there cur (cur + 1) → old ≤ new
+  joined-long there old cur new least is = grind arith
 
   -- how many modules there are then
   joined-count : (cur bundle : List PublishedModule) (placed : List Placed) (next : ℕ) → length old ≤ length cur → all_differ have_one_name (tables_in bundle) ≡ true
       → AllByRecursion (IsLocated old cur) bundle → next ≡ length cur
       → ArePlacedFor (tables_in old) tss next (tables_in bundle) placed → length (fold with_module cur bundle) ≡ length cur + count_by (λ (p : Placed). nat_le (length old) p.place) placed
   joined-count cur [] [] next least differ located is for = omega arith
-  joined-count cur [] (p ∷ ps) next least differ located is for = absurd for
-  joined-count cur (n ∷ ns) [] next least differ located is for = absurd for
   joined-count cur (n ∷ ns) (p ∷ ps) next least differ located is for =
+      let at : p.place ≡ cond (is_there old n.tables) (spot old n.tables) next = for.0 ∙ place_is old next n.tables in
       let grown : length (with_module cur n) ≡ cond (is_there old n.tables) (length cur) (length cur + 1) = length-with cur n ∙ ap (λ (b : Bool). cond b (length cur) (length cur + 1)) located.0.0 in
-      let here = by_case (is_there old n.tables) refl (for.0 ∙ place_is old next n.tables) in
-      let rest = joined-count (with_module cur n) ns ps (cond (is_there old n.tables) next (next + 1)) (more (is_there old n.tables) (length (with_module cur n)) grown)
-      (second_so (not (list_any (have_one_name n.tables) (tables_in ns))) (all_differ have_one_name (tables_in ns)) differ)
-      (located-next old cur n ns (not-is (list_any (have_one_name n.tables) (tables_in ns))
-      (first_so (not (list_any (have_one_name n.tables) (tables_in ns))) (all_differ have_one_name (tables_in ns)) differ)) located.1)
-      (next-is cur n next located.0 is) for.2 in
-      let split : count_by (λ (p : Placed). nat_le (length old) p.place) (p ∷ ps) ≡ cond (nat_le (length old) p.place) 1 0 + count_by (λ (p : Placed). nat_le (length old) p.place) ps = sum_by-cons
-      (λ (p : Placed). cond (nat_le (length old) p.place) 1 0) p ps in
-      sums (length (fold with_module (with_module cur n) ns)) (length (with_module cur n)) (count_by (λ (p : Placed). nat_le (length old) p.place) ps) (length cur)
-      (cond (nat_le (length old) p.place) 1 0) (count_by (λ (p : Placed). nat_le (length old) p.place) (p ∷ ps)) rest (grown ∙ here) split
-    where
-      sums : (all mid tail first one both : ℕ) → all ≡ mid + tail → mid ≡ first + one → both ≡ one + tail → all ≡ first + both
-      sums all mid tail first one both a b c = omega (arith, a, b, c)
-
-      more : (b : Bool) (k : ℕ) → k ≡ cond b (length cur) (length cur + 1) → length old ≤ k
-      more true k e = omega (arith, e, least)
-      more false k e = omega (arith, e, least)
-
-      by_case : (b : Bool) → is_there old n.tables ≡ b → p.place ≡ cond b (spot old n.tables) next → cond b (length cur) (length cur + 1) ≡ length cur + cond (nat_le (length old) p.place) 1 0
-      by_case true e at =
-          let low : spot old n.tables < length old = spot-below old n.tables e in
-          let test : nat_le (length old) p.place ≡ false = lt-leb (length old) p.place (omega (arith, at, low)) in
-          subst (λ (b : Bool). length cur ≡ length cur + cond b 1 0) (sym test) (omega arith)
-      by_case false e at =
-          let test : nat_le (length old) p.place ≡ true = le-leb (length old) p.place (omega (arith, at, least, is)) in
-          subst (λ (b : Bool). length cur + 1 ≡ length cur + cond b 1 0) (sym test) refl
+      let here = joined-place (is_there old n.tables) (length old) (length cur) (spot old n.tables) next p.place (spot-below old n.tables) least is at in
+      let long = joined-long (is_there old n.tables) (length old) (length cur) (length (with_module cur n)) least grown in
+      let apart : all_differ have_one_name (tables_in ns) ≡ true = second_so (not (list_any (have_one_name n.tables) (tables_in ns))) (all_differ have_one_name (tables_in ns)) differ in
+      let none = not-is (list_any (have_one_name n.tables) (tables_in ns)) (first_so (not (list_any (have_one_name n.tables) (tables_in ns))) (all_differ have_one_name (tables_in ns)) differ) in
+      let rest = joined-count (with_module cur n) ns ps (cond (is_there old n.tables) next (next + 1)) long apart (located-next old cur n ns none located.1) (next-is cur n next located.0 is) for.2 in
+      omega (arith, rest, grown, here, sum_by-cons (λ (p : Placed). cond (nat_le (length old) p.place) 1 0) p ps)
+  joined-count _ _ _ _ _ _ _ _ for = absurd for
 
 -- the modules of a bundle whose names differ take their places in order
 pub all-spotted : (old bundle : List PublishedModule) (tss : List (List Tally)) (placed : List Placed) → all_differ have_one_name (tables_in bundle) ≡ true
-    → ArePlacedFor (tables_in old) tss (length old) (tables_in bundle) placed
-    → AreSpotted (had tss) old bundle placed
+    → ArePlacedFor (tables_in old) tss (length old) (tables_in bundle) placed → AreSpotted (had tss) old bundle placed
 all-spotted old bundle tss placed differ for = spotted old tss old bundle placed (length old) differ (located-first old bundle) refl for
 
 pub count-joined : (old bundle : List PublishedModule) (tss : List (List Tally)) (placed : List Placed) → all_differ have_one_name (tables_in bundle) ≡ true
-    → ArePlacedFor (tables_in old) tss (length old) (tables_in bundle) placed
-    → length (with_modules old bundle) ≡ length old + count_by (λ (p : Placed). nat_le (length old) p.place) placed
+    → ArePlacedFor (tables_in old) tss (length old) (tables_in bundle) placed → length (with_modules old bundle) ≡ length old + count_by (λ (p : Placed). nat_le (length old) p.place) placed
 count-joined old bundle tss placed differ for = joined-count old tss old bundle placed (length old) (omega arith) differ (located-first old bundle) refl for
 
 -- ---- tallies
@@ -228,16 +191,13 @@ count-joined old bundle tss placed differ for = joined-count old tss old bundle 
 -- the tallies of each module from this place on, after those that it had
 abbrev pub EachIs : (ℕ → List Tally) → ℕ → List Module → List (List Tally) → Type 0
 EachIs own place [] [] = Unit {0}
-EachIs own place [] (ts ∷ tss) = ⊥
-EachIs own place (m ∷ ms) [] = ⊥
 EachIs own place (m ∷ ms) (ts ∷ tss) = (ts ≡ tallies_at place m (own place)) × EachIs own (place + 1) ms tss
+EachIs _ _ _ _ = ⊥
 
 each-with : (own : ℕ → List Tally) (place : ℕ) (cur : List PublishedModule) (tss : List (List Tally)) (n : PublishedModule) (ts : List Tally)
     → ts ≡ tallies_at (place + spot cur n.tables) n.tables (own (place + spot cur n.tables))
     → EachIs own place (tables_in cur) tss → EachIs own place (tables_in (with_module cur n)) (with_at (spot cur n.tables) ts tss)
 each-with own place [] [] n ts is e = let same : place + 0 ≡ place = omega arith in (subst (λ (k : ℕ). ts ≡ tallies_at k n.tables (own k)) same is, tt)
-each-with own place [] (us ∷ uss) n ts is e = absurd e
-each-with own place (q ∷ qs) [] n ts is e = absurd e
 each-with own place (q ∷ qs) (us ∷ uss) n ts is e = by_case (has_name_of n.tables q) (λ here. each-with own (place + 1) qs uss n ts here e.1) is
   where
     by_case : (b : Bool)
@@ -248,23 +208,21 @@ each-with own place (q ∷ qs) (us ∷ uss) n ts is e = by_case (has_name_of n.t
     by_case false ih is =
         let same : place + suc (spot qs n.tables) ≡ place + 1 + spot qs n.tables = omega arith in
         (e.0, ih (subst (λ (k : ℕ). ts ≡ tallies_at k n.tables (own k)) same is))
+each-with _ _ _ _ _ _ _ e = absurd e
 
 pub each-joined : (own : ℕ → List Tally) (cur bundle : List PublishedModule) (tss : List (List Tally)) (placed : List Placed) → AreSpotted own cur bundle placed → EachIs own 0 (tables_in cur) tss
     → EachIs own 0 (tables_in (with_modules cur bundle)) (with_placed tss placed)
 each-joined own cur [] tss [] s e = e
-each-joined own cur [] tss (p ∷ ps) s e = absurd s
-each-joined own cur (n ∷ ns) tss [] s e = absurd s
 each-joined own cur (n ∷ ns) tss (p ∷ ps) s e =
     each-joined own (with_module cur n) ns (with_at p.place p.tallies.items tss) ps s.2
     (subst (λ (k : ℕ). EachIs own 0 (tables_in (with_module cur n)) (with_at k p.tallies.items tss)) (sym s.0)
     (each-with own 0 cur tss n p.tallies.items (subst (λ (k : ℕ). p.tallies.items ≡ tallies_at k n.tables (own k)) (s.0 ∙ sym (zero-add (spot cur n.tables))) s.1) e))
+each-joined _ _ _ _ _ s _ = absurd s
 
 -- a module with all its tallies gets none
 pub each-first : (own : ℕ → List Tally) (place : ℕ) (ms : List Module) (tss : List (List Tally)) → ((i : ℕ) (ts : List Tally) → slice_get tss i ≡ Some ts → own (place + i) ≡ ts) → AreScarce ms tss
     → EachIs own place ms tss
 each-first own place [] [] is h = tt
-each-first own place [] (ts ∷ tss) is h = h
-each-first own place (m ∷ ms) [] is h = h
 each-first own place (m ∷ ms) (ts ∷ tss) is h =
     let here : own place ≡ ts = (let same : place ≡ place + 0 = omega arith in ap own same ∙ is 0 ts refl) in
     let long : length (scarce_indices m) ≤ length ts = (let e : length ts ≡ length (scarce_indices m) = sym (length-map ts (λ (t : Tally). t.index)) ∙ ap length h.0 in omega (arith, e)) in
@@ -272,6 +230,7 @@ each-first own place (m ∷ ms) (ts ∷ tss) is h =
       sym (ap (tallies_at place m) here ∙ whole),
       each-first own (place + 1) ms tss (λ i us e. let same : place + 1 + i ≡ place + suc i = omega arith in ap own same ∙ is (suc i) us e) h.1,
     )
+each-first _ _ _ _ _ h = h
 
 -- what stands at a place is found there
 pub had-found : (tss : List (List Tally)) (i : ℕ) (ts : List Tally) → slice_get tss i ≡ Some ts → had tss (0 + i) ≡ ts
@@ -292,33 +251,24 @@ pub tallies-placed : (place : ℕ) (m : Module) (ts : List Tally) → All (λ (t
 tallies-placed place m ts h = All-append (λ (t : Tally). t.place ≡ place) ts (map (fresh_tally place) (drop (length ts) (scarce_indices m))) h
     (All-map (λ (t : Tally). t.place ≡ place) (fresh_tally place) (drop (length ts) (scarce_indices m)) (λ k d lt. refl))
 
+-- a place among those that are there, or the next one
+spot-within : (there : Bool) (place spot long new : ℕ) → (there ≡ true → spot < long) → (there ≡ false → spot ≡ long) → place ≡ spot → new ≡ cond there long (long + 1)
+    → (place ≤ long) × (cond (nat_lt place long) long (long + 1) ≡ new)
+spot-within there place spot long new below next at is = grind (arith, nat_tests)
+
 pub spotted-within : (own : ℕ → List Tally) (at : (i : ℕ) → All (λ (t : Tally). t.place ≡ i) (own i)) (cur bundle : List PublishedModule) (placed : List Placed) → AreSpotted own cur bundle placed
     → AreWithin (length cur) placed
 spotted-within own at cur [] [] s = tt
-spotted-within own at cur [] (p ∷ ps) s = absurd s
-spotted-within own at cur (n ∷ ns) [] s = absurd s
 spotted-within own at cur (n ∷ ns) (p ∷ ps) s =
-    let there : (p.place ≤ length cur) × (cond (nat_lt p.place (length cur)) (length cur) (length cur + 1) ≡ length (with_module cur n)) = by_case (is_there cur n.tables) refl (length-with cur n) in (
+    let there = spot-within (is_there cur n.tables) p.place (spot cur n.tables) (length cur) (length (with_module cur n)) (spot-below cur n.tables) (spot-next cur n.tables) s.0 (length-with cur n) in (
       there.0,
       subst (λ (ts : List Tally). All (λ (t : Tally). t.place ≡ p.place) ts) (sym s.1) (tallies-placed p.place n.tables (own p.place) (at p.place)),
       subst (λ (k : ℕ). AreWithin k ps) (sym there.1) (spotted-within own at (with_module cur n) ns ps s.2),
     )
-  where
-    by_case : (b : Bool) → is_there cur n.tables ≡ b → length (with_module cur n) ≡ cond b (length cur) (length cur + 1)
-        → (p.place ≤ length cur) × (cond (nat_lt p.place (length cur)) (length cur) (length cur + 1) ≡ length (with_module cur n))
-    by_case true e grown =
-        let low : spot cur n.tables < length cur = spot-below cur n.tables e in
-        let lt : p.place < length cur = omega (arith, low, s.0) in
-        let least : p.place ≤ length cur = omega (arith, lt) in
-        (least, ap (λ (b : Bool). cond b (length cur) (length cur + 1)) (lt-ltb p.place (length cur) lt) ∙ sym grown)
-    by_case false e grown =
-        let high : spot cur n.tables ≡ length cur = spot-next cur n.tables e in
-        let least : p.place ≤ length cur = omega (arith, high, s.0) in
-        (least, ap (λ (b : Bool). cond b (length cur) (length cur + 1)) (le-ltb p.place (length cur) (omega (arith, high, s.0))) ∙ sym grown)
+spotted-within _ _ _ _ _ s = absurd s
 
 -- each module has as many lists of tallies
 pub each-length : (own : ℕ → List Tally) (place : ℕ) (ms : List Module) (tss : List (List Tally)) → EachIs own place ms tss → length tss ≡ length ms
 each-length own place [] [] e = refl
-each-length own place [] (ts ∷ tss) e = absurd e
-each-length own place (m ∷ ms) [] e = absurd e
 each-length own place (m ∷ ms) (ts ∷ tss) e = ap suc (each-length own (place + 1) ms tss e.1)
+each-length _ _ _ _ e = absurd e

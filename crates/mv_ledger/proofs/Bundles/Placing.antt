@@ -1,15 +1,10 @@
 -- The modules of a bundle are placed one after the other.
-use Rattle.mv_ledger.proofs.Bundles.Common.{[], ℕ, ◌++◌, ◌+◌, ◌<◌, ◌∙◌, ◌∷◌, ◌≡◌, ◌≤◌, Bool, Bor, List, None, Option, Some, ap, ap₂, arith, cond, drop, false, get_or, length, map, refl, subst, suc}
-use Rattle.mv_ledger.proofs.Bundles.Common.{sym, take, true, zero, zero-add, eqb-false, eqb-true, ltb-false, ltb-true, append_assoc, length-map, map-append, map-set, map_more, ◌==◌, All, is_none}
-use Rattle.mv_ledger.proofs.Bundles.Common.{is_some, nat_lt, not, option_and_then, slice_get, slice_set, unwrap_or, Module, own_name, module_place, PublishedModule, tables_in, ArePlacedFor, AreWithin}
-use Rattle.mv_ledger.proofs.Bundles.Common.{fresh_tally, is_published, place_for, tallies_at, with_placed, ArePlaced, scarce_indices, Placed, Tally}
-use Rattle.std.specs.declared.vec.Vec.{Vec}
-use Rattle.std.specs.declared.alloc.Global.{Global}
-use Rattle.mv_ledger.proofs.Runs.TalliesByModule.{lists}
-use Rattle.mv_linker.specs.declared.New.{New}
-use Rattle.mv_linker.specs.News.{published_one, published_of}
+use Rattle.mv_ledger.proofs.Common.{[], ◌++◌, ◌+◌, ◌<◌, ◌∙◌, ◌∷◌, ◌≡◌, ◌≤◌, Bool, Bor, List, None, Option, Some, ap, append_assoc, ap₂, arith, cond, drop, false, get_or, length, map, refl, subst}
+use Rattle.mv_ledger.proofs.Common.{suc, sym, take, true, zero, zero-add, ℕ, nat_tests, length-map, map-append, map-set, map_more, All, is_none, is_some, nat_lt, not, option_and_then, slice_get}
+use Rattle.mv_ledger.proofs.Common.{slice_set, unwrap_or, Global, Vec, Module, own_name, module_place, PublishedModule, tables_in, published_of, published_one, with_at, New, ArePlacedFor}
+use Rattle.mv_ledger.proofs.Common.{AreWithin, fresh_tally, is_published, place_for, tallies_at, with_placed, ArePlaced, scarce_indices, Placed, Tally}
 use Rattle.mv_linker.proofs.Kept.WithAt.{set-with_at, push-with_at, length-with_at}
-use Rattle.mv_linker.specs.Stored.{with_at}
+use Rattle.mv_ledger.proofs.Runs.TalliesByModule.{lists}
 use Rattle.mv_ledger.proofs.Bundles.Places.{place-found, is_there, spot, spot-below, had}
 
 -- the next place after these
@@ -19,12 +14,10 @@ next_after old next (m ∷ ms) = next_after old (cond (is_published old m) next 
 
 -- one more
 pub placed-more : (old : List Module) (tss : List (List Tally)) (next : ℕ) (ms : List Module) (ps : List Placed) (m : Module) (p : Placed) → ArePlacedFor old tss next ms ps
-    → p.place ≡ place_for old (next_after old next ms) m
-    → p.tallies.items ≡ tallies_at p.place m (unwrap_or (slice_get tss p.place) []) → ArePlacedFor old tss next (ms ++ m ∷ []) (ps ++ p ∷ [])
+    → p.place ≡ place_for old (next_after old next ms) m → p.tallies.items ≡ tallies_at p.place m (unwrap_or (slice_get tss p.place) []) → ArePlacedFor old tss next (ms ++ m ∷ []) (ps ++ p ∷ [])
 placed-more old tss next [] [] m p placed at tallies = (at, tallies, tt)
-placed-more old tss next [] (q ∷ qs) m p placed at tallies = absurd placed
-placed-more old tss next (n ∷ ns) [] m p placed at tallies = absurd placed
 placed-more old tss next (n ∷ ns) (q ∷ qs) m p placed at tallies = (placed.0, placed.1, placed-more old tss (cond (is_published old n) next (next + 1)) ns qs m p placed.2 at tallies)
+placed-more _ _ _ _ _ _ _ placed _ _ = absurd placed
 
 pub next-more : (old : List Module) (next : ℕ) (ms : List Module) (m : Module) → next_after old next (ms ++ m ∷ []) ≡ cond (is_published old m) (next_after old next ms) (next_after old next ms + 1)
 next-more old next [] m = refl
@@ -33,17 +26,10 @@ next-more old next (n ∷ ns) m = next-more old (cond (is_published old n) next 
 -- a module that isn't found is not published
 pub none-published : (old : List PublishedModule) (m : Module) (o : Option ℕ) → o ≡ option_and_then (module_place (tables_in old)) (own_name m)
     → is_published (tables_in old) m ≡ cond (is_none o) false true
-none-published old m o is = sym (ap (λ (x : Option ℕ). cond (is_none x) false true) (is ∙ place-found old m) ∙ picked (is_there old m))
-  where
-    picked : (b : Bool) → cond (is_none (cond b (Some (spot old m)) None)) false true ≡ b
-    picked true = refl
-    picked false = refl
+none-published old m o is = grind (arith, place-found old m)
 
 pub none-so : (o : Option ℕ) (b : Bool) → is_some o ≡ not b → b ≡ is_none o
-none-so None true e = refl
-none-so None false e = absurd cc
-none-so (Some k) true e = absurd cc
-none-so (Some k) false e = refl
+none-so o b e = grind arith
 
 -- ---- lists of tallies by place
 
@@ -56,14 +42,7 @@ push-last vs us place w le is =
     ap lists is ∙ map-append (λ (v : Vec Tally Global). v.items) vs (w ∷ []) ∙ push-with_at (lists vs) place w.items (omega (arith, le, length-map vs (λ (v : Vec Tally Global). v.items)))
 
 length-put : (place : ℕ) (ts : List Tally) (tss : List (List Tally)) → place ≤ length tss → cond (nat_lt place (length tss)) (length tss) (length tss + 1) ≡ length (with_at place ts tss)
-length-put place ts tss le = by_case (nat_lt place (length tss)) refl (place == length tss) refl ∙ sym (length-with_at tss place ts le)
-  where
-    by_case : (b : Bool) → nat_lt place (length tss) ≡ b → (c : Bool) → (place == length tss) ≡ c → cond b (length tss) (length tss + 1) ≡ cond c (length tss + 1) (length tss)
-    by_case true e true g = let less : place < length tss = ltb-true place (length tss) e in let same : place ≡ length tss = eqb-true place (length tss) g in absurd (omega (arith, less, same))
-    by_case true e false g = refl
-    by_case false e true g = refl
-    by_case false e false g = let more : length tss ≤ place = ltb-false place (length tss) e in let other : place ≡ length tss
-        → ⊥ = eqb-false place (length tss) g in absurd (omega (arith, le, more, other))
+length-put place ts tss le = grind (arith, nat_tests, length-with_at tss place ts le)
 
 placed-put : (start : ℕ) (tss : List (List Tally)) (place : ℕ) (ts : List Tally) → place ≤ length tss → All (λ (t : Tally). t.place ≡ start + place) ts → ArePlaced start tss
     → ArePlaced start (with_at place ts tss)
@@ -85,8 +64,7 @@ pub joining-room : (whole tss : List (List Tally)) (rest more : List Placed) (p 
 joining-room whole tss rest more p len capacity h is = let long : length rest ≡ suc (length more) = ap length is in omega (arith, long, h.fits)
 
 pub joining-next : (whole tss after : List (List Tally)) (rest more : List Placed) (p : Placed) (len now capacity room : ℕ) → IsJoining whole tss rest len capacity → rest ≡ p ∷ more
-    → after ≡ with_at p.place p.tallies.items tss
-    → now ≤ len + 1 → room ≡ capacity → IsJoining whole after more now room
+    → after ≡ with_at p.place p.tallies.items tss → now ≤ len + 1 → room ≡ capacity → IsJoining whole after more now room
 joining-next whole tss after rest more p len now capacity room h is put one same =
     let step = subst (λ (ps : List Placed). AreWithin (length tss) ps) is h.within in
     record {
@@ -104,8 +82,7 @@ joining-done whole tss (p ∷ ps) len capacity h none = absurd (omega (arith, no
 -- ---- a module's tallies, one more at a time
 
 pub extended-more : (start items after : List Tally) (place : ℕ) (yielded : List (Bor ℕ)) (x : Bor ℕ) (t : Tally) → items ≡ start ++ map (fresh_tally place) (map (λ (y : Bor ℕ). y.now) yielded)
-    → after ≡ items ++ t ∷ [] → t ≡ fresh_tally place x.now
-    → after ≡ start ++ map (fresh_tally place) (map (λ (y : Bor ℕ). y.now) (yielded ++ x ∷ []))
+    → after ≡ items ++ t ∷ [] → t ≡ fresh_tally place x.now → after ≡ start ++ map (fresh_tally place) (map (λ (y : Bor ℕ). y.now) (yielded ++ x ∷ []))
 extended-more start items after place yielded x t is pushed made =
     let fresh : List (Bor ℕ) → List Tally = λ ys. map (fresh_tally place) (map (λ (y : Bor ℕ). y.now) ys) in
     let split : fresh (yielded ++ x ∷ []) ≡ fresh yielded ++ fresh_tally place x.now ∷ [] = ap (map (fresh_tally place)) (map-append (λ (y : Bor ℕ). y.now) yielded (x ∷ []))
@@ -127,16 +104,9 @@ module _ (old : List PublishedModule) (tss : List (List Tally)) (news : List New
   -- the place is in range
   pub placing-low : IsPlacing old tss news i all next → i < length news → length old + length news < 65536 → found ≡ option_and_then (module_place (tables_in old)) (own_name m) → (place : ℕ)
       → place ≡ unwrap_or found next → place < 65536
-  placing-low h lt few found_is place at = by_there (is_there old m) refl
-    where
-      by_there : (b : Bool) → is_there old m ≡ b → place < 65536
-      by_there true e =
-          let low : spot old m < length old = spot-below old m e in
-          let is : place ≡ spot old m = at ∙ ap (λ (o : Option ℕ). unwrap_or o next) (found_is ∙ place-found old m ∙ ap (λ (b : Bool). cond b (Some (spot old m)) None) e) in
-          omega (arith, low, is, few)
-      by_there false e =
-          let is : place ≡ next = at ∙ ap (λ (o : Option ℕ). unwrap_or o next) (found_is ∙ place-found old m ∙ ap (λ (b : Bool). cond b (Some (spot old m)) None) e) in
-          omega (arith, is, few, lt, h.few)
+  placing-low h lt few found_is place at =
+      let is : place ≡ unwrap_or (cond (is_there old m) (Some (spot old m)) None) next = at ∙ ap (λ (o : Option ℕ). unwrap_or o next) (found_is ∙ place-found old m) in
+      grind (arith, is, spot-below old m)
 
   -- one more is placed
   pub placing-more : (d : New) (after : List Placed) (p : Placed) (indices : List ℕ) → IsPlacing old tss news i all next → i < length news → m ≡ (get_or news i d).module

@@ -1,10 +1,7 @@
 -- Texts and certificates are within their limits: those of a bundle, and so those of the store that it joined.
-use Rattle.mv_ledger.proofs.Bundles.Common.{[], ℕ, ◌∙◌, ◌∷◌, ◌≡◌, Bool, Err, List, Ok, Result, ap₂, cond, false, length, map, refl, subst, sym, true, and_from, first_so, second_so, list_all, ◌&&◌}
-use Rattle.mv_ledger.proofs.Bundles.Common.{IfOk, IsTrue, OnOk, nat_le, PublishedModule, has_name_of, with_module, with_modules, Refusal, address_fits, LedgerState, Offer, Publish, AreSized}
-use Rattle.mv_ledger.specs.RecordText.{IsShaped, offer_fits}
-use Rattle.mv_ledger.specs.Publishing.{AllPass, offered}
-use Rattle.mv_ledger.specs.Exact.{IsAccepted}
-use Rattle.mv_ledger.specs.Judging.{IsAcceptedBy}
+use Rattle.mv_ledger.proofs.Common.{[], ◌∙◌, ◌∷◌, ◌≡◌, Bool, Err, IsTrue, List, Ok, Result, ap₂, arith, length, map, refl, subst, sym, true, ℕ, and_from, and_parts, first_so, second_so, list_all}
+use Rattle.mv_ledger.proofs.Common.{◌&&◌, IfOk, OnOk, nat_le, PublishedModule, with_module, with_modules, Refusal, address_fits, LedgerState, Offer, Publish, IsAccepted, IsAcceptedBy, AllPass}
+use Rattle.mv_ledger.proofs.Common.{offered, IsShaped, offer_fits, AreSized}
 
 -- whether all modules' texts are within their limits
 abbrev all_sized : List PublishedModule → Bool
@@ -13,14 +10,9 @@ all_sized ps = list_all offer_fits (map offered ps)
 -- one module joins others
 sized_with_one : (ps : List PublishedModule) (q : PublishedModule) → AreSized ps → IsTrue (offer_fits (offered q)) → AreSized (with_module ps q)
 sized_with_one [] q all one = and_from (offer_fits (offered q)) true one refl
-sized_with_one (p ∷ ps) q all one = step (has_name_of q.tables p) (sized_with_one ps q rest one)
-  where
-    rest : AreSized ps
-    rest = second_so (offer_fits (offered p)) (all_sized ps) all
-
-    step : (b : Bool) → AreSized (with_module ps q) → AreSized (cond b (q ∷ ps) (p ∷ with_module ps q))
-    step true after = and_from (offer_fits (offered q)) (all_sized ps) one rest
-    step false after = and_from (offer_fits (offered p)) (all_sized (with_module ps q)) (first_so (offer_fits (offered p)) (all_sized ps) all) after
+sized_with_one (p ∷ ps) q all one =
+    let both = and_parts (offer_fits (offered p)) (all_sized ps) all in
+    grind (arith, both, sized_with_one ps q both.1 one)
 
 -- a bundle joins others
 sized_with : (ps qs : List PublishedModule) → AreSized ps → AreSized qs → AreSized (with_modules ps qs)
@@ -31,11 +23,10 @@ sized_with ps (q ∷ qs) all more =
 -- the modules that passed came in the texts that were offered
 sized_passed : (offers : List Offer) (bundle : List PublishedModule) → AllPass offers bundle → IsTrue (list_all offer_fits offers) → AreSized bundle
 sized_passed [] [] all fit = refl
-sized_passed [] (p ∷ ps) all fit = absurd all
-sized_passed (o ∷ os) [] all fit = absurd all
 sized_passed (o ∷ os) (p ∷ ps) all fit =
     let same : offer_fits (offered p) ≡ offer_fits o = ap₂ (λ (text certificate : List ℕ). offer_fits (record { text = text; certificate = certificate })) all.0 all.1 in
     and_from (offer_fits (offered p)) (all_sized ps) (same ∙ first_so (offer_fits o) (list_all offer_fits os) fit) (sized_passed os ps all.3 (second_so (offer_fits o) (list_all offer_fits os) fit))
+sized_passed _ _ all _ = absurd all
 
 -- what a publish record offers is within the limits
 offers_sized : (payload : List ℕ) (sender : ℕ) (offers : List Offer) → IsShaped 1 payload (Publish sender offers) → IsTrue (list_all offer_fits offers)
@@ -48,9 +39,7 @@ holding published = record { published = published; storage = []; tallies = []; 
 -- so a bundle that was accepted leaves a store's texts within their limits
 pub sized_published : (r : Result ℕ Refusal) (old new : List PublishedModule) (payload : List ℕ) → IfOk r (λ n. IsAcceptedBy n old payload new) → AreSized old → OnOk r (AreSized new)
 sized_published (Err e) old new payload accepted sized = tt
-sized_published (Ok count) old new payload accepted sized = with_bundle_of (accepted (holding old) refl)
-  where
-    with_bundle_of : (bundle : List PublishedModule) × (IsAccepted (holding old) payload bundle × (count ≡ length bundle) × (new ≡ with_modules old bundle)) → AreSized new
-    with_bundle_of b =
-        let a : IsAccepted (holding old) payload b.0 = b.1.0 in
-        subst AreSized (sym b.1.2) (sized_with old b.0 sized (sized_passed a.offers b.0 a.published.0 (offers_sized payload a.sender a.offers a.asked)))
+sized_published (Ok count) old new payload accepted sized =
+    let b = accepted (holding old) refl in
+    let a : IsAccepted (holding old) payload b.0 = b.1.0 in
+    subst AreSized (sym b.1.2) (sized_with old b.0 sized (sized_passed a.offers b.0 a.published.0 (offers_sized payload a.sender a.offers a.asked)))

@@ -1,32 +1,13 @@
 -- What is stored stays as it was where a bundle is published: its words are fine, and stand for the same values.
-use Rattle.mv_ledger.proofs.Bundles.Common.{[], ℕ, ◌+◌, ◌∙◌, ◌∷◌, ◌≡◌, ◌⊎◌, Bool, Err, List, None, Ok, Option, Result, Some, ap, ap₂, arith, false, inl, inr, option_map, refl, subst, suc, sym, true}
-use Rattle.mv_ledger.proofs.Bundles.Common.{zero, and_from, All-head, All-tail, All-weaker, same_Some, first_so, second_so, option_map_or, ◌&&◌, All, IfOk, OnOk, option_and_then, slice_get, unwrap_or}
-use Rattle.mv_ledger.proofs.Bundles.Common.{bytes_eq, Module, StructDefinition, name_at, name_of_struct, struct_abilities, struct_name, declared, declared_in, definition_of, is_struct, module_named}
-use Rattle.mv_ledger.proofs.Bundles.Common.{module_place, StructName, same_struct, ◌>>=◌, find_index, PublishedModule, Refusal, address_fits, each, then_found, same_struct-is, IsStore, tables_in}
-use Rattle.mv_ledger.proofs.Bundles.Common.{own_of_store}
-use Rattle.mv_move_types.specs.declared.tables.Field.{Field}
-use Rattle.mv_move_types.specs.declared.tables.Key.{Key}
-use Rattle.mv_move_types.specs.declared.tables.StructHandle.{StructHandle}
-use Rattle.mv_move_types.specs.declared.token.Abilities.{Abilities}
-use Rattle.mv_move_types.specs.declared.token.LeafKind.TheVariants.{Boolean}
-use Rattle.mv_move_types.specs.declared.token.Token.{Token}
-use Rattle.mv_move_types.specs.declared.token.Token.TheVariants.{Plain, Reference, MutableReference}
-use Rattle.mv_move_types.specs.declared.token.ValueType.TheVariants.{OfLeaf, OfStruct}
-use Rattle.mv_move_types.specs.AbilitySets.{same_abilities}
-use Rattle.mv_move_types.specs.Tokens.{same_kind}
-use Rattle.mv_move_types.specs.Tags.{Tag, LeafTag, StructTag, ReferenceTag, same_tag}
-use Rattle.mv_machine.specs.Value.{Value, Leaf, Struct, Ref, Values, NoMore, More}
-use Rattle.mv_machine.specs.State.{Storage}
-use Rattle.mv_machine.specs.Typed.{leaf_fits, is_of_type, are_of_types, is_of_struct, abilities_at, is_fine_entry, is_fine_storage}
-use Rattle.mv_machine.specs.Flat.{FlatEntry, value_from, fields_from, struct_from, value_under, storage_of}
+use Rattle.mv_ledger.proofs.Common.{[], ◌+◌, ◌∙◌, ◌∷◌, ◌≡◌, ◌⊎◌, Bool, Err, List, None, Ok, Option, Result, Some, ap, ap₂, arith, false, inl, inr, option_map, refl, subst, suc, sym, true, zero, ℕ}
+use Rattle.mv_ledger.proofs.Common.{and_from, All-head, All-tail, All-weaker, same_Some, first_so, second_so, option_map_or, ◌&&◌, All, IfOk, OnOk, option_and_then, slice_get, unwrap_or, bytes_eq}
+use Rattle.mv_ledger.proofs.Common.{same_abilities, Module, StructDefinition, name_at, name_of_struct, struct_abilities, struct_name, declared, declared_in, definition_of, is_struct, module_named}
+use Rattle.mv_ledger.proofs.Common.{module_place, StructName, same_struct, ◌>>=◌, find_index, PublishedModule, LeafTag, ReferenceTag, StructTag, Tag, same_tag, same_kind, Refusal, Field, Key}
+use Rattle.mv_ledger.proofs.Common.{StructHandle, Abilities, Boolean, Token, MutableReference, Plain, Reference, ValueType, OfLeaf, OfStruct, on_bind, address_fits, FlatEntry, fields_from}
+use Rattle.mv_ledger.proofs.Common.{storage_of, struct_from, value_from, value_under, Storage, abilities_at, are_of_types, is_fine_entry, is_fine_storage, is_of_struct, is_of_type, leaf_fits, Leaf}
+use Rattle.mv_ledger.proofs.Common.{More, NoMore, Ref, Struct, Value, Values, each, then_found, same_struct-is, same_tag-is, IsStore, tables_in, struct_is_there, structs_are_there, same_field}
+use Rattle.mv_ledger.proofs.Common.{same_fields, own_of_store, IsOwn, IsFineWords, IsAcceptedBy}
 use Rattle.mv_linker.specs.TypesByName.{token_named, value_type_named}
-use Rattle.mv_linker.specs.Upgrades.{same_field, same_fields}
-use Rattle.mv_linker.specs.StoreRules.{struct_is_there, structs_are_there}
-use Rattle.mv_module_text.proofs.Texts.{on_bind}
-use Rattle.mv_linker.proofs.TagTests.{same_tag-is}
-use Rattle.mv_interpreter.specs.Owned.{IsOwn}
-use Rattle.mv_interpreter.specs.Runs.{IsFineWords}
-use Rattle.mv_ledger.specs.Judging.{IsAcceptedBy}
 use Rattle.mv_ledger.proofs.Counting.Packs.{there-get}
 use Rattle.mv_ledger.proofs.Bundles.Heirs.{Inherits, inherited, tested, found-passes, on_and_then, stayed, name-stays, Stayed}
 
@@ -35,9 +16,8 @@ use Rattle.mv_ledger.proofs.Bundles.Heirs.{Inherits, inherited, tested, found-pa
 -- fields of one type each
 abbrev AreAlike : Module → List Field → Module → List Field → Type 0
 AreAlike m [] n [] = Unit {0}
-AreAlike m [] n (g ∷ gs) = ⊥
-AreAlike m (f ∷ fs) n [] = ⊥
 AreAlike m (f ∷ fs) n (g ∷ gs) = (token_named m f.token ≡ token_named n g.token) × AreAlike m fs n gs
+AreAlike _ _ _ _ = ⊥
 
 alike-self : (m : Module) (fs : List Field) → AreAlike m fs m fs
 alike-self m [] = tt
@@ -45,14 +25,13 @@ alike-self m (f ∷ fs) = (refl, alike-self m fs)
 
 alike-fields : (m : Module) (fs : List Field) (n : Module) (gs : List Field) → same_fields m fs n gs ≡ true → AreAlike m fs n gs
 alike-fields m [] n [] h = tt
-alike-fields m [] n (g ∷ gs) h = absurd cc
-alike-fields m (f ∷ fs) n [] h = absurd cc
 alike-fields m (f ∷ fs) n (g ∷ gs) h =
     let names = option_map_or (λ a. option_map_or (bytes_eq a) (slice_get n.identifiers g.name) false) (slice_get m.identifiers f.name) false in
     let types = option_map_or (λ a. option_map_or (same_tag a) (token_named n g.token) false) (token_named m f.token) false in
     let t = tested (λ a. option_map_or (same_tag a) (token_named n g.token) false) (token_named m f.token) (second_so names types (first_so (same_field m f n g) (same_fields m fs n gs) h)) in
     let u = tested (same_tag t.0) (token_named n g.token) t.2 in
     (t.1 ∙ ap (λ (x : Tag). Some x) (same_tag-is t.0 u.0 u.2) ∙ sym u.1, alike-fields m fs n gs (second_so (same_field m f n g) (same_fields m fs n gs) h))
+alike-fields m _ n _ h = absurd cc
 
 -- the value of a type by names that begins with these leaves
 abbrev by_tag : (StructName → List ℕ → Option (Value × List ℕ)) → Option Tag → List ℕ → Option (Value × List ℕ)
@@ -63,23 +42,13 @@ by_tag struct (Some (ReferenceTag b t)) words = None
 by_tag struct None words = None
 
 value-by-tag : (struct : StructName → List ℕ → Option (Value × List ℕ)) (m : Module) (t : Token) (words : List ℕ) → value_from struct m t words ≡ by_tag struct (token_named m t) words
-value-by-tag struct m (Plain (OfLeaf k)) [] = refl
-value-by-tag struct m (Plain (OfLeaf k)) (n ∷ words) = refl
-value-by-tag struct m (Plain (OfStruct h)) words = step (struct_name m h)
-  where
-    step : (o : Option StructName) → (o >>= λ name. struct name words) ≡ by_tag struct (o >>= λ name. Some (StructTag name)) words
-    step None = refl
-    step (Some name) = refl
-value-by-tag struct m (Reference t) words = step (value_type_named m t)
-  where
-    step : (o : Option Tag) → None ≡ by_tag struct (o >>= λ tag. Some (ReferenceTag false tag)) words
-    step None = refl
-    step (Some tag) = refl
-value-by-tag struct m (MutableReference t) words = step (value_type_named m t)
-  where
-    step : (o : Option Tag) → None ≡ by_tag struct (o >>= λ tag. Some (ReferenceTag true tag)) words
-    step None = refl
-    step (Some tag) = refl
+value-by-tag struct m (Plain (OfStruct h)) words =
+    elim (struct_name m h) as (λ o. (o >>= λ name. struct name words) ≡ by_tag struct (o >>= λ name. Some (StructTag name)) words) [ None ↦ refl | Some name ↦ refl ]
+value-by-tag struct m (Reference t) words =
+    elim (value_type_named m t) as (λ o. None ≡ by_tag struct (o >>= λ tag. Some (ReferenceTag false tag)) words) [ None ↦ refl | Some tag ↦ refl ]
+value-by-tag struct m (MutableReference t) words =
+    elim (value_type_named m t) as (λ o. None ≡ by_tag struct (o >>= λ tag. Some (ReferenceTag true tag)) words) [ None ↦ refl | Some tag ↦ refl ]
+value-by-tag _ _ _ _ = refl
 
 -- whether a value is of a type by names
 abbrev fits_tag : List Module → Option Tag → Value → Bool
@@ -87,46 +56,29 @@ fits_tag modules (Some (LeafTag k)) (Leaf j n) = same_kind j k && leaf_fits k n
 fits_tag modules (Some (StructTag own)) (Struct name fields) = same_struct own name && option_map_or (λ d. are_of_types modules d.0 d.1 fields) (definition_of modules name) false
 fits_tag modules _ _ = false
 
+reference-none : (modules : List Module) (m : Module) (t : ValueType) (v : Value) → (is_of_type modules m (Reference t) v ≡ false) × (is_of_type modules m (MutableReference t) v ≡ false)
+reference-none modules m t (Leaf j n) = (refl, refl)
+reference-none modules m t (Struct name fields) = (refl, refl)
+reference-none modules m t (Ref r) = (refl, refl)
+
 type-by-tag : (modules : List Module) (m : Module) (t : Token) (v : Value) → is_of_type modules m t v ≡ fits_tag modules (token_named m t) v
 type-by-tag modules m (Plain (OfLeaf k)) (Leaf j n) = refl
 type-by-tag modules m (Plain (OfLeaf k)) (Struct name fields) = refl
 type-by-tag modules m (Plain (OfLeaf k)) (Ref r) = refl
-type-by-tag modules m (Plain (OfStruct h)) (Leaf j n) = step (struct_name m h)
-  where
-    step : (o : Option StructName) → false ≡ fits_tag modules (o >>= λ name. Some (StructTag name)) (Leaf j n)
-    step None = refl
-    step (Some own) = refl
-type-by-tag modules m (Plain (OfStruct h)) (Struct name fields) = step (struct_name m h)
-  where
-    step : (o : Option StructName)
-        → (option_map_or (λ own. same_struct own name) o false && option_map_or (λ d. are_of_types modules d.0 d.1 fields) (definition_of modules name) false) ≡ fits_tag modules
-        (o >>= λ name. Some (StructTag name))
-        (Struct name fields)
-    step None = refl
-    step (Some own) = refl
-type-by-tag modules m (Plain (OfStruct h)) (Ref r) = step (struct_name m h)
-  where
-    step : (o : Option StructName) → false ≡ fits_tag modules (o >>= λ name. Some (StructTag name)) (Ref r)
-    step None = refl
-    step (Some own) = refl
-type-by-tag modules m (Reference t) v = step (value_type_named m t) v
-  where
-    step : (o : Option Tag) (v : Value) → is_of_type modules m (Reference t) v ≡ fits_tag modules (o >>= λ tag. Some (ReferenceTag false tag)) v
-    step None (Leaf j n) = refl
-    step None (Struct name fields) = refl
-    step None (Ref r) = refl
-    step (Some tag) (Leaf j n) = refl
-    step (Some tag) (Struct name fields) = refl
-    step (Some tag) (Ref r) = refl
-type-by-tag modules m (MutableReference t) v = step (value_type_named m t) v
-  where
-    step : (o : Option Tag) (v : Value) → is_of_type modules m (MutableReference t) v ≡ fits_tag modules (o >>= λ tag. Some (ReferenceTag true tag)) v
-    step None (Leaf j n) = refl
-    step None (Struct name fields) = refl
-    step None (Ref r) = refl
-    step (Some tag) (Leaf j n) = refl
-    step (Some tag) (Struct name fields) = refl
-    step (Some tag) (Ref r) = refl
+type-by-tag modules m (Plain (OfStruct h)) (Leaf j n) =
+    elim (struct_name m h) as (λ o. false ≡ fits_tag modules (o >>= λ name. Some (StructTag name)) (Leaf j n)) [ None ↦ refl | Some own ↦ refl ]
+type-by-tag modules m (Plain (OfStruct h)) (Struct name fields) =
+    let fit = option_map_or (λ (d : Module × List Field). are_of_types modules d.0 d.1 fields) (definition_of modules name) false in
+    elim (struct_name m h) as (λ o. (option_map_or (λ own. same_struct own name) o false && fit) ≡ fits_tag modules (o >>= λ name. Some (StructTag name)) (Struct name fields)) [
+      | None ↦ refl
+      | Some own ↦ refl
+    ]
+type-by-tag modules m (Plain (OfStruct h)) (Ref r) =
+    elim (struct_name m h) as (λ o. false ≡ fits_tag modules (o >>= λ name. Some (StructTag name)) (Ref r)) [ None ↦ refl | Some own ↦ refl ]
+type-by-tag modules m (Reference t) v =
+    (reference-none modules m t v).0 ∙ elim (value_type_named m t) as (λ o. false ≡ fits_tag modules (o >>= λ tag. Some (ReferenceTag false tag)) v) [ None ↦ refl | Some tag ↦ refl ]
+type-by-tag modules m (MutableReference t) v =
+    (reference-none modules m t v).1 ∙ elim (value_type_named m t) as (λ o. false ≡ fits_tag modules (o >>= λ tag. Some (ReferenceTag true tag)) v) [ None ↦ refl | Some tag ↦ refl ]
 
 -- ---- structs that are there
 
@@ -147,29 +99,17 @@ defined-there modules name a e =
 named-there : (modules : List Module) (m : Module) (t : Token) (name : StructName) → structs_are_there modules m 0 m.struct_handles ≡ true → token_named m t ≡ Some (StructTag name)
     → (d : Module × List Field) × (definition_of modules name ≡ Some d)
 named-there modules m (Plain (OfLeaf k)) name all e = absurd cc
-named-there modules m (Plain (OfStruct h)) name all e = by_name (struct_name m h) refl e
-  where
-    by_name : (o : Option StructName) → struct_name m h ≡ o → (o >>= λ n. Some (StructTag n)) ≡ Some (StructTag name) → (d : Module × List Field) × (definition_of modules name ≡ Some d)
-    by_name None is e = absurd cc
-    by_name (Some own) is e =
-        let same : own ≡ name = cc in
-        on_bind (slice_get m.struct_handles h) _ own is (λ handle handle_is e1.
-        let at : 0 + h ≡ h = omega arith in
-        let here : struct_is_there modules m h handle ≡ true = subst (λ (n : ℕ). struct_is_there modules m n handle ≡ true) at (there-get modules m 0 h m.struct_handles handle all handle_is) in
-        let n = tested (λ n. option_map_or (same_abilities handle.abilities) (declared modules n) false) (struct_name m h) here in
-        let a = tested (same_abilities handle.abilities) (declared modules n.0) n.2 in
-        let name_is : n.0 ≡ name = same_Some n.0 own (sym n.1 ∙ is) ∙ same in
-        defined-there modules name a.0 (ap (declared modules) (sym name_is) ∙ a.1))
-named-there modules m (Reference t) name all e = by_type (value_type_named m t) e
-  where
-    by_type : (o : Option Tag) → (o >>= λ tag. Some (ReferenceTag false tag)) ≡ Some (StructTag name) → (d : Module × List Field) × (definition_of modules name ≡ Some d)
-    by_type None e = absurd cc
-    by_type (Some tag) e = absurd cc
-named-there modules m (MutableReference t) name all e = by_type (value_type_named m t) e
-  where
-    by_type : (o : Option Tag) → (o >>= λ tag. Some (ReferenceTag true tag)) ≡ Some (StructTag name) → (d : Module × List Field) × (definition_of modules name ≡ Some d)
-    by_type None e = absurd cc
-    by_type (Some tag) e = absurd cc
+named-there modules m (Plain (OfStruct h)) name all e = on_bind (struct_name m h) _ (StructTag name) e (λ own is e'.
+    let same : own ≡ name = cc in
+    on_bind (slice_get m.struct_handles h) _ own is (λ handle handle_is e1.
+    let at : 0 + h ≡ h = omega arith in
+    let here : struct_is_there modules m h handle ≡ true = subst (λ (n : ℕ). struct_is_there modules m n handle ≡ true) at (there-get modules m 0 h m.struct_handles handle all handle_is) in
+    let n = tested (λ n. option_map_or (same_abilities handle.abilities) (declared modules n) false) (struct_name m h) here in
+    let a = tested (same_abilities handle.abilities) (declared modules n.0) n.2 in
+    let name_is : n.0 ≡ name = same_Some n.0 own (sym n.1 ∙ is) ∙ same in
+    defined-there modules name a.0 (ap (declared modules) (sym name_is) ∙ a.1)))
+named-there modules m (Reference t) name all e = on_bind (value_type_named m t) _ (StructTag name) e (λ tag is e'. absurd cc)
+named-there modules m (MutableReference t) name all e = on_bind (value_type_named m t) _ (StructTag name) e (λ tag is e'. absurd cc)
 
 -- what goes on alike from a part goes on to the same
 goes-alike : {A B : Type 0} (o : Option A) (f g : A → Option B) → ((x : A) → f x ≡ g x) → (o >>= f) ≡ (o >>= g)
@@ -225,18 +165,12 @@ module _ (old new : List PublishedModule) (old_store : IsStore old) (new_store :
 
   tag-alike : (depth : ℕ) → ReadsAlike depth → (m : Module) → structs_are_there (tables_in old) m 0 m.struct_handles ≡ true → (t : Token) (tag : Option Tag) → token_named m t ≡ tag → (words : List ℕ)
       → by_tag (struct_from depth (tables_in new)) tag words ≡ by_tag (struct_from depth (tables_in old)) tag words
-  tag-alike depth reads m all t None is words = refl
-  tag-alike depth reads m all t (Some (LeafTag k)) is [] = refl
-  tag-alike depth reads m all t (Some (LeafTag k)) is (n ∷ words) = refl
-  tag-alike depth reads m all t (Some (ReferenceTag b tag)) is words = refl
   tag-alike depth reads m all t (Some (StructTag name)) is words = let d = named-there (tables_in old) m t name all is in reads name d.0 d.1 words
+  tag-alike _ _ _ _ _ _ _ _ = refl
 
   fields-alike : (depth : ℕ) → ReadsAlike depth → (m : Module) → structs_are_there (tables_in old) m 0 m.struct_handles ≡ true → (n : Module) (fs gs : List Field) → AreAlike m fs n gs
-      → (words : List ℕ)
-      → fields_from (value_from (struct_from depth (tables_in new)) n) gs words ≡ fields_from (value_from (struct_from depth (tables_in old)) m) fs words
+      → (words : List ℕ) → fields_from (value_from (struct_from depth (tables_in new)) n) gs words ≡ fields_from (value_from (struct_from depth (tables_in old)) m) fs words
   fields-alike depth reads m all n [] [] alike words = refl
-  fields-alike depth reads m all n [] (g ∷ gs) alike words = absurd alike
-  fields-alike depth reads m all n (f ∷ fs) [] alike words = absurd alike
   fields-alike depth reads m all n (f ∷ fs) (g ∷ gs) alike words =
       let first : value_from (struct_from depth (tables_in new)) n g.token words ≡ value_from (struct_from depth (tables_in old)) m f.token words =
       value-by-tag (struct_from depth (tables_in new)) n g.token words
@@ -251,6 +185,7 @@ module _ (old new : List PublishedModule) (old_store : IsStore old) (new_store :
 
       rest_old : Value × List ℕ → Option (Values × List ℕ)
       rest_old first = fields_from (value_from (struct_from depth (tables_in old)) m) fs first.1 >>= λ rest. Some (More first.0 rest.0, rest.1)
+  fields-alike _ _ _ _ _ _ _ alike _ = absurd alike
 
   struct-alike : (depth : ℕ) → ReadsAlike depth
   struct-alike zero name d e words = refl
@@ -270,43 +205,32 @@ module _ (old new : List PublishedModule) (old_store : IsStore old) (new_store :
 
   mutual
     tag-stays : (v : Value) (tag : Option Tag) → fits_tag (tables_in old) tag v ≡ true → fits_tag (tables_in new) tag v ≡ true
-    tag-stays (Leaf j n) None h = h
-    tag-stays (Leaf j n) (Some (LeafTag k)) h = h
-    tag-stays (Leaf j n) (Some (StructTag own)) h = h
-    tag-stays (Leaf j n) (Some (ReferenceTag b t)) h = h
-    tag-stays (Ref r) None h = h
-    tag-stays (Ref r) (Some (LeafTag k)) h = h
-    tag-stays (Ref r) (Some (StructTag own)) h = h
-    tag-stays (Ref r) (Some (ReferenceTag b t)) h = h
-    tag-stays (Struct name fields) None h = h
-    tag-stays (Struct name fields) (Some (LeafTag k)) h = h
-    tag-stays (Struct name fields) (Some (ReferenceTag b t)) h = h
+    tag-stays v None h = h
+    tag-stays v (Some (LeafTag k)) h = h
+    tag-stays v (Some (ReferenceTag b t)) h = h
     tag-stays (Struct name fields) (Some (StructTag own)) h =
         let was = option_map_or (λ d. are_of_types (tables_in old) d.0 d.1 fields) (definition_of (tables_in old) name) false in
         let t = tested (λ d. are_of_types (tables_in old) d.0 d.1 fields) (definition_of (tables_in old) name) (second_so (same_struct own name) was h) in
         let b : BecomesIn name t.0 = becomes name t.0 t.1 in
         and_from (same_struct own name) (option_map_or (λ d. are_of_types (tables_in new) d.0 d.1 fields) (definition_of (tables_in new) name) false) (first_so (same_struct own name) was h)
         (ap (λ (o : Option (Module × List Field)). option_map_or (λ d. are_of_types (tables_in new) d.0 d.1 fields) o false) b.is_new ∙ are-stay fields t.0.0 t.0.1 b.new_one.0 b.new_one.1 b.alike t.2)
+    tag-stays _ (Some (StructTag own)) h = h
 
     are-stay : (vs : Values) (m : Module) (fs : List Field) (n : Module) (gs : List Field) → AreAlike m fs n gs → are_of_types (tables_in old) m fs vs ≡ true
         → are_of_types (tables_in new) n gs vs ≡ true
     are-stay NoMore m [] n [] alike h = refl
-    are-stay NoMore m [] n (g ∷ gs) alike h = absurd alike
-    are-stay NoMore m (f ∷ fs) n [] alike h = absurd alike
-    are-stay NoMore m (f ∷ fs) n (g ∷ gs) alike h = absurd cc
-    are-stay (More v vs) m [] n [] alike h = absurd cc
-    are-stay (More v vs) m [] n (g ∷ gs) alike h = absurd alike
-    are-stay (More v vs) m (f ∷ fs) n [] alike h = absurd alike
     are-stay (More v vs) m (f ∷ fs) n (g ∷ gs) alike h =
         and_from (is_of_type (tables_in new) n g.token v) (are_of_types (tables_in new) n gs vs)
         (type-by-tag (tables_in new) n g.token v ∙ ap (λ (o : Option Tag). fits_tag (tables_in new) o v) (sym alike.0)
         ∙ tag-stays v (token_named m f.token) (sym (type-by-tag (tables_in old) m f.token v) ∙ first_so (is_of_type (tables_in old) m f.token v) (are_of_types (tables_in old) m fs vs) h))
         (are-stay vs m fs n gs alike.1 (second_so (is_of_type (tables_in old) m f.token v) (are_of_types (tables_in old) m fs vs) h))
+    are-stay _ _ [] _ (g ∷ gs) alike _ = absurd alike
+    are-stay _ _ (f ∷ fs) _ [] alike _ = absurd alike
+    are-stay _ m _ n _ alike h = absurd cc
 
   struct-stays : (own : StructName) (v : Value) → is_of_struct (tables_in old) own v ≡ true → is_of_struct (tables_in new) own v ≡ true
-  struct-stays own (Leaf j n) h = h
-  struct-stays own (Ref r) h = h
   struct-stays own (Struct name fields) h = tag-stays (Struct name fields) (Some (StructTag own)) h
+  struct-stays _ _ h = h
 
   -- ---- entries
 
@@ -373,13 +297,12 @@ module _ (old new : List PublishedModule) (old_store : IsStore old) (new_store :
       under modules o = unwrap_or (o >>= λ name. struct_from 8 modules name e.words >>= λ v. Some v.0) (Leaf Boolean 0)
 
       defined : (own : StructName) (v : Value) → is_of_struct (tables_in old) own v ≡ true → (d : Module × List Field) × (definition_of (tables_in old) own ≡ Some d)
-      defined own (Leaf j n) h = absurd cc
-      defined own (Ref r) h = absurd cc
       defined own (Struct name fields) h =
           let is = option_map_or (λ d. are_of_types (tables_in old) d.0 d.1 fields) (definition_of (tables_in old) name) false in
           let same : own ≡ name = same_struct-is own name (first_so (same_struct own name) is h) in
           let t = tested (λ d. are_of_types (tables_in old) d.0 d.1 fields) (definition_of (tables_in old) name) (second_so (same_struct own name) is h) in
           (t.0, ap (definition_of (tables_in old)) same ∙ t.1)
+      defined own _ h = absurd cc
 
   pub fine-stays : (stored : List FlatEntry) → All (IsFineWords (tables_in old)) stored → All (IsFineWords (tables_in new)) stored
   fine-stays stored fine = All-weaker (IsFineWords (tables_in old)) (IsFineWords (tables_in new)) words-stay stored fine
@@ -398,12 +321,10 @@ accepted-inherits count old new payload accepted =
     subst (λ (l : List PublishedModule). Inherits (tables_in old) (tables_in l)) (sym b.1.2) (inherited old b.0 b.1.0.published.1.compatible)
 
 pub stored-stays : (count : ℕ) (old new : List PublishedModule) (payload : List ℕ) (stored : List FlatEntry) → IsStore old → IsStore new → IsAcceptedBy count old payload new
-    → All (IsFineWords (tables_in old)) stored
-    → storage_of (tables_in new) stored ≡ storage_of (tables_in old) stored
+    → All (IsFineWords (tables_in old)) stored → storage_of (tables_in new) stored ≡ storage_of (tables_in old) stored
 stored-stays count old new payload stored old_store new_store accepted fine = values-stay old new old_store new_store (accepted-inherits count old new payload accepted) stored fine
 
 pub stays-fine : (r : Result ℕ Refusal) (old new : List PublishedModule) (payload : List ℕ) (stored : List FlatEntry) → OnOk r (IsStore old) → OnOk r (IsStore new)
-    → IfOk r (λ n. IsAcceptedBy n old payload new)
-    → OnOk r (All (IsFineWords (tables_in old)) stored → All (IsFineWords (tables_in new)) stored)
+    → IfOk r (λ n. IsAcceptedBy n old payload new) → OnOk r (All (IsFineWords (tables_in old)) stored → All (IsFineWords (tables_in new)) stored)
 stays-fine (Ok count) old new payload stored old_store new_store accepted = fine-stays old new old_store new_store (accepted-inherits count old new payload accepted) stored
 stays-fine (Err e) old new payload stored old_store new_store accepted = tt

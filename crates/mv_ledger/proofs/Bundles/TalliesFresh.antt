@@ -1,14 +1,9 @@
 -- The tallies of a module that is published.
-use Rattle.mv_ledger.proofs.Bundles.Common.{[], ℕ, ◌++◌, ◌+◌, ◌<◌, ◌∙◌, ◌∷◌, ◌≡◌, ◌≤◌, Bool, List, None, Option, Some, ap, append-nil, ap₂, arith, cond, false, get_or, length, map, refl, subst, suc}
-use Rattle.mv_ledger.proofs.Bundles.Common.{sym, take, true, zero-add, map-append, take_all, All-cons, All-nil, filter_more, first_so, second_so, cons_option, enumerate_from, filter, list_all, All}
-use Rattle.mv_ledger.proofs.Bundles.Common.{IsSome, filter_map, slice_get, unwrap_or, Module, StructDefinition, module_name, name_at, name_of_struct, StructName, scarce_name, untouched_tally, each}
-use Rattle.mv_ledger.proofs.Bundles.Common.{then_found, there_below, fresh_tally, IsNamed, scarce_indices, tallied, Tally}
-use Rattle.std.proofs.lemmas.List.FromFn.{length-enumerate_from, get_or-enumerate_from}
-use Rattle.mv_bounds.specs.Bounds.{InBounds, below, struct_in, field_in, struct_handle_in}
-use Rattle.mv_machine.specs.Lines.{Tallied}
-use Rattle.mv_move_types.specs.Scarce.{is_scarce_struct}
-use Rattle.mv_linker.proofs.OwnDefinitions.{module_there}
-use Rattle.mv_interpreter.specs.Flat.Agreement.{nameless}
+use Rattle.mv_ledger.proofs.Common.{[], ◌++◌, ◌+◌, ◌<◌, ◌∙◌, ◌∷◌, ◌≡◌, ◌≤◌, Bool, List, Option, Some, ap, append-nil, ap₂, arith, cond, false, get_or, length, map, refl, subst, suc, sym, take}
+use Rattle.mv_ledger.proofs.Common.{true, zero-add, ℕ, cond_both, map-append, take_all, All-cons, All-nil, filter_more, get_or-enumerate_from, length-enumerate_from, first_so, second_so}
+use Rattle.mv_ledger.proofs.Common.{enumerate_from, filter, list_all, All, IsSome, filter_map, slice_get, Module, StructDefinition, module_name, name_at, name_of_struct, StructName}
+use Rattle.mv_ledger.proofs.Common.{is_scarce_struct, InBounds, below, field_in, struct_handle_in, struct_in, scarce_name, untouched_tally, each, then_found, there_below, module_there, fresh_tally}
+use Rattle.mv_ledger.proofs.Common.{IsNamed, scarce_indices, tallied, Tally}
 
 module _ (m : Module) where
   -- the indices of the first so many structs that are scarce
@@ -38,8 +33,7 @@ module _ (m : Module) where
   -- that is scarce
   pub scarce-found : (i : ℕ) (ds : List StructDefinition) (d : StructDefinition) (b : Bool) → ds ≡ m.structs → i < length ds → d ≡ get_or ds i d → b ≡ is_scarce_struct m d → b ≡ true
       → scarce_before i ++ i ∷ [] ≡ scarce_before (i + 1)
-  scarce-found i ds d b whole lt at is passes =
-      ap (λ (t : Bool). scarce_before i ++ cond t (i ∷ []) []) (sym passes) ∙ sym (scarce-more i ds d b whole lt at is)
+  scarce-found i ds d b whole lt at is passes = ap (λ (t : Bool). scarce_before i ++ cond t (i ∷ []) []) (sym passes) ∙ sym (scarce-more i ds d b whole lt at is)
 
   -- that isn't
   pub scarce-passed : (i : ℕ) (ds : List StructDefinition) (d : StructDefinition) (b : Bool) → ds ≡ m.structs → i < length ds → d ≡ get_or ds i d → b ≡ is_scarce_struct m d → b ≡ false
@@ -92,26 +86,13 @@ module _ (m : Module) where
     -- are those of their names
     pub fresh-tallied : (n : ℕ) (ds : List StructDefinition) → AreThere n ds → map (tallied modules) (fresh_from n ds) ≡ map untouched_tally (filter_map (scarce_name m) ds)
     fresh-tallied n [] there = refl
-    fresh-tallied n (d ∷ ds) there = by_test (fresh-tallied (n + 1) ds (next n d ds there)) (is_scarce_struct m d)
-      where
-        by_test : map (tallied modules) (fresh_from (n + 1) ds) ≡ map untouched_tally (filter_map (scarce_name m) ds) → (b : Bool) → map (tallied modules)
-            (map (fresh_tally place) (map (λ p. p.0) (cond b ((n, d) ∷ filter (λ p. is_scarce_struct m p.1) (enumerate_from (n + 1) ds))
-            (filter (λ p. is_scarce_struct m p.1) (enumerate_from (n + 1) ds)))))
-            ≡ map untouched_tally (cons_option (cond b (name_of_struct m d) None) (filter_map (scarce_name m) ds))
-        by_test rest false = rest
-        by_test rest true =
-            let here = first n d ds there in
-            ap₂ (λ (o : Option StructName) (ts : List Tallied). untouched_tally (unwrap_or o nameless) ∷ ts) here.2 rest
-            ∙ ap (λ (o : Option StructName). map untouched_tally (cons_option o (filter_map (scarce_name m) ds))) (sym here.1)
+    fresh-tallied n (d ∷ ds) there = let here = first n d ds there in grind (arith, fresh-tallied (n + 1) ds (next n d ds there), here.1, here.2)
 
     -- and have names
     pub fresh-named : (n : ℕ) (ds : List StructDefinition) → AreThere n ds → All (IsNamed modules) (fresh_from n ds)
     fresh-named n [] there = All-nil (IsNamed modules)
-    fresh-named n (d ∷ ds) there = by_test (fresh-named (n + 1) ds (next n d ds there)) (is_scarce_struct m d)
-      where
-        by_test : All (IsNamed modules) (fresh_from (n + 1) ds) → (b : Bool) → All (IsNamed modules)
-            (map (fresh_tally place) (map (λ p. p.0) (cond b ((n, d) ∷ filter (λ p. is_scarce_struct m p.1) (enumerate_from (n + 1) ds))
-            (filter (λ p. is_scarce_struct m p.1) (enumerate_from (n + 1) ds)))))
-        by_test rest false = rest
-        by_test rest true =
-            All-cons (IsNamed modules) (fresh_tally place n) (fresh_from (n + 1) ds) (subst (λ (o : Option StructName). IsSome o) (sym (first n d ds there).2) refl) rest
+    fresh-named n (d ∷ ds) there =
+        let rest = fresh-named (n + 1) ds (next n d ds there) in
+        let here = All-cons (IsNamed modules) (fresh_tally place n) (fresh_from (n + 1) ds) (subst (λ (o : Option StructName). IsSome o) (sym (first n d ds there).2) refl) rest in
+        let more = filter (λ (p : ℕ × StructDefinition). is_scarce_struct m p.1) (enumerate_from (n + 1) ds) in
+        cond_both (is_scarce_struct m d) ((n, d) ∷ more) more (λ ps. All (IsNamed modules) (map (fresh_tally place) (map (λ (p : ℕ × StructDefinition). p.0) ps))) (λ e. here) (λ e. rest)

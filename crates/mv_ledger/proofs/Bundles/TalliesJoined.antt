@@ -1,31 +1,18 @@
 -- The tallies after a bundle: each struct with neither copy nor drop has the one that it had, or an empty one.
-use Rattle.mv_ledger.proofs.Bundles.Common.{[], ℕ, ◌*◌, ◌++◌, ◌+◌, ◌<◌, ◌∙◌, ◌∷◌, ◌≡◌, ◌≤◌, Bool, List, None, Option, Some, ap, ap₂, arith, cond, drop, false, length, map, option_map, refl, subst}
-use Rattle.mv_ledger.proofs.Bundles.Common.{suc, sym, true, zero, zero-add, and_from, eq-eqb, eqb-true, length-map, map-append, All-append, All-cons, All-head, All-map, All-nil, All-tail, All-weaker}
-use Rattle.mv_ledger.proofs.Bundles.Common.{same_Some, first_so, second_so, ◌&&◌, ◌==◌, All, IsSome, filter_map, find, slice_get, unwrap_or, Module, name_at, StructName, same_struct, PublishedModule}
-use Rattle.mv_ledger.proofs.Bundles.Common.{scarce_name, scarce_structs, tally_of, untouched_tally, some-of, then_found, same_struct-is, same_struct-same, IsPublishable, IsStore, tables_in, index_of}
-use Rattle.mv_ledger.proofs.Bundles.Common.{AddsTallies, fresh_tally, tallies_at, ArePlaced, AreScarce, IsNamed, IsSmall, all_of, scarce_indices, tallied, Tally}
-use Rattle.std.proofs.lemmas.Bool.Decides.{same_from_decides}
-use Rattle.std.proofs.Math.Seq.{drop-append_seam}
-use Rattle.mv_bounds.specs.Bounds.{InBounds}
-use Rattle.mv_machine.specs.Lines.{Tallied}
-use Rattle.mv_interpreter.proofs.Lists.{mapped_at, All-at}
-use Rattle.mv_interpreter.specs.Flat.Agreement.{nameless}
+use Rattle.mv_ledger.proofs.Common.{[], ◌++◌, ◌+◌, ◌<◌, ◌∙◌, ◌∷◌, ◌≡◌, Bool, List, None, Option, Some, ap, ap₂, arith, cond, drop, eq-eqb, false, length, map, option_map, refl, subst, suc, sym}
+use Rattle.mv_ledger.proofs.Common.{true, zero, zero-add, ℕ, drop-append_seam, and_from, eqb-true, same_from_decides, length-map, map-append, All-append, All-cons, All-head, All-map, All-nil}
+use Rattle.mv_ledger.proofs.Common.{All-tail, All-weaker, same_Some, first_so, second_so, ◌&&◌, ◌==◌, All, IsSome, filter_map, find, slice_get, unwrap_or, Module, name_at, StructName, same_struct}
+use Rattle.mv_ledger.proofs.Common.{PublishedModule, InBounds, scarce_name, scarce_structs, tally_of, untouched_tally, Tallied, some-of, then_found, same_struct-is, same_struct-same, IsPublishable}
+use Rattle.mv_ledger.proofs.Common.{IsStore, tables_in, index_of, All-at, mapped_at, nameless, AddsTallies, fresh_tally, tallies_at, ArePlaced, AreScarce, IsNamed, IsSmall, all_of, scarce_indices}
+use Rattle.mv_ledger.proofs.Common.{tallied, Tally}
 use Rattle.mv_ledger.proofs.Bundles.Places.{had, EachIs}
 use Rattle.mv_ledger.proofs.Bundles.Heirs.{Inherits, had-first, name-stays}
 use Rattle.mv_ledger.proofs.Runs.ScarceTallies.{All-back, Ascends, ascend-from}
 use Rattle.mv_ledger.proofs.Runs.TalliesAfter.{map-where, map-then}
 use Rattle.mv_ledger.proofs.Bundles.TalliesFresh.{struct_there, fresh-tallied, fresh-named, AreThere}
+use Rattle.mv_binary_format.proofs.Taken.{find-map}
 
 -- ---- what is found first
-
--- what is found among changed elements
-find-map : {A B : Type 0} (p : B → Bool) (f : A → B) (xs : List A) → find p (map f xs) ≡ option_map f (find (λ x. p (f x)) xs)
-find-map p f [] = refl
-find-map p f (x ∷ xs) = step (p (f x)) (find p (map f xs)) (find (λ x. p (f x)) xs) (find-map p f xs)
-  where
-    step : (b : Bool) (o : Option _) (q : Option _) → o ≡ option_map f q → cond b (Some (f x)) o ≡ option_map f (cond b (Some x) q)
-    step true o q e = refl
-    step false o q e = e
 
 -- tests that agree find the same
 find-where : {A : Type 0} (P : A → Type 0) (p q : A → Bool) → ((x : A) → P x → p x ≡ q x) → (xs : List A) → All P xs → find p xs ≡ find q xs
@@ -49,11 +36,7 @@ abbrev stands_at : ℕ → ℕ → Tally → Bool
 stands_at place index t = (t.place == place) && (t.index == index)
 
 apart : (a b : ℕ) → (a ≡ b → ⊥) → (a == b) ≡ false
-apart a b other = step (a == b) refl
-  where
-    step : (c : Bool) → (a == b) ≡ c → (a == b) ≡ false
-    step true e = absurd (other (eqb-true a b e))
-    step false e = e
+apart a b other = grind (arith, eqb-true a b)
 
 not-there : (place index other : ℕ) → (other ≡ place → ⊥) → (t : Tally) → t.place ≡ other → stands_at place index t ≡ false
 not-there place index other far t at = ap (λ (b : Bool). b && (t.index == index)) (apart t.place place (λ same. far (sym at ∙ same)))
@@ -158,7 +141,7 @@ module _ (new : List PublishedModule) (store : IsStore new) (tss : List (List Ta
       let name : name_of place index ≡ own.0 = ap (λ (o : Option StructName). unwrap_or o nameless) own.1 in
       let found : find (λ (t : Tallied). same_struct t.struct (name_of place index)) olds ≡ option_map (tallied (tables_in new)) (find (λ (t : Tally). t.index == index) (had tss place)) =
       ap (λ (s : StructName). find (λ (t : Tallied). same_struct t.struct s) olds) name
-      ∙ find-map (λ (t : Tallied). same_struct t.struct own.0) (tallied (tables_in new)) (all_of tss)
+      ∙ find-map (tallied (tables_in new)) (λ (t : Tallied). same_struct t.struct own.0) (all_of tss)
       ∙ ap (option_map (tallied (tables_in new)))
       (find-where (IsNamed (tables_in new)) (λ (t : Tally). same_struct (tallied (tables_in new) t).struct own.0) (stands_at place index) (by_place place index own.0 own.1) (all_of tss) named
       ∙ ap (λ (n : ℕ). find (stands_at n index) (all_of tss)) (sym (zero-add place)) ∙ found-at 0 index tss place placed) in
@@ -239,8 +222,6 @@ module _ (new : List PublishedModule) (store : IsStore new) (tss : List (List Ta
     each-tallied : (place : ℕ) (ms : List Module) (after : List (List Tally)) → StandFrom place ms → EachIs (had tss) place ms after → map (tallied (tables_in new))
         (all_of after) ≡ map (tally_of olds) (scarce_structs ms)
     each-tallied place [] [] at e = refl
-    each-tallied place [] (ts ∷ after) at e = absurd e
-    each-tallied place (m ∷ ms) [] at e = absurd e
     each-tallied place (m ∷ ms) (ts ∷ after) at e =
         let here = head-at place m ms at in
         let first = firsts place m here in
@@ -248,41 +229,36 @@ module _ (new : List PublishedModule) (store : IsStore new) (tss : List (List Ta
         ∙ ap₂ (λ (xs ys : List Tallied). xs ++ ys) (ap (map (tallied (tables_in new))) e.0 ∙ module-tallied place m here first.0 first.1)
         (each-tallied (place + 1) ms after (tail-at place m ms at) e.1)
         ∙ sym (map-append (tally_of olds) (filter_map (scarce_name m) m.structs) (scarce_structs ms))
+    each-tallied _ _ _ _ e = absurd e
 
     each-scarce : (place : ℕ) (ms : List Module) (after : List (List Tally)) → StandFrom place ms → EachIs (had tss) place ms after → AreScarce ms after
     each-scarce place [] [] at e = tt
-    each-scarce place [] (ts ∷ after) at e = e
-    each-scarce place (m ∷ ms) [] at e = e
     each-scarce place (m ∷ ms) (ts ∷ after) at e =
         let here = head-at place m ms at in
         let first = firsts place m here in
         (ap (map (λ (t : Tally). t.index)) e.0 ∙ module-scarce place m here first.0 first.1, each-scarce (place + 1) ms after (tail-at place m ms at) e.1)
+    each-scarce _ _ _ _ e = e
 
     each-named : (place : ℕ) (ms : List Module) (after : List (List Tally)) → StandFrom place ms → EachIs (had tss) place ms after → All (IsNamed (tables_in new)) (all_of after)
     each-named place [] [] at e = All-nil (IsNamed (tables_in new))
-    each-named place [] (ts ∷ after) at e = absurd e
-    each-named place (m ∷ ms) [] at e = absurd e
     each-named place (m ∷ ms) (ts ∷ after) at e =
         let here = head-at place m ms at in
         let first = firsts place m here in
         All-append (IsNamed (tables_in new)) ts (all_of after) (subst (λ (us : List Tally). All (IsNamed (tables_in new)) us) (sym e.0) (module-named place m here first.0 first.1))
         (each-named (place + 1) ms after (tail-at place m ms at) e.1)
+    each-named _ _ _ _ e = absurd e
 
 -- none is large
 each-small : (runs : ℕ) (tss : List (List Tally)) (place : ℕ) (ms : List Module) (after : List (List Tally)) → EachIs (had tss) place ms after → All (IsSmall runs) (all_of tss) → All (IsSmall runs)
     (all_of after)
 each-small runs tss place [] [] e small = All-nil (IsSmall runs)
-each-small runs tss place [] (ts ∷ after) e small = absurd e
-each-small runs tss place (m ∷ ms) [] e small = absurd e
 each-small runs tss place (m ∷ ms) (ts ∷ after) e small =
     All-append (IsSmall runs) ts (all_of after)
     (subst (λ (us : List Tally). All (IsSmall runs) us) (sym e.0)
     (All-append (IsSmall runs) (had tss place) (map (fresh_tally place) (drop (length (had tss place)) (scarce_indices m))) (all-had (IsSmall runs) tss place small)
-    (All-map (IsSmall runs) (fresh_tally place) (drop (length (had tss place)) (scarce_indices m)) (λ k d lt. (least (runs * 10000000), least (runs * 10000000))))))
+    (All-map (IsSmall runs) (fresh_tally place) (drop (length (had tss place)) (scarce_indices m)) (λ k d lt. (omega arith, omega arith)))))
     (each-small runs tss (place + 1) ms after e.1 small)
-  where
-    least : (n : ℕ) → 0 ≤ n
-    least n = omega arith
+each-small _ _ _ _ _ e _ = absurd e
 
 -- ---- a bundle
 

@@ -1,28 +1,20 @@
 -- Offers are verified one after the other.
-use Rattle.mv_ledger.proofs.Bundles.Common.{[], ℕ, ◌++◌, ◌+◌, ◌<◌, ◌∙◌, ◌∷◌, ◌≡◌, ◌≤◌, List, ap, drop, get_or, length, refl, subst, suc, sym, take, drop_more, map-append, map_more, take-append-drop}
-use Rattle.mv_ledger.proofs.Bundles.Common.{take_all, All-append, All-cons, All-nil, PublishedModule, Refusal, Offer}
-use Rattle.mv_move_types.specs.declared.refusal.Refusal.TheVariants.{Phase, Memory}
-use Rattle.mv_certificate.specs.Certificate.{Certificate}
-use Rattle.mv_linker.specs.declared.New.{New}
-use Rattle.mv_linker.specs.News.{HasItsTexts, AreTexts, published_one, published_of}
-use Rattle.mv_ledger.specs.declared.payload.Offered.{Offered}
-use Rattle.mv_ledger.specs.Asking.{offer_of, offers_of}
-use Rattle.mv_ledger.specs.Publishing.{Passes, AllPass, IsRefusedOffer, IsRefusedAmong}
+use Rattle.mv_ledger.proofs.Common.{[], ◌++◌, ◌+◌, ◌<◌, ◌∙◌, ◌∷◌, ◌≡◌, ◌≤◌, List, ap, drop, get_or, length, refl, subst, suc, sym, take, ℕ, drop_more, map-append, map_more, take-append-drop}
+use Rattle.mv_ledger.proofs.Common.{take_all, All-append, All-cons, All-nil, PublishedModule, Refusal, Memory, Phase, Offer, Certificate, AreTexts, HasItsTexts, published_of, published_one, New}
+use Rattle.mv_ledger.proofs.Common.{offer_of, offers_of, AllPass, IsRefusedAmong, IsRefusedOffer, Passes, Offered}
 
 -- one more that passes
 pass-more : (os : List Offer) (ps : List PublishedModule) (o : Offer) (p : PublishedModule) → AllPass os ps → p.text ≡ o.text → p.certificate ≡ o.certificate → (c : Certificate) × Passes o p.tables c
     → AllPass (os ++ o ∷ []) (ps ++ p ∷ [])
 pass-more [] [] o p all text certificate passes = (text, certificate, passes, tt)
-pass-more [] (q ∷ qs) o p all text certificate passes = absurd all
-pass-more (x ∷ os) [] o p all text certificate passes = absurd all
 pass-more (x ∷ os) (q ∷ qs) o p all text certificate passes = (all.0, all.1, all.2, pass-more os qs o p all.3 text certificate passes)
+pass-more _ _ _ _ all _ _ _ = absurd all
 
 -- as many passed as were offered
 pub as-many : (os : List Offer) (ps : List PublishedModule) → AllPass os ps → length ps ≡ length os
 as-many [] [] all = refl
-as-many [] (q ∷ qs) all = absurd all
-as-many (x ∷ os) [] all = absurd all
 as-many (x ∷ os) (q ∷ qs) all = ap suc (as-many os qs all.3)
+as-many _ _ all = absurd all
 
 -- the first so many offers passed
 pub record IsVerifying (offers : List Offered) (i : ℕ) (news : List New) : Type 0 where

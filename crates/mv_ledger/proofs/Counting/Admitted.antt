@@ -1,22 +1,18 @@
 -- A run that is admitted is of an entry function, with leaves.
-use Rattle.mv_ledger.proofs.Counting.Common.{[], ◌^◌, ◌∷◌, ◌≡◌, List, Ok, subst, true, first_so, second_so, AllByRecursion, nat_le, nat_lt, slice_get, parameter_tokens, function_place, module_place}
-use Rattle.mv_ledger.proofs.Counting.Common.{Token, MutableReferenceTo, Plain, ReferenceTo, OfLeaf, OfStruct, WhereOk, on_some, on_need, FunctionCall, Leaf, Ref, Struct, Value, IsEntryCall, IsLeaf}
-use Rattle.mv_machine.specs.Ledger.{LedgerState, RunRequest, modules_of, is_argument, are_arguments, with_signer, admitted}
+use Rattle.mv_ledger.proofs.Common.{[], ◌^◌, ◌∷◌, ◌≡◌, List, Ok, subst, true, first_so, second_so, AllByRecursion, nat_le, nat_lt, slice_get, parameter_tokens, function_place, module_place, Token}
+use Rattle.mv_ledger.proofs.Common.{MutableReferenceTo, Plain, ReferenceTo, OfLeaf, OfStruct, WhereOk, on_some, on_need, LedgerState, RunRequest, are_arguments, is_argument, modules_of}
+use Rattle.mv_ledger.proofs.Common.{with_signer, FunctionCall, Leaf, Ref, Struct, Value, IsEntryCall, IsLeaf}
+use Rattle.mv_machine.specs.Ledger.{admitted}
 
 argument-leaf : (t : Token) (v : Value) → is_argument t v ≡ true → IsLeaf v
 argument-leaf (Plain (OfLeaf k)) (Leaf j n) e = tt
-argument-leaf (Plain (OfLeaf k)) (Struct name fields) e = absurd cc
-argument-leaf (Plain (OfLeaf k)) (Ref r) e = absurd cc
-argument-leaf (Plain (OfStruct i)) v e = absurd cc
-argument-leaf (ReferenceTo t) v e = absurd cc
-argument-leaf (MutableReferenceTo t) v e = absurd cc
+argument-leaf _ _ e = absurd cc
 
 arguments-leaves : (ts : List Token) (vs : List Value) → are_arguments ts vs ≡ true → AllByRecursion IsLeaf vs
-arguments-leaves [] [] e = tt
 arguments-leaves [] (v ∷ vs) e = absurd cc
-arguments-leaves (t ∷ ts) [] e = tt
 arguments-leaves (t ∷ ts) (v ∷ vs) e =
     (argument-leaf t v (first_so (is_argument t v) (are_arguments ts vs) e), arguments-leaves ts vs (second_so (is_argument t v) (are_arguments ts vs) e))
+arguments-leaves _ _ _ = tt
 
 pub admitted-entry : (s : LedgerState) (r : RunRequest) (call : FunctionCall) → admitted s r ≡ Ok call → IsEntryCall (modules_of s) call
 unfolding admitted

@@ -1,22 +1,16 @@
 -- Along a run what is held and unmade stays what was stored at first and made; at the return all of it is stored.
-use Rattle.mv_ledger.proofs.Counting.Common.{[], ℕ, ◌++◌, ◌+◌, ◌∙◌, ◌∷◌, ◌≡◌, Bool, List, None, Ok, Some, ap, arith, cond, false, length, refl, subst, sym, true, eqb-true, same_Some, AllByRecursion}
-use Rattle.mv_ledger.proofs.Counting.Common.{list_all, option_map_or, ◌&&◌, ◌==◌, ◌||◌, IsTrue, map, not, replicate, reverse, slice_get, slice_set, FunctionDefinition, Module, parameter_tokens}
-use Rattle.mv_ledger.proofs.Counting.Common.{StructName, same_struct, Tag, Token, WhereOk, entry-is, on_some, place-written, Called, Effect, Ends, Left, MovedFrom, MovedLocal, MovedTo, Packed}
-use Rattle.mv_ledger.proofs.Counting.Common.{Restacked, Resumed, StoredLocal, Unpacked, Went, Written, arrived, count, AtReturn, FunctionCall, packs, run, unpacks, Event, Frame, State, Storage}
-use Rattle.mv_ledger.proofs.Counting.Common.{with_local, with_root, Goes, Here, Returns, Turn, may_drop, with_stack, entry, tag_named, Leaf, Local, Ref, Root, Stored, Struct, Value, each, Conserves}
-use Rattle.mv_ledger.proofs.Counting.Common.{IsEntryCall, IsFineStorage, IsLeaf, Balances, IsAbleStore, IsFine, held, held_in_frames, held_in_locals, held_in_stack, made, unmade, IsScarce}
-use Rattle.mv_ledger.proofs.Counting.Common.{StackIsKept}
-use Rattle.std.proofs.lemmas.List.Sums.{sum_by-cons}
-use Rattle.mv_move_types.specs.declared.tables.Definition.{Definition}
+use Rattle.mv_ledger.proofs.Common.{[], ◌++◌, ◌+◌, ◌∙◌, ◌∷◌, ◌≡◌, Bool, IsTrue, List, None, Ok, Some, ap, arith, cond, false, length, map, refl, subst, sym, true, ℕ, eqb-true, sum_by-cons}
+use Rattle.mv_ledger.proofs.Common.{same_Some, AllByRecursion, list_all, option_map_or, ◌&&◌, ◌==◌, ◌||◌, not, replicate, reverse, slice_get, FunctionDefinition, Module, parameter_tokens}
+use Rattle.mv_ledger.proofs.Common.{StructName, same_struct, for_each, Tag, Definition, Token, are_entry_parameters, entry_fits, has_no_results, WhereOk, entry-is, on_some, place-written, Effect}
+use Rattle.mv_ledger.proofs.Common.{Ends, Left, Resumed, Went, Written, arrived, begun, run-keeps, step-stepped, count, AtReturn, FunctionCall, packs, run, unpacks, Event, Frame, State, Storage}
+use Rattle.mv_ledger.proofs.Common.{with_local, with_root, Goes, Here, Returns, Turn, may_drop, with_stack, entry, tag_named, Leaf, Local, Root, Stored, Value, each, Conserves, IsEntryCall}
+use Rattle.mv_ledger.proofs.Common.{IsFineStorage, IsLeaf, Balances, IsAbleStore, IsFine, held, held_in_frames, held_in_locals, held_in_stack, made, unmade, IsScarce, StackIsKept}
 use Rattle.mv_move_types.specs.declared.tables.FunctionHandle.{FunctionHandle}
-use Rattle.mv_move_types.specs.Results.{for_each}
-use Rattle.mv_signatures.specs.Signatures.{entry_fits, has_no_results, are_entry_parameters}
 use Rattle.mv_machine.specs.StepControl.{signature_tags}
 use Rattle.mv_ledger.proofs.Counting.Counts.{held-entered, held-reverse, kept-entered}
 use Rattle.mv_ledger.proofs.Counting.Keeps.{effect-fine, effect-balances, left-none}
 use Rattle.mv_ledger.proofs.Counting.Packs.{each-get}
 use Rattle.mv_ledger.proofs.Bundles.Heirs.{tested}
-use Rattle.mv_machine.proofs.Runs.{step-stepped, begun, run-keeps}
 
 -- ---- the function of the first frame
 
@@ -29,11 +23,7 @@ first-same f g [] e = e
 first-same f g (k ∷ ks) e = refl
 
 function-with_local : (n l : ℕ) (v : Value) (f : Frame) → (with_local n l v f).function ≡ f.function
-function-with_local n l v f = by_case (f.number == n)
-  where
-    by_case : (b : Bool) → (cond b (record f { locals = slice_set f.locals l (Some v) }) f).function ≡ f.function
-    by_case false = refl
-    by_case true = refl
+function-with_local n l v f = grind arith
 
 first-with_local : (n l : ℕ) (v : Value) (f : Frame) (fs : List Frame) → first_function (with_local n l v f) (map (with_local n l v) fs) ≡ first_function f fs
 first-with_local n l v f [] = function-with_local n l v f
@@ -44,19 +34,12 @@ first-with_root s (Local n l) v = first-with_local n l v s.top s.below
 first-with_root s (Stored key) v = refl
 
 effect-first : (h : Here) (next : State) → Effect h next → first_function next.top next.below ≡ first_function h.state.top h.state.below
-effect-first h _ (Restacked taken given rest s d a) = first-same _ _ h.state.below refl
-effect-first h _ (MovedLocal l v e) = first-same _ _ h.state.below refl
-effect-first h _ (StoredLocal l old v below s e d) = first-same _ _ h.state.below refl
-effect-first h _ (Packed i struct taken rest tags struct_is s tags_are typed) = first-same _ _ h.state.below refl
-effect-first h _ (Unpacked i struct name fields below struct_is s same) = first-same _ _ h.state.below refl
 effect-first h _ (Written r new old below tag next s old_is tag_is typed d next_is) =
     let w = place-written (with_stack h.state below) r.place new next next_is in
     subst (λ (t : State). first_function t.top t.below ≡ first_function h.state.top h.state.below) w.next_is
     (first-with_root (with_stack h.state below) r.place.root w.new ∙ first-same _ _ h.state.below refl)
-effect-first h _ (MovedFrom key a v below s e) = first-same _ _ h.state.below refl
-effect-first h _ (MovedTo key r v below s e) = first-same _ _ h.state.below refl
-effect-first h _ (Called function others taken rest s) = first-same _ _ h.state.below refl
 effect-first h _ (Resumed results f fs s d e) = first-same _ _ fs refl ∙ sym (ap (first_function h.state.top) e)
+effect-first h _ _ = first-same _ _ h.state.below refl
 
 -- ---- what a run keeps
 
@@ -80,9 +63,7 @@ went-along h place at n next storage function store home_is effect along =
     record {
       fine = record { framed = fine.framed; stored = fine.stored; ascending = fine.ascending; numbered = fine.numbered };
       balanced = λ name scarce.
-          let before : held name h.state + unmade name h.state.events ≡ count storage name + made name h.state.events = along.balanced name scarce in
-          let moved : Balances name h.state next = effect-balances h name next scarce along.fine effect in
-          omega (arith, before, moved);
+          omega (arith, along.balanced name scarce, effect-balances h name next scarce along.fine effect);
       first = first-same _ _ next.below refl ∙ (effect-first h next effect ∙ along.first);
     }
 
@@ -105,14 +86,12 @@ goes-along h place n _ storage function store home_is (Left handle tags results 
 leaves-kept : (modules : List Module) (vs : List Value) → AllByRecursion IsLeaf vs → StackIsKept modules vs
 leaves-kept modules [] a = tt
 leaves-kept modules (Leaf kind n ∷ vs) a = (tt, leaves-kept modules vs a.1)
-leaves-kept modules (Struct name fields ∷ vs) a = absurd a.0
-leaves-kept modules (Ref r ∷ vs) a = absurd a.0
+leaves-kept _ _ a = absurd a.0
 
 leaves-none : (name : StructName) (vs : List Value) → AllByRecursion IsLeaf vs → held_in_stack name vs ≡ 0
 leaves-none name [] a = refl
 leaves-none name (Leaf kind n ∷ vs) a = let ih : held_in_stack name vs ≡ 0 = leaves-none name vs a.1 in omega (arith, ih)
-leaves-none name (Struct own fields ∷ vs) a = absurd a.0
-leaves-none name (Ref r ∷ vs) a = absurd a.0
+leaves-none _ _ a = absurd a.0
 
 begins-along : (modules : List Module) (storage : Storage) (call : FunctionCall) (others : ℕ) → IsFineStorage modules storage → AllByRecursion IsLeaf call.arguments →
     Along modules storage call.function (begun storage call others)
@@ -124,9 +103,7 @@ begins-along modules storage call others fine leaves = record {
     numbered = (omega arith, tt);
   };
   balanced = λ name scarce.
-      let entered : held_in_locals name (map Some call.arguments ++ replicate others None) ≡ held_in_stack name call.arguments = held-entered name call.arguments others in
-      let none : held_in_stack name call.arguments ≡ 0 = leaves-none name call.arguments leaves in
-      omega (arith, entered, none);
+      omega (arith, held-entered name call.arguments others, leaves-none name call.arguments leaves);
   first = refl;
 }
 
@@ -134,8 +111,7 @@ begins-along modules storage call others fine leaves = record {
 
 entry-none : (e r p : Bool) → (not e || r && p) ≡ true → e ≡ true → r ≡ true
 entry-none true true p h e = refl
-entry-none true false p h e = absurd cc
-entry-none false r p h e = absurd cc
+entry-none _ _ p h e = absurd cc
 
 for_each-none : (modules : List Module) (m : Module) (ts : List Token) (tags : List Tag) → length ts ≡ 0 → for_each (tag_named modules m) ts ≡ Ok tags → length tags ≡ 0
 for_each-none modules m [] tags n e = subst (WhereOk (λ (x : List Tag). length x ≡ 0)) e refl
@@ -143,8 +119,7 @@ for_each-none modules m (t ∷ ts) tags n e = absurd cc
 
 -- a function without results has no result tags
 no_results-tags : (modules : List Module) (m : Module) (d : FunctionDefinition) (handle : FunctionHandle) (tags : List Tag) → has_no_results m d ≡ true
-    → entry m.function_handles d.handle ≡ Ok handle →
-    signature_tags modules m handle.results ≡ Ok tags → length tags ≡ 0
+    → entry m.function_handles d.handle ≡ Ok handle → signature_tags modules m handle.results ≡ Ok tags → length tags ≡ 0
 unfolding signature_tags
 no_results-tags modules m d handle tags none handle_is tags_are =
     let named = tested (λ (h : FunctionHandle). option_map_or (λ ts. length ts == 0) (slice_get m.signatures h.results) false) (slice_get m.function_handles d.handle) none in

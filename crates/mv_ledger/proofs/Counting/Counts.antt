@@ -1,10 +1,9 @@
 -- Counts in values, operands and locals, and what copies and losses do not count.
-use Rattle.mv_ledger.proofs.Counting.Common.{[], ℕ, ◌++◌, ◌+◌, ◌∙◌, ◌∷◌, ◌≡◌, Bool, List, None, Option, Some, ap, arith, cond, false, refl, subst, suc, sym, true, zero, same_Some, map}
-use Rattle.mv_ledger.proofs.Counting.Common.{option_and_then, replicate, reverse, slice_get, slice_set, unwrap_or, no_abilities, Module, declared, StructName, same_struct, Abilities, map-is, then-is}
-use Rattle.mv_ledger.proofs.Counting.Common.{count_in, count_in_fields, abilities_of, Leaf, More, NoMore, Ref, Struct, Value, Values, field, field_of, fields_of, list_of, value_at, with_field}
-use Rattle.mv_ledger.proofs.Counting.Common.{with_field_of, with_value_at, same_struct-is, held_in_local, held_in_locals, held_in_stack, Allows, AreKept, IsKept, IsScarce, LocalIsKept, LocalsAreKept}
-use Rattle.mv_ledger.proofs.Counting.Common.{StackIsKept}
-use Rattle.std.proofs.lemmas.List.{reverse-append}
+use Rattle.mv_ledger.proofs.Common.{[], ◌++◌, ◌+◌, ◌∙◌, ◌∷◌, ◌≡◌, Bool, List, None, Option, Some, ap, arith, cond, false, map, refl, subst, suc, sym, true, zero, ℕ, reverse-append, same_Some}
+use Rattle.mv_ledger.proofs.Common.{option_and_then, replicate, reverse, slice_get, slice_set, unwrap_or, no_abilities, Module, declared, StructName, same_struct, Abilities, map-is, then-is}
+use Rattle.mv_ledger.proofs.Common.{count_in, count_in_fields, abilities_of, Leaf, More, NoMore, Ref, Struct, Value, Values, field, field_of, fields_of, list_of, value_at, with_field}
+use Rattle.mv_ledger.proofs.Common.{with_field_of, with_value_at, same_struct-is, held_in_local, held_in_locals, held_in_stack, Allows, AreKept, IsKept, IsScarce, LocalIsKept, LocalsAreKept}
+use Rattle.mv_ledger.proofs.Common.{StackIsKept}
 
 -- the abilities of a struct that is declared
 pub declared-abilities : (modules : List Module) (name : StructName) (fields : Values) (a : Abilities) → declared modules name ≡ Some a → abilities_of modules (Struct name fields) ≡ a
@@ -28,47 +27,39 @@ lacks_drop modules name s = record { abilities = s.abilities; is_declared = s.is
 -- a struct that has what the other lacks is another one
 other_name : (modules : List Module) (name : StructName) (ability : Abilities → Bool) (own : StructName) (a : Abilities) → Lacks modules name ability →
     declared modules own ≡ Some a → ability a ≡ true → ◌≡◌ {A = ℕ} (cond (same_struct own name) 1 0) 0
-other_name modules name ability own a lacks own_is has = by_case (same_struct own name) refl
-  where
-    by_case : (b : Bool) → same_struct own name ≡ b → ◌≡◌ {A = ℕ} (cond b 1 0) 0
-    by_case false e = refl
-    by_case true e =
-        let same : Some a ≡ Some lacks.abilities = sym own_is ∙ (ap (declared modules) (same_struct-is own name e) ∙ lacks.is_declared) in
-        let clash : true ≡ false = sym has ∙ (ap ability (same_Some a lacks.abilities same) ∙ lacks.lacks) in
-        absurd cc
+other_name modules name ability own a lacks own_is has =
+    let apart : same_struct own name ≡ true → ⊥ = λ e.
+    let same : Some a ≡ Some lacks.abilities = sym own_is ∙ (ap (declared modules) (same_struct-is own name e) ∙ lacks.is_declared) in
+    let clash : true ≡ false = sym has ∙ (ap ability (same_Some a lacks.abilities same) ∙ lacks.lacks) in
+    cc in
+    grind (arith, apart)
 
 mutual
   pub none_in : (modules : List Module) (name : StructName) (ability : Abilities → Bool) → Lacks modules name ability → (v : Value) → IsKept modules v →
       ability (abilities_of modules v) ≡ true → count_in name v ≡ 0
-  none_in modules name ability lacks (Leaf kind n) kept has = refl
-  none_in modules name ability lacks (Ref r) kept has = refl
   none_in modules name ability lacks (Struct own fields) kept has =
       let has2 : ability kept.0 ≡ true = subst (λ a. ability a ≡ true) (declared-abilities modules own fields kept.0 kept.1) has in
       let first : ◌≡◌ {A = ℕ} (cond (same_struct own name) 1 0) 0 = other_name modules name ability own kept.0 lacks kept.1 has2 in
-      let rest : count_in_fields name fields ≡ 0 = none_in_fields modules name ability lacks kept.0 has2 fields kept.2 in
-      omega (arith, first, rest)
+      omega (arith, first, none_in_fields modules name ability lacks kept.0 has2 fields kept.2)
+  none_in _ _ _ _ _ _ _ = refl
 
   none_in_fields : (modules : List Module) (name : StructName) (ability : Abilities → Bool) → Lacks modules name ability → (outer : Abilities) → ability outer ≡ true →
       (fields : Values) → AreKept modules outer fields → count_in_fields name fields ≡ 0
   none_in_fields modules name ability lacks outer has NoMore kept = refl
   none_in_fields modules name ability lacks outer has (More v vs) kept =
-      let first : count_in name v ≡ 0 = none_in modules name ability lacks v kept.1 (lacks.passes outer (abilities_of modules v) kept.0 has) in
-      let rest : count_in_fields name vs ≡ 0 = none_in_fields modules name ability lacks outer has vs kept.2 in
-      omega (arith, first, rest)
+      omega (arith, none_in modules name ability lacks v kept.1 (lacks.passes outer (abilities_of modules v) kept.0 has), none_in_fields modules name ability lacks outer has vs kept.2)
 
 -- ---- operands
 
 pub held-append : (name : StructName) (xs ys : List Value) → held_in_stack name (xs ++ ys) ≡ held_in_stack name xs + held_in_stack name ys
 held-append name [] ys = omega arith
-held-append name (x ∷ xs) ys = let ih : held_in_stack name (xs ++ ys) ≡ held_in_stack name xs + held_in_stack name ys = held-append name xs ys in omega (arith, ih)
+held-append name (x ∷ xs) ys = omega (arith, held-append name xs ys)
 
 pub held-reverse : (name : StructName) (xs : List Value) → held_in_stack name (reverse xs) ≡ held_in_stack name xs
 held-reverse name [] = refl
 held-reverse name (x ∷ xs) =
-    let ih : held_in_stack name (reverse xs) ≡ held_in_stack name xs = held-reverse name xs in
     let turned : held_in_stack name (reverse (x ∷ xs)) ≡ held_in_stack name (reverse xs ++ x ∷ []) = ap (held_in_stack name) (reverse-append (x ∷ []) xs) in
-    let split : held_in_stack name (reverse xs ++ x ∷ []) ≡ held_in_stack name (reverse xs) + (count_in name x + 0) = held-append name (reverse xs) (x ∷ []) in
-    omega (arith, ih, turned, split)
+    omega (arith, held-reverse name xs, turned, held-append name (reverse xs) (x ∷ []))
 
 pub held-list_of : (name : StructName) (fs : Values) → held_in_stack name (list_of fs) ≡ count_in_fields name fs
 held-list_of name NoMore = refl
@@ -92,8 +83,7 @@ kept-rest modules (x ∷ xs) ys a = kept-rest modules xs ys a.1
 
 pub kept-reverse : (modules : List Module) (xs : List Value) → StackIsKept modules xs → StackIsKept modules (reverse xs)
 kept-reverse modules [] a = tt
-kept-reverse modules (x ∷ xs) a =
-    subst (StackIsKept modules) (sym (reverse-append (x ∷ []) xs)) (kept-append modules (reverse xs) (x ∷ []) (kept-reverse modules xs a.1) (a.0, tt))
+kept-reverse modules (x ∷ xs) a = subst (StackIsKept modules) (sym (reverse-append (x ∷ []) xs)) (kept-append modules (reverse xs) (x ∷ []) (kept-reverse modules xs a.1) (a.0, tt))
 
 pub kept-list_of : (modules : List Module) (outer : Abilities) (fs : Values) → AreKept modules outer fs → StackIsKept modules (list_of fs)
 kept-list_of modules outer NoMore a = tt
@@ -108,9 +98,7 @@ held-set name [] l old new e = absurd cc
 held-set name (x ∷ xs) zero old new e =
     let same : held_in_local name x ≡ held_in_local name old = ap (held_in_local name) (same_Some x old e) in
     omega (arith, same)
-held-set name (x ∷ xs) (suc l) old new e =
-    let ih : held_in_locals name (slice_set xs l new) + held_in_local name old ≡ held_in_locals name xs + held_in_local name new = held-set name xs l old new e in
-    omega (arith, ih)
+held-set name (x ∷ xs) (suc l) old new e = omega (arith, held-set name xs l old new e)
 
 pub kept-set : (modules : List Module) (xs : List (Option Value)) (l : ℕ) (new : Option Value) → LocalsAreKept modules xs → LocalIsKept modules new → LocalsAreKept modules (slice_set xs l new)
 kept-set modules [] l new a b = tt
@@ -142,9 +130,7 @@ held-with_field name NoMore i old new e = absurd cc
 held-with_field name (More v vs) zero old new e =
     let same : count_in name v ≡ count_in name old = ap (count_in name) (same_Some v old e) in
     omega (arith, same)
-held-with_field name (More v vs) (suc i) old new e =
-    let ih : count_in_fields name (with_field vs i new) + count_in name old ≡ count_in_fields name vs + count_in name new = held-with_field name vs i old new e in
-    omega (arith, ih)
+held-with_field name (More v vs) (suc i) old new e = omega (arith, held-with_field name vs i old new e)
 
 pub kept-with_field : (modules : List Module) (outer : Abilities) (fs : Values) (i : ℕ) (old new : Value) → AreKept modules outer fs → field fs i ≡ Some old →
     abilities_of modules new ≡ abilities_of modules old → IsKept modules new → AreKept modules outer (with_field fs i new)
@@ -160,9 +146,8 @@ kept-field modules outer (More v vs) zero old a e = subst (IsKept modules) (same
 kept-field modules outer (More v vs) (suc i) old a e = kept-field modules outer vs i old a.2 e
 
 kept-field_of : (modules : List Module) (v : Value) (i : ℕ) (old : Value) → IsKept modules v → field_of v i ≡ Some old → IsKept modules old
-kept-field_of modules (Leaf kind n) i old a e = absurd cc
 kept-field_of modules (Struct name fs) i old a e = kept-field modules a.0 fs i old a.2 e
-kept-field_of modules (Ref r) i old a e = absurd cc
+kept-field_of modules _ i old a e = absurd cc
 
 -- what a path leads to is kept
 pub kept-value_at : (modules : List Module) (path : List ℕ) (v old : Value) → IsKept modules v → value_at v path ≡ Some old → IsKept modules old
@@ -179,16 +164,13 @@ pub record Replaces (modules : List Module) (v w old new : Value) : Type 0 where
 
 replaces-field : (modules : List Module) (v : Value) (i : ℕ) (a b old new : Value) → IsKept modules v → field_of v i ≡ Some a → Replaces modules a b old new →
     Replaces modules v (with_field_of v i b) old new
-replaces-field modules (Leaf kind n) i a b old new kept e r = absurd cc
-replaces-field modules (Ref r') i a b old new kept e r = absurd cc
 replaces-field modules (Struct own fs) i a b old new kept e r = record {
   kept = (kept.0, kept.1, kept-with_field modules kept.0 fs i a b kept.2 e r.same r.kept);
   same = refl;
   counts = λ name.
-      let inner : count_in name b + count_in name old ≡ count_in name a + count_in name new = r.counts name in
-      let outer : count_in_fields name (with_field fs i b) + count_in name a ≡ count_in_fields name fs + count_in name b = held-with_field name fs i a b e in
-      omega (arith, inner, outer);
+      omega (arith, r.counts name, held-with_field name fs i a b e);
 }
+replaces-field modules _ i a b old new kept e r = absurd cc
 
 -- a write where a path leads
 pub replaces-at : (modules : List Module) (path : List ℕ) (v w old new : Value) → IsKept modules v → IsKept modules new → abilities_of modules new ≡ abilities_of modules old →

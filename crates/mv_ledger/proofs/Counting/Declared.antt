@@ -1,11 +1,8 @@
 -- Structs that are declared: the definitions behind them, which stay when a bundle is published, and those that are not.
-use Rattle.mv_ledger.proofs.Counting.Common.{[], ℕ, ◌∙◌, ◌∷◌, ◌≡◌, Bool, List, None, Some, ap, arith, cond, false, refl, sym, true, option_and_then, option_map, slice_get, Module, StructDefinition}
-use Rattle.mv_ledger.proofs.Counting.Common.{name_of_struct, struct_abilities, declared, declared_in, is_struct, module_named, module_place, StructName, same_struct, find_index, StructHandle}
-use Rattle.mv_ledger.proofs.Counting.Common.{Abilities, map-is, count, count_in, count_in_fields, Storage, Leaf, More, NoMore, Ref, Struct, Value, Values, then_found, same_struct-is, AreKept, IsKept}
-use Rattle.mv_ledger.proofs.Counting.Common.{StorageIsKept}
-use Rattle.mv_move_types.specs.Published.{PublishedModule}
-use Rattle.mv_linker.specs.Link.{IsStore, tables_in}
-use Rattle.mv_module_text.proofs.Texts.{on_bind}
+use Rattle.mv_ledger.proofs.Common.{[], ◌∙◌, ◌∷◌, ◌≡◌, List, None, Some, ap, arith, cond, option_map, refl, sym, true, ℕ, option_and_then, slice_get, Module, StructDefinition, name_of_struct}
+use Rattle.mv_ledger.proofs.Common.{struct_abilities, declared, declared_in, is_struct, module_named, module_place, StructName, same_struct, find_index, PublishedModule, StructHandle, Abilities}
+use Rattle.mv_ledger.proofs.Common.{on_bind, map-is, count, count_in, count_in_fields, Storage, Leaf, More, NoMore, Ref, Struct, Value, Values, then_found, same_struct-is, IsStore, tables_in}
+use Rattle.mv_ledger.proofs.Common.{AreKept, IsKept, StorageIsKept}
 use Rattle.mv_ledger.proofs.Bundles.Heirs.{Inherits, Stayed, tested, found-passes, on_and_then, stayed}
 use Rattle.mv_ledger.proofs.Counting.Packs.{HandlesDeclared, each-declared, each-get}
 
@@ -42,8 +39,7 @@ declared-by modules name a e =
 
 -- a struct definition with its abilities
 pub definition-declared : (modules : List Module) (m : Module) (d : StructDefinition) (name : StructName) (a : Abilities) → HandlesDeclared modules m → name_of_struct m d ≡ Some name
-    → struct_abilities m d ≡ Some a →
-    declared modules name ≡ Some a
+    → struct_abilities m d ≡ Some a → declared modules name ≡ Some a
 definition-declared modules m d name a declares name_is a_is =
     on_bind (slice_get m.struct_handles d.handle) _ a a_is (λ handle handle_is e. declares d.handle handle name handle_is name_is ∙ e)
 
@@ -64,31 +60,21 @@ declared-stays old new old_store new_store inherits name a e =
 -- ---- a struct that is not declared has no values
 
 unlike : (modules : List Module) (name own : StructName) (a : Abilities) → declared modules name ≡ None → declared modules own ≡ Some a → ◌≡◌ {A = ℕ} (cond (same_struct own name) 1 0) 0
-unlike modules name own a none some = by_case (same_struct own name) refl
-  where
-    by_case : (b : Bool) → same_struct own name ≡ b → ◌≡◌ {A = ℕ} (cond b 1 0) 0
-    by_case false e = refl
-    by_case true e = let clash : Some a ≡ None = sym some ∙ (ap (declared modules) (same_struct-is own name e) ∙ none) in absurd cc
+unlike modules name own a none some =
+    let apart : same_struct own name ≡ true → ⊥ = λ e. let clash : Some a ≡ None = sym some ∙ (ap (declared modules) (same_struct-is own name e) ∙ none) in cc in
+    grind (arith, apart)
 
 mutual
   unknown-none : (modules : List Module) (name : StructName) → declared modules name ≡ None → (v : Value) → IsKept modules v → count_in name v ≡ 0
-  unknown-none modules name none (Leaf kind n) kept = refl
-  unknown-none modules name none (Ref r) kept = refl
   unknown-none modules name none (Struct own fields) kept =
       let first : ◌≡◌ {A = ℕ} (cond (same_struct own name) 1 0) 0 = unlike modules name own kept.0 none kept.1 in
-      let rest : count_in_fields name fields ≡ 0 = unknown-fields modules name none kept.0 fields kept.2 in
-      omega (arith, first, rest)
+      omega (arith, first, unknown-fields modules name none kept.0 fields kept.2)
+  unknown-none _ _ _ _ _ = refl
 
   unknown-fields : (modules : List Module) (name : StructName) → declared modules name ≡ None → (outer : Abilities) (fields : Values) → AreKept modules outer fields → count_in_fields name fields ≡ 0
   unknown-fields modules name none outer NoMore kept = refl
-  unknown-fields modules name none outer (More v vs) kept =
-      let first : count_in name v ≡ 0 = unknown-none modules name none v kept.1 in
-      let rest : count_in_fields name vs ≡ 0 = unknown-fields modules name none outer vs kept.2 in
-      omega (arith, first, rest)
+  unknown-fields modules name none outer (More v vs) kept = omega (arith, unknown-none modules name none v kept.1, unknown-fields modules name none outer vs kept.2)
 
 pub unknown-stored : (modules : List Module) (name : StructName) → declared modules name ≡ None → (es : Storage) → StorageIsKept modules es → count es name ≡ 0
 unknown-stored modules name none [] kept = refl
-unknown-stored modules name none (e ∷ es) kept =
-    let first : count_in name e.value ≡ 0 = unknown-none modules name none e.value kept.0 in
-    let rest : count es name ≡ 0 = unknown-stored modules name none es kept.1 in
-    omega (arith, first, rest)
+unknown-stored modules name none (e ∷ es) kept = omega (arith, unknown-none modules name none e.value kept.0, unknown-stored modules name none es kept.1)

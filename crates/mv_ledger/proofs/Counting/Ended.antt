@@ -1,11 +1,11 @@
 -- A run that is answered ends as it should, and what is stored is what the tallies leave.
-use Rattle.mv_ledger.proofs.Counting.Common.{[], ℕ, ◌+◌, ◌-◌, ◌∷◌, ◌≡◌, ◌≤◌, Err, List, Ok, Result, Some, arith, refl, subst, AllByRecursion, slice_get, Module, WhereOk, on_some, steps_taken}
-use Rattle.mv_ledger.proofs.Counting.Common.{turns-bound, count, Answers, Audit, Bad, BadRun, LedgerState, Publish, Request, Run, Show, admitted, attempted, modules_of, settled, AtReturn, State}
-use Rattle.mv_ledger.proofs.Counting.Common.{Storage, Aborts, Failure, Faults}
-use Rattle.mv_machine.specs.Run.{RunOutcome, Returned, Aborted, Exhausted, Faulted, FunctionCall, first_state, outcome_from, run, turns}
-use Rattle.mv_machine.specs.Lines.{Reply, Tallied}
-use Rattle.mv_ledger.specs.Counting.Headline.{IsOwnWork, EndsWell, CallEndsWell, RunsWell, EveryCountIsTallied}
+use Rattle.mv_ledger.proofs.Common.{◌+◌, ◌-◌, ◌≡◌, ◌≤◌, Err, List, Ok, Result, Some, arith, refl, subst, ℕ, slice_get, Module, WhereOk, on_some, steps_taken, turns-bound, count, Answers, Audit}
+use Rattle.mv_ledger.proofs.Common.{Bad, BadRun, LedgerState, Publish, Request, Run, Show, admitted, attempted, modules_of, settled, Reply, Tallied, AtReturn, Aborted, Exhausted, Faulted}
+use Rattle.mv_ledger.proofs.Common.{FunctionCall, Returned, RunOutcome, first_state, outcome_from, turns, State, Storage, Aborts, Failure, Faults, CallEndsWell, EndsWell, EveryCountIsTallied}
+use Rattle.mv_ledger.proofs.Common.{IsOwnWork, RunsWell}
+use Rattle.mv_machine.specs.Run.{run}
 use Rattle.mv_ledger.proofs.Counting.Own.{run-own}
+use Rattle.mv_ledger.proofs.Lists.{all-weaker}
 
 outcome-bound : (modules : List Module) (budget : ℕ) (r : Result State Failure) → ((s : State) → r ≡ Ok s → s.steps ≡ 0) → steps_taken (outcome_from modules budget r) ≤ budget
 outcome-bound modules budget (Ok s) zero = let b : steps_taken (turns modules budget s) ≤ budget + s.steps = turns-bound modules budget s in let z : s.steps ≡ 0 = zero s refl in omega (arith, b, z)
@@ -24,9 +24,8 @@ run-bound modules storage call budget = outcome-bound modules budget (first_stat
 settled-well : (s new : LedgerState) (reply : Reply) (budget : ℕ) (outcome : RunOutcome) → steps_taken outcome ≤ budget → AtReturn (λ storage events. IsOwnWork events) outcome
     → settled s outcome ≡ Some (reply, new) → EndsWell budget outcome
 settled-well s new reply budget (Returned steps storage events) b own e = (b, own)
-settled-well s new reply budget (Aborted kind number steps) b own e = b
-settled-well s new reply budget (Exhausted stop steps) b own e = b
 settled-well s new reply budget (Faulted fault steps) b own e = absurd cc
+settled-well _ _ _ _ _ b _ _ = b
 
 attempted-well : (s new : LedgerState) (reply : Reply) (budget : ℕ) (r : Result FunctionCall ℕ) → attempted s budget r ≡ Some (reply, new) → CallEndsWell s budget r
 attempted-well s new reply budget (Ok call) e =
@@ -35,18 +34,9 @@ attempted-well s new reply budget (Err reason) e = tt
 
 -- a run that is answered ends as it should
 pub answered-well : (IsText : List ℕ → Module → Type 0) (old new : LedgerState) (request : Request) (reply : Reply) → Answers IsText old request reply new → RunsWell old request
-answered-well IsText old new (Publish sender offers) reply a = tt
 answered-well IsText old new (Run r) reply a = attempted-well old new reply r.budget (admitted old r) a
-answered-well IsText old new (Show format) reply a = tt
-answered-well IsText old new (Audit format) reply a = tt
-answered-well IsText old new BadRun reply a = tt
-answered-well IsText old new Bad reply a = tt
-
--- what is stored is what the tallies leave
-stored-tallied : (storage : Storage) (ts : List Tallied) → AllByRecursion (λ (t : Tallied). count storage t.struct + t.unpacks ≡ t.packs) ts
-    → AllByRecursion (λ (t : Tallied). count storage t.struct ≡ t.packs - t.unpacks) ts
-stored-tallied storage [] a = tt
-stored-tallied storage (t ∷ ts) a = let b : count storage t.struct + t.unpacks ≡ t.packs = a.0 in (omega (arith, b), stored-tallied storage ts a.1)
+answered-well _ _ _ _ _ _ = tt
 
 pub counts-tallied : EveryCountIsTallied
-counts-tallied s balanced = stored-tallied s.storage s.tallies balanced
+counts-tallied s balanced =
+    all-weaker (λ (t : Tallied). count s.storage t.struct + t.unpacks ≡ t.packs) (λ t. count s.storage t.struct ≡ t.packs - t.unpacks) (λ t b. omega (arith, b)) s.tallies balanced

@@ -1,10 +1,8 @@
 -- Each struct value is made and taken apart by code of the struct's own module.
-use Rattle.mv_ledger.proofs.Counting.Common.{ℕ, ◌≡◌, List, Ok, Some, refl, subst, sym, Module, place-written, Called, Effect, Ends, Left, MovedFrom, MovedLocal, MovedTo, Packed, Restacked, Resumed}
-use Rattle.mv_ledger.proofs.Counting.Common.{StoredLocal, Unpacked, Went, Written, own_struct-own, AtReturn, FunctionCall, run, State, Storage, with_place, with_root, Goes, Here, OwnStruct, Returns}
-use Rattle.mv_ledger.proofs.Counting.Common.{Turn, with_stack, Local, Place, Root, Stored, Value, same_module-is}
+use Rattle.mv_ledger.proofs.Common.{◌≡◌, List, Ok, Some, refl, subst, sym, ℕ, Module, place-written, Called, Effect, Ends, Left, MovedFrom, MovedLocal, MovedTo, Packed, Restacked, Resumed}
+use Rattle.mv_ledger.proofs.Common.{StoredLocal, Unpacked, Went, Written, own_struct-own, run-keeps, step-stepped, AtReturn, FunctionCall, run, State, Storage, with_place, with_root, Goes, Here}
+use Rattle.mv_ledger.proofs.Common.{OwnStruct, Returns, Turn, with_stack, Local, Place, Root, Stored, Value, same_module-is, IsOwnWork}
 use Rattle.mv_machine.specs.StepStructs.{own_struct}
-use Rattle.mv_ledger.specs.Counting.Headline.{IsOwnWork}
-use Rattle.mv_machine.proofs.Runs.{step-stepped, run-keeps}
 
 -- the struct that an instruction names is of the module at work
 own_is : (h : Here) (i : ℕ) (s : OwnStruct) → own_struct h i ≡ Ok s → s.own ≡ s.name.home
@@ -22,17 +20,11 @@ with_place-events s next p v e =
     subst (λ (t : State). t.events ≡ s.events) w.next_is (with_root-events s p.root w.new)
 
 effect-own : (h : Here) (next : State) → Effect h next → IsOwnWork h.state.events → IsOwnWork next.events
-effect-own h _ (Restacked taken given rest s d a) own = own
-effect-own h _ (MovedLocal l v e) own = own
-effect-own h _ (StoredLocal l old v below s e d) own = own
 effect-own h _ (Packed i struct taken rest tags struct_is s tags_are typed) own = (own_is h i struct struct_is, own)
 effect-own h _ (Unpacked i struct name fields below struct_is s same) own = (own_is h i struct struct_is, own)
 effect-own h _ (Written r new old below tag next s old_is tag_is typed d next_is) own =
     subst IsOwnWork (sym (with_place-events (with_stack h.state below) next r.place new next_is)) own
-effect-own h _ (MovedFrom key a v below s e) own = own
-effect-own h _ (MovedTo key r v below s e) own = own
-effect-own h _ (Called function others taken rest s) own = own
-effect-own h _ (Resumed results f fs s d e) own = own
+effect-own _ _ _ own = own
 
 -- the state after a turn
 abbrev pub state_of : Turn → State
@@ -44,8 +36,7 @@ ends-own h _ (Went at next effect) own = effect-own h next effect own
 ends-own h _ (Left handle tags results handle_is tags_are n s d below) own = own
 
 -- of the events of a run that returned
-pub run-own : (modules : List Module) (storage : Storage) (call : FunctionCall) (budget : ℕ) →
-    AtReturn (λ storage' events. IsOwnWork events) (run modules storage call budget)
+pub run-own : (modules : List Module) (storage : Storage) (call : FunctionCall) (budget : ℕ) → AtReturn (λ storage' events. IsOwnWork events) (run modules storage call budget)
 run-own modules storage call budget =
     run-keeps (λ storage' events. IsOwnWork events) (λ s. IsOwnWork s.events) modules storage call (λ others. tt)
     (λ s t n own e. ends-own _ (Goes t) (step-stepped modules s (Goes t) e).ends own)

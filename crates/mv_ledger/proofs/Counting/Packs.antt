@@ -1,15 +1,54 @@
 -- A struct value that is packed is kept, and declared as its own definition says.
-use Rattle.mv_ledger.proofs.Counting.Common.{[], ℕ, ◌+◌, ◌∙◌, ◌∷◌, ◌≡◌, Bool, List, Ok, Option, Some, ap, arith, false, subst, suc, sym, true, zero, same_Some, first_so, second_so, AllByRecursion}
-use Rattle.mv_ledger.proofs.Counting.Common.{list_all, option_map_or, ◌&&◌, ◌||◌, slice_get, same_abilities, Module, own_name, struct_abilities, struct_name, declared, StructName, same_module, ◌>>=◌}
-use Rattle.mv_ledger.proofs.Counting.Common.{Tag, StructHandle, Abilities, WhereOk, on_some, on_need, on_ok, State, Here, OwnStruct, abilities_of, has_tag, have_tags, tag_named, Struct, Value}
-use Rattle.mv_ledger.proofs.Counting.Common.{fields_of, AbilitiesHold, field_is_able, implies, struct_is_able, token_abilities, each, IsAbleStore, Allows, AreKept, IsKept, StackIsKept}
-use Rattle.mv_move_types.specs.Results.{for_each}
-use Rattle.mv_move_types.specs.declared.tables.Field.{Field}
-use Rattle.mv_linker.specs.StoreRules.{struct_is_there, structs_are_there}
+use Rattle.mv_ledger.proofs.Common.{[], ◌+◌, ◌∙◌, ◌∷◌, ◌≡◌, Bool, List, Ok, Option, Some, ap, arith, false, refl, subst, suc, sym, true, zero, ℕ, same_Some, first_so, second_so, AllByRecursion}
+use Rattle.mv_ledger.proofs.Common.{list_all, option_map_or, ◌&&◌, ◌||◌, option_and_then, slice_get, unwrap_or, leaf_abilities, no_abilities, reference_abilities, same_abilities, Module, own_name}
+use Rattle.mv_ledger.proofs.Common.{struct_abilities, struct_name, declared, StructName, same_module, ◌>>=◌, for_each, LeafTag, ReferenceTag, StructTag, Tag, same_tag, Field, StructHandle}
+use Rattle.mv_ledger.proofs.Common.{Abilities, Token, MutableReferenceTo, Plain, ReferenceTo, ValueType, OfLeaf, OfStruct, AbilitiesHold, field_is_able, implies, struct_is_able, token_abilities}
+use Rattle.mv_ledger.proofs.Common.{value_type_abilities, WhereOk, map-is, on_some, on_need, on_ok, State, place_value, Here, OwnStruct, abilities_of, has_tag, have_tags, plain_tag, tag_named}
+use Rattle.mv_ledger.proofs.Common.{tag_of, value_type_tag, Leaf, Ref, Struct, Value, fields_of, each, same_abilities-is, same_tag-is, struct_is_there, structs_are_there, on_found, IsAbleStore}
+use Rattle.mv_ledger.proofs.Common.{Allows, AreKept, IsKept, StackIsKept}
 use Rattle.mv_machine.specs.StepStructs.{own_struct}
-use Rattle.mv_linker.proofs.Joining.Upgraded.{same_abilities-is}
-use Rattle.mv_ledger.proofs.Counting.Tags.{has_tag-abilities, tag_named-abilities}
 use Rattle.mv_ledger.proofs.Bundles.Heirs.{tested}
+
+-- ---- the abilities that a tag stands for
+
+-- the abilities of values of this tag
+abbrev pub tag_abilities : List Module → Tag → Abilities
+tag_abilities modules (LeafTag kind) = leaf_abilities kind
+tag_abilities modules (StructTag name) = unwrap_or (declared modules name) no_abilities
+tag_abilities modules (ReferenceTag m to) = reference_abilities
+
+-- a value has the abilities of its tag
+pub tag_of-abilities : (modules : List Module) (s : State) (v : Value) (tag : Tag) → tag_of s v ≡ Some tag → abilities_of modules v ≡ tag_abilities modules tag
+tag_of-abilities modules s (Leaf kind n) tag e = ap (tag_abilities modules) (same_Some (LeafTag kind) tag e)
+tag_of-abilities modules s (Struct name fields) tag e = ap (tag_abilities modules) (same_Some (StructTag name) tag e)
+tag_of-abilities modules s (Ref r) tag e =
+    let found = map-is (ReferenceTag r.is_mutable) (option_and_then plain_tag (place_value s r.place)) tag e in
+    ap (tag_abilities modules) found.2
+
+pub has_tag-abilities : (modules : List Module) (s : State) (v : Value) (tag : Tag) → has_tag s v tag ≡ true → abilities_of modules v ≡ tag_abilities modules tag
+has_tag-abilities modules s v tag e = on_found (λ own. same_tag own tag) (tag_of s v) e (λ own is same.
+    tag_of-abilities modules s v own is ∙ ap (tag_abilities modules) (same_tag-is own tag same))
+
+-- a type's tag stands for the abilities that the type has by its handle
+value_type_tag-abilities : (modules : List Module) (m : Module) (t : ValueType) (tag : Tag) (a : Abilities) → value_type_tag modules m t ≡ Ok tag → value_type_abilities m t ≡ Some a →
+    a ≡ tag_abilities modules tag
+value_type_tag-abilities modules m (OfLeaf kind) tag a e g = sym (same_Some (leaf_abilities kind) a g) ∙ subst (WhereOk (λ x. leaf_abilities kind ≡ tag_abilities modules x)) e refl
+value_type_tag-abilities modules m (OfStruct i) tag a e g =
+    on_some (slice_get m.struct_handles i) _ _ tag e (λ handle handle_is e1.
+    on_some (struct_name m i) _ _ tag e1 (λ name name_is e2.
+    on_some (declared modules name) _ _ tag e2 (λ abilities abilities_are e3.
+    on_need (same_abilities abilities handle.abilities) _ _ tag e3 (λ met e4.
+    let one : Some handle.abilities ≡ Some a = subst (λ (o : Option StructHandle). (o >>= λ x. Some x.abilities) ≡ Some a) handle_is g in
+    let tagged : tag_abilities modules (StructTag name) ≡ abilities = ap (λ (o : Option Abilities). unwrap_or o no_abilities) abilities_are in
+    let known : a ≡ tag_abilities modules (StructTag name) = sym (same_Some handle.abilities a one) ∙ (sym (same_abilities-is abilities handle.abilities met) ∙ sym tagged) in
+    subst (WhereOk (λ x. a ≡ tag_abilities modules x)) e4 known))))
+
+pub tag_named-abilities : (modules : List Module) (m : Module) (t : Token) (tag : Tag) (a : Abilities) → tag_named modules m t ≡ Ok tag → token_abilities m t ≡ Some a → a ≡ tag_abilities modules tag
+tag_named-abilities modules m (Plain t) tag a e g = value_type_tag-abilities modules m t tag a e g
+tag_named-abilities modules m (ReferenceTo t) tag a e g =
+    on_ok (value_type_tag modules m t) _ tag e (λ to to_is e1. sym (same_Some reference_abilities a g) ∙ subst (WhereOk (λ x. reference_abilities ≡ tag_abilities modules x)) e1 refl)
+tag_named-abilities modules m (MutableReferenceTo t) tag a e g =
+    on_ok (value_type_tag modules m t) _ tag e (λ to to_is e1. sym (same_Some reference_abilities a g) ∙ subst (WhereOk (λ x. reference_abilities ≡ tag_abilities modules x)) e1 refl)
 
 -- what each element is, the one at an index is
 pub each-get : {A : Type 0} (P : A → Type 0) (xs : List A) (i : ℕ) (x : A) → AllByRecursion P xs → slice_get xs i ≡ Some x → P x
@@ -19,8 +58,7 @@ each-get P (y ∷ ys) (suc i) x h e = each-get P ys i x h.1 e
 
 -- a struct handle of a store's module names a struct that is declared as the handle says
 pub there-get : (modules : List Module) (m : Module) (k j : ℕ) (handles : List StructHandle) (handle : StructHandle) → structs_are_there modules m k handles ≡ true
-    → slice_get handles j ≡ Some handle →
-    struct_is_there modules m (k + j) handle ≡ true
+    → slice_get handles j ≡ Some handle → struct_is_there modules m (k + j) handle ≡ true
 there-get modules m k j [] handle h e = absurd cc
 there-get modules m k zero (x ∷ xs) handle h e =
     let at : k ≡ k + 0 = omega arith in
@@ -55,8 +93,7 @@ each-declared modules (m ∷ ms) h = (
 
 pub handle-declared : (modules : List Module) (place : ℕ) (m : Module) (j : ℕ) (handle : StructHandle) (name : StructName) → IsAbleStore modules → slice_get modules place ≡ Some m →
     slice_get m.struct_handles j ≡ Some handle → struct_name m j ≡ Some name → declared modules name ≡ Some handle.abilities
-handle-declared modules place m j handle name store m_is =
-    each-get (HandlesDeclared modules) modules place m (each-declared modules modules store.structs) m_is j handle name
+handle-declared modules place m j handle name store m_is = each-get (HandlesDeclared modules) modules place m (each-declared modules modules store.structs) m_is j handle name
 
 -- what an own struct is: declared with its abilities, and each of its fields has what they ask for
 pub record Owned (modules : List Module) (m : Module) (s : OwnStruct) : Type 0 where
@@ -86,8 +123,7 @@ implied false b h e = absurd cc
 
 -- a value of a field's tag has what the struct asks of the field
 field-allows : (modules : List Module) (m : Module) (s : State) (outer : Abilities) (f : Field) (tag : Tag) (v : Value) → field_is_able m outer f ≡ true → tag_named modules m f.token ≡ Ok tag
-    → has_tag s v tag ≡ true →
-    Allows outer (abilities_of modules v)
+    → has_tag s v tag ≡ true → Allows outer (abilities_of modules v)
 field-allows modules m s outer f tag v able named typed =
     let had = tested (λ a. implies outer.copy a.copy && implies outer.drop a.drop && implies (outer.store || outer.key) a.store) (token_abilities m f.token) able in
     let front : (implies outer.copy (had.0).copy && implies outer.drop (had.0).drop) ≡ true = first_so (implies outer.copy (had.0).copy && implies outer.drop (had.0).drop)
@@ -100,11 +136,9 @@ field-allows modules m s outer f tag v able named typed =
 
 fields-kept : (modules : List Module) (m : Module) (s : State) (outer : Abilities) (fs : List Field) (tags : List Tag) (vs : List Value) → list_all (field_is_able m outer) fs ≡ true →
     for_each (λ f. tag_named modules m f.token) fs ≡ Ok tags → have_tags s vs tags ≡ true → StackIsKept modules vs → AreKept modules outer (fields_of vs)
-fields-kept modules m s outer [] tags [] able named typed kept = tt
 fields-kept modules m s outer [] tags (v ∷ vs) able named typed kept =
     let none : have_tags s (v ∷ vs) [] ≡ true = subst (WhereOk (λ ts. have_tags s (v ∷ vs) ts ≡ true)) (sym named) typed in
     absurd cc
-fields-kept modules m s outer (f ∷ fs) tags [] able named typed kept = tt
 fields-kept modules m s outer (f ∷ fs) tags (v ∷ vs) able named typed kept =
     on_ok (tag_named modules m f.token) _ tags named (λ tag tag_is e1.
     on_ok (for_each (λ f. tag_named modules m f.token) fs) _ tags e1 (λ rest rest_are e2.
@@ -114,6 +148,7 @@ fields-kept modules m s outer (f ∷ fs) tags (v ∷ vs) able named typed kept =
       fields-kept modules m s outer fs rest vs (second_so (field_is_able m outer f) (list_all (field_is_able m outer) fs) able) rest_are (second_so (has_tag s v tag) (have_tags s vs rest) both)
           kept.1,
     )))
+fields-kept _ _ _ _ _ _ _ _ _ _ _ = tt
 
 -- a struct value that is packed
 pub packed-kept : (h : Here) (place i : ℕ) (s : OwnStruct) (tags : List Tag) (vs : List Value) → IsAbleStore h.modules → slice_get h.modules place ≡ Some h.home → own_struct h i ≡ Ok s →

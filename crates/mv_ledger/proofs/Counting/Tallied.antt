@@ -1,10 +1,90 @@
 -- The tallies stay those of the structs with neither copy nor drop, and balanced, after a run that returned and where a bundle is published.
-use Rattle.mv_ledger.proofs.Counting.Common.{[], ◌+◌, ◌∙◌, ◌∷◌, ◌≡◌, Bool, List, None, Option, Some, ap, ap₂, arith, cond, false, refl, subst, sym, true, same_Some, AllByRecursion, find, map}
-use Rattle.mv_ledger.proofs.Counting.Common.{unwrap_or, Module, declared, StructName, same_struct, Abilities, count, scarce_name, scarce_structs, tally_of, tally_with, untouched_tally, packs, unpacks}
-use Rattle.mv_ledger.proofs.Counting.Common.{Event, Storage, same_struct-is, same_struct-same, Conserves, IsAbleStore, IsScarce, StorageIsKept}
-use Rattle.mv_machine.specs.Lines.{Tallied}
-use Rattle.mv_ledger.proofs.Counting.Declared.{declared-by, Remembers, unknown-stored}
-use Rattle.mv_ledger.proofs.Counting.Scarce.{SomeOf, some-map, some-each, scarce-all, scarce-among, scarce_name-is}
+use Rattle.mv_ledger.proofs.Common.{[], ◌++◌, ◌+◌, ◌∙◌, ◌∷◌, ◌≡◌, ◌⊎◌, Bool, List, None, Option, Some, ap, ap₂, arith, cond, false, inl, inr, map, refl, subst, suc, sym, true, zero, ℕ, same_Some}
+use Rattle.mv_ledger.proofs.Common.{AllByRecursion, cons_option, option_map_or, ◌&&◌, filter_map, find, not, slice_get, unwrap_or, Module, StructDefinition, name_of_struct, struct_abilities}
+use Rattle.mv_ledger.proofs.Common.{declared, StructName, same_struct, is_scarce_struct, Abilities, count, scarce_name, scarce_structs, tally_of, tally_with, untouched_tally, Tallied, packs}
+use Rattle.mv_ledger.proofs.Common.{unpacks, Event, Storage, same_struct-is, same_struct-same, on_found, Conserves, IsAbleStore, IsScarce, StorageIsKept}
+use Rattle.mv_ledger.proofs.Counting.Packs.{HandlesDeclared, each-declared}
+use Rattle.mv_ledger.proofs.Counting.Declared.{definition-declared, declared-by, Remembers, unknown-stored}
+use Rattle.mv_ledger.proofs.Lists.{all-append}
+use Rattle.mv_ledger.proofs.Runs.TalliesAfter.{map-then}
+
+-- ---- the structs with neither copy nor drop, each of which has a tally
+
+-- ---- the tallied structs are scarce
+
+all-filter_map : {A B : Type 0} (P : B → Type 0) (f : A → Option B) (xs : List A) → ((x : A) (y : B) → f x ≡ Some y → P y) → AllByRecursion P (filter_map f xs)
+all-filter_map P f [] h = tt
+all-filter_map P f (x ∷ xs) h = grind (arith, h x, all-filter_map P f xs h)
+
+scarce_name-scarce : (modules : List Module) (m : Module) (d : StructDefinition) (name : StructName) → HandlesDeclared modules m → scarce_name m d ≡ Some name → IsScarce modules name
+scarce_name-scarce modules m d name declares e =
+    let both : (is_scarce_struct m d ≡ true) × (name_of_struct m d ≡ Some name) = grind arith in
+    on_found (λ (a : Abilities). not a.copy && not a.drop) (struct_abilities m d) both.0 (λ a a_is lacks.
+    record { abilities = a; is_declared = definition-declared modules m d name a declares both.1 a_is; copy = grind arith; drop = grind arith })
+
+scarce-some : (modules ms : List Module) → AllByRecursion (HandlesDeclared modules) ms → AllByRecursion (IsScarce modules) (scarce_structs ms)
+scarce-some modules [] declares = tt
+scarce-some modules (m ∷ ms) declares =
+    all-append (IsScarce modules) (filter_map (scarce_name m) m.structs) (scarce_structs ms)
+    (all-filter_map (IsScarce modules) (scarce_name m) m.structs (λ d name e. scarce_name-scarce modules m d name declares.0 e))
+    (scarce-some modules ms declares.1)
+
+pub scarce-all : (modules : List Module) → IsAbleStore modules → AllByRecursion (IsScarce modules) (scarce_structs modules)
+scarce-all modules store = scarce-some modules modules (each-declared modules modules store.structs)
+
+-- ---- a scarce struct is among the tallied ones
+
+-- some element is such
+abbrev pub SomeOf : {A : Type 0} → (A → Type 0) → List A → Type 0
+SomeOf P [] = ⊥
+SomeOf P (x ∷ xs) = P x ⊎ SomeOf P xs
+
+pub some-map : {A B : Type 0} (P : B → Type 0) (f : A → B) (xs : List A) → SomeOf P (map f xs) → SomeOf (λ x. P (f x)) xs
+some-map P f [] s = absurd s
+some-map P f (x ∷ xs) (inl p) = inl p
+some-map P f (x ∷ xs) (inr s) = inr (some-map P f xs s)
+
+-- what some element is and each one is
+pub some-each : {A C : Type 0} (P Q : A → Type 0) (xs : List A) → ((x : A) → P x → Q x → C) → SomeOf P xs → AllByRecursion Q xs → C
+some-each P Q [] f s a = absurd s
+some-each P Q (x ∷ xs) f (inl p) a = f x p a.0
+some-each P Q (x ∷ xs) f (inr s) a = some-each P Q xs f s a.1
+
+some-left : {A : Type 0} (P : A → Type 0) (xs ys : List A) → SomeOf P xs → SomeOf P (xs ++ ys)
+some-left P [] ys s = absurd s
+some-left P (x ∷ xs) ys (inl p) = inl p
+some-left P (x ∷ xs) ys (inr s) = inr (some-left P xs ys s)
+
+some-right : {A : Type 0} (P : A → Type 0) (xs ys : List A) → SomeOf P ys → SomeOf P (xs ++ ys)
+some-right P [] ys s = s
+some-right P (x ∷ xs) ys s = inr (some-right P xs ys s)
+
+among-definitions : (m : Module) (ds : List StructDefinition) (i : ℕ) (d : StructDefinition) (name : StructName) → slice_get ds i ≡ Some d → scarce_name m d ≡ Some name → SomeOf (λ y. y ≡ name)
+    (filter_map (scarce_name m) ds)
+among-definitions m [] i d name e g = absurd cc
+among-definitions m (x ∷ xs) zero d name e g =
+    let here : scarce_name m x ≡ Some name = ap (scarce_name m) (same_Some x d e) ∙ g in
+    rw here (inl refl)
+among-definitions m (x ∷ xs) (suc i) d name e g =
+    let rest = among-definitions m xs i d name e g in
+    elim (scarce_name m x) as (λ o. SomeOf (λ y. y ≡ name) (cons_option o (filter_map (scarce_name m) xs))) [ Some n ↦ inr rest | None ↦ rest ]
+
+pub scarce-among : (ms : List Module) (name : StructName) (place i : ℕ) (m : Module) (d : StructDefinition) → slice_get ms place ≡ Some m → slice_get m.structs i ≡ Some d
+    → scarce_name m d ≡ Some name → SomeOf (λ x. x ≡ name) (scarce_structs ms)
+scarce-among [] name place i m d m_is d_is e = absurd cc
+scarce-among (x ∷ xs) name zero i m d m_is d_is e =
+    some-left (λ y. y ≡ name) (filter_map (scarce_name x) x.structs) (scarce_structs xs)
+    (subst (λ (z : Module). SomeOf (λ y. y ≡ name) (filter_map (scarce_name z) z.structs)) (sym (same_Some x m m_is)) (among-definitions m m.structs i d name d_is e))
+scarce-among (x ∷ xs) name (suc place) i m d m_is d_is e =
+    some-right (λ y. y ≡ name) (filter_map (scarce_name x) x.structs) (scarce_structs xs) (scarce-among xs name place i m d m_is d_is e)
+
+-- a definition without copy and drop is scarce
+pub scarce_name-is : (m : Module) (d : StructDefinition) (name : StructName) (a : Abilities) → name_of_struct m d ≡ Some name → struct_abilities m d ≡ Some a → a.copy ≡ false → a.drop ≡ false
+    → scarce_name m d ≡ Some name
+scarce_name-is m d name a name_is a_is c dr =
+    let both : is_scarce_struct m d ≡ true =
+    ap (λ (o : Option Abilities). option_map_or (λ (a : Abilities). not a.copy && not a.drop) o false) a_is ∙ ap₂ (λ (x y : Bool). not x && not y) c dr in
+    ap (λ (b : Bool). cond b (name_of_struct m d) None) both ∙ name_is
 
 -- as many values of the struct are stored as were made and not taken apart
 abbrev pub Balanced : Storage → Tallied → Type 0
@@ -22,12 +102,10 @@ scarce-tallied modules [] a = tt
 scarce-tallied modules (t ∷ ts) a = (a.0, scarce-tallied modules ts a.1)
 
 names-stay : (events : List Event) (ts : List Tallied) → map (λ (t : Tallied). t.struct) (map (tally_with events) ts) ≡ map (λ (t : Tallied). t.struct) ts
-names-stay events [] = refl
-names-stay events (t ∷ ts) = ap (λ (ns : List StructName). t.struct ∷ ns) (names-stay events ts)
+names-stay events ts = map-then (tally_with events) (λ (t : Tallied). t.struct) ts
 
 balances-stay : (modules : List Module) (old new : Storage) (events : List Event) (ts : List Tallied) → Conserves modules old new events
-    → AllByRecursion (λ (t : Tallied). IsScarce modules t.struct) ts →
-    AllByRecursion (Balanced old) ts → AllByRecursion (Balanced new) (map (tally_with events) ts)
+    → AllByRecursion (λ (t : Tallied). IsScarce modules t.struct) ts → AllByRecursion (Balanced old) ts → AllByRecursion (Balanced new) (map (tally_with events) ts)
 balances-stay modules old new events [] c scarce b = tt
 balances-stay modules old new events (t ∷ ts) c scarce b =
     let moved : count new t.struct + unpacks t.struct events ≡ count old t.struct + packs t.struct events = c.balanced t.struct scarce.0 in
@@ -45,19 +123,11 @@ returned-balanced modules old new events ts store are c = record {
 
 found-each : {A : Type 0} (P : A → Type 0) (test : A → Bool) (xs : List A) (x : A) → AllByRecursion P xs → find test xs ≡ Some x → P x × (test x ≡ true)
 found-each P test [] x a e = absurd cc
-found-each P test (y ∷ ys) x a e = by_case (test y) refl e (found-each P test ys x a.1)
-  where
-    by_case : (b : Bool) → test y ≡ b → cond b (Some y) (find test ys) ≡ Some x → (find test ys ≡ Some x → P x × (test x ≡ true)) → P x × (test x ≡ true)
-    by_case true s h ih = let one : y ≡ x = same_Some y x h in (subst P one a.0, subst (λ z. test z ≡ true) one s)
-    by_case false s h ih = ih h
+found-each P test (y ∷ ys) x a e = grind (arith, found-each P test ys x a.1)
 
 none-passes : {A : Type 0} (test : A → Bool) (xs : List A) → find test xs ≡ None → AllByRecursion (λ x. test x ≡ false) xs
 none-passes test [] e = tt
-none-passes test (y ∷ ys) e = by_case (test y) refl e (none-passes test ys)
-  where
-    by_case : (b : Bool) → test y ≡ b → cond b (Some y) (find test ys) ≡ None → (find test ys ≡ None → AllByRecursion (λ x. test x ≡ false) ys) → AllByRecursion (λ x. test x ≡ false) (y ∷ ys)
-    by_case true s h ih = absurd cc
-    by_case false s h ih = (s, ih h)
+none-passes test (y ∷ ys) e = grind (arith, none-passes test ys)
 
 module _ (old new : List Module) (storage : Storage) (tallies : List Tallied) (kept : StorageIsKept old storage) (are : AreBalanced old storage tallies) (remembers : Remembers old new) where
   abbrev is_of : StructName → Tallied → Bool

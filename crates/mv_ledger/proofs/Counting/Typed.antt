@@ -1,15 +1,9 @@
 -- Values of their types are kept, over a store whose abilities hold.
-use Rattle.mv_ledger.proofs.Counting.Common.{[], ◌∙◌, ◌∷◌, ◌≡◌, Bool, List, Some, ap, false, subst, sym, true, same_Some, first_so, second_so, list_all, option_map_or, ◌&&◌, ◌||◌, slice_get}
-use Rattle.mv_ledger.proofs.Counting.Common.{leaf_abilities, Module, name_at, name_of_struct, struct_abilities, struct_name, declared, definition_of, is_struct, module_named, module_place, StructName}
-use Rattle.mv_ledger.proofs.Counting.Common.{same_struct, find_index, Abilities, Token, MutableReferenceTo, Plain, ReferenceTo, OfLeaf, OfStruct, Storage, abilities_of, Leaf, More, NoMore, Ref}
-use Rattle.mv_ledger.proofs.Counting.Common.{Struct, Value, Values, AbilitiesHold, field_is_able, implies, struct_is_able, token_abilities, each, same_struct-is, IsAbleStore, Allows, AreKept, IsKept}
-use Rattle.mv_ledger.proofs.Counting.Common.{StorageIsKept}
-use Rattle.mv_move_types.specs.declared.tables.Field.{Field}
-use Rattle.mv_move_types.specs.Tokens.{same_kind}
-use Rattle.mv_module_text.specs.Fits.{address_fits}
-use Rattle.mv_machine.specs.Typed.{leaf_fits, is_of_type, are_of_types, is_of_struct, abilities_at, is_fine_entry, is_fine_storage}
-use Rattle.mv_module_text.proofs.Texts.{on_bind}
-use Rattle.mv_interpreter.proofs.Typing.Tests.{same_kind-is}
+use Rattle.mv_ledger.proofs.Common.{[], ◌∙◌, ◌∷◌, ◌≡◌, Bool, List, Some, ap, false, subst, sym, true, same_Some, first_so, second_so, list_all, option_map_or, ◌&&◌, ◌||◌, slice_get, leaf_abilities}
+use Rattle.mv_ledger.proofs.Common.{Module, name_at, name_of_struct, struct_abilities, struct_name, declared, definition_of, is_struct, module_named, module_place, StructName, same_struct}
+use Rattle.mv_ledger.proofs.Common.{find_index, same_kind, Field, Abilities, Token, MutableReferenceTo, Plain, ReferenceTo, OfLeaf, OfStruct, AbilitiesHold, field_is_able, implies, struct_is_able}
+use Rattle.mv_ledger.proofs.Common.{token_abilities, on_bind, address_fits, Storage, abilities_at, are_of_types, is_fine_entry, is_fine_storage, is_of_struct, is_of_type, leaf_fits, abilities_of}
+use Rattle.mv_ledger.proofs.Common.{Leaf, More, NoMore, Struct, Value, Values, each, same_struct-is, same_kind-is, IsAbleStore, Allows, AreKept, IsKept, StorageIsKept}
 use Rattle.mv_ledger.proofs.Bundles.Heirs.{tested, found-passes, on_and_then}
 use Rattle.mv_ledger.proofs.Counting.Counts.{declared-abilities}
 use Rattle.mv_ledger.proofs.Counting.Packs.{HandlesDeclared, each-declared, each-get, implied}
@@ -49,21 +43,14 @@ module _ (modules : List Module) (store : IsAbleStore modules) where
   -- a value of a type has the abilities that its type has
   typed-abilities : (m : Module) (t : Token) (v : Value) (a : Abilities) → HandlesDeclared modules m → is_of_type modules m t v ≡ true → token_abilities m t ≡ Some a → a ≡ abilities_of modules v
   typed-abilities m (Plain (OfLeaf k)) (Leaf j n) a declares h e = sym (same_Some (leaf_abilities k) a e) ∙ sym (ap leaf_abilities (same_kind-is j k (first_so (same_kind j k) (leaf_fits k n) h)))
-  typed-abilities m (Plain (OfLeaf k)) (Struct name fields) a declares h e = absurd cc
-  typed-abilities m (Plain (OfLeaf k)) (Ref r) a declares h e = absurd cc
-  typed-abilities m (Plain (OfStruct i)) (Leaf j n) a declares h e = absurd cc
-  typed-abilities m (Plain (OfStruct i)) (Ref r) a declares h e = absurd cc
   typed-abilities m (Plain (OfStruct i)) (Struct name fields) a declares h e =
       let named = tested (λ own. same_struct own name) (struct_name m i) (first_so (option_map_or (λ own. same_struct own name) (struct_name m i) false) (fields_fit name fields) h) in
       on_bind (slice_get m.struct_handles i) _ a e (λ handle handle_is e1.
       let here : declared modules name ≡ Some a = ap (declared modules) (sym (same_struct-is named.0 name named.2)) ∙ declares i handle named.0 handle_is named.1 ∙ e1 in
       sym (declared-abilities modules name fields a here))
   typed-abilities m (ReferenceTo t) (Leaf j n) a declares h e = absurd cc
-  typed-abilities m (ReferenceTo t) (Struct name fields) a declares h e = absurd cc
-  typed-abilities m (ReferenceTo t) (Ref r) a declares h e = absurd cc
   typed-abilities m (MutableReferenceTo t) (Leaf j n) a declares h e = absurd cc
-  typed-abilities m (MutableReferenceTo t) (Struct name fields) a declares h e = absurd cc
-  typed-abilities m (MutableReferenceTo t) (Ref r) a declares h e = absurd cc
+  typed-abilities m _ _ a declares h e = absurd cc
 
   typed-allows : (m : Module) (outer : Abilities) (f : Field) (v : Value) → HandlesDeclared modules m → field_is_able m outer f ≡ true → is_of_type modules m f.token v ≡ true
       → Allows outer (abilities_of modules v)
@@ -77,19 +64,16 @@ module _ (modules : List Module) (store : IsAbleStore modules) where
       })
 
   struct-typed : (m : Module) (t : Token) (name : StructName) (fields : Values) → is_of_type modules m t (Struct name fields) ≡ true → fields_fit name fields ≡ true
-  struct-typed m (Plain (OfLeaf k)) name fields h = absurd cc
   struct-typed m (Plain (OfStruct i)) name fields h = second_so (option_map_or (λ own. same_struct own name) (struct_name m i) false) (fields_fit name fields) h
-  struct-typed m (ReferenceTo t) name fields h = absurd cc
-  struct-typed m (MutableReferenceTo t) name fields h = absurd cc
+  struct-typed m _ name fields h = absurd cc
 
   mutual
     typed-kept : (m : Module) (t : Token) (v : Value) → is_of_type modules m t v ≡ true → IsKept modules v
-    typed-kept m t (Leaf j n) h = tt
-    typed-kept m t (Ref r) h = tt
     typed-kept m t (Struct name fields) h =
         let found = tested (λ (d : Module × List Field). are_of_types modules d.0 d.1 fields) (definition_of modules name) (struct-typed m t name fields h) in
         let defines = definition-defines name found.0 found.1 in
         (defines.abilities, defines.is_declared, typed-fields (found.0).0 defines.abilities (found.0).1 fields defines.declares defines.able found.2)
+    typed-kept _ _ _ _ = tt
 
     typed-fields : (m : Module) (outer : Abilities) (fs : List Field) (vs : Values) → HandlesDeclared modules m → list_all (field_is_able m outer) fs ≡ true → are_of_types modules m fs vs ≡ true
         → AreKept modules outer vs
@@ -104,12 +88,11 @@ module _ (modules : List Module) (store : IsAbleStore modules) where
     )
 
   of_struct-kept : (own : StructName) (v : Value) → is_of_struct modules own v ≡ true → IsKept modules v
-  of_struct-kept own (Leaf j n) h = tt
-  of_struct-kept own (Ref r) h = tt
   of_struct-kept own (Struct name fields) h =
       let found = tested (λ (d : Module × List Field). are_of_types modules d.0 d.1 fields) (definition_of modules name) (second_so (same_struct own name) (fields_fit name fields) h) in
       let defines = definition-defines name found.0 found.1 in
       (defines.abilities, defines.is_declared, typed-fields (found.0).0 defines.abilities (found.0).1 fields defines.declares defines.able found.2)
+  of_struct-kept _ _ _ = tt
 
   -- so a storage whose values are of their keys' structs
   pub fine-kept : (es : Storage) → is_fine_storage modules es ≡ true → StorageIsKept modules es

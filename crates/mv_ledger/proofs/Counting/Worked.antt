@@ -1,8 +1,6 @@
 -- The words at work: the store of the coin module alone, its mint, and a storage with one coin.
-use Rattle.mv_ledger.proofs.Counting.Common.{[], ◌∷◌, false, refl, true, IsEntryCall, IsFineStorage, IsAbleStore, IsScarce}
-use Rattle.mv_move_types.specs.declared.tables.Visibility.TheVariants.{Public}
-use Rattle.mv_move_types.specs.declared.instruction.Instruction.TheVariants.{Ret, ImmBorrowLoc, MoveLoc, Pack, MoveTo}
-use Rattle.mv_machine.proofs.Coin.{coin_module, coin, mint, one_coin}
+use Rattle.mv_ledger.proofs.Common.{[], ◌∷◌, false, refl, true, ImmBorrowLoc, MoveLoc, MoveTo, Pack, Ret, Public, coin, coin_module, mint, one_coin, IsEntryCall, IsFineStorage, IsAbleStore}
+use Rattle.mv_ledger.proofs.Common.{IsScarce}
 use Rattle.mv_ledger.proofs.Counting.Tallied.{AreBalanced}
 
 coin_store : IsAbleStore (coin_module ∷ [])

@@ -1,12 +1,8 @@
 -- Counts with more values of structs: what is added to them one after the other.
-use Rattle.mv_ledger.proofs.Loads.Common.{[], ℕ, ⊎_elim, ◌*◌, ◌++◌, ◌+◌, ◌-◌, ◌<◌, ◌^◌, ◌∙◌, ◌∷◌, ◌≡◌, ◌≤◌, Bool, List, None, Option, Some, ap, arith, cond, false, get_or, length, refl, subst, suc}
-use Rattle.mv_ledger.proofs.Loads.Common.{sym, take, true, cases_eq, get_or-set_other, get_or-set_same, length-set, take_all, take_more, same_Some, option_map_or, min, slice_set, Module, name_at}
-use Rattle.mv_ledger.proofs.Loads.Common.{StructName, same_struct, Definition, same_struct-is, same_struct-same, structs_in_part, structs_in_parts, structs_under, structs_within, Adds, HasRows}
-use Rattle.mv_ledger.proofs.Loads.Common.{capped, count_at, row_at, with_count}
-use Rattle.mv_interpreter.proofs.Homes.{index_of}
-use Rattle.mv_linker.specs.declared.shapes.Part.{Part}
-use Rattle.mv_linker.specs.Shapes.{AreFieldsAt, IsMadeOf}
-use Rattle.mv_ledger.specs.Parts.LayoutParts.{IsOfStore}
+use Rattle.mv_ledger.proofs.Common.{[], ⊎_elim, ◌*◌, ◌++◌, ◌+◌, ◌-◌, ◌<◌, ◌^◌, ◌∙◌, ◌∷◌, ◌≡◌, ◌≤◌, Bool, List, None, Option, Some, ap, arith, cond, false, get_or, length, refl, subst, suc, sym}
+use Rattle.mv_ledger.proofs.Common.{take, true, ℕ, cases_eq, get_or-set_other, get_or-set_same, length-set, take_all, take_more, same_Some, option_map_or, min, slice_set, Module, name_at}
+use Rattle.mv_ledger.proofs.Common.{StructName, same_struct, Definition, same_struct-is, same_struct-same, AreFieldsAt, IsMadeOf, Part, index_of, structs_in_part, structs_in_parts, structs_under}
+use Rattle.mv_ledger.proofs.Common.{structs_within, Adds, HasRows, capped, count_at, row_at, with_count, IsOfStore}
 use Rattle.mv_ledger.proofs.Saves.LayoutParts.{structs-there, missing-name}
 
 -- ---- numbers up to a greatest one
@@ -38,24 +34,20 @@ module _ (rows : List (List ℕ)) (d : Definition) (n : ℕ) where
   own-count lt low = ap (λ row. get_or row d.index 0) (own-row lt) ∙ get_or-set_same (row_at rows d.place) d.index (capped (count_at rows d + n)) 0 low
 
   pub other-count : (e : Definition) → e.place < length rows → (e ≡ d → ⊥) → count_at (with_count rows d n) e ≡ count_at rows e
-  other-count e lt apart = ⊎_elim in_row (λ far. ap (λ row. get_or row e.index 0) (other-row e.place far)) (cases_eq e.place d.place)
-    where
-      in_row : e.place ≡ d.place → count_at (with_count rows d n) e ≡ count_at rows e
-      in_row same =
-          let far : e.index ≡ d.index → ⊥ = λ index. apart (λ i. record { place = same i; index = index i }) in
-          ap (λ place. get_or (row_at (with_count rows d n) place) e.index 0) same
-          ∙ ap (λ row. get_or row e.index 0) (own-row (subst (λ (k : ℕ). k < length rows) same lt))
-          ∙ get_or-set_other (row_at rows d.place) d.index e.index (capped (count_at rows d + n)) 0 far
-          ∙ ap (λ place. get_or (row_at rows place) e.index 0) (sym same)
+  other-count e lt apart =
+      ⊎_elim (λ (same : e.place ≡ d.place).
+      let far : e.index ≡ d.index → ⊥ = λ index. apart (λ i. record { place = same i; index = index i }) in
+      ap (λ place. get_or (row_at (with_count rows d n) place) e.index 0) same
+      ∙ ap (λ row. get_or row e.index 0) (own-row (subst (λ (k : ℕ). k < length rows) same lt))
+      ∙ get_or-set_other (row_at rows d.place) d.index e.index (capped (count_at rows d + n)) 0 far
+      ∙ ap (λ place. get_or (row_at rows place) e.index 0) (sym same)) (λ far. ap (λ row. get_or row e.index 0) (other-row e.place far)) (cases_eq e.place d.place)
 
   -- the rows stay as long
   row-length : (place : ℕ) → place < length rows → length (row_at (with_count rows d n) place) ≡ length (row_at rows place)
-  row-length place lt = ⊎_elim same (λ far. ap length (other-row place far)) (cases_eq place d.place)
-    where
-      same : place ≡ d.place → length (row_at (with_count rows d n) place) ≡ length (row_at rows place)
-      same e =
-          ap (λ k. length (row_at (with_count rows d n) k)) e ∙ ap length (own-row (subst (λ (k : ℕ). k < length rows) e lt))
-          ∙ length-set (row_at rows d.place) d.index (capped (count_at rows d + n)) ∙ ap (λ k. length (row_at rows k)) (sym e)
+  row-length place lt =
+      ⊎_elim (λ (e : place ≡ d.place).
+      ap (λ k. length (row_at (with_count rows d n) k)) e ∙ ap length (own-row (subst (λ (k : ℕ). k < length rows) e lt))
+      ∙ length-set (row_at rows d.place) d.index (capped (count_at rows d + n)) ∙ ap (λ k. length (row_at rows k)) (sym e)) (λ far. ap length (other-row place far)) (cases_eq place d.place)
 
   pub rows-kept : (ms : List Module) → HasRows ms rows → HasRows ms (with_count rows d n)
   rows-kept ms has e name named =
@@ -161,12 +153,7 @@ module _ (ms : List Module) (n : ℕ) where
 
     append : (s : StructName) (xs : List Part) (x : Part) → structs_in_parts depth ms s (xs ++ x ∷ []) ≡ structs_in_parts depth ms s xs + structs_in_part depth ms s x
     append s [] x = omega arith
-    append s (y ∷ xs) x =
-        ap (λ k. structs_in_part depth ms s y + k) (append s xs x)
-        ∙ regroup (structs_in_part depth ms s y) (structs_in_parts depth ms s xs) (structs_in_part depth ms s x)
-      where
-        regroup : (a b c : ℕ) → a + (b + c) ≡ a + b + c
-        regroup a b c = omega arith
+    append s (y ∷ xs) x = omega (arith, append s xs x)
 
     pub adds-first : (rows : List (List ℕ)) → AddsFirst 0 rows rows
     adds-first rows = adds-none ms n (λ s. structs_in_parts depth ms s (take 0 parts)) rows (λ s. refl)

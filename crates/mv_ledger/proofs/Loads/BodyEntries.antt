@@ -1,9 +1,8 @@
 -- The text of a stored value is read as its key and leaves, and what is read is such a text.
-use Rattle.mv_ledger.proofs.Loads.Common.{[], ℕ, ◌++◌, ◌∙◌, ◌∷◌, ◌≡◌, IsTrue, List, None, Option, Some, ap, append_assoc, refl, subst, sym, some_pair_parts, unwrap_or, Module, Definition, Key}
-use Rattle.mv_ledger.proofs.Loads.Common.{LeafKind, uleb, Front, Front-from, Front-join, index-parts, index-whole, on_bind, address_text, address_fits, is_index, AreBytes, address_from, index_from}
-use Rattle.mv_ledger.proofs.Loads.Common.{FlatEntry, AreLeaves, coded, kinds_under, leaf_from, leaf_bytes}
-use Rattle.mv_module_text.proofs.Addresses.{address-parts, address-whole}
-use Rattle.mv_ledger.specs.Parts.BodyParts.{leaves_from, struct_from, entry_from}
+use Rattle.mv_ledger.proofs.Common.{[], ◌++◌, ◌∙◌, ◌∷◌, ◌≡◌, IsTrue, List, None, Option, Some, ap, append_assoc, refl, subst, sym, ℕ, some_pair_parts, unwrap_or, Module, Definition, Key, LeafKind}
+use Rattle.mv_ledger.proofs.Common.{uleb, address-parts, address-whole, Front, Front-from, Front-join, index-parts, index-whole, on_bind, address_text, address_fits, is_index, AreBytes}
+use Rattle.mv_ledger.proofs.Common.{address_from, index_from, FlatEntry, AreLeaves, coded, kinds_under, entry_from, leaves_from, leaf_from, leaf_bytes}
+use Rattle.mv_ledger.specs.Parts.BodyParts.{struct_from}
 use Rattle.mv_ledger.proofs.ShapesOfArguments.{leaf-parts, leaf-whole}
 
 -- ---- leaves
@@ -23,10 +22,9 @@ leaves-parts (kind ∷ kinds) bytes rest words ok e =
 
 pub leaves-whole : (kinds : List LeafKind) (words rest : List ℕ) → AreLeaves kinds words → leaves_from kinds (coded kinds words ++ rest) ≡ Some (words, rest)
 leaves-whole [] [] rest h = refl
-leaves-whole [] (n ∷ words) rest h = absurd h
-leaves-whole (kind ∷ kinds) [] rest h = absurd h
 leaves-whole (kind ∷ kinds) (n ∷ words) rest h =
     rw (append_assoc (leaf_bytes kind n) (coded kinds words) rest, leaf-whole kind (coded kinds words ++ rest) n h.0, leaves-whole kinds words rest h.1) refl
+leaves-whole _ _ _ h = absurd h
 
 -- ---- a stored value
 
@@ -73,8 +71,7 @@ struct-parts None bytes rest d address ok e =
 
 struct-whole : (of : Option Definition) (k : Key) (rest : List ℕ) → IsKnown of k → struct_from of (known_text of k ++ rest) ≡ Some (struct_under k, rest)
 struct-whole (Some d) k rest h = ap (λ (z : Definition). Some (z, rest)) (sym h)
-struct-whole None k rest h =
-    rw (append_assoc (uleb k.place) (uleb k.index) rest, index-whole (uleb k.index ++ rest) k.place h.0, index-whole rest k.index h.1) refl
+struct-whole None k rest h = rw (append_assoc (uleb k.place) (uleb k.index) rest, index-whole (uleb k.index ++ rest) k.place h.0, index-whole rest k.index h.1) refl
 
 -- a stored value at the front
 pub entry-parts : (modules : List Module) (of : Option Definition) (bytes rest : List ℕ) (e : FlatEntry) → AreBytes bytes → entry_from modules of bytes ≡ Some (e, rest)
@@ -104,15 +101,11 @@ pub entry-whole : (modules : List Module) (of : Option Definition) (rest : List 
 entry-whole modules of rest e h =
     let text : entry_text modules of e ++ rest ≡ address_text e.key.address ++ (known_text of e.key ++ (coded h.kinds e.words ++ rest)) =
     ap (λ (o : Option (List LeafKind)). (address_text e.key.address ++ known_text of e.key ++ coded (unwrap_or o []) e.words) ++ rest) h.kinds_are
-    ∙ three (address_text e.key.address) (known_text of e.key) (coded h.kinds e.words) in
+    ∙ simp append_assoc in
     ap (entry_from modules of) text
     ∙ rw (
       address-whole (known_text of e.key ++ (coded h.kinds e.words ++ rest)) e.key.address h.address,
       struct-whole of e.key (coded h.kinds e.words ++ rest) h.known,
       h.kinds_are,
-      leaves-whole
-          h.kinds e.words rest h.leaves,
+      leaves-whole h.kinds e.words rest h.leaves,
     ) refl
-  where
-    three : (a b c : List ℕ) → (a ++ b ++ c) ++ rest ≡ a ++ (b ++ (c ++ rest))
-    three a b c = simp append_assoc

@@ -1,11 +1,11 @@
 -- The texts of stored values by ascending key, after their number, are read as what they are put into.
-use Rattle.mv_ledger.proofs.Loads.Common.{[], ℕ, ◌++◌, ◌<◌, ◌^◌, ◌∙◌, ◌∷◌, ◌≡◌, ◌⊎◌, Bool, List, None, Option, Some, ap, append-nil, append_assoc, ap₂, arith, eq-eqb, eqb-true, false, flat_map, inl}
-use Rattle.mv_ledger.proofs.Loads.Common.{inr, length, refl, subst, suc, sym, true, zero, and_from, and_parts, both_ways, filter-append, some_pair_parts, AllByRecursion, ◌==◌, Module, ◌>>=◌}
-use Rattle.mv_ledger.proofs.Loads.Common.{Definition, Key, number_from, uleb, Front, Front-from, Front-join, number-front, number-whole, on_bind, then_some-parts, counted, AreBytes, FlatEntry}
-use Rattle.mv_ledger.proofs.Loads.Common.{Ascends, IsBelow, entry_from, group_into, groups_into, is_after, rising_into, with_entry}
-use Rattle.std.specs.Bool.{then_some}
+use Rattle.mv_ledger.proofs.Common.{[], ◌++◌, ◌<◌, ◌^◌, ◌∙◌, ◌∷◌, ◌≡◌, ◌⊎◌, List, None, Option, Some, ap, append-nil, append_assoc, ap₂, arith, eq-eqb, false, flat_map, inl, inr, length, refl}
+use Rattle.mv_ledger.proofs.Common.{subst, suc, sym, true, zero, ℕ, and_from, and_parts, cases_eq, eqb-true, filter-append, some_pair_parts, then_some, AllByRecursion, ◌==◌, Module, ◌>>=◌}
+use Rattle.mv_ledger.proofs.Common.{Definition, Key, number_from, uleb, Front, Front-from, Front-join, number-front, number-whole, on_bind, then_some-parts, counted, AreBytes, Ascends, IsBelow}
+use Rattle.mv_ledger.proofs.Common.{FlatEntry, entry_from, group_into, groups_into, is_after, rising_into, with_entry}
 use Rattle.mv_ledger.proofs.Loads.BodyLookups.{puts, is_of, under, Ascends-under}
 use Rattle.mv_ledger.proofs.Loads.BodyEntries.{struct_under, entry_text, IsEntry, entry-parts, entry-whole}
+use Rattle.mv_ledger.proofs.Lists.{all-weaker, all-append}
 
 -- ---- keys ascend
 
@@ -43,8 +43,7 @@ module _ (modules : List Module) (of : Option Definition) where
     pub rises : Rises last entries
 
   rising-parts : (n : ℕ) (last : Option Key) (s : List FlatEntry) (bytes : List ℕ) (new : List FlatEntry) (rest : List ℕ) → AreBytes bytes
-      → rising_into (entry_from modules of) n last s bytes ≡ Some (new, rest)
-      → RisesFrom n last s bytes new rest
+      → rising_into (entry_from modules of) n last s bytes ≡ Some (new, rest) → RisesFrom n last s bytes new rest
   rising-parts zero last s bytes new rest ok h =
       let p = some_pair_parts s new bytes rest h in
       record { entries = []; put = sym p.0; count = refl; front = Front-from [] bytes rest ok p.1; are = tt; rises = tt }
@@ -125,17 +124,10 @@ is-own d e h = subst (λ (z : Definition). is_of z e ≡ true) h (and_from _ _ (
 pub own-is : (d : Definition) (e : FlatEntry) → is_of d e ≡ true → struct_under e.key ≡ d
 own-is d e h =
     let p = and_parts (e.key.place == d.place) (e.key.index == d.index) h in
-    ap₂ (λ (x y : ℕ). make x y) (eqb-true e.key.place d.place p.0) (eqb-true e.key.index d.index p.1)
-  where
-    make : ℕ → ℕ → Definition
-    make x y = record { place = x; index = y }
+    λ i. record { place = eqb-true e.key.place d.place p.0 i; index = eqb-true e.key.index d.index p.1 i }
 
 pub is-other : (d : Definition) (e : FlatEntry) → (struct_under e.key ≡ d → ⊥) → is_of d e ≡ false
-is-other d e h = by_case (is_of d e) refl
-  where
-    by_case : (b : Bool) → is_of d e ≡ b → is_of d e ≡ false
-    by_case true is = absurd (h (own-is d e is))
-    by_case false is = is
+is-other d e h = grind (arith, own-is d e)
 
 under-own : (modules : List Module) (d : Definition) (es : List FlatEntry) → AllByRecursion (IsEntry modules (Some d)) es → under d es ≡ es
 under-own modules d [] are = refl
@@ -143,8 +135,7 @@ under-own modules d (e ∷ es) are = rw (is-own d e are.0.known) (ap (λ z. e �
 
 under-other : (modules : List Module) (d own : Definition) (es : List FlatEntry) → (own ≡ d → ⊥) → AllByRecursion (IsEntry modules (Some own)) es → under d es ≡ []
 under-other modules d own [] apart are = refl
-under-other modules d own (e ∷ es) apart are =
-    rw (is-other d e (λ h. apart (sym are.0.known ∙ h))) (under-other modules d own es apart are.1)
+under-other modules d own (e ∷ es) apart are = rw (is-other d e (λ h. apart (sym are.0.known ∙ h))) (under-other modules d own es apart are.1)
 
 -- a struct is among some
 abbrev pub Among : Definition → List Definition → Type 0
@@ -168,26 +159,11 @@ apart-among d e (f ∷ ds) apart (inr h) same = apart-among d e ds apart.1 h sam
 -- entries of other structs
 under-none : (d : Definition) (ds : List Definition) (es : List FlatEntry) → IsApart d ds → AllByRecursion (λ e. Among (struct_under e.key) ds) es → under d es ≡ []
 under-none d ds [] apart all = refl
-under-none d ds (e ∷ es) apart all =
-    rw (is-other d e (λ h. apart-among d (struct_under e.key) ds apart all.0 (sym h))) (under-none d ds es apart all.1)
+under-none d ds (e ∷ es) apart all = rw (is-other d e (λ h. apart-among d (struct_under e.key) ds apart all.0 (sym h))) (under-none d ds es apart all.1)
 
-own-among : (modules : List Module) (d : Definition) (ds : List Definition) (es : List FlatEntry) → AllByRecursion (IsEntry modules (Some d)) es
-    → AllByRecursion (λ e. Among (struct_under e.key) (d ∷ ds)) es
-own-among modules d ds [] are = tt
-own-among modules d ds (e ∷ es) are = (inl are.0.known, own-among modules d ds es are.1)
-
--- each is of its own struct
-own-each : (modules : List Module) (d : Definition) (es : List FlatEntry) → AllByRecursion (IsEntry modules (Some d)) es → AllByRecursion (λ e. IsEntry modules (Some (struct_under e.key)) e) es
-own-each modules d [] are = tt
-own-each modules d (e ∷ es) are = (record { kinds = are.0.kinds; kinds_are = are.0.kinds_are; leaves = are.0.leaves; address = are.0.address; known = refl }, own-each modules d es are.1)
-
-more-among : (d : Definition) (ds : List Definition) (es : List FlatEntry) → AllByRecursion (λ e. Among (struct_under e.key) ds) es → AllByRecursion (λ e. Among (struct_under e.key) (d ∷ ds)) es
-more-among d ds [] all = tt
-more-among d ds (e ∷ es) all = (inr all.0, more-among d ds es all.1)
-
-all-append : {A : Type 0} (P : A → Type 0) (xs ys : List A) → AllByRecursion P xs → AllByRecursion P ys → AllByRecursion P (xs ++ ys)
-all-append P [] ys h g = g
-all-append P (x ∷ xs) ys h g = (h.0, all-append P xs ys h.1 g)
+-- an entry is one of its own struct
+pub own-entry : (modules : List Module) (of : Option Definition) (e : FlatEntry) → IsEntry modules of e → IsEntry modules (Some (struct_under e.key)) e
+own-entry modules of e is = record { kinds = is.kinds; kinds_are = is.kinds_are; leaves = is.leaves; address = is.address; known = refl }
 
 puts-append : (s xs ys : List FlatEntry) → puts (puts s xs) ys ≡ puts s (xs ++ ys)
 puts-append s [] ys = refl
@@ -241,42 +217,30 @@ module _ (modules : List Module) where
         entries = g.entries ++ more.entries;
         put = more.put ∙ ap (λ z. puts z more.entries) g.put ∙ puts-append s g.entries more.entries;
         front = Front-join (group_text (g.entries ++ more.entries) d) (flat_map (group_text (g.entries ++ more.entries)) ds) bytes r.1 rest first others;
-        ascend = λ e. by_struct (λ z. Ascends z) d e g.entries more.entries own (rises-ascends g.entries g.rises) (more.ascend e) g.are;
-        are = λ e. by_entry d e g.entries more.entries own g.are (more.are e);
-        each = all-append (λ e. IsEntry modules (Some (struct_under e.key)) e) g.entries more.entries (own-each modules d g.entries g.are) more.each;
-        within = all-append (λ e. Among (struct_under e.key) (d ∷ ds)) g.entries more.entries (own-among modules d ds g.entries g.are) (more-among d ds more.entries more.within);
+        ascend = λ e. by_struct (λ _ z. Ascends z) d e g.entries more.entries own (rises-ascends g.entries g.rises) (more.ascend e) g.are;
+        are = λ e. by_struct (λ d z. AllByRecursion (IsEntry modules (Some d)) z) d e g.entries more.entries own g.are (more.are e) g.are;
+        each = all-append (λ e. IsEntry modules (Some (struct_under e.key)) e) g.entries more.entries
+            (all-weaker (IsEntry modules (Some d)) (λ e. IsEntry modules (Some (struct_under e.key)) e) (own-entry modules (Some d)) g.entries g.are) more.each;
+        within = all-append (λ e. Among (struct_under e.key) (d ∷ ds)) g.entries more.entries
+            (all-weaker (IsEntry modules (Some d)) (λ e. Among (struct_under e.key) (d ∷ ds)) (λ e is. inl is.known) g.entries g.are)
+            (all-weaker (λ e. Among (struct_under e.key) ds) (λ e. Among (struct_under e.key) (d ∷ ds)) (λ e among. inr among) more.entries more.within);
       })
     where
       same_or : (d e : Definition) → (d ≡ e) ⊎ (d ≡ e → ⊥)
-      same_or d e = by_case (d.place == e.place) (d.index == e.index) refl refl
-        where
-          make : ℕ → ℕ → Definition
-          make x y = record { place = x; index = y }
-
-          by_case : (p i : Bool) → (d.place == e.place) ≡ p → (d.index == e.index) ≡ i → (d ≡ e) ⊎ (d ≡ e → ⊥)
-          by_case true true p i = inl (ap₂ (λ (x y : ℕ). make x y) (eqb-true d.place e.place p) (eqb-true d.index e.index i))
-          by_case true false p i = inr (λ h. both_ways (d.index == e.index) i (eq-eqb d.index e.index (ap (λ (z : Definition). z.index) h)))
-          by_case false i p q = inr (λ h. both_ways (d.place == e.place) p (eq-eqb d.place e.place (ap (λ (z : Definition). z.place) h)))
-
-      by_struct : (P : List FlatEntry → Type 0) (d e : Definition) (own more : List FlatEntry) → under d (own ++ more) ≡ own → P own → P (under e more) → AllByRecursion (IsEntry modules (Some d)) own
-          → P (under e (own ++ more))
-      by_struct P d e own more is h g are = elim (same_or d e) [
-        | inl same ↦ subst (λ (z : Definition). P (under z (own ++ more))) same (subst P (sym is) h)
-        | inr apart ↦ subst P (sym (filter-append (is_of e) own more ∙ ap (λ z. z ++ under e more) (under-other modules e d own apart are))) g
+      same_or d e = elim (cases_eq d.place e.place) [
+        | inl place ↦ elim (cases_eq d.index e.index) [ inl index ↦ inl (λ i. record { place = place i; index = index i }) | inr far ↦ inr (λ h. far (ap (λ (z : Definition). z.index) h)) ]
+        | inr far ↦ inr (λ h. far (ap (λ (z : Definition). z.place) h))
       ]
 
-      by_entry : (d e : Definition) (own more : List FlatEntry) → under d (own ++ more) ≡ own → AllByRecursion (IsEntry modules (Some d)) own → AllByRecursion (IsEntry modules (Some e)) (under e more)
-          → AllByRecursion (IsEntry modules (Some e)) (under e (own ++ more))
-      by_entry d e own more is are g = elim (same_or d e) [
-        | inl same ↦ subst (λ (z : Definition). AllByRecursion (IsEntry modules (Some z)) (under z (own ++ more))) same
-            (subst (λ (z : List FlatEntry). AllByRecursion (IsEntry modules (Some d)) z) (sym is) are)
-        | inr apart ↦ subst (λ (z : List FlatEntry). AllByRecursion (IsEntry modules (Some e)) z)
-            (sym (filter-append (is_of e) own more ∙ ap (λ z. z ++ under e more) (under-other modules e d own apart are))) g
+      by_struct : (P : Definition → List FlatEntry → Type 0) (d e : Definition) (own more : List FlatEntry) → under d (own ++ more) ≡ own → P d own → P e (under e more)
+          → AllByRecursion (IsEntry modules (Some d)) own → P e (under e (own ++ more))
+      by_struct P d e own more is h g are = elim (same_or d e) [
+        | inl same ↦ subst (λ (z : Definition). P z (under z (own ++ more))) same (subst (P d) (sym is) h)
+        | inr apart ↦ subst (P e) (sym (filter-append (is_of e) own more ∙ ap (λ z. z ++ under e more) (under-other modules e d own apart are))) g
       ]
 
   pub groups-whole : (ds : List Definition) (s : List FlatEntry) (rest : List ℕ) (es : List FlatEntry) → Ascends es → ((d : Definition) → AllByRecursion (IsEntry modules (Some d)) (under d es))
-      → ((d : Definition) → length (under d es) < 2 ^ 64)
-      → groups_into modules ds s (flat_map (group_text es) ds ++ rest) ≡ Some (puts s (flat_map (λ d. under d es) ds), rest)
+      → ((d : Definition) → length (under d es) < 2 ^ 64) → groups_into modules ds s (flat_map (group_text es) ds ++ rest) ≡ Some (puts s (flat_map (λ d. under d es) ds), rest)
   groups-whole [] s rest es up are few = refl
   groups-whole (d ∷ ds) s rest es up are few =
       rw (

@@ -1,8 +1,9 @@
 -- The structs with key, by place of their module and index: each stands once among them.
-use Rattle.mv_ledger.proofs.Loads.Common.{[], ℕ, ◌++◌, ◌+◌, ◌<◌, ◌∙◌, ◌∷◌, ◌≡◌, ◌≤◌, ◌⊎◌, Bool, List, None, Option, Some, ap, arith, cond, false, inl, inr, map, refl, subst, suc, true, zero, zero-add}
-use Rattle.mv_ledger.proofs.Loads.Common.{AllByRecursion, enumerate_from, filter, option_map_or, slice_get, Module, StructDefinition, struct_abilities, ◌>>=◌, Definition, is_keyed, has_key}
-use Rattle.mv_ledger.proofs.Loads.Common.{keyed_from, keyed_indices}
+use Rattle.mv_ledger.proofs.Common.{[], ◌++◌, ◌+◌, ◌<◌, ◌∙◌, ◌∷◌, ◌≡◌, ◌≤◌, ◌⊎◌, List, Option, Some, ap, arith, cond, false, inl, inr, map, subst, suc, true, zero, zero-add, ℕ, AllByRecursion}
+use Rattle.mv_ledger.proofs.Common.{enumerate_from, filter, option_map_or, slice_get, Module, StructDefinition, Definition, Abilities, on_bind, abilities_at, on_found, is_keyed, has_key}
+use Rattle.mv_ledger.proofs.Common.{keyed_from, keyed_indices}
 use Rattle.mv_ledger.proofs.Loads.BodyGroups.{Among, IsApart, Distinct}
+use Rattle.mv_ledger.proofs.Lists.{all-weaker, all-append}
 
 -- ---- of one module
 
@@ -14,28 +15,13 @@ abbrev IsUp : List ℕ → Type 0
 IsUp [] = Unit {0}
 IsUp (i ∷ is) = AllByRecursion (λ j. i < j) is × IsUp is
 
-all-weaker : {A : Type 0} (P Q : A → Type 0) → ((x : A) → P x → Q x) → (xs : List A) → AllByRecursion P xs → AllByRecursion Q xs
-all-weaker P Q f [] h = tt
-all-weaker P Q f (x ∷ xs) h = (f x h.0, all-weaker P Q f xs h.1)
-
 least : (m : Module) (k : ℕ) (ds : List StructDefinition) → AllByRecursion (λ j. k ≤ j) (keyed_after m k ds)
 least m k [] = tt
-least m k (d ∷ ds) = by_case (has_key m d) (all-weaker (λ j. k + 1 ≤ j) (λ j. k ≤ j) (λ j h. omega (arith, h)) (keyed_after m (k + 1) ds) (least m (k + 1) ds))
-  where
-    by_case : (b : Bool) → AllByRecursion (λ j. k ≤ j) (keyed_after m (k + 1) ds)
-        → AllByRecursion (λ j. k ≤ j) (map (λ (p : ℕ × StructDefinition). p.0)
-        (cond b ((k, d) ∷ filter (λ p. has_key m p.1) (enumerate_from (k + 1) ds)) (filter (λ p. has_key m p.1) (enumerate_from (k + 1) ds))))
-    by_case true rest = (omega arith, rest)
-    by_case false rest = rest
+least m k (d ∷ ds) = grind (arith, all-weaker (λ j. k + 1 ≤ j) (λ j. k ≤ j) (λ j h. omega (arith, h)) (keyed_after m (k + 1) ds) (least m (k + 1) ds))
 
 keyed-up : (m : Module) (k : ℕ) (ds : List StructDefinition) → IsUp (keyed_after m k ds)
 keyed-up m k [] = tt
-keyed-up m k (d ∷ ds) = by_case (has_key m d) (all-weaker (λ j. k + 1 ≤ j) (λ j. k < j) (λ j h. omega (arith, h)) (keyed_after m (k + 1) ds) (least m (k + 1) ds)) (keyed-up m (k + 1) ds)
-  where
-    by_case : (b : Bool) → AllByRecursion (λ j. k < j) (keyed_after m (k + 1) ds) → IsUp (keyed_after m (k + 1) ds)
-        → IsUp (map (λ (p : ℕ × StructDefinition). p.0) (cond b ((k, d) ∷ filter (λ p. has_key m p.1) (enumerate_from (k + 1) ds)) (filter (λ p. has_key m p.1) (enumerate_from (k + 1) ds))))
-    by_case true above rest = (above, rest)
-    by_case false above rest = rest
+keyed-up m k (d ∷ ds) = grind (arith, all-weaker (λ j. k + 1 ≤ j) (λ j. k < j) (λ j h. omega (arith, h)) (keyed_after m (k + 1) ds) (least m (k + 1) ds), keyed-up m (k + 1) ds)
 
 -- they are those of the module at a place
 abbrev placed : ℕ → List ℕ → List Definition
@@ -45,20 +31,7 @@ row-apart : (place i : ℕ) (is : List ℕ) → AllByRecursion (λ j. i < j) is 
 row-apart place i [] h = tt
 row-apart place i (j ∷ is) h = (λ same. omega (arith, h.0, ap (λ (d : Definition). d.index) same), row-apart place i is h.1)
 
-row-distinct : (place : ℕ) (is : List ℕ) → IsUp is → Distinct (placed place is)
-row-distinct place [] h = tt
-row-distinct place (i ∷ is) h = (row-apart place i is h.0, row-distinct place is h.1)
-
 -- ---- of all modules
-
-apart-append : (d : Definition) (xs ys : List Definition) → IsApart d xs → IsApart d ys → IsApart d (xs ++ ys)
-apart-append d [] ys h g = g
-apart-append d (x ∷ xs) ys h g = (h.0, apart-append d xs ys h.1 g)
-
-low-append : (place : ℕ) (xs ys : List Definition) → AllByRecursion (λ (d : Definition). place ≤ d.place) xs → AllByRecursion (λ (d : Definition). place ≤ d.place) ys
-    → AllByRecursion (λ (d : Definition). place ≤ d.place) (xs ++ ys)
-low-append place [] ys h g = g
-low-append place (x ∷ xs) ys h g = (h.0, low-append place xs ys h.1 g)
 
 row-low : (place : ℕ) (is : List ℕ) → AllByRecursion (λ (d : Definition). place ≤ d.place) (placed place is)
 row-low place [] = tt
@@ -67,7 +40,7 @@ row-low place (i ∷ is) = (omega arith, row-low place is)
 keyed-low : (place : ℕ) (ms : List Module) → AllByRecursion (λ (d : Definition). place ≤ d.place) (keyed_from place ms)
 keyed-low place [] = tt
 keyed-low place (m ∷ ms) =
-    low-append place (placed place (keyed_indices m)) (keyed_from (place + 1) ms) (row-low place (keyed_indices m))
+    all-append (λ (d : Definition). place ≤ d.place) (placed place (keyed_indices m)) (keyed_from (place + 1) ms) (row-low place (keyed_indices m))
     (all-weaker (λ (d : Definition). place + 1 ≤ d.place) (λ (d : Definition). place ≤ d.place) (λ d h. omega (arith, h)) (keyed_from (place + 1) ms) (keyed-low (place + 1) ms))
 
 above-apart : (place i : ℕ) (ds : List Definition) → AllByRecursion (λ (d : Definition). place + 1 ≤ d.place) ds → IsApart (record { place = place; index = i }) ds
@@ -77,7 +50,7 @@ above-apart place i (d ∷ ds) h = (λ same. omega (arith, h.0, ap (λ (d : Defi
 distinct-append : (place : ℕ) (is : List ℕ) (ds : List Definition) → IsUp is → AllByRecursion (λ (d : Definition). place + 1 ≤ d.place) ds → Distinct ds → Distinct (placed place is ++ ds)
 distinct-append place [] ds up above h = h
 distinct-append place (i ∷ is) ds up above h =
-    (apart-append (record { place = place; index = i }) (placed place is) ds (row-apart place i is up.0) (above-apart place i ds above), distinct-append place is ds up.1 above h)
+    (all-append (λ e. record { place = place; index = i } ≡ e → ⊥) (placed place is) ds (row-apart place i is up.0) (above-apart place i ds above), distinct-append place is ds up.1 above h)
 
 -- none stands twice
 pub keyed-distinct : (place : ℕ) (ms : List Module) → Distinct (keyed_from place ms)
@@ -96,13 +69,10 @@ index-in m k zero (x ∷ ds) d e h =
     let same : x ≡ d = cc in
     let key : has_key m x ≡ true = ap (has_key m) same ∙ h in
     rw key (inl (omega arith))
-index-in m k (suc i) (x ∷ ds) d e h = by_case (has_key m x) (subst (λ (n : ℕ). IsIn n (keyed_after m (k + 1) ds)) (omega arith) (index-in m (k + 1) i ds d e h))
-  where
-    by_case : (b : Bool) → IsIn (k + suc i) (keyed_after m (k + 1) ds)
-        → IsIn (k + suc i) (map (λ (p : ℕ × StructDefinition). p.0) (cond b ((k, x) ∷ filter (λ p. has_key m p.1) (enumerate_from (k + 1) ds))
-        (filter (λ p. has_key m p.1) (enumerate_from (k + 1) ds))))
-    by_case true rest = inr rest
-    by_case false rest = rest
+index-in m k (suc i) (x ∷ ds) d e h =
+    let more = filter (λ (p : ℕ × StructDefinition). has_key m p.1) (enumerate_from (k + 1) ds) in
+    let rest : IsIn (k + suc i) (keyed_after m (k + 1) ds) = subst (λ (n : ℕ). IsIn n (keyed_after m (k + 1) ds)) (omega arith) (index-in m (k + 1) i ds d e h) in
+    elim (has_key m x) as (λ b. IsIn (k + suc i) (map (λ (p : ℕ × StructDefinition). p.0) (cond b ((k, x) ∷ more) more))) [ true ↦ inr rest | false ↦ rest ]
 
 row-among : (place i : ℕ) (is : List ℕ) (ds : List Definition) → IsIn i is → Among (record { place = place; index = i }) (placed place is ++ ds)
 row-among place i [] ds h = absurd h
@@ -128,13 +98,9 @@ keyed-among-from place (suc q) i (x ∷ ms) m d e f h =
     (among-after (record { place = place + 1 + q; index = i }) place (keyed_indices x) (keyed_from (place + 1) ms) (keyed-among-from (place + 1) q i ms m d e f h))
 
 pub keyed-among : (ms : List Module) (d : Definition) → is_keyed ms d ≡ true → Among d (keyed_from 0 ms)
-keyed-among ms d h = by_module (slice_get ms d.place) refl h
-  where
-    by_module : (o : Option Module) → slice_get ms d.place ≡ o → option_map_or (λ a. a.key) (o >>= λ m. slice_get m.structs d.index >>= λ s. struct_abilities m s) false ≡ true
-        → Among d (keyed_from 0 ms)
-    by_module (Some m) is g = by_struct (slice_get m.structs d.index) refl g
-      where
-        by_struct : (o : Option StructDefinition) → slice_get m.structs d.index ≡ o → option_map_or (λ a. a.key) (o >>= λ s. struct_abilities m s) false ≡ true → Among d (keyed_from 0 ms)
-        by_struct (Some s) own key = subst (λ (n : ℕ). Among (record { place = n; index = d.index }) (keyed_from 0 ms)) (zero-add d.place) (keyed-among-from 0 d.place d.index ms m s is own key)
-        by_struct None own key = absurd cc
-    by_module None is g = absurd cc
+keyed-among ms d h =
+    on_found (λ (a : Abilities). a.key) (abilities_at ms d.place d.index) h (λ a a_is key.
+    on_bind (slice_get ms d.place) _ a a_is (λ m m_is e1.
+    on_bind (slice_get m.structs d.index) _ a e1 (λ s s_is e2.
+    subst (λ (n : ℕ). Among (record { place = n; index = d.index }) (keyed_from 0 ms)) (zero-add d.place)
+    (keyed-among-from 0 d.place d.index ms m s m_is s_is (ap (λ (o : Option Abilities). option_map_or (λ a. a.key) o false) e2 ∙ key)))))

@@ -1,12 +1,9 @@
 -- What follows the modules in the text of a saved ledger is read as its tallies' counts and its storage, and nothing else is.
-use Rattle.mv_ledger.proofs.Loads.Common.{[], ℕ, ◌++◌, ◌-◌, ◌<◌, ◌^◌, ◌∙◌, ◌∷◌, ◌≡◌, ◌≤◌, Bool, List, Option, Some, ap, append-nil, append_assoc, ap₂, arith, flat_map, le-leb, leb-true, length, map}
-use Rattle.mv_ledger.proofs.Loads.Common.{refl, sym, and_from, and_parts, length-map, some_pair_parts, list_all, ◌&&◌, nat_le, ◌>>=◌, uleb, Front-as, Front-join, Parts, Whole, entries-front}
-use Rattle.mv_ledger.proofs.Loads.Common.{entries-whole, number-front, number-whole, on_bind, Read, entries_from, flat_storage, Tallied, Storage, tables_in, FlatStorage, count_from, storage_into}
-use Rattle.mv_ledger.proofs.Loads.Common.{tally_from, EachBodyIsRead, EachReadIsBody, counted_by, First, Form, Second, greatest_count, storage_text, tally_fits, tally_text}
-use Rattle.std.specs.Int.{w128, to_le_bytes}
-use Rattle.std.proofs.lemmas.List.Folds.{list_all-map}
-use Rattle.mv_move_types.specs.declared.token.Width.TheVariants.{U128}
-use Rattle.mv_module_text.proofs.Numbers.{number_of-front, number_of-whole}
+use Rattle.mv_ledger.proofs.Common.{[], ◌++◌, ◌-◌, ◌<◌, ◌^◌, ◌∙◌, ◌∷◌, ◌≡◌, ◌≤◌, Bool, List, Option, Some, ap, append-nil, append_assoc, ap₂, arith, flat_map, le-leb, leb-true, length, map, refl}
+use Rattle.mv_ledger.proofs.Common.{sym, ℕ, and_from, and_parts, length-map, list_all-map, some_pair_parts, to_le_bytes, w128, list_all, ◌&&◌, nat_le, ◌>>=◌, U128, uleb, number_of-front}
+use Rattle.mv_ledger.proofs.Common.{number_of-whole, Front-as, Front-join, Parts, Whole, entries-front, entries-whole, number-front, number-whole, on_bind, Read, entries_from, FlatStorage}
+use Rattle.mv_ledger.proofs.Common.{flat_storage, Tallied, Storage, tables_in, count_from, storage_into, tally_from, EachBodyIsRead, EachReadIsBody, counted_by, First, Form, Second, greatest_count}
+use Rattle.mv_ledger.proofs.Common.{storage_text, tally_fits, tally_text}
 use Rattle.mv_ledger.proofs.Loads.BodyValues.{valued}
 use Rattle.mv_ledger.proofs.Loads.BodyStorage.{storage-parts, storage-whole}
 

@@ -1,9 +1,8 @@
 -- Reading what stands after the modules of a saved ledger: how far it has come.
-use Rattle.mv_ledger.proofs.Loads.Common.{[], ℕ, ◌++◌, ◌+◌, ◌-◌, ◌<◌, ◌∙◌, ◌∷◌, ◌≡◌, ◌≤◌, Bool, Err, List, None, Ok, Option, Result, Some, ap, append-nil, append_assoc, arith, cond, drop, false}
-use Rattle.mv_ledger.proofs.Loads.Common.{get_or, length, map, option_map, refl, suc, sym, take, true, map-set_same, drop_all, drop_more, map-append, take_more_set, OnErr, is_some, not, slice_set}
-use Rattle.mv_ledger.proofs.Loads.Common.{Module, ◌>>=◌, Definition, Key, LeafKind, number_from, Read, entries_from, FlatEntry, FlatStorage, with_words, words_under, counts_of, entry_from, group_into}
-use Rattle.mv_ledger.proofs.Loads.Common.{groups_into, is_after, leaves_from, rising_into, struct_of, with_entry, leaf_from, Tally}
-use Rattle.mv_module_text.proofs.Entries.{after, ReadsOn}
+use Rattle.mv_ledger.proofs.Common.{[], ◌++◌, ◌+◌, ◌-◌, ◌<◌, ◌∙◌, ◌∷◌, ◌≡◌, ◌≤◌, Bool, Err, List, None, Ok, Option, Result, Some, ap, append-nil, append_assoc, arith, cond, drop, false, get_or}
+use Rattle.mv_ledger.proofs.Common.{length, map, option_map, refl, suc, sym, take, true, ℕ, map-set_same, drop_all, drop_more, map-append, take_more_set, OnErr, is_some, not, slice_set, Module}
+use Rattle.mv_ledger.proofs.Common.{◌>>=◌, Definition, Key, LeafKind, number_from, ReadsOn, after, Read, entries_from, FlatStorage, with_words, words_under, FlatEntry, counts_of, entry_from}
+use Rattle.mv_ledger.proofs.Common.{group_into, groups_into, is_after, leaves_from, rising_into, struct_of, with_entry, leaf_from, Tally}
 
 -- what holds anyway holds of an error
 pub OnErr-any : {T E : Type 0} (r : Result T E) (P : Type 0) → P → OnErr r P
@@ -16,7 +15,8 @@ OnErr-any (Err e) P h = h
 pub record LeavesOn (kinds : List LeafKind) (i : ℕ) (start : List ℕ) (words cur : List ℕ) : Type 0 where
   pub goes : leaves_from kinds start ≡ option_map (after words) (leaves_from (drop i kinds) cur)
 
-after-none : (o : Read (List ℕ)) → o ≡ option_map (after []) o
+-- nothing was read before
+pub after-none : {A : Type 0} (o : Read (List A)) → o ≡ option_map (after []) o
 after-none None = refl
 after-none (Some r) = refl
 
@@ -24,58 +24,39 @@ after-none (Some r) = refl
 pub LeavesOn-start : (kinds : List LeafKind) (start : List ℕ) → LeavesOn kinds 0 start [] start
 LeavesOn-start kinds start = record { goes = after-none (leaves_from kinds start) }
 
-after-one : (words : List ℕ) (n : ℕ) (o : Read (List ℕ))
-    → option_map (after words) (o >>= λ xs. Some (n ∷ xs.0, xs.1)) ≡ option_map (after (words ++ n ∷ [])) o
+after-one : (words : List ℕ) (n : ℕ) (o : Read (List ℕ)) → option_map (after words) (o >>= λ xs. Some (n ∷ xs.0, xs.1)) ≡ option_map (after (words ++ n ∷ [])) o
 after-one words n None = refl
 after-one words n (Some r) = ap (λ z. Some (z, r.1)) (sym (append_assoc words (n ∷ []) r.0))
-
-leaves-next : (k : LeafKind) (ks : List LeafKind) (cur next : List ℕ) (n : ℕ) → leaf_from k cur ≡ Some (n, next)
-    → leaves_from (k ∷ ks) cur ≡ (leaves_from ks next >>= λ xs. Some (n ∷ xs.0, xs.1))
-leaves-next k ks cur next n e = rw e refl
-
-leaves-stop : (k : LeafKind) (ks : List LeafKind) (cur : List ℕ) → leaf_from k cur ≡ None → leaves_from (k ∷ ks) cur ≡ None
-leaves-stop k ks cur e = rw e refl
 
 -- one more is read
 pub LeavesOn-next : (kinds : List LeafKind) (i : ℕ) (start words cur next : List ℕ) (k : LeafKind) (n : ℕ) → i < length kinds → k ≡ get_or kinds i k
     → leaf_from k cur ≡ Some (n, next) → LeavesOn kinds i start words cur → LeavesOn kinds (i + 1) start (words ++ n ∷ []) next
 LeavesOn-next kinds i start words cur next k n lt is e g =
     let own : leaf_from (get_or kinds i k) cur ≡ Some (n, next) = ap (λ z. leaf_from z cur) (sym is) ∙ e in
-    record {
-      goes = g.goes ∙ ap (λ z. option_map (after words) (leaves_from z cur)) (drop_more kinds i k lt)
-          ∙ ap (option_map (after words)) (leaves-next (get_or kinds i k) (drop (i + 1) kinds) cur next n own)
-          ∙ after-one words n (leaves_from (drop (i + 1) kinds) next);
-    }
+    record { goes = g.goes ∙ rw (drop_more kinds i k lt, own) (after-one words n (leaves_from (drop (i + 1) kinds) next)) }
 
 -- the next can't be read
 pub LeavesOn-stops : (kinds : List LeafKind) (i : ℕ) (start words cur : List ℕ) (k : LeafKind) → i < length kinds → k ≡ get_or kinds i k
     → leaf_from k cur ≡ None → LeavesOn kinds i start words cur → leaves_from kinds start ≡ None
 LeavesOn-stops kinds i start words cur k lt is e g =
     let own : leaf_from (get_or kinds i k) cur ≡ None = ap (λ z. leaf_from z cur) (sym is) ∙ e in
-    g.goes ∙ ap (λ z. option_map (after words) (leaves_from z cur)) (drop_more kinds i k lt)
-    ∙ ap (option_map (after words)) (leaves-stop (get_or kinds i k) (drop (i + 1) kinds) cur own)
+    g.goes ∙ rw (drop_more kinds i k lt, own) refl
 
 -- all are read
 pub LeavesOn-end : (kinds : List LeafKind) (i : ℕ) (start words cur : List ℕ) → length kinds ≤ i → LeavesOn kinds i start words cur → leaves_from kinds start ≡ Some (words, cur)
-LeavesOn-end kinds i start words cur le g =
-    g.goes ∙ ap (λ z. option_map (after words) (leaves_from z cur)) (drop_all i kinds le) ∙ ap (λ z. Some (z, cur)) (append-nil words)
+LeavesOn-end kinds i start words cur le g = g.goes ∙ rw (drop_all i kinds le) (ap (λ z. Some (z, cur)) (append-nil words))
 
 -- ---- entries
 
 -- the next can't be read
 pub entries-stop : {A : Type 0} (each : List ℕ → Read A) (n i : ℕ) (start : List ℕ) (items : List A) (cur : List ℕ) → i < n → each cur ≡ None
     → ReadsOn each n i start items cur → entries_from each n start ≡ None
-entries-stop {A} each n i start items cur lt none g =
-    let k : n - i ≡ suc (n - (i + 1)) = omega arith in
-    let stop : entries_from each (suc (n - (i + 1))) cur ≡ None = rw none refl in
-    g.goes ∙ ap (λ z. option_map (after items) (entries_from each z cur)) k ∙ ap (option_map (after items)) stop
+entries-stop {A} each n i start items cur lt none g = let k : n - i ≡ suc (n - (i + 1)) = omega arith in g.goes ∙ rw (k, none) refl
 
 -- all are read
 pub entries-end : {A : Type 0} (each : List ℕ → Read A) (n i : ℕ) (start : List ℕ) (items : List A) (cur : List ℕ) → n ≤ i
     → ReadsOn each n i start items cur → entries_from each n start ≡ Some (items, cur)
-entries-end each n i start items cur le g =
-    let k : n - i ≡ 0 = omega arith in
-    g.goes ∙ ap (λ z. option_map (after items) (entries_from each z cur)) k ∙ ap (λ z. Some (z, cur)) (append-nil items)
+entries-end each n i start items cur le g = let k : n - i ≡ 0 = omega arith in g.goes ∙ rw k (ap (λ z. Some (z, cur)) (append-nil items))
 
 -- ---- tallies
 
@@ -98,11 +79,6 @@ pub record RisingOn (each : List ℕ → Read FlatEntry) (n i : ℕ) (before : F
 pub RisingOn-start : (each : List ℕ → Read FlatEntry) (n : ℕ) (before : FlatStorage) (start : List ℕ) → RisingOn each n 0 before start None before start
 RisingOn-start each n before start = let z : n - 0 ≡ n = omega arith in record { goes = ap (λ k. rising_into each k None before start) (sym z) }
 
--- what becomes of a storage into which an entry is put where none is
-put-entry : (b : Bool) (old new : FlatStorage) → cond (not b) new old ≡ cond b old new
-put-entry true old new = refl
-put-entry false old new = refl
-
 -- one more
 pub RisingOn-next : (each : List ℕ → Read FlatEntry) (n i : ℕ) (before : FlatStorage) (start : List ℕ) (last : Option Key) (storage : FlatStorage) (cur next : List ℕ) (e : FlatEntry) (done : Bool)
     (more : FlatStorage)
@@ -110,10 +86,8 @@ pub RisingOn-next : (each : List ℕ → Read FlatEntry) (n i : ℕ) (before : F
     → RisingOn each n i before start last storage cur → RisingOn each n (i + 1) before start (Some e.key) more next
 RisingOn-next each n i before start last storage cur next e done more lt e_is rises done_is more_is g =
     let k : n - i ≡ suc (n - (i + 1)) = omega arith in
-    let put : with_entry storage e ≡ more =
-    sym (more_is ∙ ap (λ (b : Bool). cond b (with_words storage e.key e.words) storage) done_is ∙ put-entry (is_some (words_under storage e.key)) storage (with_words storage e.key e.words)) in
-    let step : rising_into each (suc (n - (i + 1))) last storage cur ≡ rising_into each (n - (i + 1)) (Some e.key) (with_entry storage e) next = rw (e_is, rises) refl in
-    record { goes = g.goes ∙ ap (λ z. rising_into each z last storage cur) k ∙ step ∙ ap (λ s. rising_into each (n - (i + 1)) (Some e.key) s next) put }
+    let put : with_entry storage e ≡ more = grind arith in
+    record { goes = g.goes ∙ rw (k, e_is, rises) (ap (λ s. rising_into each (n - (i + 1)) (Some e.key) s next) put) }
 
 -- the values after their number
 group-at : (each : List ℕ → Read FlatEntry) (n : ℕ) (before : FlatStorage) (bytes start : List ℕ) → number_from 18446744073709551615 bytes ≡ Some (n, start)
@@ -124,25 +98,19 @@ group-at each n before bytes start e = ap (λ r. r >>= λ n. rising_into each n.
 pub RisingOn-stops : (each : List ℕ → Read FlatEntry) (n i : ℕ) (before : FlatStorage) (bytes start : List ℕ) (last : Option Key) (storage : FlatStorage) (cur : List ℕ)
     → number_from 18446744073709551615 bytes ≡ Some (n, start) → i < n → each cur ≡ None → RisingOn each n i before start last storage cur → group_into each before bytes ≡ None
 RisingOn-stops each n i before bytes start last storage cur number lt none g =
-    let k : n - i ≡ suc (n - (i + 1)) = omega arith in
-    let stop : rising_into each (suc (n - (i + 1))) last storage cur ≡ None = rw none refl in
-    group-at each n before bytes start number ∙ g.goes ∙ ap (λ z. rising_into each z last storage cur) k ∙ stop
+    let k : n - i ≡ suc (n - (i + 1)) = omega arith in group-at each n before bytes start number ∙ g.goes ∙ rw (k, none) refl
 
 -- the next has a key that isn't above the last
 pub RisingOn-falls : (each : List ℕ → Read FlatEntry) (n i : ℕ) (before : FlatStorage) (bytes start : List ℕ) (last : Option Key) (storage : FlatStorage) (cur next : List ℕ) (e : FlatEntry)
     → number_from 18446744073709551615 bytes ≡ Some (n, start) → i < n → each cur ≡ Some (e, next) → is_after last e.key ≡ false → RisingOn each n i before start last storage cur
     → group_into each before bytes ≡ None
 RisingOn-falls each n i before bytes start last storage cur next e number lt e_is falls g =
-    let k : n - i ≡ suc (n - (i + 1)) = omega arith in
-    let stop : rising_into each (suc (n - (i + 1))) last storage cur ≡ None = rw (e_is, falls) refl in
-    group-at each n before bytes start number ∙ g.goes ∙ ap (λ z. rising_into each z last storage cur) k ∙ stop
+    let k : n - i ≡ suc (n - (i + 1)) = omega arith in group-at each n before bytes start number ∙ g.goes ∙ rw (k, e_is, falls) refl
 
 -- all are put
 pub RisingOn-end : (each : List ℕ → Read FlatEntry) (n i : ℕ) (before : FlatStorage) (bytes start : List ℕ) (last : Option Key) (storage : FlatStorage) (cur : List ℕ)
     → number_from 18446744073709551615 bytes ≡ Some (n, start) → n ≤ i → RisingOn each n i before start last storage cur → group_into each before bytes ≡ Some (storage, cur)
-RisingOn-end each n i before bytes start last storage cur number le g =
-    let k : n - i ≡ 0 = omega arith in
-    group-at each n before bytes start number ∙ g.goes ∙ ap (λ z. rising_into each z last storage cur) k
+RisingOn-end each n i before bytes start last storage cur number le g = let k : n - i ≡ 0 = omega arith in group-at each n before bytes start number ∙ g.goes ∙ rw k refl
 
 -- what was put into a storage of the first i structs' values
 pub record GroupsOn (modules : List Module) (ds : List Definition) (i : ℕ) (before : FlatStorage) (start : List ℕ) (storage : FlatStorage) (cur : List ℕ) : Type 0 where
@@ -154,18 +122,14 @@ pub GroupsOn-next : (modules : List Module) (ds : List Definition) (i : ℕ) (be
     → group_into (entry_from modules (Some d)) storage cur ≡ Some (more, next) → GroupsOn modules ds i before start storage cur → GroupsOn modules ds (i + 1) before start more next
 GroupsOn-next modules ds i before start storage more cur next d lt is e g =
     let own : group_into (entry_from modules (Some (get_or ds i d))) storage cur ≡ Some (more, next) = ap (λ z. group_into (entry_from modules (Some z)) storage cur) (sym is) ∙ e in
-    let step : groups_into modules (get_or ds i d ∷ drop (i + 1) ds) storage cur ≡ groups_into modules (drop (i + 1) ds) more next =
-    ap (λ r. r >>= λ s. groups_into modules (drop (i + 1) ds) s.0 s.1) own in
-    record { goes = g.goes ∙ ap (λ z. groups_into modules z storage cur) (drop_more ds i d lt) ∙ step }
+    record { goes = g.goes ∙ rw (drop_more ds i d lt, own) refl }
 
 -- those of the next can't be read
 pub GroupsOn-stops : (modules : List Module) (ds : List Definition) (i : ℕ) (before : FlatStorage) (start : List ℕ) (storage : FlatStorage) (cur : List ℕ) (d : Definition) → i < length ds
-    → d ≡ get_or ds i d
-    → group_into (entry_from modules (Some d)) storage cur ≡ None → GroupsOn modules ds i before start storage cur → groups_into modules ds before start ≡ None
+    → d ≡ get_or ds i d → group_into (entry_from modules (Some d)) storage cur ≡ None → GroupsOn modules ds i before start storage cur → groups_into modules ds before start ≡ None
 GroupsOn-stops modules ds i before start storage cur d lt is e g =
     let own : group_into (entry_from modules (Some (get_or ds i d))) storage cur ≡ None = ap (λ z. group_into (entry_from modules (Some z)) storage cur) (sym is) ∙ e in
-    let step : groups_into modules (get_or ds i d ∷ drop (i + 1) ds) storage cur ≡ None = ap (λ r. r >>= λ s. groups_into modules (drop (i + 1) ds) s.0 s.1) own in
-    g.goes ∙ ap (λ z. groups_into modules z storage cur) (drop_more ds i d lt) ∙ step
+    g.goes ∙ rw (drop_more ds i d lt, own) refl
 
 -- those of all are put
 pub GroupsOn-end : (modules : List Module) (ds : List Definition) (i : ℕ) (before : FlatStorage) (start : List ℕ) (storage : FlatStorage) (cur : List ℕ) → length ds ≤ i

@@ -1,22 +1,19 @@
 -- The text of what is stored is read as its words, and what is read is such a text.
-use Rattle.mv_ledger.proofs.Loads.Common.{[], ℕ, ◌++◌, ◌<◌, ◌^◌, ◌∙◌, ◌∷◌, ◌≡◌, ◌≤◌, ◌⊎◌, Bool, IsTrue, List, None, Option, Some, ap, ap₂, arith, cond, false, flat_map, inl, inr, length, lt-ltb, map}
-use Rattle.mv_ledger.proofs.Loads.Common.{refl, subst, suc, sym, true, zero, and_from, length-map, All-head, All-tail, slice_get_within, first_so, second_so, AllByRecursion, filter, list_all}
-use Rattle.mv_ledger.proofs.Loads.Common.{option_map_or, All, is_some, nat_le, slice_get, leaves_within, Module, name_at, name_of_struct, StructName, ◌>>=◌, PublishedModule, Definition, Key, uleb}
-use Rattle.mv_ledger.proofs.Loads.Common.{Front, on_bind, counted, is_index, AreBytes, FlatEntry, flat_storage, Storage, key_before, same_key, is_fine_entry, is_fine_storage, IsPublishable, IsStore}
-use Rattle.mv_ledger.proofs.Loads.Common.{tables_in, struct_is_small, with_words, words_under, Ascends, IsAscending, is_keyed, storage_into, with_entry, First, Form, Second, addressed_text, is_under}
-use Rattle.mv_ledger.proofs.Loads.Common.{keyed_from, storage_text, stored_text, struct_text}
-use Rattle.mv_binary_format.specs.ModuleText.{HasText}
-use Rattle.mv_binary_format.proofs.Fitting.{few_structs}
-use Rattle.mv_storage.proofs.Keys.{same_key-to}
-use Rattle.mv_storage.proofs.Maps.{entries_from_words}
-use Rattle.mv_linker.proofs.Found.{each}
+use Rattle.mv_ledger.proofs.Common.{[], ◌++◌, ◌<◌, ◌^◌, ◌∙◌, ◌∷◌, ◌≡◌, ◌≤◌, ◌⊎◌, Bool, IsTrue, List, None, Option, Some, ap, ap₂, arith, cond, flat_map, inl, inr, length, lt-ltb, map, refl, subst}
+use Rattle.mv_ledger.proofs.Common.{suc, sym, true, zero, ℕ, and_from, length-map, All-head, All-tail, slice_get_within, first_so, second_so, AllByRecursion, filter, list_all, All, nat_le}
+use Rattle.mv_ledger.proofs.Common.{slice_get, leaves_within, Module, name_at, name_of_struct, StructName, ◌>>=◌, PublishedModule, Definition, Key, uleb, few_structs, HasText, Front, on_bind}
+use Rattle.mv_ledger.proofs.Common.{counted, is_index, AreBytes, same_key-to, entries_from_words, with_words, words_under, Ascends, FlatEntry, flat_storage, Storage, same_key, is_fine_entry}
+use Rattle.mv_ledger.proofs.Common.{is_fine_storage, each, IsPublishable, IsStore, tables_in, struct_is_small, on_found, IsAscending, is_keyed, storage_into, with_entry, First, Form, Second}
+use Rattle.mv_ledger.proofs.Common.{addressed_text, is_under, keyed_from, storage_text, stored_text, struct_text}
 use Rattle.mv_linker.proofs.Joining.Scopes.{within_tables}
 use Rattle.mv_ledger.proofs.Loads.BodyLookups.{or_else, words-append, puts, words-puts, Ascends-puts, puts-ascending, is_of, under, is_key_of, words-under, under-puts}
 use Rattle.mv_ledger.proofs.Loads.BodyEntries.{struct_under, entry_text, IsEntry}
-use Rattle.mv_ledger.proofs.Loads.BodyGroups.{rises-ascends, ascends-rises, group-parts, group-whole, Among, group_text, groups-parts, groups-whole, is-own, own-is}
+use Rattle.mv_ledger.proofs.Loads.BodyGroups.{rises-ascends, ascends-rises, group-parts, group-whole, Among, group_text, groups-parts, groups-whole, is-own, own-is, own-entry}
 use Rattle.mv_ledger.proofs.Loads.BodyKeyed.{keyed-distinct, keyed-among}
-use Rattle.mv_ledger.proofs.Loads.BodyValues.{flat_entry, valued, entry-valued, EachIsSized, FineParts, fine-parts, stored-as, addressed-as}
-use Rattle.mv_ledger.proofs.Loads.BodyValues.{ascending-ascends, ascends-ascending, under-valued, under-flat}
+use Rattle.mv_ledger.proofs.Loads.BodyValues.{flat_entry, valued, entry-valued, EachIsSized, FineParts, fine-parts, stored-as, addressed-as, ascending-ascends, ascends-ascending, under-valued}
+use Rattle.mv_ledger.proofs.Loads.BodyValues.{under-flat}
+use Rattle.mv_ledger.proofs.Lists.{all-weaker, all-filter}
+use Rattle.mv_binary_format.proofs.Back.{filter-shorter}
 
 -- ---- what is read
 
@@ -36,11 +33,6 @@ module _ (modules : List Module) where
         fine = and_from (is_fine_entry modules (valued modules e)) (list_all (is_fine_entry modules) (map (valued modules) es)) v.fine rest.fine;
       }
 
-  -- an entry whose struct is written is of its own struct
-  own-of : (es : List FlatEntry) → AllByRecursion (IsEntry modules None) es → AllByRecursion (λ e. IsEntry modules (Some (struct_under e.key)) e) es
-  own-of [] h = tt
-  own-of (e ∷ es) h = (record { kinds = h.0.kinds; kinds_are = h.0.kinds_are; leaves = h.0.leaves; address = h.0.address; known = refl }, own-of es h.1)
-
   -- the texts of entries are those of their values
   stored-texts : (es : List FlatEntry) → AllByRecursion (IsEntry modules None) es → flat_map stored_text (map (valued modules) es) ≡ flat_map (entry_text modules None) es
   stored-texts [] h = refl
@@ -58,19 +50,10 @@ module _ (modules : List Module) where
   -- what holds of all entries holds of those that they are put into
   all-with : (P : FlatEntry → Type 0) (s : List FlatEntry) (e : FlatEntry) → AllByRecursion P s → P e → AllByRecursion P (with_words s e.key e.words)
   all-with P [] e h own = (own, tt)
-  all-with P (x ∷ s) e h own = by_case (same_key x.key e.key) (key_before e.key x.key) (all-with P s e h.1 own)
-    where
-      by_case : (same before : Bool) → AllByRecursion P (with_words s e.key e.words) → AllByRecursion P (cond same (e ∷ s) (cond before (e ∷ x ∷ s) (x ∷ with_words s e.key e.words)))
-      by_case true before rest = (own, h.1)
-      by_case false true rest = (own, h)
-      by_case false false rest = (h.0, rest)
+  all-with P (x ∷ s) e h own = grind (arith, all-with P s e h.1 own)
 
   all-put : (P : FlatEntry → Type 0) (s : List FlatEntry) (e : FlatEntry) → AllByRecursion P s → P e → AllByRecursion P (with_entry s e)
-  all-put P s e h own = by_case (words_under s e.key)
-    where
-      by_case : (o : Option (List ℕ)) → AllByRecursion P (cond (is_some o) s (with_words s e.key e.words))
-      by_case (Some w) = h
-      by_case None = all-with P s e h own
+  all-put P s e h own = grind (arith, all-with P s e h own)
 
   all-puts : (P : FlatEntry → Type 0) (s es : List FlatEntry) → AllByRecursion P s → AllByRecursion P es → AllByRecursion P (puts s es)
   all-puts P s [] h g = h
@@ -100,7 +83,7 @@ module _ (modules : List Module) where
       let g = group-parts modules None [] bytes s rest ok h in
       let up : Ascends g.entries = rises-ascends g.entries g.rises in
       let is : s ≡ g.entries = g.put ∙ puts-ascending g.entries up in
-      let v = are-valued g.entries (own-of g.entries g.are) in
+      let v = are-valued g.entries (all-weaker (IsEntry modules None) (λ e. IsEntry modules (Some (struct_under e.key)) e) (own-entry modules None) g.entries g.are) in
       let text : counted (entry_text modules None) g.entries ≡ counted stored_text (map (valued modules) g.entries) =
       ap₂ (λ (n : ℕ) (z : List ℕ). uleb n ++ z) (sym (length-map g.entries (valued modules))) (sym (stored-texts g.entries g.are)) in
       subst (λ (z : List FlatEntry). StorageFrom First bytes z rest) (sym is)
@@ -129,20 +112,7 @@ store-sized published store place index name named =
     on_bind (slice_get m.structs index) (name_of_struct m) name n1 (λ d d_is n2.
     let small = each (λ m. list_all (struct_is_small (tables_in published) m) m.structs) (tables_in published) place m store.links.small m_is in
     let own : struct_is_small (tables_in published) m d ≡ true = each (struct_is_small (tables_in published) m) m.structs index d small d_is in
-    by_leaves (name_of_struct m d) n2 own))
-  where
-    by_leaves : (o : Option StructName) → o ≡ Some name → option_map_or (λ n. nat_le n 256) (o >>= leaves_within 8 (tables_in published)) false ≡ true
-        → (n : ℕ) × (leaves_within 8 (tables_in published) name ≡ Some n)
-    by_leaves None is h = absurd cc
-    by_leaves (Some own) is h = found (leaves_within 8 (tables_in published) name) refl
-        (subst (λ (z : StructName). option_map_or (λ n. nat_le n 256) (leaves_within 8 (tables_in published) z) false ≡ true) same h)
-      where
-        same : own ≡ name
-        same = cc
-
-        found : (o : Option ℕ) → leaves_within 8 (tables_in published) name ≡ o → option_map_or (λ n. nat_le n 256) o false ≡ true → (n : ℕ) × (leaves_within 8 (tables_in published) name ≡ Some n)
-        found (Some n) is g = (n, is)
-        found None is g = absurd cc
+    on_found (λ n. nat_le n 256) (name_of_struct m d >>= leaves_within 8 (tables_in published)) own (λ n n_is le. (n, sym (ap (λ o. o >>= leaves_within 8 (tables_in published)) n2) ∙ n_is))))
 
 -- each module of a store has a text
 text-at : (ps : List PublishedModule) (k : ℕ) (m : Module) → All IsPublishable ps → slice_get (tables_in ps) k ≡ Some m → HasText m
@@ -164,47 +134,19 @@ written published store few k name named =
     let most : length m.structs ≤ 65536 = few_structs m (text-at published k.place m store.passed m_is) in
     record { place = lt-ltb k.place (2 ^ 16) (omega arith); index = lt-ltb k.index (2 ^ 16) (omega arith) }))
 
-filter-all : {A : Type 0} (P : A → Type 0) (p : A → Bool) (xs : List A) → AllByRecursion P xs → AllByRecursion P (filter p xs)
-filter-all P p [] h = tt
-filter-all P p (x ∷ xs) h = by_case (p x) (filter-all P p xs h.1)
-  where
-    by_case : (b : Bool) → AllByRecursion P (filter p xs) → AllByRecursion P (cond b (x ∷ filter p xs) (filter p xs))
-    by_case true rest = (h.0, rest)
-    by_case false rest = rest
-
-under-few : (d : Definition) (es : List FlatEntry) → length (under d es) ≤ length es
-under-few d [] = omega arith
-under-few d (e ∷ es) = by_case (is_of d e) (under-few d es)
-  where
-    by_case : (b : Bool) → length (under d es) ≤ length es → length (cond b (e ∷ under d es) (under d es)) ≤ suc (length es)
-    by_case true h = omega (arith, h)
-    by_case false h = omega (arith, h)
-
 -- the first of two, where the second is what the first may be
 or-same : (b : Bool) (o : Option (List ℕ)) → or_else (cond b o None) o ≡ o
-or-same true None = refl
-or-same true (Some w) = refl
-or-same false o = refl
+or-same b o = grind arith
 
 -- what stands under a key among what is stored of structs
 lookup-groups : (es : List FlatEntry) (q : Key) (ds : List Definition) → (words_under es q ≡ None) ⊎ Among (struct_under q) ds → words_under (flat_map (λ d. under d es) ds) q ≡ words_under es q
 lookup-groups es q [] (inl none) = sym none
 lookup-groups es q [] (inr among) = absurd among
 lookup-groups es q (d ∷ ds) h =
-    words-append (under d es) (flat_map (λ d. under d es) ds) q ∙ ap (λ o. or_else o (words_under (flat_map (λ d. under d es) ds) q)) (words-under d es q) ∙ by_case h (λ g. lookup-groups es q ds g)
-  where
-    none_or : (o : Option (List ℕ)) → words_under es q ≡ o → ((words_under es q ≡ None) ⊎ Among (struct_under q) ds → words_under (flat_map (λ d. under d es) ds) q ≡ words_under es q)
-        → or_else o (words_under (flat_map (λ d. under d es) ds) q) ≡ o
-    none_or (Some w) is ih = refl
-    none_or None is ih = ih (inl is) ∙ is
-
-    by_case : (words_under es q ≡ None) ⊎ Among (struct_under q) (d ∷ ds) → ((words_under es q ≡ None) ⊎ Among (struct_under q) ds → words_under (flat_map (λ d. under d es) ds) q ≡ words_under es q)
-        → or_else (cond (is_key_of d q) (words_under es q) None) (words_under (flat_map (λ d. under d es) ds) q) ≡ words_under es q
-    by_case (inl none) ih = ap (or_else (cond (is_key_of d q) (words_under es q) None)) (ih (inl none)) ∙ or-same (is_key_of d q) (words_under es q)
-    by_case (inr (inl same)) ih =
-        let key : is_key_of d q ≡ true = is-own d (record { key = q; words = [] }) same in
-        ap (λ b. or_else (cond b (words_under es q) None) (words_under (flat_map (λ d. under d es) ds) q)) key ∙ none_or (words_under es q) refl ih
-    by_case (inr (inr among)) ih = ap (or_else (cond (is_key_of d q) (words_under es q) None)) (ih (inr among)) ∙ or-same (is_key_of d q) (words_under es q)
+    let own : struct_under q ≡ d → is_key_of d q ≡ true = is-own d (record { key = q; words = [] }) in
+    let none : words_under es q ≡ None → words_under (flat_map (λ d. under d es) ds) q ≡ words_under es q = λ n. lookup-groups es q ds (inl n) in
+    let among : Among (struct_under q) ds → words_under (flat_map (λ d. under d es) ds) q ≡ words_under es q = λ a. lookup-groups es q ds (inr a) in
+    grind (arith, own, none, among, words-append (under d es) (flat_map (λ d. under d es) ds) q, words-under d es q)
 
 module _ (modules : List Module) where
   -- each stored value has its parts
@@ -219,12 +161,10 @@ module _ (modules : List Module) where
   -- stored values of a struct are entries under it
   own-entries : (d : Definition) (storage : Storage) → AllByRecursion (FineParts modules) storage → AllByRecursion (IsEntry modules (Some d)) (under d (flat_storage storage))
   own-entries d [] parts = tt
-  own-entries d (e ∷ storage) parts = by_case (is_of d (flat_entry e)) refl (own-entries d storage parts.1)
-    where
-      by_case : (b : Bool) → is_of d (flat_entry e) ≡ b → AllByRecursion (IsEntry modules (Some d)) (under d (flat_storage storage)) → AllByRecursion (IsEntry modules (Some d))
-          (cond b (flat_entry e ∷ under d (flat_storage storage)) (under d (flat_storage storage)))
-      by_case true own rest = (record { kinds = parts.0.kinds; kinds_are = parts.0.kinds_are; leaves = parts.0.leaves; address = parts.0.address; known = own-is d (flat_entry e) own }, rest)
-      by_case false own rest = rest
+  own-entries d (e ∷ storage) parts =
+      let own : is_of d (flat_entry e) ≡ true → IsEntry modules (Some d) (flat_entry e) =
+      λ is. record { kinds = parts.0.kinds; kinds_are = parts.0.kinds_are; leaves = parts.0.leaves; address = parts.0.address; known = own-is d (flat_entry e) is } in
+      grind (arith, own, own-entries d storage parts.1)
 
   -- their texts
   own-texts : (d : Definition) (storage : Storage) → AllByRecursion (FineParts modules) storage → flat_map addressed_text storage ≡ flat_map (entry_text modules (Some d)) (flat_storage storage)
@@ -237,7 +177,7 @@ module _ (modules : List Module) where
 
   group-is : (storage : Storage) → AllByRecursion (FineParts modules) storage → (d : Definition) → struct_text storage d ≡ group_text modules (flat_storage storage) d
   group-is storage parts d =
-      let own : AllByRecursion (FineParts modules) (filter (is_under d) storage) = filter-all (FineParts modules) (is_under d) storage parts in
+      let own : AllByRecursion (FineParts modules) (filter (is_under d) storage) = all-filter (FineParts modules) (is_under d) storage parts in
       ap₂ (λ (n : ℕ) (z : List ℕ). uleb n ++ z) (sym (length-map (filter (is_under d) storage) flat_entry)) (own-texts d (filter (is_under d) storage) own)
       ∙ ap (counted (entry_text modules (Some d))) (sym (under-flat d storage))
 
@@ -248,12 +188,9 @@ module _ (modules : List Module) where
   -- what is stored is stored under a struct with key
   stored-keyed : (storage : Storage) → AllByRecursion (FineParts modules) storage → (q : Key) → (words_under (flat_storage storage) q ≡ None) ⊎ (is_keyed modules (struct_under q) ≡ true)
   stored-keyed [] parts q = inl refl
-  stored-keyed (e ∷ storage) parts q = by_case (same_key e.key q) refl (stored-keyed storage parts.1 q)
-    where
-      by_case : (b : Bool) → same_key e.key q ≡ b → (words_under (flat_storage storage) q ≡ None) ⊎ (is_keyed modules (struct_under q) ≡ true)
-          → (cond b (Some (flat_entry e).words) (words_under (flat_storage storage) q) ≡ None) ⊎ (is_keyed modules (struct_under q) ≡ true)
-      by_case true same rest = inr (subst (λ (k : Key). is_keyed modules (struct_under k) ≡ true) (same_key-to e.key q same) parts.0.keyed)
-      by_case false same rest = rest
+  stored-keyed (e ∷ storage) parts q =
+      let keyed : same_key e.key q ≡ true → is_keyed modules (struct_under q) ≡ true = λ same. subst (λ (k : Key). is_keyed modules (struct_under k) ≡ true) (same_key-to e.key q same) parts.0.keyed in
+      grind (arith, keyed, stored-keyed storage parts.1 q)
 
   pub keyed-or : (storage : Storage) → AllByRecursion (FineParts modules) storage → (q : Key) → (words_under (flat_storage storage) q ≡ None) ⊎ Among (struct_under q) (keyed_from 0 modules)
   keyed-or storage parts q = elim (stored-keyed storage parts q) [ inl none ↦ inl none | inr keyed ↦ inr (keyed-among modules (struct_under q) keyed) ]
@@ -267,7 +204,7 @@ module _ (modules : List Module) where
       entries_from_words (puts [] (flat_map (λ d. under d words) (keyed_from 0 modules))) words (Ascends-puts [] (flat_map (λ d. under d words) (keyed_from 0 modules)) tt) ascends
       (λ q. words-puts [] (flat_map (λ d. under d words) (keyed_from 0 modules)) q ∙ lookup-groups words q (keyed_from 0 modules) (keyed-or storage parts q)) in
       ap (λ z. storage_into modules Second [] (z ++ rest)) (groups-are storage parts (keyed_from 0 modules))
-      ∙ groups-whole modules (keyed_from 0 modules) [] rest words ascends (λ d. own-entries d storage parts) (λ d. omega (arith, under-few d words, length-map storage flat_entry))
+      ∙ groups-whole modules (keyed_from 0 modules) [] rest words ascends (λ d. own-entries d storage parts) (λ d. omega (arith, filter-shorter (is_of d) words, length-map storage flat_entry))
       ∙ ap (λ z. Some (z, rest)) whole
 
 module _ (published : List PublishedModule) (store : IsStore published) (short : length published ≤ 65536) where

@@ -1,11 +1,9 @@
 -- Reading the tallies of all modules: how far it has come, and what stays.
-use Rattle.mv_ledger.proofs.Loads.Common.{[], ℕ, ◌++◌, ◌+◌, ◌<◌, ◌∙◌, ◌∷◌, ◌≡◌, ◌≤◌, List, None, Some, ap, append-nil, append_assoc, arith, drop, get_or, length, length-append, map, option_map, refl}
-use Rattle.mv_ledger.proofs.Loads.Common.{subst, suc, sym, take, zero, zero-add, map-set_same, drop-set-lt, drop_all, drop_more, get_or-map, length-map, map-append, map-set, take_all, take_more_set}
-use Rattle.mv_ledger.proofs.Loads.Common.{with_items_is, All-cons, All-head, All-nil, All-tail, All, slice_set, ◌>>=◌, Definition, Read, entries_from, counts_of, struct_of, ArePlaced, all_of, Tally}
-use Rattle.std.specs.declared.vec.Vec.{Vec}
-use Rattle.std.specs.Vec.{with_items}
-use Rattle.std.specs.declared.alloc.Global.{Global}
-use Rattle.mv_module_text.proofs.Entries.{after}
+use Rattle.mv_ledger.proofs.Common.{[], ◌++◌, ◌+◌, ◌<◌, ◌∙◌, ◌∷◌, ◌≡◌, ◌≤◌, List, None, Some, ap, append-nil, append_assoc, arith, drop, get_or, length, length-append, map, option_map, refl, subst}
+use Rattle.mv_ledger.proofs.Common.{suc, sym, take, zero, zero-add, ℕ, map-set_same, drop-set-lt, drop_all, drop_more, get_or-map, length-map, map-append, map-set, take_all, take_more_set}
+use Rattle.mv_ledger.proofs.Common.{with_items_is, All-cons, All-head, All-nil, All-tail, All, slice_set, with_items, Global, Vec, ◌>>=◌, Definition, after, Read, entries_from, counts_of}
+use Rattle.mv_ledger.proofs.Common.{struct_of, ArePlaced, all_of, Tally}
+use Rattle.mv_ledger.proofs.Loads.BodyReading.{after-none}
 
 -- ---- so many entries, and then others
 
@@ -22,8 +20,7 @@ abbrev with_more : {A : Type 0} → (List ℕ → Read A) → ℕ → Read (List
 with_more each n o = o >>= λ r. option_map (after r.0) (entries_from each n r.1)
 
 after-push : {A : Type 0} (x : A) (xs : List A) (o : Read (List A)) → pushed x (option_map (after xs) o) ≡ option_map (after (x ∷ xs)) o
-after-push x xs None = refl
-after-push x xs (Some r) = refl
+after-push x xs o = grind arith
 
 -- what one more in front makes of them
 push-both : {A : Type 0} (each : List ℕ → Read A) (n : ℕ) (x : A) (o : Read (List A)) → pushed x (with_more each n o) ≡ with_more each n (pushed x o)
@@ -34,10 +31,6 @@ step-both : {A : Type 0} (each : List ℕ → Read A) (m n : ℕ) → ((bytes : 
     → (o : Read A) → (o >>= λ x. pushed x.0 (entries_from each (m + n) x.1)) ≡ with_more each n (o >>= λ x. pushed x.0 (entries_from each m x.1))
 step-both each m n both None = refl
 step-both each m n both (Some x) = ap (pushed x.0) (both x.1) ∙ push-both each n x.0 (entries_from each m x.1)
-
-after-none : {A : Type 0} (o : Read (List A)) → o ≡ option_map (after []) o
-after-none None = refl
-after-none (Some r) = refl
 
 -- the first entries, if they can be read, and the others after them
 entries-both : {A : Type 0} (each : List ℕ → Read A) (m n : ℕ) (bytes : List ℕ) → entries_from each (m + n) bytes ≡ with_more each n (entries_from each m bytes)
@@ -133,12 +126,11 @@ placed-row place (x ∷ xs) (y ∷ ys) e all =
 -- they stand with their modules
 pub placed-kept : (place : ℕ) (xs ys : List (List Tally)) → structs_in xs ≡ structs_in ys → ArePlaced place ys → ArePlaced place xs
 placed-kept place [] [] e placed = tt
-placed-kept place [] (y ∷ ys) e placed = absurd cc
-placed-kept place (x ∷ xs) [] e placed = absurd cc
 placed-kept place (x ∷ xs) (y ∷ ys) e placed =
     let first : map struct_of x ≡ map struct_of y = cc in
     let others : structs_in xs ≡ structs_in ys = cc in
     (placed-row place x y first placed.0, placed-kept (place + 1) xs ys others placed.1)
+placed-kept place _ _ e placed = absurd cc
 
 -- ---- a module's tallies in their vector
 

@@ -1,15 +1,127 @@
 -- Entries whose words are leaves of their structs' kinds are stored values with these leaves, and the other way round.
-use Rattle.mv_ledger.proofs.Loads.Common.{[], ℕ, ◌++◌, ◌∙◌, ◌∷◌, ◌≡◌, Bool, IsTrue, List, None, Option, Some, ap, append-nil, append_assoc, ap₂, cond, false, length, map, option_map, refl, sym, true}
-use Rattle.mv_ledger.proofs.Loads.Common.{and_from, none-some, first_so, second_so, filter, option_map_or, ◌&&◌, unwrap_or, leaves_within, Module, name_at, StructName, ◌>>=◌, Definition, Key}
-use Rattle.mv_ledger.proofs.Loads.Common.{LeafKind, uleb, on_bind, address_text, address_fits, Entry, Storage, abilities_at, is_fine_entry, is_of_struct, Leaf, Value, Ascends, IsBelow, AreAbove}
-use Rattle.mv_ledger.proofs.Loads.Common.{IsAscending, AreLeaves, coded, is_keyed, kinds_under, kinds_within, leaf_kinds, addressed_text, is_under, leaves_text, stored_text}
-use Rattle.mv_move_types.specs.declared.token.LeafKind.TheVariants.{Boolean}
-use Rattle.mv_move_types.specs.declared.token.Abilities.{Abilities}
-use Rattle.mv_machine.specs.Flat.{FlatEntry, flat, flat_storage, struct_from, value_under}
+use Rattle.mv_ledger.proofs.Common.{[], ◌++◌, ◌∙◌, ◌∷◌, ◌≡◌, Bool, IsTrue, List, None, Option, Some, ap, append-nil, append_assoc, ap₂, arith, cond, false, length, map, refl, subst, suc, sym, true}
+use Rattle.mv_ledger.proofs.Common.{zero, ℕ, and_from, none-some, same_Some, first_so, second_so, filter, option_map_or, ◌&&◌, unwrap_or, leaves_within, Module, name_at, struct_name, definition_of}
+use Rattle.mv_ledger.proofs.Common.{StructName, same_struct, ◌>>=◌, same_kind, Definition, Field, Key, Abilities, LeafKind, Boolean, Token, Plain, OfLeaf, OfStruct, uleb, on_bind, address_text}
+use Rattle.mv_ledger.proofs.Common.{address_fits, Ascends, IsBelow, map-is, FlatEntry, fields_from, flat, flat_fields, flat_storage, struct_from, value_from, value_under, Entry, Storage}
+use Rattle.mv_ledger.proofs.Common.{abilities_at, are_of_types, is_fine_entry, is_of_struct, is_of_type, leaf_fits, Leaf, More, NoMore, Struct, Value, Values, same_struct-same, on_found}
+use Rattle.mv_ledger.proofs.Common.{same_kind-same, AreAbove, IsAscending, AreLeaves, coded, is_keyed, kinds_of_fields, kinds_of_token, kinds_under, kinds_within, leaf_kinds, addressed_text}
+use Rattle.mv_ledger.proofs.Common.{is_under, leaves_text, stored_text}
 use Rattle.mv_ledger.proofs.Loads.LeafKinds.{kinds-count, struct-leaves}
-use Rattle.mv_ledger.proofs.Loads.Decoded.{struct-decoded}
-use Rattle.mv_ledger.proofs.Loads.BodyLookups.{is_of, under, IsLow, low-all}
+use Rattle.mv_ledger.proofs.Loads.BodyLookups.{under, IsLow, low-all}
 use Rattle.mv_ledger.proofs.Loads.BodyEntries.{struct_under, entry_text, IsEntry}
+
+-- ---- leaves of the kinds that a struct's values have are those of such a value
+
+-- ---- leaves one after the other
+
+-- leaves of some kinds, and leaves of others after them
+record Splits (ks ls : List LeafKind) (words : List ℕ) : Type 0 where
+  pub front : List ℕ
+  pub back : List ℕ
+  pub words_are : words ≡ front ++ back
+  pub first : AreLeaves ks front
+  pub last : AreLeaves ls back
+
+leaves-split : (ks ls : List LeafKind) (words : List ℕ) → AreLeaves (ks ++ ls) words → Splits ks ls words
+leaves-split [] ls words h = record { front = []; back = words; words_are = refl; first = tt; last = h }
+leaves-split (k ∷ ks) ls [] h = absurd h
+leaves-split (k ∷ ks) ls (n ∷ words) h =
+    let rest = leaves-split ks ls words h.1 in
+    record { front = n ∷ rest.front; back = rest.back; words_are = ap (λ z. n ∷ z) rest.words_are; first = (h.0, rest.first); last = rest.last }
+
+module _ (modules : List Module) where
+  -- words are those of a value of a type that a module names
+  record TokenDecodes (depth : ℕ) (m : Module) (t : Token) (words : List ℕ) : Type 0 where
+    pub value : Value
+    pub reads : (more : List ℕ) → value_from (struct_from depth modules) m t (words ++ more) ≡ Some (value, more)
+    pub flat_is : flat value ≡ words
+    pub typed : is_of_type modules m t value ≡ true
+
+  -- of values of fields
+  record FieldsDecode (depth : ℕ) (m : Module) (fs : List Field) (words : List ℕ) : Type 0 where
+    pub values : Values
+    pub reads : (more : List ℕ) → fields_from (value_from (struct_from depth modules) m) fs (words ++ more) ≡ Some (values, more)
+    pub flat_is : flat_fields values ≡ words
+    pub typed : are_of_types modules m fs values ≡ true
+
+  -- of a value of a struct
+  pub record StructDecodes (depth : ℕ) (name : StructName) (words : List ℕ) : Type 0 where
+    pub value : Value
+    pub reads : (more : List ℕ) → struct_from depth modules name (words ++ more) ≡ Some (value, more)
+    pub flat_is : flat value ≡ words
+    pub typed : is_of_struct modules name value ≡ true
+    pub fields : Values
+    pub value_is : value ≡ Struct name fields
+
+  -- leaves of a struct's kinds are those of a value of it
+  abbrev EachDecodes : ℕ → Type 0
+  EachDecodes depth = (name : StructName) (ks : List LeafKind) (words : List ℕ) → kinds_within depth modules name ≡ Some ks → AreLeaves ks words → StructDecodes depth name words
+
+  leaf-decoded : (depth : ℕ) (m : Module) (k : LeafKind) (words : List ℕ) → AreLeaves (k ∷ []) words → TokenDecodes depth m (Plain (OfLeaf k)) words
+  leaf-decoded depth m k [] h = absurd h
+  leaf-decoded depth m k (n ∷ []) h = record { value = Leaf k n; reads = λ more. refl; flat_is = refl; typed = and_from (same_kind k k) (leaf_fits k n) (same_kind-same k) h.0 }
+  leaf-decoded depth m k (n ∷ o ∷ words) h = absurd h.1
+
+  token-decoded : (depth : ℕ) → EachDecodes depth → (m : Module) (t : Token) (ks : List LeafKind) (words : List ℕ) → kinds_of_token (kinds_within depth modules) m t ≡ Some ks → AreLeaves ks words
+      → TokenDecodes depth m t words
+  token-decoded depth deeper m (Plain (OfLeaf k)) ks words e h = leaf-decoded depth m k words (subst (λ (l : List LeafKind). AreLeaves l words) (sym (same_Some (k ∷ []) ks e)) h)
+  token-decoded depth deeper m (Plain (OfStruct i)) ks words e h =
+      on_bind (struct_name m i) (kinds_within depth modules) ks e (λ name name_is e1.
+      let d = deeper name ks words e1 h in
+      let own : option_map_or (λ own. same_struct own name) (struct_name m i) false ≡ true = ap (λ o. option_map_or (λ own. same_struct own name) o false) name_is ∙ same_struct-same name in
+      let typed : is_of_struct modules name (Struct name d.fields) ≡ true = subst (λ (v : Value). is_of_struct modules name v ≡ true) d.value_is d.typed in
+      record {
+        value = d.value;
+        reads = λ more. ap (λ (o : Option StructName). o >>= λ name. struct_from depth modules name (words ++ more)) name_is ∙ d.reads more;
+        flat_is = d.flat_is;
+        typed = subst (λ (v : Value). is_of_type modules m (Plain (OfStruct i)) v ≡ true) (sym d.value_is) (and_from _ _ own (inner_typed name d.fields typed));
+      })
+    where
+      inner_typed : (name : StructName) (fields : Values) → is_of_struct modules name (Struct name fields) ≡ true → option_map_or (λ (d : Module × List Field). are_of_types modules d.0 d.1 fields)
+          (definition_of modules name) false ≡ true
+      inner_typed name fields h = second_so (same_struct name name) (option_map_or (λ (d : Module × List Field). are_of_types modules d.0 d.1 fields) (definition_of modules name) false) h
+  token-decoded _ _ _ _ ks _ e _ = absurd (none-some ks e)
+
+  fields-decoded : (depth : ℕ) → EachDecodes depth → (m : Module) (fs : List Field) (ks : List LeafKind) (words : List ℕ) → kinds_of_fields (kinds_of_token (kinds_within depth modules) m) fs ≡ Some ks
+      → AreLeaves ks words → FieldsDecode depth m fs words
+  fields-decoded depth deeper m [] ks [] e h = record { values = NoMore; reads = λ more. refl; flat_is = refl; typed = refl }
+  fields-decoded depth deeper m [] ks (n ∷ words) e h = absurd (subst (λ (l : List LeafKind). AreLeaves l (n ∷ words)) (sym (same_Some [] ks e)) h)
+  fields-decoded depth deeper m (f ∷ fs) ks words e h =
+      on_bind (kinds_of_token (kinds_within depth modules) m f.token) _ ks e (λ first first_is e1.
+      on_bind (kinds_of_fields (kinds_of_token (kinds_within depth modules) m) fs) (λ rest. Some (first ++ rest)) ks e1 (λ rest rest_is e2.
+      let s = leaves-split first rest words (subst (λ (l : List LeafKind). AreLeaves l words) (sym (same_Some (first ++ rest) ks e2)) h) in
+      let a = token-decoded depth deeper m f.token first s.front first_is s.first in
+      let b = fields-decoded depth deeper m fs rest s.back rest_is s.last in
+      record {
+        values = More a.value b.values;
+        reads = λ more. ap (λ z. fields_from (value_from (struct_from depth modules) m) (f ∷ fs) (z ++ more)) s.words_are
+            ∙ joined depth m f fs s.front s.back more a.value b.values (a.reads (s.back ++ more)) (b.reads more);
+        flat_is = ap₂ (λ (x y : List ℕ). x ++ y) a.flat_is b.flat_is ∙ sym s.words_are;
+        typed = and_from (is_of_type modules m f.token a.value) (are_of_types modules m fs b.values) a.typed b.typed;
+      }))
+    where
+      joined : (depth : ℕ) (m : Module) (f : Field) (fs : List Field) (front back more : List ℕ) (v : Value) (vs : Values)
+          → value_from (struct_from depth modules) m f.token (front ++ (back ++ more)) ≡ Some (v, back ++ more) →
+          fields_from (value_from (struct_from depth modules) m) fs (back ++ more) ≡ Some (vs, more)
+          → fields_from (value_from (struct_from depth modules) m) (f ∷ fs) ((front ++ back) ++ more) ≡ Some (More v vs, more)
+      joined depth m f fs front back more v vs a b = rw (append_assoc front back more, a, b) refl
+
+  pub struct-decoded : (depth : ℕ) → EachDecodes depth
+  struct-decoded zero name ks words e h = absurd (none-some ks e)
+  struct-decoded (suc depth) name ks words e h =
+      on_bind (definition_of modules name) (λ d. kinds_of_fields (kinds_of_token (kinds_within depth modules) d.0) d.1) ks e (λ d d_is e1.
+      let fields = fields-decoded depth (struct-decoded depth) d.0 d.1 ks words e1 h in
+      record {
+        value = Struct name fields.values;
+        reads = λ more. ap (λ (x : Option (Module × List Field)). x >>= λ d. fields_from (value_from (struct_from depth modules) d.0) d.1 (words ++ more) >>= λ values. Some
+            (Struct name values.0, values.1)) d_is
+            ∙ ap (λ (x : Option (Values × List ℕ)). x >>= λ values. Some (Struct name values.0, values.1)) (fields.reads more);
+        flat_is = fields.flat_is;
+        typed = and_from (same_struct name name) (option_map_or (λ (d : Module × List Field). are_of_types modules d.0 d.1 fields.values) (definition_of modules name) false) (same_struct-same name)
+            (ap (λ (x : Option (Module × List Field)). option_map_or (λ (d : Module × List Field). are_of_types modules d.0 d.1 fields.values) x false) d_is ∙ fields.typed);
+        fields = fields.values;
+        value_is = refl;
+      })
 
 -- ---- what entries stand for
 
@@ -19,8 +131,7 @@ flat_entry e = record { key = e.key; words = flat e.value }
 
 -- something that is there only if a test holds
 cond-some : {A : Type 0} (b : Bool) (o : Option A) (x : A) → cond b o None ≡ Some x → (b ≡ true) × (o ≡ Some x)
-cond-some true o x h = (refl, h)
-cond-some false o x h = absurd (none-some x h)
+cond-some b o x h = grind arith
 
 -- the struct of a key is there, has key and such leaves
 pub record IsKeyed (modules : List Module) (k : Key) (kinds : List LeafKind) : Type 0 where
@@ -72,10 +183,6 @@ module _ (modules : List Module) where
   abbrev pub EachIsSized : Type 0
   EachIsSized = (place index : ℕ) (name : StructName) → name_at modules place index ≡ Some name → (n : ℕ) × (leaves_within 8 modules name ≡ Some n)
 
-  kinds-some : (o : Option (List LeafKind)) (n : ℕ) → option_map length o ≡ Some n → (kinds : List LeafKind) × (o ≡ Some kinds)
-  kinds-some None n h = absurd (none-some n h)
-  kinds-some (Some kinds) n h = (kinds, refl)
-
   -- the parts of a fine stored value
   pub record FineParts (e : Entry) : Type 0 where
     pub kinds : List LeafKind
@@ -89,41 +196,27 @@ module _ (modules : List Module) where
     pub typed : is_of_struct modules name e.value ≡ true
 
   pub fine-parts : EachIsSized → (e : Entry) → is_fine_entry modules e ≡ true → FineParts e
-  fine-parts sized e h = by_name (name_at modules e.key.place e.key.index) refl typed
-    where
-      both : (address_fits e.key.address && option_map_or (λ name. is_of_struct modules name e.value) (name_at modules e.key.place e.key.index) false) ≡ true
-      both = first_so (address_fits e.key.address && option_map_or (λ name. is_of_struct modules name e.value) (name_at modules e.key.place e.key.index) false)
-          (option_map_or (λ (a : Abilities). a.key) (abilities_at modules e.key.place e.key.index) false) h
-
-      keyed : is_keyed modules (struct_under e.key) ≡ true
-      keyed = second_so (address_fits e.key.address && option_map_or (λ name. is_of_struct modules name e.value) (name_at modules e.key.place e.key.index) false)
-          (option_map_or (λ (a : Abilities). a.key) (abilities_at modules e.key.place e.key.index) false) h
-
-      address : IsTrue (address_fits e.key.address)
-      address = first_so (address_fits e.key.address) (option_map_or (λ name. is_of_struct modules name e.value) (name_at modules e.key.place e.key.index) false) both
-
-      typed : option_map_or (λ name. is_of_struct modules name e.value) (name_at modules e.key.place e.key.index) false ≡ true
-      typed = second_so (address_fits e.key.address) (option_map_or (λ name. is_of_struct modules name e.value) (name_at modules e.key.place e.key.index) false) both
-
-      by_name : (o : Option StructName) → name_at modules e.key.place e.key.index ≡ o → option_map_or (λ name. is_of_struct modules name e.value) o false ≡ true → FineParts e
-      by_name None is g = absurd cc
-      by_name (Some name) is g =
-          let n = sized e.key.place e.key.index name is in
-          let k = kinds-some (kinds_within 8 modules name) n.0 (kinds-count modules 8 name ∙ n.1) in
-          let kinds_are : kinds_under modules (struct_under e.key) ≡ Some k.0 =
-          ap (λ (b : Bool). cond b (name_at modules e.key.place e.key.index >>= leaf_kinds modules) None) keyed ∙ ap (λ (o : Option StructName). o >>= leaf_kinds modules) is ∙ k.1 in
-          let l = struct-leaves modules 8 name e.value k.0 k.1 g in
-          record {
-            kinds = k.0;
-            kinds_are = kinds_are;
-            leaves = l.are;
-            address = address;
-            text = l.text ∙ ap (λ (o : Option (List LeafKind)). coded (unwrap_or o []) (flat e.value)) (sym kinds_are);
-            name = name;
-            named = is;
-            keyed = keyed;
-            typed = g;
-          }
+  fine-parts sized e h =
+      let of_struct = option_map_or (λ (name : StructName). is_of_struct modules name e.value) (name_at modules e.key.place e.key.index) false in
+      let both : (address_fits e.key.address && of_struct) ≡ true = first_so (address_fits e.key.address && of_struct) (is_keyed modules (struct_under e.key)) h in
+      let keyed : is_keyed modules (struct_under e.key) ≡ true = second_so (address_fits e.key.address && of_struct) (is_keyed modules (struct_under e.key)) h in
+      on_found (λ name. is_of_struct modules name e.value) (name_at modules e.key.place e.key.index) (second_so (address_fits e.key.address) of_struct both) (λ name is g.
+      let n = sized e.key.place e.key.index name is in
+      let k = map-is length (kinds_within 8 modules name) n.0 (kinds-count modules 8 name ∙ n.1) in
+      let kinds_are : kinds_under modules (struct_under e.key) ≡ Some k.0 =
+      ap (λ (b : Bool). cond b (name_at modules e.key.place e.key.index >>= leaf_kinds modules) None) keyed ∙ ap (λ (o : Option StructName). o >>= leaf_kinds modules) is ∙ k.1 in
+      let l = struct-leaves modules 8 name e.value k.0 k.1 g in
+      record {
+        kinds = k.0;
+        kinds_are = kinds_are;
+        leaves = l.are;
+        address = first_so (address_fits e.key.address) of_struct both;
+        text = l.text ∙ ap (λ (o : Option (List LeafKind)). coded (unwrap_or o []) (flat e.value)) (sym kinds_are);
+        name = name;
+        named = is;
+        keyed = keyed;
+        typed = g;
+      })
 
   -- ---- texts
 
@@ -168,19 +261,9 @@ ascends-ascending modules (e ∷ es) h = (low-above modules e.key es (low-all e.
 -- the entries of a struct with their values
 pub under-valued : (modules : List Module) (d : Definition) (es : List FlatEntry) → filter (is_under d) (map (valued modules) es) ≡ map (valued modules) (under d es)
 under-valued modules d [] = refl
-under-valued modules d (e ∷ es) = by_case (is_of d e) (under-valued modules d es)
-  where
-    by_case : (b : Bool) → filter (is_under d) (map (valued modules) es) ≡ map (valued modules) (under d es)
-        → cond b (valued modules e ∷ filter (is_under d) (map (valued modules) es)) (filter (is_under d) (map (valued modules) es)) ≡ map (valued modules) (cond b (e ∷ under d es) (under d es))
-    by_case true ih = ap (λ z. valued modules e ∷ z) ih
-    by_case false ih = ih
+under-valued modules d (e ∷ es) = grind (arith, under-valued modules d es)
 
 -- the stored values of a struct as words
 pub under-flat : (d : Definition) (es : Storage) → under d (flat_storage es) ≡ flat_storage (filter (is_under d) es)
 under-flat d [] = refl
-under-flat d (e ∷ es) = by_case (is_under d e) (under-flat d es)
-  where
-    by_case : (b : Bool) → under d (flat_storage es) ≡ flat_storage (filter (is_under d) es)
-        → cond b (flat_entry e ∷ under d (flat_storage es)) (under d (flat_storage es)) ≡ flat_storage (cond b (e ∷ filter (is_under d) es) (filter (is_under d) es))
-    by_case true ih = ap (λ z. flat_entry e ∷ z) ih
-    by_case false ih = ih
+under-flat d (e ∷ es) = grind (arith, under-flat d es)

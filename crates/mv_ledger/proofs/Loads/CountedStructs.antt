@@ -1,21 +1,49 @@
 -- The values that are stored, counted one after the other under their structs, and then struct by struct at any depth.
-use Rattle.mv_ledger.proofs.Loads.Common.{[], ℕ, ◌*◌, ◌++◌, ◌+◌, ◌<◌, ◌^◌, ◌∙◌, ◌∷◌, ◌≡◌, ◌≤◌, Bool, List, None, Option, Some, ap, arith, false, get_or, length, refl, subst, suc, sym, take, true}
-use Rattle.mv_ledger.proofs.Loads.Common.{get_or-replicate, length-map, length-replicate, take_all, take_more, slice_get_within, option_map_or, All, replicate, slice_get, Module, name_at}
-use Rattle.mv_ledger.proofs.Loads.Common.{name_of_struct, StructName, PublishedModule, Definition, on_bind, count, FlatEntry, storage_of, IsStore, tables_in, structs_under, structs_within, structs_at}
-use Rattle.mv_ledger.proofs.Loads.Common.{Adds, AreAll, AreStored, HasRows, capped, count_at, no_counts, row_at, stored_of, with_count, keyed_from}
+use Rattle.mv_ledger.proofs.Common.{[], ◌*◌, ◌++◌, ◌+◌, ◌<◌, ◌^◌, ◌∙◌, ◌∷◌, ◌≡◌, ◌≤◌, Bool, List, None, Option, Some, ap, ap₂, arith, false, get_or, length, map, refl, subst, suc, sym, take, true}
+use Rattle.mv_ledger.proofs.Common.{zero, ℕ, get_or-map, get_or-replicate, length-map, length-replicate, map-append, map-set, take_all, take_more, slice_get_within, option_map_or, All, replicate}
+use Rattle.mv_ledger.proofs.Common.{slice_get, slice_set, Global, Vec, Module, name_at, name_of_struct, StructName, PublishedModule, Definition, on_bind, count, FlatEntry, storage_of, IsStore}
+use Rattle.mv_ledger.proofs.Common.{tables_in, fine_words-typed, typed_is_fine, IsFineWords, structs_under, structs_within, structs_at, Adds, AreAll, AreStored, HasRows, capped, count_at}
+use Rattle.mv_ledger.proofs.Common.{no_counts, row_at, with_count, IsOfStore, keyed_from}
+use Rattle.std.proofs.lemmas.List.{set_past}
 use Rattle.mv_binary_format.proofs.Back.{filter-shorter}
-use Rattle.mv_interpreter.specs.Runs.{IsFineWords}
-use Rattle.mv_interpreter.proofs.Flat.FineWords.{fine_words-typed}
-use Rattle.mv_interpreter.proofs.Typing.Fine.{typed_is_fine}
-use Rattle.mv_ledger.specs.Parts.LayoutParts.{IsOfStore}
+use Rattle.mv_ledger.specs.Parts.CountRows.{stored_of}
 use Rattle.mv_ledger.proofs.Accepted.Stores.{accepted_store}
 use Rattle.mv_ledger.proofs.Loads.Adding.{capped-more, own-count, other-count, rows-kept}
 use Rattle.mv_ledger.proofs.Loads.BodyEntries.{struct_under}
 use Rattle.mv_ledger.proofs.Loads.BodyGroups.{own-is, is-own}
 use Rattle.mv_ledger.proofs.Loads.BodyLookups.{is_of}
 use Rattle.mv_ledger.proofs.Loads.BodyStorage.{store-sized}
-use Rattle.mv_ledger.proofs.Loads.Counted.{row-is}
 use Rattle.mv_ledger.proofs.Loads.CountedStorage.{by_structs, count-by_structs, under-own, under-other}
+
+-- ---- counts of the values of structs, as they are made and changed
+
+-- the counts in vectors
+abbrev pub rows_in : List (Vec ℕ Global) → List (List ℕ)
+rows_in vs = map (λ v. v.items) vs
+
+pub row-is : (modules : List Module) (place : ℕ) → place < length modules → get_or (no_counts modules) place [] ≡ replicate (structs_at modules place) 0
+row-is [] place lt = absurd (omega (arith, lt))
+row-is (m ∷ ms) zero lt = refl
+row-is (m ∷ ms) (suc place) lt = row-is ms place (omega (arith, lt))
+
+-- one more module's
+pub rows-more : (modules : List Module) (place : ℕ) (vs after : List (Vec ℕ Global)) (v : Vec ℕ Global) → place < length modules → rows_in vs ≡ take place (no_counts modules) → after ≡ vs ++ v ∷ []
+    → v.items ≡ replicate (structs_at modules place) 0 → rows_in after ≡ take (place + 1) (no_counts modules)
+rows-more modules place vs after v lt is after_is own =
+    let short : place < length (no_counts modules) = omega (arith, lt, length-map modules (λ m. replicate {A = ℕ} (length m.structs) 0)) in
+    ap rows_in after_is ∙ map-append (λ (w : Vec ℕ Global). w.items) vs (v ∷ [])
+    ∙ ap₂ (λ (xs : List (List ℕ)) (x : List ℕ). xs ++ x ∷ []) is (own ∙ sym (row-is modules place lt))
+    ∙ sym (take_more (no_counts modules) place [] short)
+
+-- a count in its module's row
+pub rows-put : (vs : List (Vec ℕ Global)) (place index n : ℕ) (v w : Vec ℕ Global) → place < length vs → v ≡ get_or vs place v → w.items ≡ slice_set v.items index n
+    → rows_in (slice_set vs place w) ≡ slice_set (rows_in vs) place (slice_set (row_at (rows_in vs) place) index n)
+rows-put vs place index n v w lt v_is w_is =
+    let here : v.items ≡ row_at (rows_in vs) place = ap (λ (x : Vec ℕ Global). x.items) v_is ∙ sym (get_or-map (λ (x : Vec ℕ Global). x.items) vs place v [] lt) in
+    map-set (λ (x : Vec ℕ Global). x.items) vs place w ∙ ap (slice_set (rows_in vs) place) (w_is ∙ ap (λ r. slice_set r index n) here)
+
+pub rows-past : (vs : List (Vec ℕ Global)) (place : ℕ) (row : List ℕ) → length vs ≤ place → rows_in vs ≡ slice_set (rows_in vs) place row
+rows-past vs place row le = sym (set_past (rows_in vs) place row (omega (arith, le, length-map vs (λ (x : Vec ℕ Global). x.items))))
 
 -- ---- nothing is counted
 
@@ -88,14 +116,11 @@ module _ (ms : List Module) where
           let most : stored_of storage d ≤ length storage = filter-shorter (is_of d) storage in
           let counted : count_at (with_count rows (struct_under e.key) 1) d ≡ capped (count_at rows d + 1) =
           ap (λ (x : Definition). count_at (with_count rows x 1) d) own ∙ own-count rows d 1 there.0 there.1 in
-          let whole : capped (count_at rows d + 1) ≡ count_at rows d + 1 = below-cap (count_at rows d + 1) (omega (arith, so_far, one, most, few)) in
-          omega (arith, so_far, one, counted, whole)
+          omega (arith, so_far, one, counted, below-cap (count_at rows d + 1) (omega (arith, so_far, one, most, few)))
       by_struct d name named false is =
           let apart : struct_under e.key ≡ d → ⊥ = λ own. differ (sym (is-own d e own) ∙ is) in
           let so_far : count_at rows d + stored_of (e ∷ rest) d ≡ stored_of storage d = ap (λ es. count_at rows d + stored_of es d) (sym at) ∙ h.counts d name named in
-          let same : stored_of (e ∷ rest) d ≡ stored_of rest d = under-other d e rest apart in
-          let counted : count_at (with_count rows (struct_under e.key) 1) d ≡ count_at rows d = other-count rows (struct_under e.key) 1 d (h.has d name named).0 (λ own. apart (sym own)) in
-          omega (arith, so_far, same, counted)
+          omega (arith, so_far, under-other d e rest apart, other-count rows (struct_under e.key) 1 d (h.has d name named).0 (λ own. apart (sym own)))
         where
           differ : true ≡ false → ⊥
           differ e = cc
@@ -104,10 +129,7 @@ module _ (ms : List Module) where
 
   by-append : (f : Definition → ℕ) (es : List FlatEntry) (ds : List Definition) (d : Definition) → by_structs f es (ds ++ d ∷ []) ≡ by_structs f es ds + stored_of es d * f d
   by-append f es [] d = omega arith
-  by-append f es (x ∷ ds) d = ap (λ k. stored_of es x * f x + k) (by-append f es ds d) ∙ regroup (stored_of es x * f x) (by_structs f es ds) (stored_of es d * f d)
-    where
-      regroup : (a b c : ℕ) → a + (b + c) ≡ a + b + c
-      regroup a b c = omega arith
+  by-append f es (x ∷ ds) d = omega (arith, by-append f es ds d)
 
   -- the counts of the values of the first so many structs
   pub record IsAdding (es : List FlatEntry) (ds : List Definition) (rows : List (List ℕ)) : Type 0 where

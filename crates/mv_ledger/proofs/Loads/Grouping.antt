@@ -1,16 +1,13 @@
 -- Which of the next modules name none that comes later.
-use Rattle.mv_ledger.proofs.Loads.Common.{[], ℕ, ◌+◌, ◌<◌, ◌∙◌, ◌∷◌, ◌≡◌, ◌≤◌, Bool, Equal, Greater, IsTrue, Less, List, None, Option, Some, add-one, ap, arith, cond, false, get_or, is_lt, leb-true}
-use Rattle.mv_ledger.proofs.Loads.Common.{length, map, nat_cmp, option_map, refl, subst, suc, sym, take, true, zero, and_from, and_parts, leb-false, ltb-false, ltb-true, length-map, take-map}
-use Rattle.mv_ledger.proofs.Loads.Common.{list_all, list_any, position, option_map_or, ◌&&◌, ◌==◌, ◌||◌, is_some, nat_le, nat_lt, Module, module_name, is_module, module_place, ModuleName, find_index}
-use Rattle.mv_ledger.proofs.Loads.Common.{PublishedModule, tables_in, module_is_there, modules_are_there}
-use Rattle.std.specs.Ordering.{ord_max}
-use Rattle.std.proofs.lemmas.List.Folds.{list_any-append, list_all_more}
-use Rattle.mv_linker.specs.declared.New.{New}
-use Rattle.mv_linker.specs.News.{published_one, published_of}
+use Rattle.mv_ledger.proofs.Common.{[], ◌+◌, ◌<◌, ◌∙◌, ◌∷◌, ◌≡◌, ◌≤◌, Bool, IsTrue, List, None, Option, Some, add-one, ap, arith, cond, false, get_or, inl, inr, length, nat_cmp, option_map, refl}
+use Rattle.mv_ledger.proofs.Common.{subst, suc, sym, take, true, zero, ℕ, and_from, and_parts, cases_eq, cases_lt, nat_tests, length-map, take-map, list_all_more, list_any-append, list_all}
+use Rattle.mv_ledger.proofs.Common.{list_any, position, option_map_or, ord_max, ◌&&◌, ◌||◌, is_some, Module, module_name, is_module, module_place, ModuleName, find_index, PublishedModule}
+use Rattle.mv_ledger.proofs.Common.{tables_in, published_of, published_one, module_is_there, modules_are_there, New, on_found, HandleHolds, HandlesHold, IsGroup, IsNeeded, NameThemselves}
+use Rattle.mv_ledger.proofs.Common.{with_next}
 use Rattle.mv_linker.proofs.Kept.Keyed.{position-find_index}
 use Rattle.mv_linker.proofs.ListTests.{list_all-maps}
-use Rattle.mv_ledger.specs.Groups.{with_next, IsNeeded, HandleHolds, HandlesHold, NameThemselves, IsGroup}
-use Rattle.mv_ledger.proofs.Bundles.Places.{spot_of, found}
+use Rattle.mv_ledger.proofs.Bundles.Places.{found}
+use Rattle.mv_bounds.proofs.HandleLemmas.{find-map}
 
 -- ---- more modules
 
@@ -19,30 +16,17 @@ any-take p [] zero k le e = absurd cc
 any-take p [] (suc n) k le e = absurd cc
 any-take p (q ∷ qs) zero k le e = absurd cc
 any-take p (q ∷ qs) (suc n) zero le e = absurd (omega (arith, le))
-any-take p (q ∷ qs) (suc n) (suc k) le e = let less : n ≤ k = omega (arith, le) in step (p q.tables) e (any-take p qs n k less)
-  where
-    step : (b : Bool) → (b || list_any p (tables_in (take n qs))) ≡ true → (list_any p (tables_in (take n qs)) ≡ true → list_any p (tables_in (take k qs)) ≡ true)
-        → (b || list_any p (tables_in (take k qs))) ≡ true
-    step true e ih = refl
-    step false e ih = ih e
+any-take p (q ∷ qs) (suc n) (suc k) le e = grind (arith, any-take p qs n k (omega (arith, le)))
 
 any-next : (p : Module → Bool) (ps qs : List PublishedModule) (n k : ℕ) → n ≤ k → list_any p (with_next ps qs n) ≡ true → list_any p (with_next ps qs k) ≡ true
 any-next p [] qs n k le e = any-take p qs n k le e
-any-next p (o ∷ ps) qs n k le e = step (p o.tables) e (any-next p ps qs n k le)
-  where
-    step : (b : Bool) → (b || list_any p (with_next ps qs n)) ≡ true → (list_any p (with_next ps qs n) ≡ true → list_any p (with_next ps qs k) ≡ true) → (b || list_any p (with_next ps qs k)) ≡ true
-    step true e ih = refl
-    step false e ih = ih e
+any-next p (o ∷ ps) qs n k le e = grind (arith, any-next p ps qs n k le)
 
 module _ (ps qs : List PublishedModule) (m : Module) where
   -- what is there stays with more of them
   pub handle-more : (h n k : ℕ) → n ≤ k → HandleHolds ps qs m h n → HandleHolds ps qs m h k
-  handle-more h n k le e = step (module_name m h) e
-    where
-      step : (o : Option ModuleName) → option_map_or (λ name. list_any (is_module name) (with_next ps qs n)) o false ≡ true
-          → option_map_or (λ name. list_any (is_module name) (with_next ps qs k)) o false ≡ true
-      step None e = e
-      step (Some name) e = any-next (is_module name) ps qs n k le e
+  handle-more h n k le e = on_found (λ name. list_any (is_module name) (with_next ps qs n)) (module_name m h) e (λ name is there.
+      ap (λ (o : Option ModuleName). option_map_or (λ name. list_any (is_module name) (with_next ps qs k)) o false) is ∙ any-next (is_module name) ps qs n k le there)
 
   pub handles-more : (h n k : ℕ) → n ≤ k → HandlesHold ps qs m h n → HandlesHold ps qs m h k
   handles-more zero n k le e = refl
@@ -55,11 +39,7 @@ module _ (ps qs : List PublishedModule) (m : Module) where
   handles-each zero h k lt e = absurd (omega (arith, lt))
   handles-each (suc n) h k lt e =
       let both = and_parts (module_is_there (with_next ps qs k) m n) (modules_are_there (with_next ps qs k) m n) e in
-      step (nat_lt h n) refl (λ less. handles-each n h k less both.1) both.0
-    where
-      step : (b : Bool) → nat_lt h n ≡ b → (h < n → HandleHolds ps qs m h k) → HandleHolds ps qs m n k → HandleHolds ps qs m h k
-      step true t ih here = ih (ltb-true h n t)
-      step false t ih here = let past = ltb-false h n t in let same : n ≡ h = omega (arith, lt, past) in subst (λ (j : ℕ). HandleHolds ps qs m j k) same here
+      elim (cases_eq n h) [ inl same ↦ subst (λ (j : ℕ). HandleHolds ps qs m j k) same both.0 | inr far ↦ handles-each n h k (omega (arith, lt, far)) both.1 ]
 
 -- ---- how many are needed
 
@@ -70,26 +50,17 @@ needed-so P Q there back (Some n) h = (there n h.0, λ k q. h.1 k (back k q))
 
 -- none
 needed-none : (P : ℕ → Type 0) → P 0 → IsNeeded P (Some 0)
-needed-none P h = (h, λ k p. least k)
-  where
-    least : (k : ℕ) → 0 ≤ k
-    least k = omega arith
+needed-none P h = (h, λ k _. omega arith)
 
 -- as many as for one of two things, and no fewer than for the other
 needed-both : (P Q R : ℕ → Type 0) → ((n k : ℕ) → n ≤ k → P n → P k) → ((n k : ℕ) → n ≤ k → Q n → Q k) → ((k : ℕ) → P k → Q k → R k) → ((k : ℕ) → R k → P k × Q k) → (a b c : ℕ) → IsNeeded P (Some a)
-    → IsNeeded Q (Some b)
-    → a ≤ c → b ≤ c → ((k : ℕ) → a ≤ k → b ≤ k → c ≤ k) → IsNeeded R (Some c)
+    → IsNeeded Q (Some b) → a ≤ c → b ≤ c → ((k : ℕ) → a ≤ k → b ≤ k → c ≤ k) → IsNeeded R (Some c)
 needed-both P Q R grows grows' make parts a b c p q first second least =
     (make c (grows a c first p.0) (grows' b c second q.0), λ k r. let both = parts k r in least k (p.1 k both.0) (q.1 k both.1))
 
 -- the larger of two numbers
 pub larger : (a b c : ℕ) → c ≡ ord_max nat_cmp a b → (a ≤ c) × (b ≤ c) × ((k : ℕ) → a ≤ k → b ≤ k → c ≤ k)
-larger a b c is = step (nat_lt b a) (b == a) refl is
-  where
-    step : (less same : Bool) → nat_lt b a ≡ less → c ≡ cond (is_lt (cond less Less (cond same Equal Greater))) a b → (a ≤ c) × (b ≤ c) × ((k : ℕ) → a ≤ k → b ≤ k → c ≤ k)
-    step true same test is = let lt = ltb-true b a test in (omega (arith, is), omega (arith, is, lt), λ k le le'. omega (arith, is, le))
-    step false true test is = let le = ltb-false b a test in (omega (arith, is, le), omega (arith, is), λ k le le'. omega (arith, is, le'))
-    step false false test is = let le = ltb-false b a test in (omega (arith, is, le), omega (arith, is), λ k le le'. omega (arith, is, le'))
+larger a b c is = grind (arith, nat_tests)
 
 -- the first that passes a test
 needed-first : (p : Module → Bool) (qs : List PublishedModule) → IsNeeded (λ k. list_any p (tables_in (take k qs)) ≡ true) (option_map suc (find_index (λ (q : PublishedModule). p q.tables) qs))
@@ -124,11 +95,7 @@ needed-first p (q ∷ qs) = step (p q.tables) refl (find_index (λ (q : Publishe
 module _ (ps qs : List PublishedModule) (m : Module) (h : ℕ) where
   -- a handle that names nothing
   pub nothing-named : module_name m h ≡ None → IsNeeded (HandleHolds ps qs m h) None
-  nothing-named none = λ k e. step (module_name m h) none k e
-    where
-      step : (o : Option ModuleName) → o ≡ None → (k : ℕ) → option_map_or (λ name. list_any (is_module name) (with_next ps qs k)) o false ≡ true → ⊥
-      step None is k e = cc
-      step (Some name) is k e = cc
+  nothing-named none = λ k e. let there : false ≡ true = sym (ap (λ (o : Option ModuleName). option_map_or (λ name. list_any (is_module name) (with_next ps qs k)) o false) none) ∙ e in cc
 
   module _ (name : ModuleName) (names : module_name m h ≡ Some name) where
     -- what is there for a handle is there by its name
@@ -137,11 +104,7 @@ module _ (ps qs : List PublishedModule) (m : Module) (h : ℕ) where
         ∙ list_any-append (is_module name) (tables_in ps) (tables_in (take k qs))
 
     any-is : is_some (module_place (tables_in ps) name) ≡ list_any (is_module name) (tables_in ps)
-    any-is = ap is_some (found name ps) ∙ step (list_any (is_module name) (tables_in ps)) (spot_of (Some name) ps)
-      where
-        step : (b : Bool) (k : ℕ) → is_some (cond b (Some k) None) ≡ b
-        step true k = refl
-        step false k = refl
+    any-is = grind (arith, found name ps)
 
     pub published-named : is_some (module_place (tables_in ps) name) ≡ true → IsNeeded (HandleHolds ps qs m h) (Some 0)
     published-named there = needed-none (HandleHolds ps qs m h) (by-name 0 ∙ ap (λ (b : Bool). b || list_any (is_module name) (tables_in (take 0 qs))) (sym any-is ∙ there))
@@ -155,18 +118,12 @@ module _ (ps qs : List PublishedModule) (m : Module) (h : ℕ) where
         (needed-so (λ k. list_any (is_module name) (tables_in (take k qs)) ≡ true) (HandleHolds ps qs m h) (λ k e. same k ∙ e) (λ k e. sym (same k) ∙ e)
         (option_map suc (find_index (λ (q : PublishedModule). is_module name q.tables) qs)) (needed-first (is_module name) qs))
 
--- a test of what a function gives
-find_index-map : {A B : Type 0} (f : A → B) (p : B → Bool) (xs : List A) → find_index p (map f xs) ≡ find_index (λ x. p (f x)) xs
-find_index-map f p [] = refl
-find_index-map f p (x ∷ xs) = ap (λ (o : Option ℕ). cond (p (f x)) (Some 0) (option_map suc o)) (find_index-map f p xs)
-
 -- the modules are searched for one that isn't published
 pub next-needed : (ps : List PublishedModule) (news : List New) (m : Module) (h : ℕ) (name : ModuleName) → module_name m h ≡ Some name → is_some (module_place (tables_in ps) name) ≡ false
-    → (r : Option ℕ) → r ≡ position (λ (n : New). is_module name n.module) news
-    → (o : Option ℕ) → o ≡ option_map suc r → IsNeeded (HandleHolds ps (published_of news) m h) o
+    → (r : Option ℕ) → r ≡ position (λ (n : New). is_module name n.module) news → (o : Option ℕ) → o ≡ option_map suc r → IsNeeded (HandleHolds ps (published_of news) m h) o
 next-needed ps news m h name names none r found o is =
     next-named ps (published_of news) m h name names none o
-    (is ∙ ap (option_map suc) (found ∙ position-find_index (λ (n : New). is_module name n.module) news ∙ sym (find_index-map published_one (λ (q : PublishedModule). is_module name q.tables) news)))
+    (is ∙ ap (option_map suc) (found ∙ position-find_index (λ (n : New). is_module name n.module) news ∙ sym (find-map published_one (λ (q : PublishedModule). is_module name q.tables) news)))
 
 module _ (ps qs : List PublishedModule) (m : Module) where
   -- one handle more
@@ -223,10 +180,7 @@ module _ (ps : List PublishedModule) (news : List New) where
     pub most : (more : ℕ) → more ≤ at → NameThemselves ps (published_of news) more → more ≤ count
 
   pub grouping-none : IsGrouping 0 0 0
-  grouping-none = record { few = least (length news); needs = needed-none (Named 0) refl; named = refl; most = λ more le h. le }
-    where
-      least : (k : ℕ) → 0 ≤ k
-      least k = omega arith
+  grouping-none = record { few = omega arith; needs = needed-none (Named 0) refl; named = refl; most = λ more le h. le }
 
   module _ (at count needed : ℕ) (d : New) (m : Module) (h : IsGrouping at count needed) (lt : at < length news) (m_is : m ≡ (get_or news at d).module) where
     -- what one more of them names
@@ -260,32 +214,28 @@ module _ (ps : List PublishedModule) (news : List New) where
         few = h.few;
         needs = needs-more;
         named = h.named;
-        most = λ more within named. step (nat_le more at) more refl within named;
-      }
-        where
-          step : (b : Bool) (more : ℕ) → nat_le more at ≡ b → more ≤ at + 1 → NameThemselves ps (published_of news) more → more ≤ count
-          step true more t within named = h.most more (leb-true more at t) named
-          step false more t within named =
-              let past = leb-false more at t in
+        most = λ more within named. elim (cases_lt at more) [
+          | inl past ↦
               let last : more ≡ at + 1 = omega (arith, past, within) in
               let enough : all ≤ at + 1 = needs-more.1 (at + 1) (sym (named-is (at + 1)) ∙ subst (NameThemselves ps (published_of news)) last named) in
               absurd (omega (arith, enough, wants))
+          | inr low ↦ h.most more low named
+        ];
+      }
 
     -- a later module is in no group
     pub grouping-stops : IsNeeded (HandlesHold ps (published_of news) m (length m.module_handles)) None → IsGroup ps (published_of news) count
     grouping-stops never = record {
       few = let long = length-map news published_one in omega (arith, long, h.few);
       named = h.named;
-      most = λ more within named. step (nat_le more at) more refl named;
-    }
-      where
-        step : (b : Bool) (more : ℕ) → nat_le more at ≡ b → NameThemselves ps (published_of news) more → more ≤ count
-        step true more t named = h.most more (leb-true more at t) named
-        step false more t named =
-            let past = leb-false more at t in
+      most = λ more within named. elim (cases_lt at more) [
+        | inl past ↦
             let front : at + 1 ≤ more = omega (arith, past) in
             let here = all-take (holds more) news (at + 1) more front (sym (named-is more) ∙ named) in
             absurd (never more (and_parts (list_all (holds more) (take at news)) (modules_are_there (with_next ps (published_of news) more) m (length m.module_handles)) (sym (more-is more) ∙ here)).1)
+        | inr low ↦ h.most more low named
+      ];
+    }
 
   -- all of them are looked at
   pub grouping-all : (at count needed : ℕ) → IsGrouping at count needed → length news ≤ at → IsGroup ps (published_of news) count

@@ -1,32 +1,22 @@
 -- The leaves of a fine value are of the kinds that its struct says, and its text is theirs.
-use Rattle.mv_ledger.proofs.Loads.Common.{[], ℕ, ◌++◌, ◌+◌, ◌∙◌, ◌∷◌, ◌≡◌, List, None, Option, Some, ap, append-nil, append_assoc, ap₂, false, length, length-append, option_map, refl, subst, suc, sym}
-use Rattle.mv_ledger.proofs.Loads.Common.{true, zero, none-some, same_Some, first_so, second_so, option_map_or, leaves_of, leaves_within, sum_of_fields, Module, struct_name, definition_of, StructName}
-use Rattle.mv_ledger.proofs.Loads.Common.{same_struct, ◌>>=◌, Field, LeafKind, Token, MutableReferenceTo, Plain, ReferenceTo, OfLeaf, OfStruct, on_bind, flat, flat_fields, are_of_types, is_of_struct}
-use Rattle.mv_ledger.proofs.Loads.Common.{is_of_type, leaf_fits, Leaf, More, NoMore, Ref, Struct, Value, Values, same_struct-is, AreLeaves, coded, kinds_of_fields, kinds_of_token, kinds_within}
-use Rattle.mv_ledger.proofs.Loads.Common.{leaf_bytes, leaves_of_fields, leaves_text}
-use Rattle.mv_move_types.specs.declared.token.ValueType.{ValueType}
-use Rattle.mv_move_types.specs.Tokens.{same_kind}
-use Rattle.mv_interpreter.proofs.Typing.Callees.{on_found}
-use Rattle.mv_interpreter.proofs.Typing.Tests.{same_kind-is}
+use Rattle.mv_ledger.proofs.Common.{[], ◌++◌, ◌+◌, ◌∙◌, ◌∷◌, ◌≡◌, List, None, Option, Some, ap, append-nil, append_assoc, ap₂, false, length, length-append, option_map, refl, subst, suc, sym, true}
+use Rattle.mv_ledger.proofs.Common.{zero, ℕ, none-some, same_Some, first_so, second_so, option_map_or, leaves_of, leaves_within, sum_of_fields, Module, struct_name, definition_of, StructName}
+use Rattle.mv_ledger.proofs.Common.{same_struct, ◌>>=◌, same_kind, Field, LeafKind, Token, Plain, OfLeaf, OfStruct, on_bind, flat, flat_fields, are_of_types, is_of_struct, is_of_type, leaf_fits}
+use Rattle.mv_ledger.proofs.Common.{Leaf, More, NoMore, Struct, Value, Values, same_struct-is, on_found, same_kind-is, AreLeaves, coded, kinds_of_fields, kinds_of_token, kinds_within, leaf_bytes}
+use Rattle.mv_ledger.proofs.Common.{leaves_of_fields, leaves_text}
 
 -- ---- there are as many kinds as leaves
 
 joined-count : (a b : Option (List LeafKind)) → option_map length (a >>= λ x. b >>= λ y. Some (x ++ y)) ≡ (option_map length a >>= λ n. option_map length b >>= λ r. Some (n + r))
-joined-count None b = refl
-joined-count (Some x) None = refl
 joined-count (Some x) (Some y) = ap Some (length-append x y)
+joined-count _ _ = refl
 
 module _ (modules : List Module) where
   token-count : (depth : ℕ) → ((name : StructName) → option_map length (kinds_within depth modules name) ≡ leaves_within depth modules name) → (m : Module) (t : Token) →
       option_map length (kinds_of_token (kinds_within depth modules) m t) ≡ leaves_of (leaves_within depth modules) m t
-  token-count depth deeper m (Plain (OfLeaf kind)) = refl
-  token-count depth deeper m (Plain (OfStruct h)) = by_name (struct_name m h)
-    where
-      by_name : (o : Option StructName) → option_map length (o >>= kinds_within depth modules) ≡ (o >>= leaves_within depth modules)
-      by_name None = refl
-      by_name (Some name) = deeper name
-  token-count depth deeper m (ReferenceTo t) = refl
-  token-count depth deeper m (MutableReferenceTo t) = refl
+  token-count depth deeper m (Plain (OfStruct h)) =
+      elim (struct_name m h) as (λ o. option_map length (o >>= kinds_within depth modules) ≡ (o >>= leaves_within depth modules)) [ None ↦ refl | Some name ↦ deeper name ]
+  token-count _ _ _ _ = refl
 
   fields-count : (depth : ℕ) → ((name : StructName) → option_map length (kinds_within depth modules name) ≡ leaves_within depth modules name) → (m : Module) (fs : List Field) →
       option_map length (kinds_of_fields (kinds_of_token (kinds_within depth modules) m) fs) ≡ sum_of_fields (leaves_of (leaves_within depth modules) m) fs
@@ -37,27 +27,21 @@ module _ (modules : List Module) where
 
   pub kinds-count : (depth : ℕ) (name : StructName) → option_map length (kinds_within depth modules name) ≡ leaves_within depth modules name
   kinds-count zero name = refl
-  kinds-count (suc depth) name = by_definition (kinds-count depth) (definition_of modules name)
-    where
-      by_definition : ((name : StructName) → option_map length (kinds_within depth modules name) ≡ leaves_within depth modules name) → (o : Option (Module × List Field))
-          → option_map length (o >>= λ d. kinds_of_fields (kinds_of_token (kinds_within depth modules) d.0) d.1)
-          ≡ (o >>= λ d. sum_of_fields (leaves_of (leaves_within depth modules) d.0) d.1)
-      by_definition deeper None = refl
-      by_definition deeper (Some d) = fields-count depth deeper d.0 d.1
+  kinds-count (suc depth) name =
+      elim (definition_of modules name) as (λ o. option_map length (o >>= λ d. kinds_of_fields (kinds_of_token (kinds_within depth modules) d.0) d.1)
+      ≡ (o >>= λ d. sum_of_fields (leaves_of (leaves_within depth modules) d.0) d.1)) [ None ↦ refl | Some d ↦ fields-count depth (kinds-count depth) d.0 d.1 ]
 
 -- ---- leaves one after the other
 
 coded-append : (ks ls : List LeafKind) (ms ns : List ℕ) → AreLeaves ks ms → coded (ks ++ ls) (ms ++ ns) ≡ coded ks ms ++ coded ls ns
 coded-append [] ls [] ns h = refl
-coded-append [] ls (m ∷ ms) ns h = absurd h
-coded-append (k ∷ ks) ls [] ns h = absurd h
 coded-append (k ∷ ks) ls (m ∷ ms) ns h = ap (λ l. leaf_bytes k m ++ l) (coded-append ks ls ms ns h.1) ∙ sym (append_assoc (leaf_bytes k m) (coded ks ms) (coded ls ns))
+coded-append _ _ _ _ h = absurd h
 
 leaves-append : (ks ls : List LeafKind) (ms ns : List ℕ) → AreLeaves ks ms → AreLeaves ls ns → AreLeaves (ks ++ ls) (ms ++ ns)
 leaves-append [] ls [] ns h g = g
-leaves-append [] ls (m ∷ ms) ns h g = absurd h
-leaves-append (k ∷ ks) ls [] ns h g = absurd h
 leaves-append (k ∷ ks) ls (m ∷ ms) ns h g = (h.0, leaves-append ks ls ms ns h.1 g)
+leaves-append _ _ _ _ h _ = absurd h
 
 -- the words are leaves of these kinds, and the bytes are theirs
 pub record HasLeaves (kinds : List LeafKind) (words bytes : List ℕ) : Type 0 where
@@ -83,35 +67,20 @@ module _ (modules : List Module) where
         (record { are = (second_so (same_kind j k) (leaf_fits k n) h, tt); text = ap (λ (x : LeafKind). leaf_bytes x n) same ∙ sym (append-nil (leaf_bytes k n)) })
     field-leaves zero m (Plain (OfStruct i)) (Struct name fields) ks e h = on_bind (struct_name m i) (kinds_within zero modules) ks e (λ own own_is e1. absurd (none-some ks e1))
     field-leaves (suc depth) m (Plain (OfStruct i)) (Struct name fields) ks e h =
-        let same : option_map_or (λ own. same_struct own name) (struct_name m i) false ≡ true =
-        first_so (option_map_or (λ own. same_struct own name) (struct_name m i) false)
-        (option_map_or (λ (d : Module × List Field). are_of_types modules d.0 d.1 fields) (definition_of modules name) false) h in
-        let typed : option_map_or (λ (d : Module × List Field). are_of_types modules d.0 d.1 fields) (definition_of modules name) false ≡ true =
-        second_so (option_map_or (λ own. same_struct own name) (struct_name m i) false)
-        (option_map_or (λ (d : Module × List Field). are_of_types modules d.0 d.1 fields) (definition_of modules name) false) h in
-        on_found (λ own. same_struct own name) (struct_name m i) same (λ own own_is is_name.
+        let named = option_map_or (λ (own : StructName). same_struct own name) (struct_name m i) false in
+        let typed = option_map_or (λ (d : Module × List Field). are_of_types modules d.0 d.1 fields) (definition_of modules name) false in
+        on_found (λ own. same_struct own name) (struct_name m i) (first_so named typed h) (λ own own_is is_name.
         let kinds : kinds_within (suc depth) modules own ≡ Some ks = subst (λ (x : Option StructName). (x >>= kinds_within (suc depth) modules) ≡ Some ks) own_is e in
         on_bind (definition_of modules own) (λ d. kinds_of_fields (kinds_of_token (kinds_within depth modules) d.0) d.1) ks kinds (λ d d_is e1.
         let found : definition_of modules name ≡ Some d = subst (λ (x : StructName). definition_of modules x ≡ Some d) (same_struct-is own name is_name) d_is in
         fields-leaves depth d.0 d.1 fields ks e1 (subst (λ (x : Option (Module × List Field)). option_map_or (λ (d : Module × List Field). are_of_types modules d.0 d.1 fields) x false ≡ true) found
-        typed)))
-    field-leaves depth m (Plain (OfLeaf k)) (Struct name fields) ks e h = absurd cc
-    field-leaves depth m (Plain t) (Ref r) ks e h = absurd (no_reference t h)
-      where
-        no_reference : (t : ValueType) → is_of_type modules m (Plain t) (Ref r) ≡ true → ⊥
-        no_reference (OfLeaf k) h = cc
-        no_reference (OfStruct i) h = cc
-    field-leaves depth m (Plain (OfStruct i)) (Leaf j n) ks e h = absurd cc
-    field-leaves depth m (ReferenceTo t) v ks e h = absurd (none-some ks e)
-    field-leaves depth m (MutableReferenceTo t) v ks e h = absurd (none-some ks e)
+        (second_so named typed h))))
+    field-leaves depth m _ _ ks e h = absurd cc
 
     -- of fields
     fields-leaves : (depth : ℕ) (m : Module) (fs : List Field) (vs : Values) (ks : List LeafKind) → kinds_of_fields (kinds_of_token (kinds_within depth modules) m) fs ≡ Some ks
-        → are_of_types modules m fs vs ≡ true
-        → HasLeaves ks (flat_fields vs) (leaves_of_fields vs)
+        → are_of_types modules m fs vs ≡ true → HasLeaves ks (flat_fields vs) (leaves_of_fields vs)
     fields-leaves depth m [] NoMore ks e h = subst (λ (l : List LeafKind). HasLeaves l [] []) (same_Some [] ks e) (record { are = tt; text = refl })
-    fields-leaves depth m [] (More v vs) ks e h = absurd cc
-    fields-leaves depth m (f ∷ fs) NoMore ks e h = absurd cc
     fields-leaves depth m (f ∷ fs) (More v vs) ks e h =
         on_bind (kinds_of_token (kinds_within depth modules) m f.token) _ ks e (λ first first_is e1.
         on_bind (kinds_of_fields (kinds_of_token (kinds_within depth modules) m) fs) (λ rest. Some (first ++ rest)) ks e1 (λ rest rest_is e2.
@@ -119,13 +88,12 @@ module _ (modules : List Module) where
         (both first rest (flat v) (flat_fields vs) (leaves_text v) (leaves_of_fields vs)
         (field-leaves depth m f.token v first first_is (first_so (is_of_type modules m f.token v) (are_of_types modules m fs vs) h))
         (fields-leaves depth m fs vs rest rest_is (second_so (is_of_type modules m f.token v) (are_of_types modules m fs vs) h)))))
+    fields-leaves depth m _ _ ks e h = absurd cc
 
   -- of a struct
   pub struct-leaves : (depth : ℕ) (name : StructName) (v : Value) (ks : List LeafKind) → kinds_within depth modules name ≡ Some ks → is_of_struct modules name v ≡ true → HasLeaves ks (flat v)
       (leaves_text v)
   struct-leaves zero name v ks e h = absurd (none-some ks e)
-  struct-leaves (suc depth) name (Leaf j n) ks e h = absurd cc
-  struct-leaves (suc depth) name (Ref r) ks e h = absurd cc
   struct-leaves (suc depth) name (Struct own fields) ks e h =
       let same : same_struct name own ≡ true = first_so (same_struct name own) (option_map_or (λ (d : Module × List Field). are_of_types modules d.0 d.1 fields) (definition_of modules own) false) h in
       let typed = second_so (same_struct name own) (option_map_or (λ (d : Module × List Field). are_of_types modules d.0 d.1 fields) (definition_of modules own) false) h in
@@ -133,3 +101,4 @@ module _ (modules : List Module) where
       let found : definition_of modules own ≡ Some d = subst (λ (x : StructName). definition_of modules x ≡ Some d) (same_struct-is name own same) d_is in
       fields-leaves depth d.0 d.1 fields ks e1 (subst (λ (x : Option (Module × List Field)). option_map_or (λ (d : Module × List Field). are_of_types modules d.0 d.1 fields) x false ≡ true) found
       typed))
+  struct-leaves _ name _ ks e h = absurd cc

@@ -1,23 +1,15 @@
 -- From its parts, which ledger bytes are loaded as, and why they are not.
-use Rattle.mv_ledger.proofs.Loads.Common.{[], ℕ, ◌*◌, ◌++◌, ◌+◌, ◌<◌, ◌^◌, ◌∙◌, ◌∷◌, ◌≡◌, ◌≤◌, ◌⊎◌, IsTrue, List, Some, ap, ap₂, arith, flat_map, inl, inr, length, map, refl, subst, sym, length-map}
-use Rattle.mv_ledger.proofs.Loads.Common.{All-cons, All-nil, same_Some, first_so, second_so, AllByRecursion, list_all, All, Module, PublishedModule, AreBytes, count, flat, flat_storage, storage_of}
-use Rattle.mv_ledger.proofs.Loads.Common.{LedgerState, Offer, scarce_structs, Tallied, Storage, is_fine_entry, is_fine_storage, IsStore, tables_in, FlatStorage, IsAscending, FailsLoad, HasHead}
-use Rattle.mv_ledger.proofs.Loads.Common.{IsLoadRefusal, IsLoaded, no_body, no_links, no_module, no_tallies, counts_of, struct_of, AreCounted, AreJoined, AreNotJoined, EachBodyIsRead, EachReadIsBody}
-use Rattle.mv_ledger.proofs.Loads.Common.{IsBody, IsNoBody, SavedHead, body_from, counted_by, head_from, reason_of, offer_fits, HeadFits, IsSavedText, body_text, head_text, storage_text, tally_text}
-use Rattle.mv_ledger.proofs.Loads.Common.{IsLedger, IsSmall, all_of, state_of, tallied, view_of, Tally}
-use Rattle.mv_move_types.specs.declared.refusal.Refusal.{Refusal}
-use Rattle.mv_move_types.specs.declared.refusal.Refusal.TheVariants.{Phase, Memory as NoMemory}
-use Rattle.mv_frames.specs.declared.counters.Count.{Count}
-use Rattle.mv_interpreter.specs.Runs.{IsFineWords}
-use Rattle.mv_interpreter.specs.Typing.Accepted.{StoreAccepted}
-use Rattle.mv_interpreter.specs.Typing.StateTyped.{StorageTyped}
-use Rattle.mv_interpreter.proofs.Typing.Fine.{fine_storage}
-use Rattle.mv_interpreter.proofs.Flat.Sizes.{sizes}
+use Rattle.mv_ledger.proofs.Common.{[], ◌*◌, ◌++◌, ◌+◌, ◌<◌, ◌^◌, ◌∙◌, ◌∷◌, ◌≡◌, ◌≤◌, ◌⊎◌, IsTrue, List, Some, ap, ap₂, arith, flat_map, inl, inr, length, map, refl, subst, sym, ℕ, length-map}
+use Rattle.mv_ledger.proofs.Common.{All-cons, All-nil, same_Some, first_so, second_so, list_all, All, Module, PublishedModule, Refusal, NoMemory, Phase, AreBytes, Count, FlatStorage, count, flat}
+use Rattle.mv_ledger.proofs.Common.{flat_storage, storage_of, LedgerState, Offer, scarce_structs, Tallied, Storage, is_fine_entry, is_fine_storage, IsStore, tables_in, fine_storage, IsFineWords}
+use Rattle.mv_ledger.proofs.Common.{StoreAccepted, StorageTyped, IsSoundLedger, IsAscending, FailsLoad, HasHead, IsLoadRefusal, IsLoaded, no_body, no_links, no_module, no_tallies, counts_of}
+use Rattle.mv_ledger.proofs.Common.{struct_of, AreCounted, AreJoined, AreNotJoined, EachBodyIsRead, EachReadIsBody, IsBody, IsNoBody, SavedHead, body_from, counted_by, head_from, reason_of}
+use Rattle.mv_ledger.proofs.Common.{AllPass, offered, offer_fits, HeadFits, IsSavedText, body_text, head_text, storage_text, tally_text, IsLedger, IsSmall, all_of, state_of, tallied, view_of, Link}
+use Rattle.mv_ledger.proofs.Common.{BadModule, Tally}
 use Rattle.mv_interpreter.proofs.Flat.Decoding.{storage_decoded}
+use Rattle.mv_interpreter.proofs.Flat.Sizes.{sizes}
 use Rattle.mv_ledger.specs.declared.loading.LoadError.{LoadError}
-use Rattle.mv_ledger.specs.declared.loading.LoadError.TheVariants.{Head, Module as BadModule, Link, Body, Tally as BadTally, Memory}
-use Rattle.mv_ledger.specs.Accepted.SoundLedger.{IsSoundLedger}
-use Rattle.mv_ledger.specs.Publishing.{AllPass, offered}
+use Rattle.mv_ledger.specs.declared.loading.LoadError.TheVariants.{Memory}
 use Rattle.mv_ledger.proofs.Accepted.Stores.{accepted_store}
 use Rattle.mv_ledger.proofs.Loads.LoadedHead.{head-parts, head-whole, head-had}
 use Rattle.mv_ledger.proofs.Runs.Countable.{still-countable}
@@ -25,18 +17,18 @@ use Rattle.mv_ledger.proofs.Loads.LoadedTallies.{counts-are, still-long, still-m
 use Rattle.mv_ledger.proofs.Phases.{phase-no-memory}
 use Rattle.mv_ledger.proofs.Spelling.{passed-spelled}
 use Rattle.mv_ledger.proofs.Bundles.Verifying.{as-many}
+use Rattle.mv_ledger.proofs.Lists.{all-weaker}
 
 -- ---- lists
 
 -- modules that passed are offered as they were
 offers-were : (offers : List Offer) (ps : List PublishedModule) → AllPass offers ps → map offered ps ≡ offers
 offers-were [] [] passed = refl
-offers-were [] (p ∷ ps) passed = absurd passed
-offers-were (o ∷ os) [] passed = absurd passed
 offers-were (o ∷ os) (p ∷ ps) passed =
     let made : List ℕ → List ℕ → Offer = λ text certificate. record { text = text; certificate = certificate } in
     let same : offered p ≡ o = ap₂ made passed.0 passed.1 in
     ap₂ (λ (x : Offer) (xs : List Offer). x ∷ xs) same (offers-were os ps passed.3)
+offers-were _ _ passed = absurd passed
 
 -- the words of fine values
 fine-words : (modules : List Module) (es : Storage) → IsTrue (is_fine_storage modules es) → All (IsFineWords modules) (flat_storage es)
@@ -53,11 +45,6 @@ module _ (modules : List Module) (runs : ℕ) (storage : Storage) where
       let packs : t.packs ≤ 10000000 * runs = counted.0.0 in
       let unpacks : count storage (tallied modules t).struct + t.unpacks ≡ t.packs = counted.0.1 in
       All-cons (IsSmall runs) t ts (omega (arith, packs), omega (arith, packs, unpacks)) (small-counts ts counted.1)
-
--- and balanced
-counts-balanced : (runs : ℕ) (storage : Storage) (tallies : List Tallied) → AreCounted runs storage tallies → AllByRecursion (λ (t : Tallied). count storage t.struct + t.unpacks ≡ t.packs) tallies
-counts-balanced runs storage [] counted = tt
-counts-balanced runs storage (t ∷ ts) counted = (counted.0.1, counts-balanced runs storage ts counted.1)
 
 -- ---- a part that is refused
 
@@ -76,12 +63,10 @@ module _ (bytes : List ℕ) (head : SavedHead) (rest : List ℕ) (are : AreBytes
 
   -- the modules are none of a ledger
   pub fails-joined : (e : LoadError) → AreNotJoined head.offers e → IsLoadRefusal bytes e
-  fails-joined Head refused = absurd refused
   fails-joined BadModule refused = no_module head.form head.runs head.offers refused.0 has refused.1
   fails-joined Link refused = no_links head.form head.runs head.offers refused.0 has refused.1 refused.2
-  fails-joined Body refused = absurd refused
-  fails-joined BadTally refused = absurd refused
   fails-joined Memory refused = tt
+  fails-joined _ refused = absurd refused
 
   pub head-few : length head.offers ≤ 4096
   head-few = (head-parts bytes rest head are begins).1.few
@@ -192,7 +177,8 @@ module _ (bytes : List ℕ) (head : SavedHead) (rest : List ℕ) (are : AreBytes
           typed = subst (StorageTyped (tables_in ps)) (sym storage-is) typed;
           ascending = ascending;
           tallied = structs-are;
-          balanced = counts-balanced head.runs (storage_of (tables_in ps) stored) tallies counted;
+          balanced = all-weaker (λ (t : Tallied). (t.packs ≤ 10000000 * head.runs) × (count (storage_of (tables_in ps) stored) t.struct + t.unpacks ≡ t.packs))
+              (λ t. count (storage_of (tables_in ps) stored) t.struct + t.unpacks ≡ t.packs) (λ t both. both.1) tallies counted;
         }
 
         -- as a ledger

@@ -1,8 +1,8 @@
 -- A head is read exactly where the text of one stands.
-use Rattle.mv_ledger.proofs.Loads.Common.{[], ℕ, ◌++◌, ◌∙◌, ◌∷◌, ◌≡◌, Bool, List, None, Option, Some, ap, append_assoc, arith, cond, eqb-true, false, le-leb, leb-true, length, refl, subst, sym, true}
-use Rattle.mv_ledger.proofs.Loads.Common.{and_from, and_parts, none-some, some_pair_parts, list_all, ◌==◌, nat_le, ◌>>=◌, number_from, uleb, Front, Front-join, byte-front, counted-parts}
-use Rattle.mv_ledger.proofs.Loads.Common.{counted-whole, mark-front, number-front, number-whole, on_bind, counted, AreBytes, byte_from, counted_from, mark_from, Offer, FailsLoad, HasHead, no_head}
-use Rattle.mv_ledger.proofs.Loads.Common.{SavedHead, form_by, form_from, head_from, marks_from, offer_from, offer_fits, offer_text, First, Form, HeadFits, Second, form_byte, head_text}
+use Rattle.mv_ledger.proofs.Common.{[], ◌++◌, ◌∙◌, ◌∷◌, ◌≡◌, List, None, Option, Some, ap, append_assoc, arith, le-leb, leb-true, length, subst, sym, ℕ, and_from, and_parts, eqb-true, none-some}
+use Rattle.mv_ledger.proofs.Common.{some_pair_parts, list_all, nat_le, ◌>>=◌, number_from, uleb, Front, Front-join, byte-front, counted-parts, counted-whole, mark-front, number-front, number-whole}
+use Rattle.mv_ledger.proofs.Common.{on_bind, counted, AreBytes, byte_from, counted_from, mark_from, Offer, FailsLoad, HasHead, no_head, SavedHead, form_by, form_from, head_from, marks_from}
+use Rattle.mv_ledger.proofs.Common.{offer_from, offer_fits, offer_text, First, Form, HeadFits, Second, form_byte, head_text}
 use Rattle.mv_ledger.proofs.Shapes.{offer-parts, offer-whole}
 
 -- the three bytes at the front
@@ -18,18 +18,9 @@ marks-front bytes rest ok e =
     let c = mark-front 0x4C v rest b.left e2 in
     Front-join (0x4D ∷ 0x56 ∷ []) (0x4C ∷ []) bytes v rest (Front-join (0x4D ∷ []) (0x56 ∷ []) bytes m v a b) c))
 
--- the form by whether the byte is that of the first one, and of the second one
-abbrev form_if : Bool → Bool → List ℕ → Option (Form × List ℕ)
-form_if first second bytes = cond first (Some (First, bytes)) (cond second (Some (Second, bytes)) None)
-
 -- which byte a form has
 form-byte : (b : ℕ) (bytes rest : List ℕ) (f : Form) → form_by b bytes ≡ Some (f, rest) → (b ≡ form_byte f) × (bytes ≡ rest)
-form-byte b bytes rest f e = step (b == 0x31) (b == 0x32) refl refl e
-  where
-    step : (x y : Bool) → (b == 0x31) ≡ x → (b == 0x32) ≡ y → form_if x y bytes ≡ Some (f, rest) → (b ≡ form_byte f) × (bytes ≡ rest)
-    step true y p q g = let r = some_pair_parts First f bytes rest g in (eqb-true b 0x31 p ∙ ap form_byte r.0, r.1)
-    step false true p q g = let r = some_pair_parts Second f bytes rest g in (eqb-true b 0x32 q ∙ ap form_byte r.0, r.1)
-    step false false p q g = absurd (none-some (f, rest) g)
+form-byte b bytes rest f e = grind (arith, eqb-true b 0x31, eqb-true b 0x32)
 
 -- a form at the front
 form-front : (f : Form) (bytes rest : List ℕ) → AreBytes bytes → form_from bytes ≡ Some (f, rest) → Front (form_byte f ∷ []) bytes rest
@@ -64,8 +55,7 @@ head-parts bytes rest h ok e =
 
 -- what is read after the form
 abbrev after_runs : Form → Option (ℕ × List ℕ) → Option (SavedHead × List ℕ)
-after_runs form o =
-    o >>= λ runs. counted_from 4096 offer_from runs.1 >>= λ offers. Some (record { form = form; runs = runs.0; offers = offers.0 }, offers.1)
+after_runs form o = o >>= λ runs. counted_from 4096 offer_from runs.1 >>= λ offers. Some (record { form = form; runs = runs.0; offers = offers.0 }, offers.1)
 
 abbrev after_offers : Form → ℕ → Option (List Offer × List ℕ) → Option (SavedHead × List ℕ)
 after_offers form runs o = o >>= λ offers. Some (record { form = form; runs = runs; offers = offers.0 }, offers.1)

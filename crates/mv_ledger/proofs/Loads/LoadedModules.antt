@@ -1,45 +1,24 @@
 -- Modules of a saved ledger that join one group after the other: a group joins those that are there exactly where all of them together
 -- are linked.
-use Rattle.mv_ledger.proofs.Loads.Common.{[], ℕ, ◌++◌, ◌+◌, ◌∙◌, ◌∷◌, ◌≡◌, ◌≤◌, Bool, IsTrue, List, None, Option, Some, ap, append-nil, append_assoc, ap₂, arith, cond, drop, eqb-true, false, length}
-use Rattle.mv_ledger.proofs.Loads.Common.{length-append, map, refl, subst, suc, sym, take, true, zero, take-add, and_from, and_parts, eqb-false, true≢false, drop-map, length-drop, length-map}
-use Rattle.mv_ledger.proofs.Loads.Common.{length-take, take-append-drop, take-map, take-take, take_all, find, list_all, list_any, ◌&&◌, ◌==◌, ◌||◌, count_by, nat_le, not, unwrap_or, Module}
-use Rattle.mv_ledger.proofs.Loads.Common.{StructName, same_struct, PublishedModule, with_module, with_modules, Offer, scarce_structs, tally_of, untouched_tally, Tallied, same_struct-is, IsStore}
-use Rattle.mv_ledger.proofs.Loads.Common.{MayJoin, are_compatible, have_one_name, tables_in, Links, AreLinked, AreJoined, AreNotJoined, reason_of, AreCountable, ArePlaced, all_of, tallied, Tally}
-use Rattle.mv_move_types.specs.declared.refusal.Refusal.{Refusal}
-use Rattle.mv_move_types.specs.declared.refusal.Refusal.TheVariants.{Phase, Memory}
-use Rattle.mv_move_types.specs.Refusals.{IsRefusedIn}
-use Rattle.mv_bounds.specs.Definitions.{all_differ}
-use Rattle.mv_frames.specs.Counters.{AreSameCounts}
-use Rattle.mv_frames.specs.declared.counters.Count.{Count}
-use Rattle.mv_linker.specs.Upgrades.{may_replace}
+use Rattle.mv_ledger.proofs.Common.{[], ◌++◌, ◌+◌, ◌∙◌, ◌∷◌, ◌≡◌, ◌≤◌, Bool, IsTrue, List, None, Option, Some, ap, append-nil, append_assoc, ap₂, arith, cond, drop, false, length, length-append}
+use Rattle.mv_ledger.proofs.Common.{map, refl, subst, suc, sym, take, true, zero, ℕ, take-add, and_from, and_parts, eqb-false, eqb-true, drop-map, length-drop, length-map, length-take}
+use Rattle.mv_ledger.proofs.Common.{take-append-drop, take-map, take-take, take_all, list_all, list_any, ◌==◌, ◌||◌, count_by, find, nat_le, not, unwrap_or, Module, StructName, same_struct}
+use Rattle.mv_ledger.proofs.Common.{PublishedModule, with_module, with_modules, IsRefusedIn, Refusal, Memory, Phase, all_differ, AreSameCounts, Count, Offer, scarce_structs, tally_of}
+use Rattle.mv_ledger.proofs.Common.{untouched_tally, Tallied, same_struct-is, IsStore, MayJoin, are_compatible, tables_in, published_of, published_one, Links, may_replace, New, offer_of, offers_of}
+use Rattle.mv_ledger.proofs.Common.{AreLinked, AreJoined, AreNotJoined, reason_of, AllPass, FailsAmong, IsRefusedAmong, ArePlacedFor, AreWithin, with_placed, AreCountable, ArePlaced, all_of}
+use Rattle.mv_ledger.proofs.Common.{tallied, NoLink, NoModule, Offered, Placed, Tally}
+use Rattle.mv_linker.specs.Link.{have_one_name}
 use Rattle.mv_interpreter.proofs.Guided.Tiles.{find-has}
-use Rattle.mv_linker.specs.declared.New.{New}
-use Rattle.mv_linker.specs.News.{published_one, published_of}
-use Rattle.mv_ledger.specs.declared.payload.Offered.{Offered}
-use Rattle.mv_ledger.specs.Asking.{offer_of, offers_of}
-use Rattle.mv_ledger.specs.declared.loading.LoadError.TheVariants.{Module as NoModule, Link as NoLink}
-use Rattle.mv_ledger.specs.declared.tallies.Placed.{Placed}
-use Rattle.mv_ledger.specs.Publishing.{AllPass, FailsAmong, IsRefusedAmong}
-use Rattle.mv_ledger.specs.Tallying.{AreWithin, ArePlacedFor, with_placed}
 use Rattle.mv_ledger.proofs.Bundles.Joining.{IsPlacedBundle, placed-length, joined-within, after-length, after-scarce, after-named, after-tallied}
-use Rattle.mv_ledger.proofs.Bundles.Places.{is_there, length-with, count-joined}
-use Rattle.mv_ledger.proofs.Bundles.Stores.{one_name-turns}
+use Rattle.mv_ledger.proofs.Bundles.Places.{is_there, length-with, count-joined, one_name-turns}
 use Rattle.mv_ledger.proofs.Bundles.Verifying.{as-many}
 
 -- ---- modules of different names stand in the order in which they came
 
 -- a test that no element passes
 none-of : (f : Module → Bool) (qs : List PublishedModule) (p : PublishedModule) (ps : List PublishedModule) → IsTrue (not (list_any f (tables_in (qs ++ p ∷ ps)))) → f p.tables ≡ false
-none-of f [] p ps none = step (f p.tables) none
-  where
-    step : (b : Bool) → IsTrue (not (b || list_any f (tables_in ps))) → b ≡ false
-    step true e = sym e
-    step false e = refl
-none-of f (q ∷ qs) p ps none = step (f q.tables) (none-of f qs p ps) none
-  where
-    step : (b : Bool) → (IsTrue (not (list_any f (tables_in (qs ++ p ∷ ps)))) → f p.tables ≡ false) → IsTrue (not (b || list_any f (tables_in (qs ++ p ∷ ps)))) → f p.tables ≡ false
-    step true more e = absurd (true≢false (sym e))
-    step false more e = more e
+none-of f [] p ps none = grind arith
+none-of f (q ∷ qs) p ps none = grind (arith, none-of f qs p ps)
 
 -- a module of a new name takes the last place
 last-place : (before : List PublishedModule) (p : PublishedModule) (ps : List PublishedModule) → IsTrue (all_differ have_one_name (tables_in (before ++ p ∷ ps)))
@@ -62,34 +41,20 @@ all-last before (p ∷ ps) once =
 -- a module of a name that isn't there takes the last place
 behind : (cur : List PublishedModule) (p : PublishedModule) → is_there cur p.tables ≡ false → with_module cur p ≡ cur ++ p ∷ []
 behind [] p e = refl
-behind (q ∷ qs) p e = step (have_one_name p.tables q.tables) e (behind qs p)
-  where
-    step : (b : Bool) → (b || is_there qs p.tables) ≡ false → (is_there qs p.tables ≡ false → with_module qs p ≡ qs ++ p ∷ []) → cond b (p ∷ qs) (q ∷ with_module qs p) ≡ q ∷ (qs ++ p ∷ [])
-    step true e ih = absurd cc
-    step false e ih = ap (λ z. q ∷ z) (ih e)
+behind (q ∷ qs) p e = grind (arith, behind qs p)
 
 -- there are no more modules than were there and came
 at-most : (cur ps : List PublishedModule) → length (with_modules cur ps) ≤ length cur + length ps
 at-most cur [] = omega arith
-at-most cur (p ∷ ps) = step (is_there cur p.tables) (length-with cur p) (at-most (with_module cur p) ps)
-  where
-    step : (b : Bool) → length (with_module cur p) ≡ cond b (length cur) (length cur + 1) → length (with_modules (with_module cur p) ps) ≤ length (with_module cur p) + length ps
-        → length (with_modules (with_module cur p) ps) ≤ length cur + length (p ∷ ps)
-    step true long ih = omega (arith, long, ih)
-    step false long ih = omega (arith, long, ih)
+at-most cur (p ∷ ps) = grind (arith, length-with cur p, at-most (with_module cur p) ps)
 
 -- where there are as many, each took the last place
 as-many-behind : (cur ps : List PublishedModule) → length (with_modules cur ps) ≡ length cur + length ps → with_modules cur ps ≡ cur ++ ps
 as-many-behind cur [] e = sym (append-nil cur)
-as-many-behind cur (p ∷ ps) e = step (is_there cur p.tables) refl (length-with cur p) (as-many-behind (with_module cur p) ps)
-  where
-    step : (b : Bool) → is_there cur p.tables ≡ b → length (with_module cur p) ≡ cond b (length cur) (length cur + 1)
-        → (length (with_modules (with_module cur p) ps) ≡ length (with_module cur p) + length ps → with_modules (with_module cur p) ps ≡ with_module cur p ++ ps)
-        → with_modules (with_module cur p) ps ≡ cur ++ p ∷ ps
-    step true there long ih = let most = at-most (with_module cur p) ps in absurd (omega (arith, e, long, most))
-    step false there long ih =
-        let many : length (with_modules (with_module cur p) ps) ≡ length (with_module cur p) + length ps = omega (arith, e, long) in
-        ih many ∙ ap (λ z. z ++ ps) (behind cur p there) ∙ append_assoc cur (p ∷ []) ps
+as-many-behind cur (p ∷ ps) e =
+    let apart : is_there cur p.tables ≡ false = grind (arith, length-with cur p, at-most (with_module cur p) ps) in
+    let many : length (with_modules (with_module cur p) ps) ≡ length (with_module cur p) + length ps = grind (arith, length-with cur p) in
+    as-many-behind (with_module cur p) ps many ∙ ap (λ z. z ++ ps) (behind cur p apart) ∙ append_assoc cur (p ∷ []) ps
 
 -- ---- modules that are linked, and the last of them
 
@@ -102,17 +67,8 @@ last-once (q ∷ qs) ps once = last-once qs ps (and_parts (not (list_any (have_o
 replaces-none : (m : Module) (qs ps : List PublishedModule) → IsTrue (not (list_any (have_one_name m) (tables_in (qs ++ ps))))
     → IsTrue (list_all (λ n. not (have_one_name m n) || may_replace m n) (tables_in ps))
 replaces-none m [] [] none = refl
-replaces-none m [] (p ∷ ps) none = step (have_one_name m p.tables) (list_any (have_one_name m) (tables_in ps)) (may_replace m p.tables)
-    (list_all (λ n. not (have_one_name m n) || may_replace m n) (tables_in ps)) none (replaces-none m [] ps)
-  where
-    step : (b c r s : Bool) → IsTrue (not (b || c)) → (IsTrue (not c) → IsTrue s) → IsTrue ((not b || r) && s)
-    step true c r s e ih = absurd (true≢false (sym e))
-    step false c r s e ih = ih e
-replaces-none m (q ∷ qs) ps none = replaces-none m qs ps (step (have_one_name m q.tables) (list_any (have_one_name m) (tables_in (qs ++ ps))) none)
-  where
-    step : (b c : Bool) → IsTrue (not (b || c)) → IsTrue (not c)
-    step true c e = absurd (true≢false (sym e))
-    step false c e = e
+replaces-none m [] (p ∷ ps) none = grind (arith, replaces-none m [] ps)
+replaces-none m (q ∷ qs) ps none = replaces-none m qs ps (grind arith)
 
 last-compatible : (old ps : List PublishedModule) → IsTrue (all_differ have_one_name (tables_in (old ++ ps))) → IsTrue (are_compatible (tables_in old) (tables_in ps))
 last-compatible [] ps once = refl
@@ -171,9 +127,8 @@ module _ (old ps : List PublishedModule) where
 
 pub pass-both : (os more : List Offer) (ps qs : List PublishedModule) → AllPass os ps → AllPass more qs → AllPass (os ++ more) (ps ++ qs)
 pass-both [] more [] qs first then = then
-pass-both [] more (p ∷ ps) qs first then = absurd first
-pass-both (o ∷ os) more [] qs first then = absurd first
 pass-both (o ∷ os) more (p ∷ ps) qs first then = (first.0, first.1, first.2, pass-both os more ps qs first.3 then)
+pass-both _ _ _ _ first _ = absurd first
 
 -- what fails among more of them fails among all
 fails-behind : (os more : List Offer) (ps : List PublishedModule) (phase : ℕ) → AllPass os ps → FailsAmong more phase → FailsAmong (os ++ more) phase
@@ -222,9 +177,8 @@ module _ (before : List Offer) (old : List PublishedModule) (there : AllPass bef
 pass-take : (n : ℕ) (os : List Offer) (ps : List PublishedModule) → AllPass os ps → AllPass (take n os) (take n ps)
 pass-take zero os ps h = tt
 pass-take (suc n) [] [] h = tt
-pass-take (suc n) [] (p ∷ ps) h = absurd h
-pass-take (suc n) (o ∷ os) [] h = absurd h
 pass-take (suc n) (o ∷ os) (p ∷ ps) h = (h.0, h.1, h.2, pass-take n os ps h.3)
+pass-take _ _ _ h = absurd h
 
 -- the first of them, as they are offered
 pub first-offers : (offers front : List Offered) (most : ℕ) → front ≡ take most offers → offers_of front ≡ take most (offers_of offers)
@@ -259,19 +213,15 @@ module _ (offers front : List Offered) (most : ℕ) (news after : List New) (cou
   -- and there are no more of them
   pub group-long : length after ≤ length offers
   group-long =
-      let long = length-take count news in
       let same = ap length cut in
-      omega (arith, long, same, count-few.1)
+      omega (arith, length-take count news, same, count-few.1)
 
 module _ (offers left : List Offered) (done : ℕ) (rest : left ≡ drop done offers) where
   -- so many joined, and these are left: they are not too many
   pub left-few : (store : List PublishedModule) → AllPass (take done (offers_of offers)) store → length offers ≤ 4096 → length store + length left ≤ 4096
   left-few store passed few =
-      let many = as-many (take done (offers_of offers)) store passed in
-      let long = length-take done (offers_of offers) in
-      let mapped = length-map offers offer_of in
       let dropped = ap length rest ∙ length-drop done offers in
-      omega (arith, many, long, mapped, dropped, few)
+      omega (arith, as-many (take done (offers_of offers)) store passed, length-take done (offers_of offers), length-map offers offer_of, dropped, few)
 
   -- with those that joined they are all
   pub left-all : take done (offers_of offers) ++ offers_of left ≡ offers_of offers
@@ -309,8 +259,7 @@ structs-of olds (s ∷ ss) = ap₂ (λ (x : StructName) (xs : List StructName). 
 
 -- each of more of them is placed among those that are there by then
 pub more-within : (before : List Offer) (old ps : List PublishedModule) (tss : List (List Tally)) (counters : List (List Count)) → AreJoined before old tss counters → (placed : List Placed)
-    → ArePlacedFor (tables_in old) tss (length old) (tables_in ps) placed → ArePlaced 0 tss → MayFollow old ps
-    → IsStore (with_modules old ps) → AreWithin (length tss) placed
+    → ArePlacedFor (tables_in old) tss (length old) (tables_in ps) placed → ArePlaced 0 tss → MayFollow old ps → IsStore (with_modules old ps) → AreWithin (length tss) placed
 more-within before old ps tss counters joined placed at theirs join whole =
     joined-within old ps tss placed None (record { store = joined.store; whole = whole; join = join; at = at; theirs = theirs; scarce = joined.scarce }) joined.placed
 

@@ -1,7 +1,6 @@
 -- Tallies whose counts were read are of the same structs.
-use Rattle.mv_ledger.proofs.Loads.Common.{[], ◌++◌, ◌∙◌, ◌∷◌, ◌≡◌, List, ap, flat_map, length, map, refl, subst, sym, length-map, map-append, All-map, All, IsSome, unwrap_or, Module, name_at}
-use Rattle.mv_ledger.proofs.Loads.Common.{StructName, Definition, Tallied, counts_of, struct_of, counted_by, AreScarce, IsNamed, all_of, scarce_indices, tallied, Tally}
-use Rattle.mv_interpreter.specs.Flat.Agreement.{nameless}
+use Rattle.mv_ledger.proofs.Common.{[], ◌++◌, ◌∙◌, ◌∷◌, ◌≡◌, List, ap, flat_map, length, map, refl, subst, sym, length-map, map-append, All-map, All, IsSome, unwrap_or, Module, name_at, StructName}
+use Rattle.mv_ledger.proofs.Common.{Definition, Tallied, nameless, counts_of, struct_of, counted_by, AreScarce, IsNamed, all_of, scarce_indices, tallied, Tally}
 use Rattle.mv_ledger.proofs.Runs.ScarceTallies.{All-back}
 use Rattle.mv_ledger.proofs.Runs.TalliesAfter.{map-then}
 
@@ -12,21 +11,18 @@ structs_in tss = map (map struct_of) tss
 -- each module's list has its structs with neither copy nor drop
 abbrev AreScarceBy : List Module → List (List Definition) → Type 0
 AreScarceBy [] [] = Unit {0}
-AreScarceBy [] (ds ∷ dss) = ⊥
-AreScarceBy (m ∷ ms) [] = ⊥
 AreScarceBy (m ∷ ms) (ds ∷ dss) = (map (λ (d : Definition). d.index) ds ≡ scarce_indices m) × AreScarceBy ms dss
+AreScarceBy _ _ = ⊥
 
 scarce-by : (ms : List Module) (tss : List (List Tally)) → AreScarce ms tss → AreScarceBy ms (structs_in tss)
 scarce-by [] [] h = tt
-scarce-by [] (ts ∷ tss) h = absurd h
-scarce-by (m ∷ ms) [] h = absurd h
 scarce-by (m ∷ ms) (ts ∷ tss) h = (map-then struct_of (λ (d : Definition). d.index) ts ∙ h.0, scarce-by ms tss h.1)
+scarce-by _ _ h = absurd h
 
 by-scarce : (ms : List Module) (tss : List (List Tally)) → AreScarceBy ms (structs_in tss) → AreScarce ms tss
 by-scarce [] [] h = tt
-by-scarce [] (ts ∷ tss) h = absurd h
-by-scarce (m ∷ ms) [] h = absurd h
 by-scarce (m ∷ ms) (ts ∷ tss) h = (sym (map-then struct_of (λ (d : Definition). d.index) ts) ∙ h.0, by-scarce ms tss h.1)
+by-scarce _ _ h = absurd h
 
 -- the structs of all tallies
 structs-all : (tss : List (List Tally)) → map struct_of (all_of tss) ≡ flat_map (λ (ds : List Definition). ds) (structs_in tss)

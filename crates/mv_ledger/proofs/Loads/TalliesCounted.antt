@@ -1,29 +1,16 @@
 -- Tallies against the counts of what is stored.
-use Rattle.mv_ledger.proofs.Loads.Common.{[], ℕ, ◌*◌, ◌++◌, ◌+◌, ◌-◌, ◌<◌, ◌^◌, ◌∙◌, ◌∷◌, ◌≡◌, ◌≤◌, List, add-one, ap, arith, length, map, subst, suc, sym, take, zero, take_all, All-head, All-tail}
-use Rattle.mv_ledger.proofs.Loads.Common.{AllByRecursion, All, min, slice_get, unwrap_or, Module, name_at, count, FlatEntry, storage_of, AreAll, IsTallied, capped, count_at, AreCounted, IsNamed}
-use Rattle.mv_ledger.proofs.Loads.Common.{all_of, tallied, Tally}
-use Rattle.mv_linker.proofs.Found.{some-of}
-use Rattle.mv_interpreter.specs.Flat.Agreement.{nameless}
+use Rattle.mv_ledger.proofs.Common.{[], ◌*◌, ◌+◌, ◌-◌, ◌<◌, ◌^◌, ◌∙◌, ◌∷◌, ◌≡◌, ◌≤◌, List, add-one, ap, arith, length, map, subst, suc, sym, take, zero, ℕ, take_all, All-head, All-tail}
+use Rattle.mv_ledger.proofs.Common.{AllByRecursion, All, min, slice_get, unwrap_or, Module, name_at, count, FlatEntry, storage_of, some-of, nameless, AreAll, IsTallied, capped, count_at}
+use Rattle.mv_ledger.proofs.Common.{AreCounted, IsNamed, all_of, tallied, Tally}
+use Rattle.mv_ledger.proofs.Lists.{all-append, all-front, all-back}
 
 -- ---- tallies one after the other
-
-all-join : {A : Type 0} (P : A → Type 0) (xs ys : List A) → AllByRecursion P xs → AllByRecursion P ys → AllByRecursion P (xs ++ ys)
-all-join P [] ys h g = g
-all-join P (x ∷ xs) ys h g = (h.0, all-join P xs ys h.1 g)
-
-all-front : {A : Type 0} (P : A → Type 0) (xs ys : List A) → AllByRecursion P (xs ++ ys) → AllByRecursion P xs
-all-front P [] ys h = tt
-all-front P (x ∷ xs) ys h = (h.0, all-front P xs ys h.1)
-
-all-back : {A : Type 0} (P : A → Type 0) (xs ys : List A) → AllByRecursion P (xs ++ ys) → AllByRecursion P ys
-all-back P [] ys h = h
-all-back P (x ∷ xs) ys h = all-back P xs ys h.1
 
 module _ (P : Tally → Type 0) where
   more : (tss : List (List Tally)) (i : ℕ) → i < length tss → AllByRecursion P (all_of (take i tss)) → AllByRecursion P (unwrap_or (slice_get tss i) []) → AllByRecursion P (all_of (take (suc i) tss))
   more [] i lt h g = absurd (omega (arith, lt))
-  more (ts ∷ tss) zero lt h g = all-join P ts (all_of (take zero tss)) g tt
-  more (ts ∷ tss) (suc i) lt h g = all-join P ts (all_of (take (suc i) tss)) (all-front P ts (all_of (take i tss)) h) (more tss i (omega (arith, lt)) (all-back P ts (all_of (take i tss)) h) g)
+  more (ts ∷ tss) zero lt h g = all-append P ts (all_of (take zero tss)) g tt
+  more (ts ∷ tss) (suc i) lt h g = all-append P ts (all_of (take (suc i) tss)) (all-front P ts (all_of (take i tss)) h) (more tss i (omega (arith, lt)) (all-back P ts (all_of (take i tss)) h) g)
 
   -- the tallies of one module more
   pub modules-more : (tss : List (List Tally)) (i : ℕ) → i < length tss → AllByRecursion P (all_of (take i tss)) → AllByRecursion P (unwrap_or (slice_get tss i) [])

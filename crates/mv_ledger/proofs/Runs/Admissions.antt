@@ -1,31 +1,19 @@
 -- The ways out of an admission: the first reason against a run, or its call.
-use Rattle.mv_ledger.proofs.Runs.Common.{ℕ, ◌<◌, ◌^◌, ◌∙◌, ◌≡◌, ◌≤◌, Bool, Err, List, None, Ok, Option, Result, Some, ap, arith, false, nat_lt, refl, subst, sym, true, nat_le, ok_or, slice_get}
-use Rattle.mv_ledger.proofs.Runs.Common.{FunctionDefinition, Module, parameter_tokens, PublishedModule, Tallied, FunctionCall, Storage, tables_in, call_of, IsAdmission, IsAdmitted, Call}
-use Rattle.std.proofs.lemmas.Bool.Decides.{nat_tests}
-use Rattle.mv_move_types.specs.declared.token.Token.{Token}
-use Rattle.mv_move_types.specs.Results.{◌>>=◌, ◌>>◌, need}
-use Rattle.mv_move_types.specs.Named.{module_place, function_place}
-use Rattle.mv_machine.specs.Ledger.{LedgerState, RunRequest, admitted, are_arguments, with_signer}
-use Rattle.mv_ledger.specs.declared.executing.Barred.{Barred}
-use Rattle.mv_ledger.specs.declared.executing.Barred.TheVariants.{Rejected}
+use Rattle.mv_ledger.proofs.Common.{◌<◌, ◌^◌, ◌∙◌, ◌≡◌, ◌≤◌, Err, List, None, Ok, Option, Result, Some, ap, arith, false, length, refl, subst, sym, true, ℕ, nat_tests, length-map, nat_le, nat_lt}
+use Rattle.mv_ledger.proofs.Common.{ok_or, slice_get, FunctionDefinition, Module, parameter_tokens, function_place, is_module, module_place, ModuleName, PublishedModule, ◌>>◌, need, Token}
+use Rattle.mv_ledger.proofs.Common.{LedgerState, RunRequest, are_arguments, with_signer, Tallied, FunctionCall, Storage, place_below, tables_in, call_of, IsAdmission, IsAdmitted, Barred, Rejected}
+use Rattle.mv_ledger.proofs.Common.{Call}
+use Rattle.mv_machine.specs.Ledger.{admitted}
 
--- ---- one part after the other
+-- ---- what stands at the places that a run record's names lead to
 
--- what is found goes on
-found : {A B E : Type 0} (o : Option A) (e : E) (f : A → Result B E) (x : A) (y : Result B E) → o ≡ Some x → f x ≡ y → (ok_or o e >>= f) ≡ y
-found o e f x y is then = ap (λ o. ok_or o e >>= f) is ∙ then
+-- a module that is found is one of the store's
+pub place-below : (published : List PublishedModule) (name : ModuleName) (o : Option ℕ) (k : ℕ) → o ≡ module_place (tables_in published) name → o ≡ Some k → k < length published
+place-below published name o k is some =
+    let lt : k < length (tables_in published) = place_below (is_module name) (tables_in published) k (sym is ∙ some) in
+    omega (arith, length-map published (λ (p : PublishedModule). p.tables))
 
--- what is missing ends it
-missing : {A B E : Type 0} (o : Option A) (e : E) (f : A → Result B E) → o ≡ None → (ok_or o e >>= f) ≡ Err e
-missing o e f is = ap (λ o. ok_or o e >>= f) is
-
--- a test that is passed goes on
-passed : {B E : Type 0} (b : Bool) (e : E) (rest y : Result B E) → b ≡ true → rest ≡ y → (need b e >> rest) ≡ y
-passed b e rest y is then = ap (λ b. need b e >> rest) is ∙ then
-
--- one that is failed ends it
-failed : {B E : Type 0} (b : Bool) (e : E) (rest : Result B E) → b ≡ false → (need b e >> rest) ≡ Err e
-failed b e rest is = ap (λ b. need b e >> rest) is
+-- ---- the ways out
 
 -- orders as tests
 within : (m n : ℕ) → m ≤ n → nat_le m n ≡ true
@@ -93,34 +81,23 @@ module _ (published : List PublishedModule) (runs : ℕ) (r : RunRequest) where
   -- 2: the budget is beyond its limit
   pub no_budget : 10000000 < r.budget → IsAdmitted published runs r (Err (Rejected 2))
   unfolding admitted
-  no_budget h = each_admits (Err 2) (Err (Rejected 2)) (λ storage tallies. failed (nat_le r.budget 10000000) 2 _ (beyond r.budget 10000000 h)) refl
+  no_budget h = each_admits (Err 2) (Err (Rejected 2)) (λ storage tallies. rw (beyond r.budget 10000000 h) refl) refl
 
   -- 3: no module has the name
   pub no_module : r.budget ≤ 10000000 → module_place modules r.home ≡ None → IsAdmitted published runs r (Err (Rejected 3))
   unfolding admitted
-  no_module fits none = each_admits (Err 3) (Err (Rejected 3)) (λ storage tallies.
-      passed (nat_le r.budget 10000000) 2 _ (Err 3) (within r.budget 10000000 fits)
-      (missing (module_place modules r.home) 3 _ none)) refl
+  no_module fits none = each_admits (Err 3) (Err (Rejected 3)) (λ storage tallies. rw (within r.budget 10000000 fits, none) refl) refl
 
   -- 4: no function of the module has the name
   pub no_function : (place : ℕ) (home : Module) → FindsModule place home → function_place home r.function ≡ None → IsAdmitted published runs r (Err (Rejected 4))
   unfolding admitted
-  no_function place home at none = each_admits (Err 4) (Err (Rejected 4)) (λ storage tallies.
-      passed (nat_le r.budget 10000000) 2 _ (Err 4) (within r.budget 10000000 at.fits)
-      (found (module_place modules r.home) 3 _ place (Err 4) at.place_is
-      (found (slice_get modules place) 3 _ home (Err 4) at.home_is
-      (missing (function_place home r.function) 4 _ none)))) refl
+  no_function place home at none = each_admits (Err 4) (Err (Rejected 4)) (λ storage tallies. rw (within r.budget 10000000 at.fits, at.place_is, at.home_is, none) refl) refl
 
   -- 5: the function is no entry
   pub no_entry : (place : ℕ) (home : Module) (index : ℕ) (d : FunctionDefinition) → FindsFunction place home index d → d.is_entry ≡ false → IsAdmitted published runs r (Err (Rejected 5))
   unfolding admitted
-  no_entry place home index d at private = each_admits (Err 5) (Err (Rejected 5)) (λ storage tallies.
-      passed (nat_le r.budget 10000000) 2 _ (Err 5) (within r.budget 10000000 at.at.fits)
-      (found (module_place modules r.home) 3 _ place (Err 5) at.at.place_is
-      (found (slice_get modules place) 3 _ home (Err 5) at.at.home_is
-      (found (function_place home r.function) 4 _ index (Err 5) at.index_is
-      (found (slice_get home.functions index) 4 _ d (Err 5) at.d_is
-      (failed d.is_entry 5 _ private)))))) refl
+  no_entry place home index d at private =
+      each_admits (Err 5) (Err (Rejected 5)) (λ storage tallies. rw (within r.budget 10000000 at.at.fits, at.at.place_is, at.at.home_is, at.index_is, at.d_is, private) refl) refl
 
   -- what comes once the types are found
   after_types : (place : ℕ) (home : Module) (index : ℕ) (d : FunctionDefinition) (tokens : List Token) (result : Result FunctionCall ℕ) → FindsTypes place home index d tokens
@@ -131,27 +108,18 @@ module _ (published : List PublishedModule) (runs : ℕ) (r : RunRequest) where
       → (storage : Storage) (tallies : List Tallied) → admitted (ledger storage tallies) r ≡ result
   unfolding admitted
   after_types place home index d tokens result types rest storage tallies =
-      passed (nat_le r.budget 10000000) 2 _ result (within r.budget 10000000 types.at.at.fits)
-      (found (module_place modules r.home) 3 _ place result types.at.at.place_is
-      (found (slice_get modules place) 3 _ home result types.at.at.home_is
-      (found (function_place home r.function) 4 _ index result types.at.index_is
-      (found (slice_get home.functions index) 4 _ d result types.at.d_is
-      (passed d.is_entry 5 _ result types.entry
-      (found (parameter_tokens home d) 6 _ tokens result types.tokens_are rest))))))
+      rw (within r.budget 10000000 types.at.at.fits, types.at.at.place_is, types.at.at.home_is, types.at.index_is, types.at.d_is, types.entry, types.tokens_are) rest
 
   -- 6: the arguments are not of the parameters' types
   pub no_arguments : (place : ℕ) (home : Module) (index : ℕ) (d : FunctionDefinition) (tokens : List Token) → FindsTypes place home index d tokens
       → are_arguments tokens (with_signer r.sender tokens r.arguments) ≡ false → IsAdmitted published runs r (Err (Rejected 6))
-  no_arguments place home index d tokens types differ = each_admits (Err 6) (Err (Rejected 6))
-      (after_types place home index d tokens (Err 6) types (failed (are_arguments tokens (with_signer r.sender tokens r.arguments)) 6 _ differ)) refl
+  no_arguments place home index d tokens types differ = each_admits (Err 6) (Err (Rejected 6)) (after_types place home index d tokens (Err 6) types (rw differ refl)) refl
 
   -- 7: no further run may be had
   pub no_runs : (place : ℕ) (home : Module) (index : ℕ) (d : FunctionDefinition) (tokens : List Token) → FindsTypes place home index d tokens
       → are_arguments tokens (with_signer r.sender tokens r.arguments) ≡ true → 4294967296 ≤ runs → IsAdmitted published runs r (Err (Rejected 7))
-  no_runs place home index d tokens types same full = each_admits (Err 7) (Err (Rejected 7))
-      (after_types place home index d tokens (Err 7) types
-      (passed (are_arguments tokens (with_signer r.sender tokens r.arguments)) 6 _ (Err 7) same
-      (failed (nat_lt runs (2 ^ 32)) 7 _ (not_below runs 4294967296 full)))) refl
+  no_runs place home index d tokens types same full =
+      each_admits (Err 7) (Err (Rejected 7)) (after_types place home index d tokens (Err 7) types (rw (same, not_below runs 4294967296 full) refl)) refl
 
   -- the call is admitted
   pub admits : (place : ℕ) (home : Module) (index : ℕ) (d : FunctionDefinition) (tokens : List Token) (c : Call) → FindsTypes place home index d tokens
@@ -160,8 +128,4 @@ module _ (published : List PublishedModule) (runs : ℕ) (r : RunRequest) where
       → IsAdmitted published runs r (Ok c)
   admits place home index d tokens c types same room call_is budget_is =
       let call : FunctionCall = record { function = record { place = place; index = index }; arguments = with_signer r.sender tokens r.arguments } in
-      each_admits (Ok call) (Ok c)
-      (after_types place home index d tokens (Ok call) types
-      (passed (are_arguments tokens (with_signer r.sender tokens r.arguments)) 6 _ (Ok call) same
-      (passed (nat_lt runs (2 ^ 32)) 7 _ (Ok call) (below runs 4294967296 room) refl)))
-      (call_is, budget_is)
+      each_admits (Ok call) (Ok c) (after_types place home index d tokens (Ok call) types (rw (same, below runs 4294967296 room) refl)) (call_is, budget_is)

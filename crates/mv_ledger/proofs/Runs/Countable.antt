@@ -1,13 +1,7 @@
 -- Room in the counters for the struct of each tally.
-use Rattle.mv_ledger.proofs.Runs.Common.{[], ℕ, ⊎_elim, ◌++◌, ◌+◌, ◌<◌, ◌∙◌, ◌∷◌, ◌≡◌, ◌≤◌, List, Option, ap, arith, drop, length, map, subst, suc, sym, unwrap_or, zero, cases_lt, map_push}
-use Rattle.mv_ledger.proofs.Runs.Common.{All-append, All-cons, All-drop, All-get_or, All-head, All-map, All-nil, All-push, All-tail, All-weaker, All, slice_get, HasCounts, KeepsCounts, StructTally}
-use Rattle.mv_ledger.proofs.Runs.Common.{fresh_tally, tally_after, with_placed, AreCountable, Tally}
-use Rattle.std.proofs.lemmas.Option.{unwrap_or-slice_get, slice_get_past}
-use Rattle.mv_move_types.specs.declared.tables.Definition.{Definition}
-use Rattle.mv_linker.specs.Stored.{with_at}
-use Rattle.mv_frames.specs.declared.counters.Count.{Count}
-use Rattle.mv_ledger.specs.declared.tallies.Placed.{Placed}
-use Rattle.mv_ledger.specs.Parts.BodyParts.{struct_of}
+use Rattle.mv_ledger.proofs.Common.{[], ⊎_elim, ◌++◌, ◌+◌, ◌<◌, ◌∙◌, ◌∷◌, ◌≡◌, ◌≤◌, List, Option, ap, arith, drop, length, map, subst, suc, sym, zero, ℕ, cases_lt, map_push, All-append, All-cons}
+use Rattle.mv_ledger.proofs.Common.{All-drop, All-get_or, All-head, All-map, All-nil, All-push, All-tail, All-weaker, slice_get_past, unwrap_or-slice_get, All, slice_get, unwrap_or, Definition}
+use Rattle.mv_ledger.proofs.Common.{HasCounts, KeepsCounts, Count, StructTally, with_at, struct_of, fresh_tally, tally_after, with_placed, AreCountable, Placed, Tally}
 use Rattle.mv_ledger.proofs.Runs.ScarceTallies.{All-back}
 
 -- there is room to count values of a tally's struct
@@ -35,8 +29,7 @@ countable-at counters tss place had =
 
 -- those of a module that is placed
 pub placed-countable : (old new : List (List Count)) (had : List Tally) (ts : List Tally) (place structs : ℕ) (indices : List ℕ) → KeepsCounts old new → All (IsCountable old) had
-    → HasCounts place structs new → All (λ i. i < structs) indices
-    → ts ≡ had ++ map (fresh_tally place) (drop (length had) indices) → All (IsCountable new) ts
+    → HasCounts place structs new → All (λ i. i < structs) indices → ts ≡ had ++ map (fresh_tally place) (drop (length had) indices) → All (IsCountable new) ts
 placed-countable old new had ts place structs indices kept were room low is =
     subst (All (IsCountable new)) (sym is)
     (All-append (IsCountable new) had (map (fresh_tally place) (drop (length had) indices)) (countable-kept old new had kept were)
@@ -45,8 +38,7 @@ placed-countable old new had ts place structs indices kept were room low is =
 
 -- one module more is placed
 pub pushed-countable : (old new : List (List Count)) (all after : List Placed) (p : Placed) → KeepsCounts old new → AreCountable old (map (λ p. p.tallies.items) all)
-    → All (IsCountable new) p.tallies.items → after ≡ all ++ p ∷ []
-    → AreCountable new (map (λ p. p.tallies.items) after)
+    → All (IsCountable new) p.tallies.items → after ≡ all ++ p ∷ [] → AreCountable new (map (λ p. p.tallies.items) after)
 pushed-countable old new all after p kept had one is =
     let f : Placed → List Tally = λ p. p.tallies.items in
     subst (AreCountable new) (sym (ap (map f) is ∙ map_push f all p)) (All-push (All (IsCountable new)) (map f all) p.tallies.items (all-countable-kept old new (map f all) kept had) one)

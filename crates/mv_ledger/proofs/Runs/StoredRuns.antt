@@ -1,26 +1,15 @@
 -- What a run leaves is what the machine's run asks for.
-use Rattle.mv_ledger.proofs.Runs.Common.{ℕ, ◌*◌, ◌+◌, ◌∙◌, ◌≡◌, ◌≤◌, List, Option, Some, ap, ap₂, arith, map, sym, true, All-weaker, All, Module, PublishedModule, is_scarce_in, LedgerState, settled}
-use Rattle.mv_ledger.proofs.Runs.Common.{Tallied, Told, Aborted, Exhausted, Faulted, Returned, RunOutcome, run, Storage, tables_in, StructTally, Agrees, call_of, IsSettled, run_of, tally_after}
-use Rattle.mv_ledger.proofs.Runs.Common.{IsNamed, IsSmall, all_of, state_of, tallied, view_of, Call, Tally}
+use Rattle.mv_ledger.proofs.Common.{◌+◌, ◌∙◌, ◌≡◌, List, Option, Some, ap, ap₂, arith, map, sym, true, ℕ, All-weaker, All, Module, PublishedModule, is_scarce_in, StructTally, Layers, FlatEntry}
+use Rattle.mv_ledger.proofs.Common.{storage_of, LedgerState, settled, Told, Tallied, Aborted, Exhausted, Faulted, Returned, RunOutcome, run, Storage, HasAborted, HasExhausted, HasReturned}
+use Rattle.mv_ledger.proofs.Common.{tables_in, Agrees, call_of, Arg, told, told_ending, IsSettled, run_of, tally_after, IsNamed, IsSmall, all_of, state_of, tallied, view_of, Call, Tally}
 use Rattle.mv_machine.specs.declared.Outcome.{Outcome}
-use Rattle.mv_machine.specs.declared.Ending.TheVariants.{Returned as HasReturned, Aborted as HasAborted, Exhausted as HasExhausted}
-use Rattle.mv_machine.specs.Flat.{FlatEntry, storage_of}
-use Rattle.mv_storage.specs.Map.{Layers}
-use Rattle.mv_interpreter.specs.declared.Arg.{Arg}
 use Rattle.mv_ledger.specs.declared.Reply.TheVariants.{Ran}
-use Rattle.mv_ledger.specs.Answering.{told, told_ending}
 use Rattle.mv_ledger.proofs.Runs.TalliesAfter.{tallies-after}
 use Rattle.mv_ledger.proofs.Runs.TalliesByModule.{all-map}
 
 -- tallies that are small after some runs are so after one more
 pub small-kept : (runs : ℕ) (ts : List Tally) → All (IsSmall runs) ts → All (IsSmall (runs + 1)) ts
-small-kept runs ts small = All-weaker (IsSmall runs) (IsSmall (runs + 1)) one ts small
-  where
-    part : (n : ℕ) → n ≤ runs * 10000000 → n ≤ (runs + 1) * 10000000
-    part n h = omega arith
-
-    one : (t : Tally) → IsSmall runs t → IsSmall (runs + 1) t
-    one t h = (part t.packs h.0, part t.unpacks h.1)
+small-kept runs ts small = All-weaker (IsSmall runs) (IsSmall (runs + 1)) (λ t h. (omega (arith, h), omega (arith, h))) ts small
 
 -- the tallies of all modules after a run
 pub tallied-after : (tally own : List StructTally) (before after : List (List Tally)) → after ≡ map (map (tally_after own)) before → own ≡ tally → all_of after ≡ map (tally_after tally)

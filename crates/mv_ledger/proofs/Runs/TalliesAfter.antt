@@ -1,13 +1,8 @@
 -- Tallies after a run.
-use Rattle.mv_ledger.proofs.Runs.Common.{[], ℕ, ◌*◌, ◌+◌, ◌-◌, ◌^◌, ◌∙◌, ◌∷◌, ◌≡◌, ◌≤◌, List, Option, ap, ap₂, arith, map, refl, sym, true, unwrap_or, All-head, All-map, All-tail, All-weaker, All}
-use Rattle.mv_ledger.proofs.Runs.Common.{Module, name_at, PublishedModule, is_scarce_in, tally_with, Tallied, packs, unpacks, Event, tables_in, packs_at, unpacks_at, StructTally, AtMost, Tallies}
-use Rattle.mv_ledger.proofs.Runs.Common.{tally_after, AreScarce, IsNamed, IsSmall, tallied, Tally}
-use Rattle.mv_move_types.specs.declared.tables.Definition.{Definition}
-use Rattle.mv_move_types.specs.Names.{StructName}
-use Rattle.mv_linker.proofs.Found.{some-of}
-use Rattle.mv_frames.specs.declared.counters.Count.{Count}
+use Rattle.mv_ledger.proofs.Common.{[], ◌+◌, ◌-◌, ◌^◌, ◌∙◌, ◌∷◌, ◌≡◌, ◌≤◌, List, Option, ap, ap₂, arith, map, refl, sym, true, ℕ, All-head, All-map, All-tail, All-weaker, All, unwrap_or, Module}
+use Rattle.mv_ledger.proofs.Common.{name_at, StructName, PublishedModule, is_scarce_in, Definition, packs_at, unpacks_at, Count, StructTally, tally_with, Tallied, packs, unpacks, Event, some-of}
+use Rattle.mv_ledger.proofs.Common.{tables_in, nameless, AtMost, Tallies, tally_after, AreScarce, IsNamed, IsSmall, tallied, Tally}
 use Rattle.mv_frames.proofs.Tallied.{tallied-packs, tallied-unpacks}
-use Rattle.mv_interpreter.specs.Flat.Agreement.{nameless}
 
 -- functions that agree on a list's elements
 pub map-where : {A B : Type 0} (P : A → Type 0) (f g : A → B) → ((x : A) → P x → f x ≡ g x) → (xs : List A) → All P xs → map f xs ≡ map g xs
@@ -60,13 +55,9 @@ most-after budget run few low = (
 
 -- a run adds at most 10,000,000 to each
 pub small-after : (runs : ℕ) (run : List StructTally) (ts : List Tally) → AtMost 10000000 run → All (IsSmall runs) ts → All (IsSmall (runs + 1)) (map (tally_after run) ts)
-small-after runs run ts few small = All-map (IsSmall (runs + 1)) (tally_after run) ts (All-weaker (IsSmall runs) (λ t. IsSmall (runs + 1) (tally_after run t)) one ts small)
-  where
-    sum : (old more : ℕ) → old ≤ runs * 10000000 → more ≤ 10000000 → old + more ≤ (runs + 1) * 10000000
-    sum old more a b = omega arith
-
-    one : (t : Tally) → IsSmall runs t → IsSmall (runs + 1) (tally_after run t)
-    one t h = let few = few t.place t.index in (sum t.packs (packs_at t.place t.index run) h.0 few.0, sum t.unpacks (unpacks_at t.place t.index run) h.1 few.1)
+small-after runs run ts few small =
+    All-map (IsSmall (runs + 1)) (tally_after run) ts
+    (All-weaker (IsSmall runs) (λ t. IsSmall (runs + 1) (tally_after run t)) (λ t h. let few = few t.place t.index in (omega (arith, h, few), omega (arith, h, few))) ts small)
 
 -- a run leaves the tallies' structs
 pub named-after : (modules : List Module) (run : List StructTally) (ts : List Tally) → All (IsNamed modules) ts → All (IsNamed modules) (map (tally_after run) ts)
@@ -75,6 +66,5 @@ named-after modules run ts named = All-map (IsNamed modules) (tally_after run) t
 -- and their indices
 pub scarce-after : (run : List StructTally) (modules : List Module) (tss : List (List Tally)) → AreScarce modules tss → AreScarce modules (map (map (tally_after run)) tss)
 scarce-after run [] [] h = tt
-scarce-after run [] (ts ∷ tss) h = h
-scarce-after run (m ∷ ms) [] h = h
 scarce-after run (m ∷ ms) (ts ∷ tss) h = (map-then (tally_after run) (λ (t : Tally). t.index) ts ∙ h.0, scarce-after run ms tss h.1)
+scarce-after _ _ _ h = h

@@ -1,14 +1,30 @@
 -- A run's tally as it is added, entry by entry, each to the tallies of its module alone.
-use Rattle.mv_ledger.proofs.Runs.Common.{[], ℕ, ◌++◌, ◌+◌, ◌-◌, ◌<◌, ◌^◌, ◌∙◌, ◌∷◌, ◌≡◌, ◌≤◌, Bool, List, ap, ap₂, arith, cond, false, get_or, length, map, refl, subst, suc, sym, take, true, zero}
-use Rattle.mv_ledger.proofs.Runs.Common.{zero-add, eqb-true, get_or-map, length-map, map-append, map-set, with_items_is, All-cons, All-head, All-map, All-nil, All-tail, All-weaker, sum_by-cons}
-use Rattle.mv_ledger.proofs.Runs.Common.{sum_by_more, sum_by, IsStrictlyIncreasing, ◌&&◌, ◌==◌, All, slice_set, is_tally_at, StructTally, AtMost, AreInOrder, HasRoomLeft, IsRoomFor, tally_after}
-use Rattle.mv_ledger.proofs.Runs.Common.{ArePlaced, all_of, Tally}
-use Rattle.std.specs.declared.vec.Vec.{Vec}
-use Rattle.std.specs.Vec.{with_items}
-use Rattle.std.specs.declared.alloc.Global.{Global}
-use Rattle.mv_ledger.proofs.Runs.TalliesAdding.{entry-fits}
+use Rattle.mv_ledger.proofs.Common.{[], ◌++◌, ◌+◌, ◌-◌, ◌<◌, ◌^◌, ◌∙◌, ◌∷◌, ◌≡◌, ◌≤◌, List, ap, ap₂, arith, cond, false, get_or, length, map, refl, subst, suc, sym, take, true, zero, zero-add, ℕ}
+use Rattle.mv_ledger.proofs.Common.{eqb-true, get_or-map, length-map, map-append, map-set, with_items_is, All-cons, All-head, All-map, All-nil, All-tail, All-weaker, sum_by-cons, sum_by_more}
+use Rattle.mv_ledger.proofs.Common.{sum_by_more_le_part, sum_by, IsStrictlyIncreasing, All, slice_set, with_items, Global, Vec, is_tally_at, StructTally, AtMost, AreInOrder, HasRoomFor}
+use Rattle.mv_ledger.proofs.Common.{HasRoomLeft, IsRoomFor, tally_after, ArePlaced, all_of, Tally}
 use Rattle.mv_ledger.proofs.Runs.TalliesAfter.{map-then}
 use Rattle.mv_ledger.proofs.Runs.TalliesFound.{tally-other, with_counts}
+
+-- ---- an entry has room
+
+-- what one more entry counts fits beside what those before it did
+fits : (f : StructTally → ℕ) (run : List StructTally) (i : ℕ) (d : StructTally) (old n : ℕ) → i < length run → old + 2 ^ 64 < 2 ^ 128 → sum_by f run ≤ 2 ^ 64 - 1 → n ≡ f (get_or run i d)
+    → old + sum_by f (take i run) + n < 2 ^ 128
+fits f run i d old n lt room few n_is = omega (arith, sum_by_more_le_part f f run i d lt (λ t. omega arith), few, room, n_is)
+
+-- so the entry of a tally's struct has room in it, after those before it
+pub entry-fits : (run : List StructTally) (i : ℕ) (d e : StructTally) (t : Tally) → i < length run → e ≡ get_or run i d → AtMost (2 ^ 64 - 1) run → HasRoomLeft t → is_tally_at t.place t.index e ≡ true
+    → HasRoomFor e (tally_after (take i run) t)
+entry-fits run i d e t lt e_is few room own = (
+  fits (λ (u : StructTally). cond (is_tally_at t.place t.index u) u.packs 0) run i d t.packs e.packs lt room.0 (few t.place t.index).0
+      (counted e.packs ∙ ap (λ (u : StructTally). cond (is_tally_at t.place t.index u) u.packs 0) e_is),
+  fits (λ (u : StructTally). cond (is_tally_at t.place t.index u) u.unpacks 0) run i d t.unpacks e.unpacks lt room.1 (few t.place t.index).1
+      (counted e.unpacks ∙ ap (λ (u : StructTally). cond (is_tally_at t.place t.index u) u.unpacks 0) e_is),
+)
+  where
+    counted : (n : ℕ) → n ≡ cond (is_tally_at t.place t.index e) n 0
+    counted n = rw own refl
 
 -- a run without entries leaves a tally
 tally-first : (t : Tally) → t ≡ tally_after [] t
@@ -30,19 +46,12 @@ all-first (ts ∷ tss) = ap₂ (λ x xs. x ∷ xs) (tallies-first ts) (all-first
 tally-more : (run : List StructTally) (i : ℕ) (d : StructTally) (t : Tally) → i < length run → tally_after (get_or run i d ∷ []) (tally_after (take i run) t) ≡ tally_after (take (i + 1) run) t
 tally-more run i d t h = ap₂ (with_counts t) (one (λ u. cond (is_tally_at t.place t.index u) u.packs 0) t.packs) (one (λ u. cond (is_tally_at t.place t.index u) u.unpacks 0) t.unpacks)
   where
-    sum : (a b c alone more : ℕ) → alone ≡ c + 0 → more ≡ b + c → a + b + alone ≡ a + more
-    sum a b c alone more p q = omega arith
-
     one : (f : StructTally → ℕ) (old : ℕ) → old + sum_by f (take i run) + sum_by f (get_or run i d ∷ []) ≡ old + sum_by f (take (i + 1) run)
-    one f old = sum old (sum_by f (take i run)) (f (get_or run i d)) _ _ (sum_by-cons f (get_or run i d) []) (sum_by_more f run i d h)
+    one f old = omega (arith, sum_by-cons f (get_or run i d) [], sum_by_more f run i d h)
 
 -- an entry of another module
 other-place : (e : StructTally) (t : Tally) → (e.place ≡ t.place → ⊥) → is_tally_at t.place t.index e ≡ false
-other-place e t other = by_case (e.place == t.place) refl
-  where
-    by_case : (b : Bool) → (e.place == t.place) ≡ b → (b && (e.index == t.index)) ≡ false
-    by_case true is = absurd (other (eqb-true e.place t.place is))
-    by_case false is = refl
+other-place e t other = grind (arith, eqb-true e.place t.place)
 
 -- all the tallies of a list of other modules
 tallies-other : (e : StructTally) (place : ℕ) (ts : List Tally) → (e.place ≡ place → ⊥) → All (λ t. t.place ≡ place) ts → map (tally_after (e ∷ [])) ts ≡ ts

@@ -1,12 +1,10 @@
 -- The tally of a run's entry among those of its module, which stand by ascending index.
-use Rattle.mv_ledger.proofs.Runs.Common.{[], ℕ, ◌+◌, ◌<◌, ◌∙◌, ◌∷◌, ◌≡◌, ◌≤◌, Bool, Err, List, Ok, ap, ap₂, arith, cond, false, get_or, length, map, nat_lt, refl, sym, true, and_from, eq-eqb}
-use Rattle.mv_ledger.proofs.Runs.Common.{eqb-false, eqb-true, ltb-false, ltb-true, ext_get_or, get_or-map, get_or-set_other, get_or-set_same, length-map, length-set, sum_by-cons, sum_by}
-use Rattle.mv_ledger.proofs.Runs.Common.{IsBinarySearchResult, IsNonDecreasingBy, ◌&&◌, ◌==◌, All, slice_set, is_tally_at, StructTally, AreInOrder, HasRoomFor, IsRoomFor, tally_after, Tally}
-use Rattle.std.specs.Ordering.{nat_cmp, ordering_index}
+use Rattle.mv_ledger.proofs.Common.{[], ◌+◌, ◌<◌, ◌∙◌, ◌∷◌, ◌≡◌, ◌≤◌, Bool, Err, List, Ok, ap, ap₂, arith, cond, eq-eqb, false, get_or, inl, inr, length, map, nat_cmp, refl, sym, true, ℕ, and_from}
+use Rattle.mv_ledger.proofs.Common.{cases_eq, eqb-true, ltb-false, ltb-true, nat_tests, ext_get_or, get_or-map, get_or-set_other, get_or-set_same, length-map, length-set}
+use Rattle.mv_ledger.proofs.Common.{IsNonDecreasingBy-from_default, sum_by-cons, sum_by, IsBinarySearchResult, IsNonDecreasingBy, ordering_index, ◌==◌, All, nat_lt, slice_set, is_tally_at}
+use Rattle.mv_ledger.proofs.Common.{StructTally, AreInOrder, HasRoomFor, IsRoomFor, tally_after, Tally}
 use Rattle.std.proofs.lemmas.Cmp.{ranked}
-use Rattle.std.proofs.lemmas.Bool.Decides.{nat_tests}
 use Rattle.std.proofs.lemmas.List.Kept.{AllPairs-from_increasing}
-use Rattle.std.proofs.lemmas.List.Sorted.{IsNonDecreasingBy-from_default}
 
 -- a tally with other counts
 abbrev pub with_counts : Tally → ℕ → ℕ → Tally
@@ -16,53 +14,30 @@ with_counts t m n = record t { packs = m; unpacks = n }
 pub tally-other : (e : StructTally) (t : Tally) → is_tally_at t.place t.index e ≡ false → tally_after (e ∷ []) t ≡ t
 tally-other e t other = ap₂ (with_counts t) (one e.packs t.packs) (one e.unpacks t.unpacks)
   where
-    sum : (a c alone : ℕ) → alone ≡ c + 0 → c ≡ 0 → a + alone ≡ a
-    sum a c alone p q = omega arith
-
     one : (n old : ℕ) → old + sum_by (λ (u : StructTally). cond (is_tally_at t.place t.index u) n 0) (e ∷ []) ≡ old
-    one n old = sum old _ _ (sum_by-cons (λ (u : StructTally). cond (is_tally_at t.place t.index u) n 0) e []) (ap (λ (b : Bool). cond b n 0) other)
+    one n old = omega (arith, sum_by-cons (λ (u : StructTally). cond (is_tally_at t.place t.index u) n 0) e [], ap (λ (b : Bool). cond b n 0) other)
 
 -- and adds what it counts to its own
 pub tally-own : (e : StructTally) (t : Tally) (packs unpacks : ℕ) → is_tally_at t.place t.index e ≡ true → packs ≡ e.packs → unpacks ≡ e.unpacks
     → with_counts t (t.packs + packs) (t.unpacks + unpacks) ≡ tally_after (e ∷ []) t
 tally-own e t packs unpacks own packs_is unpacks_is = ap₂ (with_counts t) (one packs e.packs t.packs packs_is) (one unpacks e.unpacks t.unpacks unpacks_is)
   where
-    sum : (a b c n alone : ℕ) → alone ≡ c + 0 → c ≡ n → b ≡ n → a + b ≡ a + alone
-    sum a b c n alone p q same = omega arith
-
     one : (m n old : ℕ) → m ≡ n → old + m ≡ old + sum_by (λ (u : StructTally). cond (is_tally_at t.place t.index u) n 0) (e ∷ [])
-    one m n old same = sum old m _ n _ (sum_by-cons (λ (u : StructTally). cond (is_tally_at t.place t.index u) n 0) e []) (ap (λ (b : Bool). cond b n 0) own) same
-
--- a number that differs
-apart : (a b : ℕ) → (a ≡ b → ⊥) → (a == b) ≡ false
-apart a b other = by_case (a == b) refl
-  where
-    by_case : (c : Bool) → (a == b) ≡ c → (a == b) ≡ false
-    by_case true e = absurd (other (eqb-true a b e))
-    by_case false e = e
+    one m n old same = omega (arith, sum_by-cons (λ (u : StructTally). cond (is_tally_at t.place t.index u) n 0) e [], ap (λ (b : Bool). cond b n 0) own, same)
 
 -- an entry of another index
 other-index : (e : StructTally) (t : Tally) → (e.index ≡ t.index → ⊥) → is_tally_at t.place t.index e ≡ false
-other-index e t other = by_place (e.place == t.place)
-  where
-    by_place : (b : Bool) → (b && (e.index == t.index)) ≡ false
-    by_place true = apart e.index t.index other
-    by_place false = refl
+other-index e t other = grind (arith, eqb-true e.index t.index)
 
 -- what leaves all elements but one changes that one
 changed-alone : {X : Type 0} (f : X → X) (xs : List X) (i : ℕ) (d y : X) → i < length xs → ((j : ℕ) → j < length xs → (j ≡ i → ⊥) → f (get_or xs j d) ≡ get_or xs j d) → y ≡ f (get_or xs i d)
     → slice_set xs i y ≡ map f xs
-changed-alone f xs i d y lt others y_is = ext_get_or d (slice_set xs i y) (map f xs) (length-set xs i y ∙ sym (length-map xs f)) each
-  where
-    each : (j : ℕ) → j < length (slice_set xs i y) → get_or (slice_set xs i y) j d ≡ get_or (map f xs) j d
-    each j below = by_case (j == i) refl
-      where
-        short : j < length xs
-        short = omega (arith, below, length-set xs i y)
-
-        by_case : (b : Bool) → (j == i) ≡ b → get_or (slice_set xs i y) j d ≡ get_or (map f xs) j d
-        by_case true same = let here : j ≡ i = eqb-true j i same in rw here (get_or-set_same xs i y d lt ∙ y_is ∙ sym (get_or-map f xs i d d lt))
-        by_case false other = get_or-set_other xs i j y d (eqb-false j i other) ∙ sym (others j short (eqb-false j i other)) ∙ sym (get_or-map f xs j d d short)
+changed-alone f xs i d y lt others y_is = ext_get_or d (slice_set xs i y) (map f xs) (length-set xs i y ∙ sym (length-map xs f)) (λ j below.
+    let short : j < length xs = omega (arith, below, length-set xs i y) in
+    elim (cases_eq j i) [
+      | inl here ↦ rw here (get_or-set_same xs i y d lt ∙ y_is ∙ sym (get_or-map f xs i d d lt))
+      | inr far ↦ get_or-set_other xs i j y d far ∙ sym (others j short far) ∙ sym (get_or-map f xs j d d short)
+    ])
 
 module _ (e : StructTally) (ts : List Tally) (placed : All (λ t. t.place ≡ e.place) ts) (ordered : AreInOrder ts) (d : Tally) where
   -- each index is below the later ones
@@ -92,11 +67,8 @@ module _ (e : StructTally) (ts : List Tally) (placed : All (λ t. t.place ≡ e.
 
     -- no other changes
     pub found-alone : (after : Tally) → after ≡ tally_after (e ∷ []) (get_or ts i d) → slice_set ts i after ≡ map (tally_after (e ∷ [])) ts
-    found-alone after after_is = changed-alone (tally_after (e ∷ [])) ts i d after lt others after_is
-      where
-        others : (j : ℕ) → j < length ts → (j ≡ i → ⊥) → tally_after (e ∷ []) (get_or ts j d) ≡ get_or ts j d
-        others j below other =
-            tally-other e (get_or ts j d) (other-index e (get_or ts j d) (λ same. grind (arith, rises i j, rises j i, index-is, lt, below, other, same)))
+    found-alone after after_is = changed-alone (tally_after (e ∷ [])) ts i d after lt (λ j below other.
+        tally-other e (get_or ts j d) (other-index e (get_or ts j d) (λ same. grind (arith, rises i j, rises j i, index-is, lt, below, other, same)))) after_is
 
   -- where none is found, none is its own
   pub none-own : (i : ℕ) → IsBinarySearchResult (λ (t : Tally). nat_cmp t.index e.index) ts (Err i) → ts ≡ map (tally_after (e ∷ [])) ts

@@ -1,14 +1,11 @@
 -- Leaves that are coded one after the other.
-use Rattle.mv_ledger.proofs.Saves.Common.{[], ℕ, ◌++◌, ◌+◌, ◌<◌, ◌∙◌, ◌∷◌, ◌≡◌, ◌≤◌, IsTrue, List, add-one, ap, append-nil, append_assoc, ap₂, drop, get_or, length, refl, subst, suc, sym, drop_all}
-use Rattle.mv_ledger.proofs.Saves.Common.{LeafKind, leaf_fits, leaf_bytes}
-use Rattle.std.proofs.Math.Seq.{drop-cons}
-use Rattle.mv_ledger.specs.Layouts.{coded, AreLeaves}
+use Rattle.mv_ledger.proofs.Common.{[], ◌++◌, ◌+◌, ◌<◌, ◌∙◌, ◌∷◌, ◌≡◌, ◌≤◌, IsTrue, List, add-one, ap, append-nil, append_assoc, ap₂, drop, get_or, length, refl, subst, suc, sym, ℕ, drop-cons}
+use Rattle.mv_ledger.proofs.Common.{drop_all, LeafKind, leaf_fits, AreLeaves, coded, leaf_bytes}
 
 pub leaves-length : (ks : List LeafKind) (ns : List ℕ) → AreLeaves ks ns → length ks ≡ length ns
 leaves-length [] [] h = refl
-leaves-length [] (n ∷ ns) h = absurd h
-leaves-length (k ∷ ks) [] h = absurd h
 leaves-length (k ∷ ks) (n ∷ ns) h = ap suc (leaves-length ks ns h.1)
+leaves-length _ _ h = absurd h
 
 -- those from a place on
 dropped : {A : Type 0} (xs : List A) (i : ℕ) (x : A) → i < length xs → x ≡ get_or xs i x → drop i xs ≡ x ∷ drop (i + 1) xs

@@ -1,20 +1,14 @@
 -- What is stored, as it is put into the sections of its structs.
-use Rattle.mv_ledger.proofs.Saves.Common.{[], ℕ, ◌++◌, ◌+◌, ◌<◌, ◌^◌, ◌∙◌, ◌∷◌, ◌≡◌, ◌≤◌, Bool, List, None, Option, Some, ap, append-nil, append_assoc, ap₂, arith, cond, false, flat_map, length}
-use Rattle.mv_ledger.proofs.Saves.Common.{length-append, refl, slice_get, subst, suc, sym, true, eqb-true, map-append, All-cons, All-head, All-nil, All-tail, filter-append, same_Some, filter}
-use Rattle.mv_ledger.proofs.Saves.Common.{list_all, option_map_or, ◌&&◌, ◌==◌, All, IfSome, IsSome, Module, name_at, ◌>>=◌, PublishedModule, Definition, Abilities, LeafKind, on_bind, address_text}
-use Rattle.mv_ledger.proofs.Saves.Common.{FlatEntry, flat, storage_of, value_under, Entry, abilities_at, is_fine_entry, is_of_struct, some-of, then_found, IsStore, tables_in, IsOfStore, AddsValue}
-use Rattle.mv_ledger.proofs.Saves.Common.{AreSections, HasOneMore, IsAdded, IsSection, KnowsKinds, definition_at, same_definition, section_at, stored_in, struct_of, addressed_text, is_under}
-use Rattle.mv_ledger.proofs.Saves.Common.{leaves_text, Section}
-use Rattle.std.specs.Cmp.{first_so, second_so}
-use Rattle.std.proofs.lemmas.List.Concat.{flat_map-append}
-use Rattle.mv_module_text.specs.Fits.{address_fits}
-use Rattle.mv_interpreter.specs.Runs.{IsFineWords}
-use Rattle.mv_interpreter.proofs.Flat.FineWords.{fine_words-typed}
-use Rattle.mv_interpreter.proofs.Typing.Callees.{on_found}
-use Rattle.mv_interpreter.proofs.Typing.Fine.{typed_is_fine}
-use Rattle.mv_ledger.specs.Layouts.{coded, is_keyed, kinds_under, leaf_kinds, AreLeaves}
+use Rattle.mv_ledger.proofs.Common.{[], ◌++◌, ◌+◌, ◌<◌, ◌^◌, ◌∙◌, ◌∷◌, ◌≡◌, Bool, List, None, Option, Some, ap, append-nil, append_assoc, ap₂, arith, cond, false, flat_map, length, length-append}
+use Rattle.mv_ledger.proofs.Common.{refl, subst, sym, true, ℕ, eqb-true, length-map, map-append, flat_map-append, All-cons, All-head, All-nil, All-tail, filter-append, same_Some, first_so}
+use Rattle.mv_ledger.proofs.Common.{second_so, filter, list_all, option_map_or, ◌&&◌, ◌==◌, All, IfSome, IsSome, slice_get, Module, name_at, ◌>>=◌, PublishedModule, Definition, Abilities, LeafKind}
+use Rattle.mv_ledger.proofs.Common.{on_bind, address_text, address_fits, FlatEntry, flat, storage_of, value_under, Entry, abilities_at, is_fine_entry, is_of_struct, some-of, then_found, IsStore}
+use Rattle.mv_ledger.proofs.Common.{tables_in, fine_words-typed, on_found, typed_is_fine, IsFineWords, AreLeaves, coded, is_keyed, kinds_under, leaf_kinds, IsOfStore, AddsValue, AreSections}
+use Rattle.mv_ledger.proofs.Common.{HasOneMore, IsAdded, IsSection, KnowsKinds, definition_at, same_definition, section_at, stored_in, addressed_text, is_under, leaves_text, Section}
+use Rattle.mv_ledger.specs.Parts.Saving.{struct_of}
 use Rattle.mv_ledger.proofs.Accepted.Stores.{accepted_store}
 use Rattle.mv_ledger.proofs.Loads.LeafKinds.{HasLeaves, struct-leaves}
+use Rattle.mv_binary_format.proofs.Back.{filter-shorter}
 
 -- a stored value as it is read
 abbrev pub read : List Module → FlatEntry → Entry
@@ -54,6 +48,11 @@ fine-readable published store e fine =
           subst (λ (ws : List ℕ). HasLeaves ks ws (leaves_text x.value)) same (struct-leaves modules 8 name x.value ks kinds typed));
     }
 
+-- what holds of whatever is there
+if_some : {A : Type 0} (P : A → Type 0) (o : Option A) → ((x : A) → o ≡ Some x → P x) → IfSome o P
+if_some P None each = tt
+if_some P (Some x) each = each x refl
+
 pub readable : (modules : List Module) → IsOfStore modules → (e : FlatEntry) → IsFineWords modules e → IsReadable modules e
 readable modules of e = subst (λ (ms : List Module). IsFineWords ms e → IsReadable ms e) of.2 (fine-readable of.0 of.1 e)
 
@@ -74,8 +73,7 @@ module _ (modules : List Module) where
   stored-more done e d = ap (filter (is_under d)) (map-append (read modules) done (e ∷ [])) ∙ filter-append (is_under d) (storage_of modules done) (read modules e ∷ [])
 
   section-more : (done : List FlatEntry) (e : FlatEntry) (d : Definition) (s t : Section) (kinds : List LeafKind) → same_definition (struct_of e.key) d ≡ true → kinds_under modules d ≡ Some kinds
-      → IsSection modules done d s
-      → HasOneMore s kinds (addressed_text (read modules e)) t → IsSection modules (done ++ e ∷ []) d t
+      → IsSection modules done d s → HasOneMore s kinds (addressed_text (read modules e)) t → IsSection modules (done ++ e ∷ []) d t
   section-more done e d s t kinds same kinds_is is more =
       let all : stored_in modules (done ++ e ∷ []) d ≡ stored_in modules done d ++ read modules e ∷ [] = stored-more done e d
       ∙ ap (λ (b : Bool). stored_in modules done d ++ cond b (read modules e ∷ []) []) same in
@@ -99,8 +97,7 @@ module _ (modules : List Module) where
       (eqb-true a.index b.index (second_so (a.place == b.place) (a.index == b.index) h))
 
   sections-more : (done : List FlatEntry) (e : FlatEntry) (kinds : List LeafKind) (rows after : List (List Section)) → AreSections modules done rows → IsSome (section_at rows (struct_of e.key))
-      → kinds_under modules (struct_of e.key) ≡ Some kinds
-      → IsAdded rows (struct_of e.key) kinds (addressed_text (read modules e)) after → AreSections modules (done ++ e ∷ []) after
+      → kinds_under modules (struct_of e.key) ≡ Some kinds → IsAdded rows (struct_of e.key) kinds (addressed_text (read modules e)) after → AreSections modules (done ++ e ∷ []) after
   sections-more done e kinds rows after are is kinds_is added =
       let own = some-of (section_at rows (struct_of e.key)) is in
       let new = added.here own.0 own.1 in
@@ -115,8 +112,7 @@ module _ (modules : List Module) where
       there d false other was t t_is = subst IsSome (sym (added.others d other)) was
 
       each : (d : Definition) (s : Section) (b : Bool) → same_definition (struct_of e.key) d ≡ b → section_at after d ≡ Some s → (o : Section) → section_at rows (struct_of e.key) ≡ Some o
-          → (t : Section) → section_at after (struct_of e.key) ≡ Some t
-          → HasOneMore o kinds (addressed_text (read modules e)) t → IsSection modules (done ++ e ∷ []) d s
+          → (t : Section) → section_at after (struct_of e.key) ≡ Some t → HasOneMore o kinds (addressed_text (read modules e)) t → IsSection modules (done ++ e ∷ []) d s
       each d s true same at o o_is t t_is more =
           let one : struct_of e.key ≡ d = same_definition-is (struct_of e.key) d same in
           let is : t ≡ s = same_Some t s (sym t_is ∙ ap (section_at after) one ∙ at) in
@@ -149,46 +145,20 @@ module _ (modules : List Module) where
   pub fill-there : (storage entries : List FlatEntry) (rows : List (List Section)) (d : Definition) → is_keyed modules d ≡ true → IsFilled storage entries rows → IsSome (section_at rows d)
   fill-there storage entries rows d keyed h = h.2.there d (keyed-defined modules d keyed)
 
-  filter-short : (p : Entry → Bool) (xs : List Entry) → length (filter p xs) ≤ length xs
-  filter-short p [] = omega arith
-  filter-short p (x ∷ xs) = by_case (p x) (filter-short p xs)
-    where
-      by_case : (b : Bool) → length (filter p xs) ≤ length xs → length (cond b (x ∷ filter p xs) (filter p xs)) ≤ suc (length xs)
-      by_case true h = omega (arith, h)
-      by_case false h = omega (arith, h)
-
-  storage-length : (es : List FlatEntry) → length (storage_of modules es) ≡ length es
-  storage-length [] = refl
-  storage-length (e ∷ es) = ap suc (storage-length es)
-
   -- no section has more values than there are
   pub fill-few : (storage entries : List FlatEntry) (rows : List (List Section)) (d : Definition) → length storage < 2 ^ 63 → IsFilled storage entries rows → IfSome (section_at rows d)
       (λ s. s.count < 2 ^ 63)
-  fill-few storage entries rows d few h = by_case (section_at rows d) refl
-    where
-      by_case : (o : Option Section) → section_at rows d ≡ o → IfSome o (λ s. s.count < 2 ^ 63)
-      by_case None e = tt
-      by_case (Some s) e =
-          let whole : length storage ≡ length h.0 + length entries = ap length h.1 ∙ length-append h.0 entries in
-          let short = filter-short (is_under d) (storage_of modules h.0) in
-          let count = (h.2.each d s e).count in
-          omega (arith, whole, short, count, few, storage-length h.0)
+  fill-few storage entries rows d few h = if_some (λ s. s.count < 2 ^ 63) (section_at rows d) (λ s e.
+      let whole : length storage ≡ length h.0 + length entries = ap length h.1 ∙ length-append h.0 entries in
+      omega (arith, whole, filter-shorter (is_under d) (storage_of modules h.0), (h.2.each d s e).count, few, length-map h.0 (read modules)))
 
   -- a section that a value is in knows its kinds
   pub fill-known : (storage entries : List FlatEntry) (rows : List (List Section)) (d : Definition) → IsFilled storage entries rows → IfSome (section_at rows d) (KnowsKinds modules d)
-  fill-known storage entries rows d h = by_case (section_at rows d) refl
-    where
-      by_case : (o : Option Section) → section_at rows d ≡ o → IfSome o (KnowsKinds modules d)
-      by_case None e = tt
-      by_case (Some s) e = (h.2.each d s e).known
+  fill-known storage entries rows d h = if_some (KnowsKinds modules d) (section_at rows d) (λ s e. (h.2.each d s e).known)
 
   -- the words of a readable value are leaves of its struct's kinds
   pub fill-leaves : (e : FlatEntry) → IsReadable modules e → IfSome (kinds_under modules (struct_of e.key)) (λ kinds. AreLeaves kinds e.words)
-  fill-leaves e is = by_case (kinds_under modules (struct_of e.key)) refl
-    where
-      by_case : (o : Option (List LeafKind)) → kinds_under modules (struct_of e.key) ≡ o → IfSome o (λ kinds. AreLeaves kinds e.words)
-      by_case None at = tt
-      by_case (Some ks) at = (is.leaves ks at).are
+  fill-leaves e is = if_some (λ kinds. AreLeaves kinds e.words) (kinds_under modules (struct_of e.key)) (λ ks at. (is.leaves ks at).are)
 
   pub fill-more : (storage entries rest : List FlatEntry) (rows after : List (List Section)) (e : FlatEntry) → entries ≡ e ∷ rest → IsReadable modules e → IsFilled storage entries rows
       → AddsValue modules rows e.key e.words after → IsFilled storage rest after

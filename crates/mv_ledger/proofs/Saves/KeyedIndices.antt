@@ -1,10 +1,8 @@
 -- The structs of a module that have key, as they are found one after the other.
-use Rattle.mv_ledger.proofs.Saves.Common.{[], ℕ, ◌++◌, ◌+◌, ◌<◌, ◌∙◌, ◌∷◌, ◌≡◌, ◌≤◌, Bool, List, Some, ap, append-nil, append_assoc, ap₂, cond, false, get_or, length, map, refl, slice_get, subst, sym}
-use Rattle.mv_ledger.proofs.Saves.Common.{take, true, zero-add, map-append, take_all, filter_more, get_or_from_slice_get, enumerate_from, filter, option_map_or, Module, StructDefinition, Definition}
-use Rattle.mv_ledger.proofs.Saves.Common.{there_at, keyed_at}
-use Rattle.std.proofs.lemmas.List.FromFn.{length-enumerate_from, get_or-enumerate_from}
-use Rattle.mv_linker.specs.Shapes.{is_keyed, structs_in}
-use Rattle.mv_ledger.specs.SavedText.{has_key}
+use Rattle.mv_ledger.proofs.Common.{[], ◌++◌, ◌+◌, ◌<◌, ◌∙◌, ◌∷◌, ◌≡◌, ◌≤◌, Bool, List, Some, ap, append-nil, append_assoc, ap₂, cond, false, get_or, length, map, refl, subst, sym, take, true}
+use Rattle.mv_ledger.proofs.Common.{zero-add, ℕ, map-append, take_all, filter_more, get_or-enumerate_from, length-enumerate_from, get_or_from_slice_get, enumerate_from, filter, option_map_or}
+use Rattle.mv_ledger.proofs.Common.{slice_get, Module, StructDefinition, Definition, there_at, structs_in, keyed_at, has_key}
+use Rattle.mv_linker.specs.Shapes.{is_keyed}
 
 module _ (m : Module) (place : ℕ) where
   -- the struct at an index

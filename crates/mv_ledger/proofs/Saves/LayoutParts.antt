@@ -1,30 +1,87 @@
 -- Of what the fields of structs are made, and the kinds of their leaves.
-use Rattle.mv_ledger.proofs.Saves.Common.{[], ℕ, ◌++◌, ◌+◌, ◌-◌, ◌<◌, ◌∙◌, ◌∷◌, ◌≡◌, ◌≢◌, Bool, List, None, Option, Some, ap, append-nil, append_assoc, ap₂, arith, cond, false, length, option_map}
-use Rattle.mv_ledger.proofs.Saves.Common.{refl, slice_get, subst, suc, sym, take, true, zero, length-take-le, take_more, get_or_from_slice_get, none-some, slice_get_within, list_all, option_map_or}
-use Rattle.mv_ledger.proofs.Saves.Common.{is_some, nat_le, Module, StructDefinition, name_at, name_of_struct, struct_abilities, struct_name, ◌>>=◌, find_index, PublishedModule, Definition, Abilities}
-use Rattle.mv_ledger.proofs.Saves.Common.{LeafKind, on_bind, abilities_at, each, then_found, IsStore, tables_in, IsOfStore, PutsKinds, keyed_at, kinds_at, kinds_of_part, kinds_of_parts, keyed_from}
-use Rattle.mv_move_types.specs.declared.tables.Field.{Field}
-use Rattle.mv_move_types.specs.declared.token.ValueType.TheVariants.{OfLeaf, OfStruct}
-use Rattle.mv_move_types.specs.declared.token.Token.{Token}
-use Rattle.mv_move_types.specs.declared.token.Token.TheVariants.{Plain, Reference, MutableReference}
-use Rattle.mv_move_types.specs.Names.{StructName, same_struct}
-use Rattle.mv_move_types.specs.Named.{definition_of, is_struct}
-use Rattle.mv_move_types.specs.Leaves.{leaves_within}
-use Rattle.mv_type_states.specs.Sound.{IsSound}
-use Rattle.mv_linker.specs.declared.shapes.Part.{Part}
-use Rattle.mv_linker.specs.declared.shapes.Part.TheVariants.{Leaf, Struct, Nothing}
-use Rattle.mv_linker.specs.Handles.{IsStructAt}
-use Rattle.mv_linker.specs.StoreRules.{struct_is_small}
-use Rattle.mv_linker.specs.Shapes.{AreFieldsAt, AreParts, IsMadeOf, IsPart, has_key, is_of_value}
-use Rattle.mv_linker.specs.Shapes.{is_keyed as keyed_in}
+use Rattle.mv_ledger.proofs.Common.{[], ◌++◌, ◌+◌, ◌-◌, ◌<◌, ◌∙◌, ◌∷◌, ◌≡◌, ◌≢◌, ◌≤◌, Bool, List, None, Option, Some, add-one, ap, append-nil, append_assoc, ap₂, arith, cond, drop, false, get_or}
+use Rattle.mv_ledger.proofs.Common.{length, refl, subst, suc, sym, take, true, zero, ℕ, drop-cons, drop_all, length-take-le, take_more, get_or_from_slice_get, none-some, slice_get_within, list_all}
+use Rattle.mv_ledger.proofs.Common.{option_map_or, is_some, nat_le, slice_get, leaves_within, Module, StructDefinition, name_at, name_of_struct, struct_abilities, struct_name, definition_of}
+use Rattle.mv_ledger.proofs.Common.{is_struct, StructName, same_struct, ◌>>=◌, find_index, PublishedModule, Definition, Field, Abilities, LeafKind, Token, Plain, OfLeaf, OfStruct, IsSound, on_bind}
+use Rattle.mv_ledger.proofs.Common.{map-is, abilities_at, each, then_found, name-found, own-definition, IsStore, tables_in, AreFieldsAt, AreParts, IsMadeOf, IsPart, keyed_in, is_of_value}
+use Rattle.mv_ledger.proofs.Common.{struct_is_small, Part, Nothing, on_found, structs_in_fields, structs_in_part, structs_in_parts, structs_in_token, structs_within, is_keyed, kinds_of_fields}
+use Rattle.mv_ledger.proofs.Common.{kinds_of_token, kinds_within, leaf_kinds, IsOfStore, PutsKinds, keyed_at, kinds_at, kinds_of_part, kinds_of_parts, keyed_from}
 use Rattle.mv_linker.proofs.Joining.Assembling.{passed-among}
-use Rattle.mv_linker.proofs.Kept.HandleDefinitions.{name-found}
 use Rattle.mv_linker.proofs.Members.{among-at}
-use Rattle.mv_linker.proofs.OwnDefinitions.{own-definition}
-use Rattle.mv_interpreter.proofs.Typing.Callees.{on_found}
-use Rattle.mv_ledger.specs.Inside.{structs_in_fields, structs_in_part, structs_in_parts, structs_in_token, structs_within}
-use Rattle.mv_ledger.specs.Layouts.{kinds_of_token, kinds_of_fields, kinds_within, leaf_kinds, is_keyed}
+use Rattle.mv_linker.specs.Handles.{IsStructAt}
+use Rattle.mv_linker.specs.Shapes.{has_key}
+use Rattle.mv_linker.specs.declared.shapes.Part.TheVariants.{Leaf, Struct}
 use Rattle.mv_ledger.proofs.Loads.LeafKinds.{kinds-count}
+
+-- ---- the kinds of the leaves of parts, as they are put one after the other
+
+-- these kinds before others, if there are any
+abbrev before : List LeafKind → Option (List LeafKind) → Option (List LeafKind)
+before ks o = o >>= λ rest. Some (ks ++ rest)
+
+before-none : (o : Option (List LeafKind)) → o ≡ before [] o
+before-none o = grind arith
+
+before-both : (ks ls : List LeafKind) (o : Option (List LeafKind)) → before ks (before ls o) ≡ before (ks ++ ls) o
+before-both ks ls None = refl
+before-both ks ls (Some ms) = ap Some (sym (append_assoc ks ls ms))
+
+-- what was put of a part
+put-true : (o : Option (List LeafKind)) (old new : List LeafKind) → PutsKinds o true old new → (ks : List LeafKind) × (o ≡ Some ks) × (new ≡ old ++ ks)
+put-true None old new h = cc
+put-true (Some ks) old new h = (ks, refl, h.1)
+
+put-false : (o : Option (List LeafKind)) (old new : List LeafKind) → PutsKinds o false old new → o ≡ None
+put-false None old new h = refl
+put-false (Some ks) old new h = cc
+
+module _ (modules : List Module) (depth : ℕ) (parts : List Part) where
+  -- those of so many parts were put
+  abbrev pub ArePut : ℕ → List LeafKind → List LeafKind → Type 0
+  ArePut i old new = (ks : List LeafKind) × (new ≡ old ++ ks) × (kinds_of_parts modules depth parts ≡ before ks (kinds_of_parts modules depth (drop i parts)))
+
+  pub put-first : (old : List LeafKind) → ArePut 0 old old
+  put-first old = ([], sym (append-nil old), before-none (kinds_of_parts modules depth parts))
+
+  module _ (i : ℕ) (d : Part) (lt : i < length parts) (old new : List LeafKind) (h : ArePut i old new) where
+    abbrev part : Part
+    part = get_or parts i d
+
+    split : drop i parts ≡ part ∷ drop (i + 1) parts
+    split = drop-cons parts i d lt ∙ ap (λ n. part ∷ drop n parts) (sym (add-one i))
+
+    -- the kinds from this part on
+    following : (o : Option (List LeafKind)) → kinds_of_part modules depth part ≡ o
+        → kinds_of_parts modules depth parts ≡ before h.0 (o >>= λ first. before first (kinds_of_parts modules depth (drop (i + 1) parts)))
+    following o e =
+        h.2 ∙ ap (λ l. before h.0 (kinds_of_parts modules depth l)) split
+        ∙ ap (λ x. before h.0 (x >>= λ first. before first (kinds_of_parts modules depth (drop (i + 1) parts)))) e
+
+    pub put-more : (there : Bool) (after : List LeafKind) → there ≡ true → PutsKinds (kinds_of_part modules depth part) there new after → ArePut (i + 1) old after
+    put-more there after holds put =
+        let one = put-true (kinds_of_part modules depth part) new after (subst (λ (b : Bool). PutsKinds (kinds_of_part modules depth part) b new after) holds put) in (
+          h.0 ++ one.0,
+          one.2 ∙ ap (λ l. l ++ one.0) h.1 ∙ append_assoc old h.0 one.0,
+          following (Some one.0) one.1 ∙ before-both h.0 one.0 (kinds_of_parts modules depth (drop (i + 1) parts)),
+        )
+
+    pub put-stops : (there : Bool) (after : List LeafKind) → there ≡ false → PutsKinds (kinds_of_part modules depth part) there new after
+        → PutsKinds (kinds_of_parts modules depth parts) false old after
+    put-stops there after fails put =
+        let none = put-false (kinds_of_part modules depth part) new after (subst (λ (b : Bool). PutsKinds (kinds_of_part modules depth part) b new after) fails put) in
+        subst (λ (o : Option (List LeafKind)). PutsKinds o false old after) (sym (following None none)) refl
+
+  pub put-all : (i : ℕ) (old new : List LeafKind) → length parts ≤ i → ArePut i old new → PutsKinds (kinds_of_parts modules depth parts) true old new
+  put-all i old new le h =
+      let whole : kinds_of_parts modules depth parts ≡ Some (h.0 ++ []) = h.2 ∙ ap (λ l. before h.0 (kinds_of_parts modules depth l)) (drop_all i parts le) in
+      subst (λ (o : Option (List LeafKind)). PutsKinds o true old new) (sym whole) (refl, h.1 ∙ ap (λ l. old ++ l) (sym (append-nil h.0)))
+
+-- a list of kinds, or none
+pub puts-some : (o : Option (List LeafKind)) (new : List LeafKind) → PutsKinds o true [] new → o ≡ Some new
+puts-some o new h = let one = put-true o [] new h in one.1 ∙ ap (λ ks. Some ks) (sym one.2)
+
+pub puts-nothing : (o : Option (List LeafKind)) (old new : List LeafKind) → PutsKinds o false old new → o ≡ None
+puts-nothing = put-false
 
 -- ---- of what a field is made
 
@@ -33,24 +90,19 @@ module _ (modules : List Module) where
   named-part m h d at = at.named ∙ sym (name-found modules d.place d.index at.home at.name at.there at.index)
 
   no_kinds : (depth : ℕ) (o : Option StructName) → is_some o ≡ false → (o >>= kinds_within depth modules) ≡ None
-  no_kinds depth None e = refl
-  no_kinds depth (Some name) e = absurd (cc)
+  no_kinds depth o e = grind arith
 
   kindless : (m : Module) (depth : ℕ) (t : Token) → is_of_value m t ≡ false → kinds_of_token (kinds_within depth modules) m t ≡ None
   kindless m depth (Plain (OfLeaf kind)) e = absurd (cc)
   kindless m depth (Plain (OfStruct h)) e = no_kinds depth (struct_name m h) e
-  kindless m depth (Reference t) e = refl
-  kindless m depth (MutableReference t) e = refl
+  kindless _ _ _ _ = refl
 
   no_structs : (depth : ℕ) (s : StructName) (o : Option StructName) → is_some o ≡ false → option_map_or (structs_within depth modules s) o 0 ≡ 0
-  no_structs depth s None e = refl
-  no_structs depth s (Some name) e = absurd (cc)
+  no_structs depth s o e = grind arith
 
   structless : (m : Module) (depth : ℕ) (s : StructName) (t : Token) → is_of_value m t ≡ false → structs_in_token (structs_within depth modules s) m t ≡ 0
-  structless m depth s (Plain (OfLeaf kind)) e = refl
   structless m depth s (Plain (OfStruct h)) e = no_structs depth s (struct_name m h) e
-  structless m depth s (Reference t) e = refl
-  structless m depth s (MutableReference t) e = refl
+  structless _ _ _ _ _ = refl
 
   -- a field of a type has the leaves of its part
   part-kinds : (m : Module) (depth : ℕ) (t : Token) (part : Part) → IsPart modules m t part → kinds_of_token (kinds_within depth modules) m t ≡ kinds_of_part modules depth part
@@ -69,24 +121,21 @@ module _ (modules : List Module) where
   parts-kinds : (m : Module) (k : ℕ) (fs : List Field) (parts : List Part) → AreParts modules m fs parts
       → kinds_of_fields (kinds_of_token (kinds_within k modules) m) fs ≡ kinds_of_parts modules k parts
   parts-kinds m k [] [] h = refl
-  parts-kinds m k [] (p ∷ parts) h = absurd h
-  parts-kinds m k (f ∷ fs) [] h = absurd h
   parts-kinds m k (f ∷ fs) (p ∷ parts) h =
       ap₂ (λ (a b : Option (List LeafKind)). a >>= λ first. b >>= λ rest. Some (first ++ rest)) (part-kinds m k f.token p h.0) (parts-kinds m k fs parts h.1)
+  parts-kinds _ _ _ _ h = absurd h
 
   -- and as many values of each struct
   parts-structs : (m : Module) (k : ℕ) (s : StructName) (fs : List Field) (parts : List Part) → AreParts modules m fs parts
       → structs_in_fields (structs_in_token (structs_within k modules s) m) fs ≡ structs_in_parts k modules s parts
   parts-structs m k s [] [] h = refl
-  parts-structs m k s [] (p ∷ parts) h = absurd h
-  parts-structs m k s (f ∷ fs) [] h = absurd h
   parts-structs m k s (f ∷ fs) (p ∷ parts) h = ap₂ (λ (a b : ℕ). a + b) (part-structs m k s f.token p h.0) (parts-structs m k s fs parts h.1)
+  parts-structs _ _ _ _ _ h = absurd h
 
   -- ---- whether a struct has key
 
   key-of : (m : Module) (o : Option StructDefinition) → option_map_or (has_key m) o false ≡ option_map_or (λ (a : Abilities). a.key) (o >>= struct_abilities m) false
-  key-of m None = refl
-  key-of m (Some x) = refl
+  key-of m o = grind arith
 
   key-at : (d : Definition) (o : Option Module) → option_map_or (λ m. option_map_or (has_key m) (slice_get m.structs d.index) false) o false ≡ option_map_or (λ (a : Abilities). a.key)
       (o >>= λ m. slice_get m.structs d.index >>= struct_abilities m) false
@@ -111,8 +160,7 @@ module _ (modules : List Module) where
   puts-none o old new e = let P : Option (List LeafKind) → Type 0 = λ o. PutsKinds o false old new in subst P (sym e) refl
 
   pub no_depth : (o : Option StructName) → (o >>= kinds_within zero modules) ≡ None
-  no_depth None = refl
-  no_depth (Some name) = refl
+  no_depth o = grind arith
 
 -- a struct that is there is one of its own, with those of its parts
 pub record HasStructs (modules : List Module) (k : ℕ) (d : Definition) (parts : List Part) : Type 0 where
@@ -161,17 +209,11 @@ module _ (published : List PublishedModule) (is : IsStore published) where
 
   -- so many were put
   pub puts-made : (depth : ℕ) (d : Definition) (parts : List Part) (there : Bool) (old new : List LeafKind) → depth ≢ 0 → IsMadeOf modules d parts
-      → PutsKinds (kinds_of_parts modules (depth - 1) parts) there old new
-      → PutsKinds (name_at modules d.place d.index >>= kinds_within depth modules) there old new
+      → PutsKinds (kinds_of_parts modules (depth - 1) parts) there old new → PutsKinds (name_at modules d.place d.index >>= kinds_within depth modules) there old new
   puts-made depth d parts there old new deep h put =
       let P : Option (List LeafKind) → Type 0 = λ o. PutsKinds o there old new in
       let deeper : depth ≡ suc (depth - 1) = omega arith in
       subst P (sym (ap (λ n. name_at modules d.place d.index >>= kinds_within n modules) deeper ∙ made-kinds (depth - 1) d parts h)) put
-
-  -- a list that has a length
-  counted : (o : Option (List LeafKind)) (n : ℕ) → option_map length o ≡ Some n → (ks : List LeafKind) × (o ≡ Some ks)
-  counted None n e = absurd (none-some n e)
-  counted (Some ks) n e = (ks, refl)
 
   -- a struct with key has leaves
   pub keyed-kinds : (d : Definition) → is_keyed modules d ≡ true → (ks : List LeafKind) × ((name_at modules d.place d.index >>= leaf_kinds modules) ≡ Some ks)
@@ -183,13 +225,12 @@ module _ (published : List PublishedModule) (is : IsStore published) where
       let small = each (struct_is_small modules m) m.structs d.index x (each (λ m. list_all (struct_is_small modules m) m.structs) modules d.place m is.links.small m_is) x_is in
       on_found (λ n. nat_le n 256) (name_of_struct m x >>= leaves_within 8 modules) small (λ n n_is le.
       let leaves : leaves_within 8 modules own.0 ≡ Some n = sym (ap (λ o. o >>= leaves_within 8 modules) own.1) ∙ n_is in
-      let ks = counted (kinds_within 8 modules own.0) n (kinds-count modules 8 own.0 ∙ leaves) in
+      let ks = map-is length (kinds_within 8 modules own.0) n (kinds-count modules 8 own.0 ∙ leaves) in
       (ks.0, ap (λ o. o >>= leaf_kinds modules) (named d m x own.0 m_is x_is own.1) ∙ ks.1)))))
 
 -- the same where the modules are known to be those of a store
 pub puts-struct : (ms : List Module) → IsOfStore ms → (depth : ℕ) (d : Definition) (parts : List Part) (there : Bool) (old new : List LeafKind) → depth ≢ 0 → IsMadeOf ms d parts
-    → PutsKinds (kinds_of_parts ms (depth - 1) parts) there old new
-    → PutsKinds (kinds_at depth ms d) there old new
+    → PutsKinds (kinds_of_parts ms (depth - 1) parts) there old new → PutsKinds (kinds_at depth ms d) there old new
 puts-struct ms of depth d parts there old new deep h put =
     subst (λ (l : List Module). PutsKinds (kinds_at depth l d) there old new) of.2
     (puts-made of.0 of.1 depth d parts there old new deep (subst (λ (l : List Module). IsMadeOf l d parts) (sym of.2) h)

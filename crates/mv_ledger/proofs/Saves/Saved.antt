@@ -1,14 +1,8 @@
 -- A ledger has one text of each form, and a text is of one ledger.
-use Rattle.mv_ledger.proofs.Saves.Common.{[], ℕ, ◌++◌, ◌-◌, ◌^◌, ◌∙◌, ◌∷◌, ◌≡◌, ◌≤◌, IsTrue, List, ap, ap₂, arith, flat_map, get_or, leb-true, map, refl, subst, sym, true, and_parts, All-head}
-use Rattle.mv_ledger.proofs.Saves.Common.{All-tail, some_pair_parts, list_all, All, nat_le, Module, PublishedModule, uleb, counted, IsReadByText, LedgerState, Offer, modules_of, scarce_structs}
-use Rattle.mv_ledger.proofs.Saves.Common.{Storage, is_fine_storage, Spells, offered, offer_fits, offer_text, EachLedgerHasOneText, EachTextHasOneLedger, First, Form, IsSavedText, Second, body_text}
-use Rattle.mv_ledger.proofs.Saves.Common.{form_byte, head_text, saved_text, storage_text, tally_fits, tally_text}
-use Rattle.std.specs.Int.{w128, to_le_bytes}
-use Rattle.mv_move_types.specs.declared.token.Width.TheVariants.{U128}
-use Rattle.mv_module_text.specs.Parsing.{number_of_from}
-use Rattle.mv_module_text.proofs.Numbers.{number_of-whole}
-use Rattle.mv_machine.specs.Lines.{Tallied}
-use Rattle.mv_ledger.specs.Counting.Kept.{IsAscending}
+use Rattle.mv_ledger.proofs.Common.{[], ◌++◌, ◌-◌, ◌^◌, ◌∙◌, ◌∷◌, ◌≡◌, ◌≤◌, IsTrue, List, ap, ap₂, arith, flat_map, get_or, leb-true, map, refl, subst, sym, true, ℕ, and_parts, All-head, All-tail}
+use Rattle.mv_ledger.proofs.Common.{some_pair_parts, to_le_bytes, w128, list_all, All, nat_le, Module, PublishedModule, U128, uleb, IsReadByText, number_of-whole, counted, number_of_from}
+use Rattle.mv_ledger.proofs.Common.{LedgerState, Offer, modules_of, scarce_structs, Tallied, Storage, is_fine_storage, IsAscending, Spells, offered, offer_fits, offer_text, EachLedgerHasOneText}
+use Rattle.mv_ledger.proofs.Common.{EachTextHasOneLedger, First, Form, IsSavedText, Second, body_text, form_byte, head_text, saved_text, storage_text, tally_fits, tally_text}
 use Rattle.mv_ledger.proofs.Spelling.{text_bytes, module-one}
 use Rattle.mv_ledger.proofs.SavedOnce.{IsOneOn, in_parts, uleb-one, offers-one}
 use Rattle.mv_ledger.proofs.Saves.SavedStored.{first_storage-one, second_storage-one}
@@ -20,10 +14,9 @@ texts-one form a b s p q = p.text ∙ sym q.text
 -- ---- heads
 
 form-one : (form other : Form) → form_byte form ≡ form_byte other → form ≡ other
-form-one First First e = refl
 form-one First Second e = absurd (omega (arith, e))
 form-one Second First e = absurd (omega (arith, e))
-form-one Second Second e = refl
+form-one _ _ _ = refl
 
 -- one form, one number of runs and one list of modules stand at the front of bytes
 pub heads-one : (form other : Form) (m n : ℕ) (a b : List Offer) (x y : List ℕ) → head_text form m a ++ x ≡ head_text other n b ++ y → (form ≡ other) × (m ≡ n) × (a ≡ b) × (x ≡ y)
@@ -40,8 +33,6 @@ heads-one form other m n a b x y e =
 pub spelled-one : IsReadByText → (ps qs : List PublishedModule) → IsTrue (list_all offer_fits (map offered ps)) → map offered ps ≡ map offered qs → All (λ p. Spells p.text p.tables) ps
     → All (λ p. Spells p.text p.tables) qs → ps ≡ qs
 spelled-one reads [] [] fit e p q = refl
-spelled-one reads [] (b ∷ qs) fit e p q = absurd cc
-spelled-one reads (a ∷ ps) [] fit e p q = absurd cc
 spelled-one reads (a ∷ ps) (b ∷ qs) fit e p q =
     let fits = and_parts (offer_fits (offered a)) (list_all offer_fits (map offered ps)) fit in
     let first : offered a ≡ offered b = cc in
@@ -54,6 +45,7 @@ spelled-one reads (a ∷ ps) (b ∷ qs) fit e p q =
     let here : a ≡ b = λ i. record { text = text i; certificate = certificate i; tables = tables i } in
     ap₂ (λ (x : PublishedModule) (xs : List PublishedModule). x ∷ xs) here
     (spelled-one reads ps qs fits.1 more (All-tail (λ p. Spells p.text p.tables) a ps p) (All-tail (λ p. Spells p.text p.tables) b qs q))
+spelled-one reads _ _ fit e p q = absurd cc
 
 -- ---- tallies
 
@@ -82,8 +74,6 @@ tally-one Second t u x y is p q e =
 tallies-one : (form : Form) (ts us : List Tallied) (x y : List ℕ) → map (λ t. t.struct) ts ≡ map (λ t. t.struct) us → list_all (tally_fits form) ts ≡ true → list_all (tally_fits form) us ≡ true
     → flat_map (tally_text form) ts ++ x ≡ flat_map (tally_text form) us ++ y → (ts ≡ us) × (x ≡ y)
 tallies-one form [] [] x y s p q e = (refl, e)
-tallies-one form [] (u ∷ us) x y s p q e = absurd cc
-tallies-one form (t ∷ ts) [] x y s p q e = absurd cc
 tallies-one form (t ∷ ts) (u ∷ us) x y s p q e =
     let same : t.struct ≡ u.struct = cc in
     let more : map (λ t. t.struct) ts ≡ map (λ t. t.struct) us = cc in
@@ -92,6 +82,7 @@ tallies-one form (t ∷ ts) (u ∷ us) x y s p q e =
     let first = tally-one form t u _ _ same a.0 b.0 (in_parts (tally_text form t) (flat_map (tally_text form) ts) x (tally_text form u) (flat_map (tally_text form) us) y e) in
     let rest = tallies-one form ts us x y more a.1 b.1 first.1 in
     (ap₂ (λ (v : Tallied) (vs : List Tallied). v ∷ vs) first.0 rest.0, rest.1)
+tallies-one form _ _ x y s p q e = absurd cc
 
 -- ---- ledgers
 
@@ -122,5 +113,4 @@ one_form form other bytes s t a b =
 
 -- a text is of one ledger
 pub ledgers-one : IsReadByText → EachTextHasOneLedger
-ledgers-one reads form other bytes s t a b =
-    same_form reads form bytes s t a (subst (λ (f : Form). IsSavedText f bytes t) (sym (one_form form other bytes s t a b)) b)
+ledgers-one reads form other bytes s t a b = same_form reads form bytes s t a (subst (λ (f : Form). IsSavedText f bytes t) (sym (one_form form other bytes s t a b)) b)

@@ -1,15 +1,12 @@
 -- What is saved of a sound ledger is loaded, what is loaded is sound, and what is loaded is saved as it was.
-use Rattle.mv_ledger.proofs.Saves.Common.{[], ℕ, ◌*◌, ◌+◌, ◌∷◌, ◌≡◌, ◌≤◌, IsTrue, List, arith, le-leb, map, refl, true, and_from, and_parts, All-cons, All-head, All-nil, All-tail, AllByRecursion}
-use Rattle.mv_ledger.proofs.Saves.Common.{list_all, All, nat_le, PublishedModule, IsReadByText, LedgerState, modules_of, IsPublishable, IsStore, AllPass, offered, offer_fits, EachLoadIsSaved}
-use Rattle.mv_ledger.proofs.Saves.Common.{EachLoadIsSound, EachSaveIsLoaded, IsSavable, First, Form, IsSavedText, Second, greatest_count, saved_text, tally_fits}
-use Rattle.mv_machine.specs.Count.{count}
-use Rattle.mv_machine.specs.Lines.{Tallied}
-use Rattle.mv_interpreter.proofs.Typing.Fine.{fine_storage}
-use Rattle.mv_ledger.specs.Accepted.SoundLedger.{IsSoundLedger}
-use Rattle.mv_ledger.specs.Loading.{AreTallied}
+use Rattle.mv_ledger.proofs.Common.{[], ◌*◌, ◌+◌, ◌<◌, ◌^◌, ◌∷◌, ◌≡◌, ◌≤◌, IsTrue, List, arith, le-leb, length, map, refl, true, ℕ, and_from, and_parts, length-map, All-cons, All-head, All-nil}
+use Rattle.mv_ledger.proofs.Common.{All-tail, AllByRecursion, list_all, All, nat_le, Module, PublishedModule, IsReadByText, Count, count, FlatEntry, storage_of, LedgerState, modules_of, Tallied}
+use Rattle.mv_ledger.proofs.Common.{IsPublishable, IsStore, tables_in, fine_storage, IsSoundLedger, AreTallied, AllPass, offered, offer_fits, EachLoadIsSaved, EachLoadIsSound, EachSaveIsLoaded}
+use Rattle.mv_ledger.proofs.Common.{IsSavable, First, Form, IsSavedText, Second, greatest_count, saved_text, tally_fits, IsLedger, IsSmall, all_of, state_of, tallied, view_of, Tally}
 use Rattle.mv_ledger.proofs.Accepted.Stores.{accepted_store}
 use Rattle.mv_ledger.proofs.Accepted.Sound.{sound_stored}
 use Rattle.mv_ledger.proofs.Spelling.{text_bytes, read-spelled, spelled-read, passed-spelled}
+use Rattle.mv_ledger.proofs.Lists.{all-weaker}
 
 -- ---- tallies
 
@@ -17,14 +14,6 @@ use Rattle.mv_ledger.proofs.Spelling.{text_bytes, read-spelled, spelled-read, pa
 both : {A : Type 0} (P Q : A → Type 0) (xs : List A) → AllByRecursion P xs → AllByRecursion Q xs → AllByRecursion (λ x. P x × Q x) xs
 both P Q [] p q = tt
 both P Q (x ∷ xs) p q = ((p.0, q.0), both P Q xs p.1 q.1)
-
-firsts : {A : Type 0} (P Q : A → Type 0) (xs : List A) → AllByRecursion (λ x. P x × Q x) xs → AllByRecursion P xs
-firsts P Q [] h = tt
-firsts P Q (x ∷ xs) h = (h.0.0, firsts P Q xs h.1)
-
-seconds : {A : Type 0} (P Q : A → Type 0) (xs : List A) → AllByRecursion (λ x. P x × Q x) xs → AllByRecursion Q xs
-seconds P Q [] h = tt
-seconds P Q (x ∷ xs) h = (h.0.1, seconds P Q xs h.1)
 
 module _ (s : LedgerState) where
   -- no more were made than the runs can have made
@@ -123,9 +112,9 @@ loads-sound reads bytes s loaded =
         typed = fine_storage (modules_of s) (accepted_store s.published store) s.storage loaded.text.typed;
         ascending = loaded.text.ascending;
         tallied = loaded.text.tallied;
-        balanced = seconds (IsBounded s) (IsStored s) s.tallies loaded.tallied;
+        balanced = all-weaker (λ t. IsBounded s t × IsStored s t) (IsStored s) (λ t both. both.1) s.tallies loaded.tallied;
       },
-      record { head = loaded.text.head; passed = loaded.passed; packs = firsts (IsBounded s) (IsStored s) s.tallies loaded.tallied; few = loaded.text.few },
+      record { head = loaded.text.head; passed = loaded.passed; packs = all-weaker (λ t. IsBounded s t × IsStored s t) (IsBounded s) (λ t both. both.0) s.tallies loaded.tallied; few = loaded.text.few },
     )
 
 -- modules of a store passed with the texts that they came in
@@ -140,3 +129,26 @@ store_passed reads (p ∷ ps) sized all =
       (c.0, record { text = spelled-read reads p.text p.tables (text_bytes (offered p) fits.0) one.text; sound = one.sound; certificate = c.1.0; holds = c.1.1; acquires = one.acquires }),
       store_passed reads ps fits.1 (All-tail IsPublishable p ps all),
     )
+
+-- ---- a ledger is within the limits of a saved one
+
+-- no struct has more values made than so many runs can have made
+few_made : (modules : List Module) (runs : ℕ) (ts : List Tally) → All (IsSmall runs) ts → AllByRecursion (λ t. t.packs ≤ 10000000 * runs) (map (tallied modules) ts)
+few_made modules runs [] all = tt
+few_made modules runs (t ∷ ts) all =
+    let small : t.packs ≤ runs * 10000000 = (All-head (IsSmall runs) t ts all).0 in
+    (omega (arith, small), few_made modules runs ts (All-tail (IsSmall runs) t ts all))
+
+-- a ledger with few stored values is
+pub ledger-savable : IsReadByText → (published : List PublishedModule) (stored : List FlatEntry) (tallies : List (List Tally)) (counters : List (List Count)) (runs : ℕ) → length stored < 2 ^ 63
+    → IsLedger published stored tallies counters runs → IsSavable (state_of (view_of published stored (all_of tallies) runs))
+ledger-savable reads published stored tallies counters runs few is =
+    let as_many : length (map offered published) ≡ length published = length-map published offered in
+    let room : length published ≤ 4096 = is.few in
+    let values : length (storage_of (tables_in published) stored) ≡ length stored = length-map stored _ in
+    record {
+      head = record { had = is.counted; few = omega (arith, as_many, room); sized = is.sized };
+      passed = store_passed reads published is.sized is.sound.store.passed;
+      packs = few_made (tables_in published) runs (all_of tallies) is.small;
+      few = omega (arith, values, few);
+    }

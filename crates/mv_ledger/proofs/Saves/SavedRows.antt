@@ -1,9 +1,8 @@
 -- Texts of worked ledgers, by computation: an empty one, and one with a coin of 7, whose module has 99 bytes.
-use Rattle.mv_ledger.proofs.Saves.Common.{[], ℕ, ◌++◌, ◌∷◌, ◌≡◌, List, drop, length, refl, take, replicate, LedgerState, empty_ledger, with_bundle, First, Second, saved_text}
-use Rattle.mv_machine.proofs.Coin.{coin_module}
-use Rattle.mv_machine.proofs.Reported.{answer, after, mint_by, seven}
-use Rattle.mv_machine.proofs.Computed.{computed}
+use Rattle.mv_ledger.proofs.Common.{[], ◌++◌, ◌∷◌, ◌≡◌, List, drop, length, refl, take, ℕ, replicate, coin_module, LedgerState, empty_ledger, with_bundle, First, Second, saved_text}
 use Rattle.mv_uleb.specs.Uleb.{uleb}
+use Rattle.mv_machine.proofs.Computed.{computed}
+use Rattle.mv_machine.proofs.Reported.{answer, after, mint_by, seven}
 
 abbrev one : List ℕ
 one = replicate 15 0 ++ 1 ∷ []

@@ -1,27 +1,15 @@
 -- A saved storage can be told from what follows it, in both forms.
-use Rattle.mv_ledger.proofs.Saves.Common.{[], ℕ, ◌++◌, ◌+◌, ◌∙◌, ◌∷◌, ◌≡◌, ◌⊎◌, Bool, IsTrue, List, None, Option, Some, ap, ap₂, arith, cond, eq-eqb, false, flat_map, inl, inr, map, refl, slice_get}
-use Rattle.mv_ledger.proofs.Saves.Common.{subst, suc, sym, true, zero, and_from, and_parts, both_ways, eqb-true, same_Some, AllByRecursion, enumerate_from, filter, option_map_or, ◌&&◌, ◌==◌, Module}
-use Rattle.mv_ledger.proofs.Saves.Common.{StructDefinition, name_at, struct_abilities, ◌>>=◌, Definition, Abilities, uleb, address_text, counted, Entry, Storage, key_before, same_key, abilities_at}
-use Rattle.mv_ledger.proofs.Saves.Common.{is_fine_entry, is_fine_storage, is_of_struct}
-use Rattle.mv_move_types.specs.declared.tables.Key.{Key}
-use Rattle.mv_move_types.specs.Names.{StructName}
-use Rattle.mv_module_text.specs.Fits.{address_fits}
-use Rattle.mv_module_text.specs.Parsing.{address_from}
-use Rattle.mv_module_text.proofs.Addresses.{address-whole}
-use Rattle.mv_storage.proofs.Keys.{same_key-to, keys_compare}
-use Rattle.mv_ledger.specs.Counting.Kept.{AreAbove, IsAscending}
-use Rattle.mv_ledger.specs.SavedText.{leaves_text, stored_text, addressed_text, has_key, keyed_indices, keyed_from, is_under, struct_text}
+use Rattle.mv_ledger.proofs.Common.{[], ◌++◌, ◌+◌, ◌∙◌, ◌∷◌, ◌≡◌, ◌⊎◌, Bool, IsTrue, List, Option, Some, ap, ap₂, arith, cond, eq-eqb, false, flat_map, inl, inr, map, refl, subst, suc, sym, true}
+use Rattle.mv_ledger.proofs.Common.{zero, ℕ, and_from, and_parts, both_ways, eqb-true, same_Some, first_so, second_so, AllByRecursion, enumerate_from, filter, option_map_or, ◌&&◌, ◌==◌, slice_get}
+use Rattle.mv_ledger.proofs.Common.{Module, StructDefinition, name_at, struct_abilities, StructName, ◌>>=◌, Definition, Key, Abilities, uleb, address-whole, on_bind, address_text, counted}
+use Rattle.mv_ledger.proofs.Common.{address_fits, address_from, keys_compare, same_key-to, Entry, Storage, key_before, same_key, abilities_at, is_fine_entry, is_fine_storage, is_of_struct}
+use Rattle.mv_ledger.proofs.Common.{on_found, AreAbove, IsAscending, is_keyed, addressed_text, has_key, is_under, keyed_from, keyed_indices, leaves_text, stored_text, struct_text}
 use Rattle.mv_ledger.proofs.Bundles.Heirs.{tested}
-use Rattle.mv_ledger.proofs.Counting.Keys.{before-clash}
-use Rattle.mv_ledger.proofs.Counting.Stored.{above-below}
+use Rattle.mv_ledger.proofs.Counting.Stored.{above-below, before-clash}
 use Rattle.mv_ledger.proofs.SavedOnce.{IsOneOn, in_parts, whole-one, uleb-one, counted-one, of_struct-one}
+use Rattle.mv_ledger.proofs.Lists.{all-front, all-back}
 
 -- ---- lists
-
--- all of two lists is all of each
-all_parts : {A : Type 0} (P : A → Type 0) (xs ys : List A) → AllByRecursion P (xs ++ ys) → AllByRecursion P xs × AllByRecursion P ys
-all_parts P [] ys all = (tt, all)
-all_parts P (x ∷ xs) ys all = let more = all_parts P xs ys all.1 in ((all.0, more.0), more.1)
 
 all_before : {A B : Type 0} (P : B → Type 0) (f : A → B) (xs : List A) → AllByRecursion P (map f xs) → AllByRecursion (λ x. P (f x)) xs
 all_before P f [] all = tt
@@ -68,43 +56,41 @@ keyed_each : (P : Definition → Type 0) (place : ℕ) (ms : List Module) → Al
     → (k i q : ℕ) → q ≡ place + k → option_map_or (λ (a : Abilities). a.key) (abilities_at ms k i) false ≡ true → P (record { place = q; index = i })
 keyed_each P place [] all k i q is key = absurd cc
 keyed_each P place (m ∷ ms) all zero i q is key =
-    let here = (all_parts P (map (λ (i : ℕ). record { place = place; index = i }) (keyed_indices m)) (keyed_from (place + 1) ms) all).0 in
+    let here = all-front P (map (λ (i : ℕ). record { place = place; index = i }) (keyed_indices m)) (keyed_from (place + 1) ms) all in
     let each = all_before P (λ (i : ℕ). record { place = place; index = i }) (keyed_indices m) here in
     let first : place ≡ q = omega (arith, is) in
-    subst (λ (z : ℕ). P (record { place = z; index = i })) first (by_struct (slice_get m.structs i) refl key each)
-  where
-    by_struct : (o : Option StructDefinition) → slice_get m.structs i ≡ o → option_map_or (λ (a : Abilities). a.key) (o >>= λ d. struct_abilities m d) false ≡ true
-        → AllByRecursion (λ (i : ℕ). P (record { place = place; index = i })) (keyed_indices m) → P (record { place = place; index = i })
-    by_struct None at key each = absurd cc
-    by_struct (Some d) at key each = indices_each (λ (i : ℕ). P (record { place = place; index = i })) m 0 m.structs each i i d (omega arith) at key
+    on_found (λ (a : Abilities). a.key) (slice_get m.structs i >>= λ d. struct_abilities m d) key (λ a a_is has.
+    on_bind (slice_get m.structs i) _ a a_is (λ d at e.
+    subst (λ (z : ℕ). P (record { place = z; index = i })) first (indices_each (λ (i : ℕ). P (record { place = place; index = i })) m 0 m.structs each i i d (omega arith) at
+    (ap (λ (o : Option Abilities). option_map_or (λ a. a.key) o false) e ∙ has))))
 keyed_each P place (m ∷ ms) all (suc k) i q is key =
-    let rest = (all_parts P (map (λ (i : ℕ). record { place = place; index = i }) (keyed_indices m)) (keyed_from (place + 1) ms) all).1 in
+    let rest = all-back P (map (λ (i : ℕ). record { place = place; index = i }) (keyed_indices m)) (keyed_from (place + 1) ms) all in
     keyed_each P (place + 1) ms rest k i q (omega (arith, is)) key
 
 -- ---- stored values
+
+-- the struct of a stored value
+abbrev struct_of : Entry → Definition
+struct_of e = record { place = e.key.place; index = e.key.index }
 
 module _ (modules : List Module) where
   -- a stored value with its struct's name
   entry_named : (e : Entry) → is_fine_entry modules e ≡ true → (name : StructName) × (name_at modules e.key.place e.key.index ≡ Some name) × (is_of_struct modules name e.value ≡ true)
   entry_named e h =
       let of_struct : Bool = option_map_or (λ name. is_of_struct modules name e.value) (name_at modules e.key.place e.key.index) false in
-      let keyed : Bool = option_map_or (λ (a : Abilities). a.key) (abilities_at modules e.key.place e.key.index) false in
       tested (λ name. is_of_struct modules name e.value) (name_at modules e.key.place e.key.index)
-      (and_parts (address_fits e.key.address) of_struct (and_parts (address_fits e.key.address && of_struct) keyed h).0).1
+      (second_so (address_fits e.key.address) of_struct (first_so (address_fits e.key.address && of_struct) (is_keyed modules (struct_of e)) h))
 
   -- its address is in its range
   entry_addressed : (e : Entry) → is_fine_entry modules e ≡ true → IsTrue (address_fits e.key.address)
   entry_addressed e h =
       let of_struct : Bool = option_map_or (λ name. is_of_struct modules name e.value) (name_at modules e.key.place e.key.index) false in
-      let keyed : Bool = option_map_or (λ (a : Abilities). a.key) (abilities_at modules e.key.place e.key.index) false in
-      (and_parts (address_fits e.key.address) of_struct (and_parts (address_fits e.key.address && of_struct) keyed h).0).0
+      first_so (address_fits e.key.address) of_struct (first_so (address_fits e.key.address && of_struct) (is_keyed modules (struct_of e)) h)
 
   -- and its struct has key
   entry_keyed : (e : Entry) → is_fine_entry modules e ≡ true → IsKeyed modules (record { place = e.key.place; index = e.key.index })
   entry_keyed e h =
-      let of_struct : Bool = option_map_or (λ name. is_of_struct modules name e.value) (name_at modules e.key.place e.key.index) false in
-      let keyed : Bool = option_map_or (λ (a : Abilities). a.key) (abilities_at modules e.key.place e.key.index) false in
-      (and_parts (address_fits e.key.address && of_struct) keyed h).1
+      second_so (address_fits e.key.address && option_map_or (λ name. is_of_struct modules name e.value) (name_at modules e.key.place e.key.index) false) (is_keyed modules (struct_of e)) h
 
   -- two stored values of one key
   entry-one : (e f : Entry) (x y : List ℕ) → is_fine_entry modules e ≡ true → is_fine_entry modules f ≡ true → e.key.address ≡ f.key.address → e.key.place ≡ f.key.place → e.key.index ≡ f.key.index
@@ -152,11 +138,7 @@ module _ (modules : List Module) where
   -- those of a struct are
   fine_under : (d : Definition) (es : Storage) → AllByRecursion (λ e. is_fine_entry modules e ≡ true) es → AllByRecursion (IsFineUnder d) (filter (is_under d) es)
   fine_under d [] all = tt
-  fine_under d (e ∷ es) all = by_case (is_under d e) refl (fine_under d es all.1)
-    where
-      by_case : (b : Bool) → is_under d e ≡ b → AllByRecursion (IsFineUnder d) (filter (is_under d) es) → AllByRecursion (IsFineUnder d) (cond b (e ∷ filter (is_under d) es) (filter (is_under d) es))
-      by_case true is rest = ((all.0, is), rest)
-      by_case false is rest = rest
+  fine_under d (e ∷ es) all = grind (arith, fine_under d es all.1)
 
   -- struct by struct the same values are stored
   structs-one : (ds : List Definition) (es fs : Storage) (x y : List ℕ) → AllByRecursion (λ e. is_fine_entry modules e ≡ true) es → AllByRecursion (λ e. is_fine_entry modules e ≡ true) fs
@@ -170,20 +152,12 @@ module _ (modules : List Module) where
 
 -- ---- storages with the same values of each struct
 
--- the struct of a stored value
-abbrev struct_of : Entry → Definition
-struct_of e = record { place = e.key.place; index = e.key.index }
-
 under_own : (e : Entry) → is_under (struct_of e) e ≡ true
 under_own e = and_from (e.key.place == e.key.place) (e.key.index == e.key.index) (eq-eqb e.key.place e.key.place refl) (eq-eqb e.key.index e.key.index refl)
 
 above_filter : (key : Key) (p : Entry → Bool) (es : Storage) → AreAbove key es → AreAbove key (filter p es)
 above_filter key p [] above = tt
-above_filter key p (e ∷ es) above = by_case (p e) (above_filter key p es above.1)
-  where
-    by_case : (b : Bool) → AreAbove key (filter p es) → AreAbove key (cond b (e ∷ filter p es) (filter p es))
-    by_case true rest = (above.0, rest)
-    by_case false rest = rest
+above_filter key p (e ∷ es) above = grind (arith, above_filter key p es above.1)
 
 -- what passes stands in front
 first_passes : (p : Entry → Bool) (e : Entry) (es : Storage) → p e ≡ true → filter p (e ∷ es) ≡ e ∷ filter p es
@@ -225,14 +199,7 @@ module _ (K : Definition → Type 0) where
           ap₂ (λ (x : Entry) (xs : Storage). x ∷ xs) first rest
         where
           behind : (c : Definition) → e ≡ f → filter (is_under c) (e ∷ es) ≡ filter (is_under c) (f ∷ fs) → filter (is_under c) es ≡ filter (is_under c) fs
-          behind c first g = by_case (is_under c e) (is_under c f) (ap (is_under c) first) g
-            where
-              by_case : (a b : Bool) → a ≡ b → cond a (e ∷ filter (is_under c) es) (filter (is_under c) es) ≡ cond b (f ∷ filter (is_under c) fs) (filter (is_under c) fs)
-                  → filter (is_under c) es ≡ filter (is_under c) fs
-              by_case true true s h = cc
-              by_case false false s h = h
-              by_case true false s h = absurd cc
-              by_case false true s h = absurd cc
+          behind c first g = grind (arith, ap (is_under c) first)
 
       by_order : (same_key e.key f.key ≡ true) ⊎ ((key_before e.key f.key ≡ true) ⊎ (key_before f.key e.key ≡ true)) → (Agree es fs → es ≡ fs) → e ∷ es ≡ f ∷ fs
       by_order (inl same) go = by_key (same_key-to e.key f.key same) go

@@ -1,13 +1,10 @@
 -- Sections of structs: empty ones, and one with one value more.
-use Rattle.mv_ledger.proofs.Saves.Common.{[], ℕ, ◌++◌, ◌+◌, ◌<◌, ◌∙◌, ◌∷◌, ◌≡◌, ◌≤◌, ◌⊎◌, Bool, Err, List, Ok, Result, Some, ap, arith, eq-eqb, false, get_or, inl, inr, length, length-append}
-use Rattle.mv_ledger.proofs.Saves.Common.{option_map, refl, slice_get, subst, suc, sym, true, zero, eqb-true, length-map, map-set, get_or_from_slice_get, none-some, same_Some, slice_get-map}
-use Rattle.mv_ledger.proofs.Saves.Common.{slice_get_read, slice_get_within, option_map_or, ◌&&◌, ◌==◌, All, IsSome, OnOk, slice_set, Module, ◌>>=◌, Definition, LeafKind, on_bind, address_text}
-use Rattle.mv_ledger.proofs.Saves.Common.{some-of, then_found, there_at, AddsValue, AreSections, HasOneMore, IsAdded, IsEmpty, definition_at, same_definition, section_at, sections_of, struct_of}
-use Rattle.mv_ledger.proofs.Saves.Common.{Section}
-use Rattle.std.specs.declared.vec.Vec.{Vec}
-use Rattle.std.specs.declared.alloc.Global.{Global}
-use Rattle.mv_move_types.specs.declared.tables.Key.{Key}
-use Rattle.mv_ledger.specs.Layouts.{coded, kinds_under, structs_at}
+use Rattle.mv_ledger.proofs.Common.{[], ◌++◌, ◌+◌, ◌<◌, ◌∙◌, ◌∷◌, ◌≡◌, ◌≤◌, ◌⊎◌, Err, List, Ok, Result, Some, ap, arith, eq-eqb, get_or, inl, inr, length, length-append, option_map, refl, subst}
+use Rattle.mv_ledger.proofs.Common.{suc, sym, true, zero, ℕ, and_from, cases_eq, length-map, map-set, get_or_from_slice_get, none-some, same_Some, slice_get-map, slice_get_read, slice_get_within}
+use Rattle.mv_ledger.proofs.Common.{option_map_or, All, IsSome, OnOk, slice_get, slice_set, Global, Vec, Module, ◌>>=◌, Definition, Key, LeafKind, on_bind, address_text, some-of, then_found}
+use Rattle.mv_ledger.proofs.Common.{there_at, coded, kinds_under, structs_at, AddsValue, AreSections, HasOneMore, IsAdded, IsEmpty, definition_at, same_definition, section_at, sections_of, Section}
+use Rattle.mv_ledger.specs.Parts.Saving.{struct_of}
+use Rattle.mv_storage.proofs.PlaceLemmas.{slice_get-set_same, slice_get-set_other}
 
 -- ---- one more element
 
@@ -56,41 +53,19 @@ module _ (modules : List Module) where
 
 -- ---- one value more
 
-get-same : {A : Type 0} (xs : List A) (i : ℕ) (x y : A) → slice_get xs i ≡ Some x → slice_get (slice_set xs i y) i ≡ Some y
-get-same [] i x y e = absurd (none-some x e)
-get-same (z ∷ xs) zero x y e = refl
-get-same (z ∷ xs) (suc i) x y e = get-same xs i x y e
-
-get-other : {A : Type 0} (xs : List A) (i k : ℕ) (y : A) → (i ≡ k → ⊥) → slice_get (slice_set xs i y) k ≡ slice_get xs k
-get-other [] i k y other = refl
-get-other (z ∷ xs) zero zero y other = absurd (other refl)
-get-other (z ∷ xs) zero (suc k) y other = refl
-get-other (z ∷ xs) (suc i) zero y other = refl
-get-other (z ∷ xs) (suc i) (suc k) y other = get-other xs i k y (λ e. other (ap suc e))
-
-clash : (b : Bool) → b ≡ true → b ≡ false → ⊥
-clash b h g = cc
-
-eqb-is : (m n : ℕ) → m ≡ n → (m == n) ≡ true
-eqb-is m n e = eq-eqb m n e
-
-same_so : (a b : Bool) → (a && b) ≡ false → a ≡ true → b ≡ false
-same_so true b e h = e
-same_so false b e h = absurd cc
-
 module _ (rows : List (List Section)) (d : Definition) (row new : List Section) (s t : Section) (kinds : List LeafKind) (bytes : List ℕ) (row_is : slice_get rows d.place ≡ Some row)
     (s_is : slice_get row d.index ≡ Some s) (new_is : new ≡ slice_set row d.index t) where
   -- another place
   elsewhere : (e : Definition) → (d.place ≡ e.place → ⊥) → section_at (slice_set rows d.place new) e ≡ section_at rows e
-  elsewhere e other = ap (λ o. o >>= λ row. slice_get row e.index) (get-other rows d.place e.place new other)
+  elsewhere e other = ap (λ o. o >>= λ row. slice_get row e.index) (slice_get-set_other rows d.place e.place new other)
 
   -- another struct of the same module
   beside : (e : Definition) → d.place ≡ e.place → (d.index ≡ e.index → ⊥) → section_at (slice_set rows d.place new) e ≡ section_at rows e
   beside e same other =
-      let after : slice_get (slice_set rows d.place new) e.place ≡ Some new = subst (λ p. slice_get (slice_set rows d.place new) p ≡ Some new) same (get-same rows d.place row new row_is) in
+      let after : slice_get (slice_set rows d.place new) e.place ≡ Some new = subst (λ p. slice_get (slice_set rows d.place new) p ≡ Some new) same (slice_get-set_same rows d.place row new row_is) in
       let before : slice_get rows e.place ≡ Some row = subst (λ p. slice_get rows p ≡ Some row) same row_is in
       then_found (slice_get (slice_set rows d.place new) e.place) (λ row. slice_get row e.index) new (slice_get row e.index) after
-      (ap (λ l. slice_get l e.index) new_is ∙ get-other row d.index e.index t other)
+      (ap (λ l. slice_get l e.index) new_is ∙ slice_get-set_other row d.index e.index t other)
       ∙ sym (then_found (slice_get rows e.place) (λ row. slice_get row e.index) row (slice_get row e.index) before refl)
 
   pub added-at : HasOneMore s kinds bytes t → IsAdded rows d kinds bytes (slice_set rows d.place new)
@@ -98,17 +73,15 @@ module _ (rows : List (List Section)) (d : Definition) (row new : List Section) 
     here = λ u e.
         let same : s ≡ u = same_Some s u (sym (then_found (slice_get rows d.place) (λ row. slice_get row d.index) row (Some s) row_is s_is) ∙ e) in (
           t,
-          then_found (slice_get (slice_set rows d.place new) d.place) (λ row. slice_get row d.index) new (Some t) (get-same rows d.place row new row_is)
-              (ap (λ l. slice_get l d.index) new_is ∙ get-same row d.index s t s_is),
+          then_found (slice_get (slice_set rows d.place new) d.place) (λ row. slice_get row d.index) new (Some t) (slice_get-set_same rows d.place row new row_is)
+              (ap (λ l. slice_get l d.index) new_is ∙ slice_get-set_same row d.index s t s_is),
           subst (λ (x : Section). HasOneMore x kinds bytes t) same more,
         );
-    others = λ e differ. by_case e (d.place == e.place) refl differ;
+    others = λ e differ. elim (cases_eq d.place e.place) [
+      | inl same ↦ beside e same (λ index. let is : same_definition d e ≡ true = and_from _ _ (eq-eqb d.place e.place same) (eq-eqb d.index e.index index) in cc)
+      | inr far ↦ elsewhere e far
+    ];
   }
-    where
-      by_case : (e : Definition) (b : Bool) → (d.place == e.place) ≡ b → same_definition d e ≡ false → section_at (slice_set rows d.place new) e ≡ section_at rows e
-      by_case e true is differ = beside e (eqb-true d.place e.place is)
-          (λ same. absurd (clash (d.index == e.index) (eqb-is d.index e.index same) (same_so (d.place == e.place) (d.index == e.index) differ is)))
-      by_case e false is differ = elsewhere e (λ same. absurd (clash (d.place == e.place) (eqb-is d.place e.place same) is))
 
 -- a row of the sections in vectors
 pub added-vec : (rows : List (Vec Section Global)) (d : Definition) (row : Vec Section Global) (new : Vec Section Global) (s t : Section) (kinds : List LeafKind) (bytes : List ℕ)
@@ -151,10 +124,9 @@ module _ (rows : List (Vec Section Global)) (d : Definition) (there : IsSome (se
 
 -- a value was added to the section of its struct, if memory did not run out
 pub adds-value : {T E : Type 0} (r : Result T E) (modules : List Module) (rows : List (Vec Section Global)) (key : Key) (p i : ℕ) (row new : Vec Section Global) (s ready t : Section) (words : List ℕ)
-    → p ≡ key.place → i ≡ key.index
-    → IsSome (section_at (sections_of rows) (struct_of key)) → row ≡ get_or rows p row → s ≡ get_or row.items i s → new.items ≡ slice_set row.items i t
-    → kinds_under modules (struct_of key) ≡ Some ready.kinds.items → ready.count ≡ s.count → ready.text.items ≡ s.text.items
-    → OnOk r (t.count ≡ ready.count + 1) → OnOk r (t.kinds.items ≡ ready.kinds.items) → OnOk r (t.text.items ≡ ready.text.items ++ (address_text key.address ++ coded ready.kinds.items words))
+    → p ≡ key.place → i ≡ key.index → IsSome (section_at (sections_of rows) (struct_of key)) → row ≡ get_or rows p row → s ≡ get_or row.items i s → new.items ≡ slice_set row.items i t
+    → kinds_under modules (struct_of key) ≡ Some ready.kinds.items → ready.count ≡ s.count → ready.text.items ≡ s.text.items → OnOk r (t.count ≡ ready.count + 1)
+    → OnOk r (t.kinds.items ≡ ready.kinds.items) → OnOk r (t.text.items ≡ ready.text.items ++ (address_text key.address ++ coded ready.kinds.items words))
     → OnOk r (AddsValue modules (sections_of rows) key words (sections_of (slice_set rows p new)))
 adds-value (Ok x) modules rows key p i row new s ready t words p_is i_is there row_is s_is new_is kinds_are same_count same_text count kinds text =
     let d : Definition = struct_of key in

@@ -1,26 +1,68 @@
 -- The parts of a saved ledger, as they are written one after the other.
-use Rattle.mv_ledger.proofs.Saves.Common.{[], ℕ, ◌++◌, ◌+◌, ◌<◌, ◌∙◌, ◌∷◌, ◌≡◌, ◌≤◌, Err, List, None, Ok, Option, Result, Some, ap, append-nil, append_assoc, ap₂, arith, flat_map, get_or, length, map}
-use Rattle.mv_ledger.proofs.Saves.Common.{refl, slice_get, subst, sym, take, flat_map_more, length-map, map_more, take_all, take_more, All-weaker, get_or_from_slice_get, none-some}
-use Rattle.mv_ledger.proofs.Saves.Common.{unwrap_or-slice_get, All, IfOk, IfSome, unwrap_or, Module, PublishedModule, Definition, uleb, counted, FlatEntry, storage_of, some-of, there_at, tables_in}
-use Rattle.mv_ledger.proofs.Saves.Common.{AreSections, IsSection, IsWritable, counts_text, section_at, sections_of, written, offered, offer_text, sized, IsSavable, IsSavedText, Second, head_text}
-use Rattle.mv_ledger.proofs.Saves.Common.{keyed_from, saved_text, struct_text, tally_text, Section}
-use Rattle.std.proofs.lemmas.List.Concat.{flat_map-append}
-use Rattle.std.specs.declared.vec.Vec.{Vec}
-use Rattle.std.specs.declared.alloc.Global.{Global}
-use Rattle.mv_ledger.specs.declared.tallies.Tally.{Tally}
-use Rattle.mv_ledger.specs.Accepted.SoundLedger.{IsSoundLedger}
-use Rattle.mv_ledger.specs.View.{all_of, state_of, tallied, view_of, IsSmall, LedgerView}
-use Rattle.mv_ledger.proofs.Saves.KeyedDefined.{keyed-defined-at}
+use Rattle.mv_ledger.proofs.Common.{[], ◌++◌, ◌+◌, ◌<◌, ◌∙◌, ◌∷◌, ◌≡◌, ◌≤◌, Err, List, None, Ok, Option, Result, Some, ap, append-nil, append_assoc, ap₂, arith, flat_map, get_or, length, map, refl}
+use Rattle.mv_ledger.proofs.Common.{subst, suc, sym, take, zero, ℕ, flat_map_more, length-map, map_more, take_all, take_more, flat_map-append, All-weaker, get_or_from_slice_get, none-some}
+use Rattle.mv_ledger.proofs.Common.{unwrap_or-slice_get, AllByRecursion, enumerate_from, filter, All, IfOk, IfSome, IsSome, slice_get, unwrap_or, Global, Vec, Module, StructDefinition}
+use Rattle.mv_ledger.proofs.Common.{PublishedModule, Definition, uleb, counted, FlatEntry, storage_of, some-of, then_found, there_at, tables_in, IsSoundLedger, AreSections, IsSection, IsWritable}
+use Rattle.mv_ledger.proofs.Common.{counts_text, definition_at, section_at, sections_of, written, offered, offer_text, sized, IsSavable, IsSavedText, Second, has_key, head_text, keyed_from}
+use Rattle.mv_ledger.proofs.Common.{keyed_indices, saved_text, struct_text, tally_text, IsSmall, LedgerView, all_of, state_of, tallied, view_of, Section, Tally}
+use Rattle.mv_ledger.proofs.Lists.{all-weaker, all-append}
 use Rattle.mv_ledger.proofs.Saves.SavedLoads.{text-saves}
 use Rattle.mv_ledger.proofs.Runs.TalliesByModule.{all-at}
+
+-- ---- each struct with key is defined where it says
+
+-- the indices of structs with key among those from an index on
+abbrev keyed_after : Module → ℕ → List StructDefinition → List ℕ
+keyed_after m k ds = map (λ (p : ℕ × StructDefinition). p.0) (filter (λ p. has_key m p.1) (enumerate_from k ds))
+
+each-at : {A : Type 0} (P : A → Type 0) (xs : List A) (i : ℕ) (x : A) → i < length xs → AllByRecursion P xs → P (get_or xs i x)
+each-at P [] i x lt h = absurd (omega (arith, lt))
+each-at P (y ∷ xs) zero x lt h = h.0
+each-at P (y ∷ xs) (suc i) x lt h = each-at P xs i x (omega (arith, lt)) h.1
+
+indices-below : (m : Module) (k n : ℕ) (ds : List StructDefinition) → k + length ds ≡ n → AllByRecursion (λ i. i < n) (keyed_after m k ds)
+indices-below m k n [] e = tt
+indices-below m k n (d ∷ ds) e = grind (arith, indices-below m (k + 1) n ds (omega (arith, e)))
+
+-- a struct of modules that stand at this place and on
+record IsDefinedFrom (place : ℕ) (ms : List Module) (d : Definition) : Type 0 where
+  at : ℕ
+  place_is : d.place ≡ place + at
+  m : Module
+  m_is : slice_get ms at ≡ Some m
+  low : d.index < length m.structs
+
+row-defined : (place : ℕ) (m : Module) (ms : List Module) (is : List ℕ) → AllByRecursion (λ i. i < length m.structs) is → AllByRecursion (IsDefinedFrom place (m ∷ ms))
+    (map (λ i. record { place = place; index = i }) is)
+row-defined place m ms [] h = tt
+row-defined place m ms (i ∷ is) h = (record { at = 0; place_is = omega arith; m = m; m_is = refl; low = h.0 }, row-defined place m ms is h.1)
+
+later : (place : ℕ) (m : Module) (ms : List Module) (d : Definition) → IsDefinedFrom (place + 1) ms d → IsDefinedFrom place (m ∷ ms) d
+later place m ms d h = record { at = suc h.at; place_is = omega (arith, h.place_is); m = h.m; m_is = h.m_is; low = h.low }
+
+keyed-from : (place : ℕ) (ms : List Module) → AllByRecursion (IsDefinedFrom place ms) (keyed_from place ms)
+keyed-from place [] = tt
+keyed-from place (m ∷ ms) =
+    all-append (IsDefinedFrom place (m ∷ ms)) (map (λ i. record { place = place; index = i }) (keyed_indices m)) (keyed_from (place + 1) ms)
+    (row-defined place m ms (keyed_indices m) (indices-below m 0 (length m.structs) m.structs (omega arith)))
+    (all-weaker (IsDefinedFrom (place + 1) ms) (IsDefinedFrom place (m ∷ ms)) (later place m ms) (keyed_from (place + 1) ms) (keyed-from (place + 1) ms))
+
+-- each struct with key is defined
+pub keyed-defined-at : (ms : List Module) (i : ℕ) (e : Definition) → i < length (keyed_from 0 ms) → IsSome (definition_at ms (get_or (keyed_from 0 ms) i e))
+keyed-defined-at ms i e lt =
+    let d : Definition = get_or (keyed_from 0 ms) i e in
+    let h : IsDefinedFrom 0 ms d = each-at (IsDefinedFrom 0 ms) (keyed_from 0 ms) i e lt (keyed-from 0 ms) in
+    let place : h.at ≡ d.place = omega (arith, h.place_is) in
+    let m_is : slice_get ms d.place ≡ Some h.m = subst (λ (k : ℕ). slice_get ms k ≡ Some h.m) place h.m_is in
+    let x = there_at h.m.structs d.index h.low in
+    subst IsSome (sym (then_found (slice_get ms d.place) (λ m. slice_get m.structs d.index) h.m (Some x.0) m_is x.1)) refl
 
 -- ---- modules
 
 module _ (store : List PublishedModule) where
   -- one module more
-  pub modules-more : (i : ℕ) (old text first after bytes certificate : List ℕ) → i < length store → text ≡ old ++ flat_map offer_text (map offered (take i store)) → IfSome (slice_get store i)
-      (λ p. bytes ≡ p.text)
-      → IfSome (slice_get store i) (λ p. certificate ≡ p.certificate) → first ≡ text ++ sized bytes → after ≡ first ++ sized certificate
+  pub modules-more : (i : ℕ) (old text first after bytes certificate : List ℕ) → i < length store → text ≡ old ++ flat_map offer_text (map offered (take i store))
+      → IfSome (slice_get store i) (λ p. bytes ≡ p.text) → IfSome (slice_get store i) (λ p. certificate ≡ p.certificate) → first ≡ text ++ sized bytes → after ≡ first ++ sized certificate
       → after ≡ old ++ flat_map offer_text (map offered (take (i + 1) store))
   modules-more i old text first after bytes certificate lt so_far bytes_are certificate_is one two =
       let p = there_at store i lt in
@@ -78,8 +120,7 @@ module _ (modules : List Module) (entries : List FlatEntry) (rows : List (List S
 
     -- the section of one struct more
     pub sections-next : (s : Section) (old text after : List ℕ) → section_at rows (get_or ds i e) ≡ Some s → text ≡ old ++ flat_map text_under (take i (keyed_from 0 modules))
-        → after ≡ text ++ (uleb s.count ++ s.text.items)
-        → after ≡ old ++ flat_map text_under (take (i + 1) (keyed_from 0 modules))
+        → after ≡ text ++ (uleb s.count ++ s.text.items) → after ≡ old ++ flat_map text_under (take (i + 1) (keyed_from 0 modules))
     sections-next s old text after s_is so_far added =
         let d : Definition = get_or (keyed_from 0 modules) i e in
         let is : IsSection modules entries d s = are.each d s (subst (λ (l : List Definition). section_at rows (get_or l i e) ≡ Some s) ds_are s_is) in

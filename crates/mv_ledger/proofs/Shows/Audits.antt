@@ -1,12 +1,6 @@
 -- The counts of an audit, module by module.
-use Rattle.std.proofs.Common.{◌≡◌, ℕ, zero, suc, ◌+◌, ◌<◌, List, [], ◌∷◌, ◌++◌, map, length, drop, refl, sym, ap, ◌∙◌, arith, add-one}
-use Rattle.std.proofs.lemmas.List.{map-append}
-use Rattle.mv_move_types.specs.Published.{PublishedModule}
-use Rattle.mv_machine.specs.Lines.{Tallied}
-use Rattle.mv_linker.specs.Link.{tables_in}
-use Rattle.mv_ledger.specs.declared.tallies.Tally.{Tally}
-use Rattle.mv_ledger.specs.Auditing.{counts_from}
-use Rattle.mv_ledger.specs.View.{all_of, tallied}
+use Rattle.mv_ledger.proofs.Common.{[], ◌++◌, ◌+◌, ◌<◌, ◌∙◌, ◌∷◌, ◌≡◌, List, add-one, ap, arith, drop, length, map, refl, suc, sym, zero, ℕ, map-append, PublishedModule, Tallied, tables_in}
+use Rattle.mv_ledger.proofs.Common.{counts_from, all_of, tallied, Tally}
 use Rattle.mv_ledger.proofs.Bundles.Places.{had}
 
 -- ---- those of the modules from a place on

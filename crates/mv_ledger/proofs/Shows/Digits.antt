@@ -1,11 +1,9 @@
 -- An address as hexadecimal digits.
-use Rattle.std.proofs.Common.{◌≡◌, ℕ, zero, suc, ◌<◌, ◌/◌, ◌%◌, ◌==◌, Bool, true, ◌&&◌, inl, inr, List, [], ◌∷◌, ◌++◌, refl, ap, ◌∙◌, arith, slice_index, flat_map}
-use Rattle.std.proofs.lemmas.Bool.{and_parts, cases_lt, eqb-true}
-use Rattle.std.specs.Int.{bytes_high_first, byte_at, w128, to_be_bytes}
-use Rattle.std.specs.Prelude.{Result, Ok, Err, OnOk, if◌then◌else◌}
+use Rattle.mv_ledger.proofs.Common.{[], ◌%◌, ◌++◌, ◌/◌, ◌<◌, ◌∙◌, ◌∷◌, ◌≡◌, Bool, Err, List, Ok, Result, ap, arith, flat_map, inl, inr, refl, slice_index, suc, true, zero, ℕ, and_parts, cases_lt}
+use Rattle.mv_ledger.proofs.Common.{eqb-true, byte_at, bytes_high_first, to_be_bytes, w128, ◌&&◌, ◌==◌, OnOk, if◌then◌else◌, hex_digit, encode_lower, lower_digits}
 use Rattle.std.specs.Result.{is_ok}
-use Rattle.hex.specs.Hex.{encode_lower, encode_with, lower_digits}
-use Rattle.mv_machine.specs.Lines.{hex_digit, address_text}
+use Rattle.mv_machine.specs.Lines.{address_text}
+use Rattle.hex.specs.Hex.{encode_with}
 
 -- the test of one digit, which computes
 abbrev is_same : ℕ → Bool

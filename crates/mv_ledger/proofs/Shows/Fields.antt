@@ -1,11 +1,6 @@
 -- The values of fields, and their text, one after the other.
-use Rattle.std.proofs.Common.{◌≡◌, ℕ, ◌+◌, ◌<◌, List, [], ◌∷◌, ◌++◌, length, drop, refl, sym, ap, ◌∙◌, append-nil, append_assoc, length-append, arith, Option, Some, None, codes, Bor}
-use Rattle.mv_move_types.specs.Options.{◌>>=◌}
-use Rattle.mv_machine.specs.Value.{Value, Values, NoMore, More}
-use Rattle.mv_machine.specs.Lines.{value_text, rest_text}
-use Rattle.mv_linker.specs.declared.shapes.Part.{Part}
-use Rattle.mv_ledger.specs.Showing.{PutsText, fields_text}
-use Rattle.mv_ledger.specs.ValueParts.{Extends, parts_from}
+use Rattle.mv_ledger.proofs.Common.{[], ◌++◌, ◌+◌, ◌<◌, ◌∙◌, ◌∷◌, ◌≡◌, Bor, List, None, Option, Some, ap, append-nil, append_assoc, arith, codes, drop, length, length-append, refl, sym, ℕ, ◌>>=◌}
+use Rattle.mv_ledger.proofs.Common.{rest_text, value_text, More, NoMore, Value, Values, Part, PutsText, fields_text, Extends, parts_from}
 
 -- ---- what was put
 

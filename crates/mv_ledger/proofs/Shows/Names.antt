@@ -1,26 +1,46 @@
 -- The texts of structs' names and of values are plain: identifiers are letters, digits and `_`.
-use Rattle.std.proofs.Common.{◌≡◌, Some, slice_get, subst, ℕ, Bool, true, ◌++◌, List, [], ◌∷◌, codes, refl, arith, length}
-use Rattle.std.specs.Prelude.{◌==◌, ◌&&◌, ◌||◌, nat_le, nat_lt}
-use Rattle.std.specs.List.{list_all}
-use Rattle.std.proofs.lemmas.Option.{same_Some}
-use Rattle.std.specs.Cmp.{first_so, second_so}
-use Rattle.std.proofs.lemmas.Bool.{cond_both, and_from}
-use Rattle.std.proofs.lemmas.Bool.Decides.{nat_tests}
-use Rattle.mv_ledger.specs.Plain.{is_plain, IsPlain}
-use Rattle.mv_move_types.specs.declared.token.LeafKind.{LeafKind}
-use Rattle.mv_move_types.specs.declared.token.LeafKind.TheVariants.{Boolean, Number, Address, Signer}
-use Rattle.mv_move_types.specs.Names.{ModuleName, StructName}
-use Rattle.mv_move_types.specs.Module.{Module, module_name, struct_name, name_of_struct, name_at}
-use Rattle.mv_move_types.specs.Published.{PublishedModule}
-use Rattle.mv_module_text.specs.Fits.{is_letter, is_name_part, identifier_fits}
-use Rattle.mv_module_text.proofs.Texts.{on_bind}
-use Rattle.mv_binary_format.specs.ModuleText.{HasText}
-use Rattle.mv_machine.specs.Value.{Value, Values, Leaf, Struct, Ref, NoMore, More}
-use Rattle.mv_machine.specs.Lines.{address_text, struct_text, leaf_text, value_text, rest_text}
-use Rattle.mv_linker.specs.Link.{IsPublishable, IsStore, tables_in}
-use Rattle.mv_linker.proofs.Found.{each}
+use Rattle.mv_ledger.proofs.Common.{[], ◌%◌, ◌++◌, ◌/◌, ◌<◌, ◌∙◌, ◌∷◌, ◌≡◌, Bool, List, Some, arith, codes, decimal, false, flat_map, length, refl, subst, suc, true, zero, ℕ, agree_below_at}
+use Rattle.mv_ledger.proofs.Common.{and_from, cond_both, nat_tests, list_all-append, same_Some, first_so, second_so, byte_at, bytes_high_first, list_all, ◌&&◌, ◌==◌, ◌||◌, nat_le, nat_lt}
+use Rattle.mv_ledger.proofs.Common.{slice_get, Module, module_name, name_at, name_of_struct, struct_name, ModuleName, StructName, PublishedModule, LeafKind, Address, Boolean, Number, Signer}
+use Rattle.mv_ledger.proofs.Common.{HasText, on_bind, identifier_fits, is_letter, is_name_part, hex_digit, leaf_text, rest_text, value_text, Leaf, More, NoMore, Struct, Value, Values, each}
+use Rattle.mv_ledger.proofs.Common.{IsPublishable, IsStore, tables_in, IsPlain, is_plain}
+use Rattle.std.specs.Fmt.{digits, digits_onto, digit_glyph}
+use Rattle.mv_machine.specs.Lines.{address_text, struct_text}
+use Rattle.mv_ledger.proofs.Shows.Digits.{byte_at-lt}
 use Rattle.mv_linker.proofs.LinkedCode.Linkable.{at-all, mapped-at}
-use Rattle.mv_ledger.proofs.Shows.PlainTexts.{plain-append, plain-decimal, plain-address}
+
+-- ---- numbers and addresses
+
+pub plain-append : (xs ys : List ℕ) → IsPlain xs → IsPlain ys → IsPlain (xs ++ ys)
+plain-append xs ys p q = list_all-append is_plain xs ys ∙ and_from (list_all is_plain xs) (list_all is_plain ys) p q
+
+-- a number in decimal
+digit_plain : (d : ℕ) → d < 10 → is_plain (digit_glyph false d) ≡ true
+digit_plain d lt = agree_below_at (λ d. is_plain (digit_glyph false d)) (λ d. true) 10 d refl lt
+
+plain-digits : (k n : ℕ) (text : List ℕ) → IsPlain text → IsPlain (digits_onto k 10 false n text)
+plain-digits zero n text plain = plain
+plain-digits (suc k) n text plain =
+    let more : IsPlain (digit_glyph false (n % 10) ∷ text) = and_from _ _ (digit_plain (n % 10) (omega arith)) plain in
+    cond_both (n / 10 == 0) _ _ IsPlain (λ e. more) (λ e. plain-digits k (n / 10) _ more)
+
+pub plain-decimal : (n : ℕ) → IsPlain (decimal n)
+unfolding digits
+plain-decimal n = plain-digits 64 n [] refl
+
+-- an address
+hex_plain : (d : ℕ) → d < 16 → is_plain (hex_digit d) ≡ true
+hex_plain d lt = agree_below_at (λ d. is_plain (hex_digit d)) (λ d. true) 16 d refl lt
+
+plain-bytes : (k n : ℕ) → IsPlain (flat_map (λ b. hex_digit (b / 16) ∷ hex_digit (b % 16) ∷ []) (bytes_high_first k n))
+plain-bytes zero n = refl
+plain-bytes (suc k) n =
+    let b : ℕ = byte_at k n in
+    let lt : b < 256 = byte_at-lt k n in
+    and_from _ _ (hex_plain (b / 16) (omega arith)) (and_from _ _ (hex_plain (b % 16) (omega arith)) (plain-bytes k n))
+
+pub plain-address : (a : ℕ) → IsPlain (address_text a)
+plain-address a = plain-bytes 16 a
 
 -- ---- identifiers
 
@@ -105,11 +125,10 @@ plain-leaf Signer n = plain-address n
 mutual
   pub plain-value : (v : Value) → IsPlain (value_text v)
   plain-value (Leaf kind n) = plain-leaf kind n
-  plain-value (Struct name NoMore) = refl
   plain-value (Struct name (More v vs)) =
       plain-append (codes "{" ++ value_text v ++ rest_text vs) (codes "}")
       (plain-append (codes "{" ++ value_text v) (rest_text vs) (plain-append (codes "{") (value_text v) refl (plain-value v)) (plain-rest vs)) refl
-  plain-value (Ref r) = refl
+  plain-value _ = refl
 
   plain-rest : (vs : Values) → IsPlain (rest_text vs)
   plain-rest NoMore = refl

@@ -1,7 +1,6 @@
 -- A line of JSON as it is put together: the pieces of an object, and one object after the other.
-use Rattle.std.proofs.Common.{◌≡◌, ℕ, List, [], ◌∷◌, ◌++◌, append_assoc, append-nil, refl, sym, ap, ◌∙◌, codes, decimal}
-use Rattle.mv_machine.specs.Lines.{Tallied, struct_text, with_commas, member, object}
-use Rattle.mv_ledger.specs.Auditing.{count_object}
+use Rattle.mv_ledger.proofs.Common.{[], ◌++◌, ◌∙◌, ◌∷◌, ◌≡◌, List, ap, append-nil, append_assoc, codes, decimal, refl, sym, ℕ, Tallied, member, object, with_commas, count_object}
+use Rattle.mv_machine.specs.Lines.{struct_text}
 
 -- ---- an object
 
@@ -78,8 +77,7 @@ module _ (begin : List ℕ) (objects : List (List ℕ)) where
 
   module _ (text separator : List ℕ) (left : List (List ℕ)) (put : IsPut begin objects text separator left) where
     -- the next one
-    pub more_put : (parted more next t : List ℕ) (rest : List (List ℕ)) → left ≡ t ∷ rest → parted ≡ text ++ separator → more ≡ parted ++ t → next ≡ codes ","
-        → IsPut begin objects more next rest
+    pub more_put : (parted more next t : List ℕ) (rest : List (List ℕ)) → left ≡ t ∷ rest → parted ≡ text ++ separator → more ≡ parted ++ t → next ≡ codes "," → IsPut begin objects more next rest
     more_put parted more next t rest first parts is comma =
         let joined : text ++ ((separator ++ t) ++ separated (codes ",") rest) ≡ ((text ++ separator) ++ t) ++ separated (codes ",") rest = simp append_assoc in
         put ∙ ap (λ ts. text ++ separated separator ts) first ∙ rw (comma, is, parts) joined

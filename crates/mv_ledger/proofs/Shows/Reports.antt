@@ -1,39 +1,21 @@
 -- What a show and an audit reply.
-use Rattle.std.proofs.Common.{◌≡◌, Bool, ℕ, ◌+◌, ◌-◌, ◌*◌, ◌<◌, ◌≤◌, List, [], ◌∷◌, ◌++◌, map, length, Some, refl, sym, ap, ap₂, arith, zero-add, length-append, codes}
-use Rattle.std.specs.Prelude.{All}
-use Rattle.std.specs.List.{AllByRecursion, filter, enumerate_from}
-use Rattle.std.proofs.lemmas.List.{length-map}
-use Rattle.std.proofs.lemmas.List.Elements.{All-head, All-tail}
-use Rattle.std.proofs.lemmas.List.FromFn.{length-enumerate_from}
-use Rattle.std.proofs.lemmas.List.Sums.{length-filter, count_by-le-length}
-use Rattle.mv_binary_format.proofs.Fitting.{few_structs}
-use Rattle.mv_move_types.specs.Module.{Module, StructDefinition}
-use Rattle.mv_move_types.specs.Published.{PublishedModule}
-use Rattle.mv_machine.specs.Count.{count}
-use Rattle.mv_machine.specs.State.{Storage}
-use Rattle.mv_machine.specs.Lines.{Tallied, Refused as ToldRefused, Told as ToldLines, audit_lines, audit_json, end_line, json_line}
-use Rattle.mv_machine.specs.Ledger.{Format, Publish, Run, Show, Audit, BadRun, Bad, shown, audited}
-use Rattle.mv_linker.specs.Link.{IsPublishable, tables_in}
-use Rattle.mv_move_types.specs.Scarce.{is_scarce_struct}
-use Rattle.mv_ledger.specs.declared.tallies.Tally.{Tally}
-use Rattle.mv_ledger.specs.RecordText.{IsShapeless, format_text}
-use Rattle.mv_ledger.specs.Answering.{Replies}
+use Rattle.mv_ledger.proofs.Common.{[], ◌*◌, ◌++◌, ◌+◌, ◌-◌, ◌<◌, ◌∷◌, ◌≡◌, ◌≤◌, Bool, List, Some, ap, ap₂, arith, codes, length, length-append, map, refl, sym, zero-add, ℕ, length-map, All-head}
+use Rattle.mv_ledger.proofs.Common.{All-tail, length-enumerate_from, count_by-le-length, length-filter, AllByRecursion, enumerate_from, filter, All, Module, StructDefinition, PublishedModule}
+use Rattle.mv_ledger.proofs.Common.{is_scarce_struct, few_structs, count, Audit, Bad, BadRun, Format, Publish, Run, Show, audited, shown, ToldRefused, Tallied, ToldLines, audit_json, audit_lines}
+use Rattle.mv_ledger.proofs.Common.{end_line, json_line, Storage, IsPublishable, tables_in, IsSoundLedger, Replies, audit_from, count_line, count_object, counts_json, stored_of, IsShapeless}
+use Rattle.mv_ledger.proofs.Common.{format_text, AreScarce, LedgerView, all_of, scarce_indices, state_of, Tally}
 use Rattle.mv_ledger.specs.Formats.{IsNoFormat}
-use Rattle.mv_ledger.specs.Auditing.{stored_of, count_line, count_object, audit_from, counts_json}
-use Rattle.mv_ledger.specs.View.{LedgerView, state_of, all_of, AreScarce, scarce_indices}
-use Rattle.mv_ledger.specs.Accepted.SoundLedger.{IsSoundLedger}
 use Rattle.mv_ledger.proofs.Accepted.Records.{answers_record}
 use Rattle.mv_ledger.proofs.Counting.Ended.{counts-tallied}
 
 -- ---- a payload that asks for no format
 
 shapeless : (kind : ℕ) (payload : List ℕ) → 2 < kind → IsNoFormat payload → IsShapeless kind payload
-shapeless kind payload late none (Publish sender offers) asked = absurd (omega (arith, late, asked.0))
-shapeless kind payload late none (Run r) asked = absurd (omega (arith, late, asked.0))
 shapeless kind payload late none (Show format) asked = none format asked.1
 shapeless kind payload late none (Audit format) asked = none format asked.1
 shapeless kind payload late none BadRun asked = asked
 shapeless kind payload late none Bad asked = asked
+shapeless kind payload late none _ asked = absurd (omega (arith, late, asked.0))
 
 -- is refused
 pub unasked_replies : (kind : ℕ) (payload : List ℕ) (v : LedgerView) → 2 < kind → IsNoFormat payload → IsSoundLedger (state_of v) → Replies kind payload (Some (ToldRefused 1)) v v
@@ -71,8 +53,7 @@ each_told text storage (t ∷ ts) h = ap₂ (λ x xs. x ∷ xs) (ap (λ n. text 
 
 module _ (v : LedgerView) (sound : IsSoundLedger (state_of v)) where
   pub audit-lines : audit_from v.tallies 0 ≡ audit_lines (state_of v).storage v.tallies
-  audit-lines =
-      ap₂ (λ xs n. xs ++ end_line n ∷ []) (each_told count_line (state_of v).storage v.tallies (counts-tallied (state_of v) sound.balanced)) (zero-add (length v.tallies))
+  audit-lines = ap₂ (λ xs n. xs ++ end_line n ∷ []) (each_told count_line (state_of v).storage v.tallies (counts-tallied (state_of v) sound.balanced)) (zero-add (length v.tallies))
 
   pub audit-json : counts_json v.tallies ≡ audit_json (state_of v).storage v.tallies
   audit-json = ap (json_line (codes "audit")) (each_told count_object (state_of v).storage v.tallies (counts-tallied (state_of v) sound.balanced))

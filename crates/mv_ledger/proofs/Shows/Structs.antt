@@ -1,29 +1,9 @@
 -- The value of a struct, by what its fields are made of.
-use Rattle.std.proofs.Common.{◌≡◌, ◌≢◌, ℕ, zero, suc, ◌-◌, List, [], ◌∷◌, ◌++◌, false, refl, sym, ap, ◌∙◌, subst, arith, append_assoc, Option, Some, None, codes, unwrap_or}
-use Rattle.std.specs.Prelude.{is_some, slice_get}
-use Rattle.std.specs.Borrow.{Bor}
-use Rattle.mv_move_types.specs.declared.tables.Definition.{Definition}
-use Rattle.mv_move_types.specs.declared.tables.Field.{Field}
-use Rattle.mv_move_types.specs.declared.token.LeafKind.{LeafKind}
-use Rattle.mv_move_types.specs.declared.token.LeafKind.TheVariants.{Boolean}
-use Rattle.mv_move_types.specs.declared.token.ValueType.TheVariants.{OfLeaf, OfStruct}
-use Rattle.mv_move_types.specs.declared.token.Token.{Token}
-use Rattle.mv_move_types.specs.declared.token.Token.TheVariants.{Plain, Reference, MutableReference}
-use Rattle.mv_move_types.specs.Options.{◌>>=◌}
-use Rattle.mv_move_types.specs.Names.{StructName}
-use Rattle.mv_move_types.specs.Module.{Module, name_of_struct, name_at, struct_name}
-use Rattle.mv_move_types.specs.Published.{PublishedModule}
-use Rattle.mv_machine.specs.Value.{Value, Struct, Values, NoMore, More}
-use Rattle.mv_machine.specs.Value.{Leaf as LeafValue}
-use Rattle.mv_machine.specs.Flat.{struct_from, fields_from, value_from}
-use Rattle.mv_machine.specs.Lines.{value_text, rest_text}
-use Rattle.mv_linker.specs.declared.shapes.Part.{Part}
-use Rattle.mv_linker.specs.declared.shapes.Part.TheVariants.{Leaf as LeafPart, Struct as StructPart, Nothing}
-use Rattle.mv_linker.specs.Link.{IsStore, tables_in}
-use Rattle.mv_linker.specs.Shapes.{AreFieldsAt, AreParts, IsMadeOf, IsPart, is_of_value}
-use Rattle.mv_linker.proofs.Kept.HandleDefinitions.{name-found}
-use Rattle.mv_ledger.specs.Showing.{PutsText, fields_text, key_value_text}
-use Rattle.mv_ledger.specs.ValueParts.{part_from, parts_from, value_at}
+use Rattle.mv_ledger.proofs.Common.{[], ◌++◌, ◌-◌, ◌∙◌, ◌∷◌, ◌≡◌, ◌≢◌, Bor, List, None, Option, Some, ap, append_assoc, arith, codes, false, refl, subst, suc, sym, zero, ℕ, is_some, slice_get}
+use Rattle.mv_ledger.proofs.Common.{unwrap_or, Module, name_at, name_of_struct, struct_name, StructName, ◌>>=◌, PublishedModule, Definition, Field, LeafKind, Boolean, Token, Plain, OfLeaf}
+use Rattle.mv_ledger.proofs.Common.{OfStruct, fields_from, struct_from, value_from, rest_text, value_text, LeafValue, More, NoMore, Struct, Value, Values, name-found, IsStore, tables_in}
+use Rattle.mv_ledger.proofs.Common.{AreFieldsAt, AreParts, IsMadeOf, IsPart, is_of_value, Part, LeafPart, Nothing, StructPart, PutsText, fields_text, key_value_text, part_from, parts_from}
+use Rattle.mv_ledger.specs.ValueParts.{value_at}
 use Rattle.mv_ledger.proofs.Shows.Fields.{puts_some}
 use Rattle.mv_ledger.proofs.Saves.LayoutParts.{defined, named, no_definition}
 
@@ -35,8 +15,7 @@ struct_value-text name (More v vs) = ap (λ l. l ++ codes "}") (append_assoc (co
 
 -- the values of its fields were put between braces
 pub struct_put : (name : StructName) (o : Option (Values × List ℕ)) (rest : Option (Bor (List ℕ))) (old front most new : List ℕ)
-    → front ≡ old ++ codes "{" → PutsText fields_text o rest front most → new ≡ most ++ codes "}"
-    → PutsText value_text (o >>= λ fs. Some (Struct name fs.0, fs.1)) rest old new
+    → front ≡ old ++ codes "{" → PutsText fields_text o rest front most → new ≡ most ++ codes "}" → PutsText value_text (o >>= λ fs. Some (Struct name fs.0, fs.1)) rest old new
 struct_put name None rest old front most new opens put closes = put
 struct_put name (Some p) rest old front most new opens put closes =
     let inside : List ℕ = fields_text p.0 in (
@@ -59,14 +38,12 @@ module _ (modules : List Module) (m : Module) (k : ℕ) where
   leaf kind (n ∷ words) = refl
 
   unnamed : (o : Option StructName) (words : List ℕ) → is_some o ≡ false → (o >>= λ name. struct_from k modules name words) ≡ None
-  unnamed None words e = refl
-  unnamed (Some name) words e = absurd (cc)
+  unnamed o words e = grind arith
 
   nothing : (t : Token) (words : List ℕ) → is_of_value m t ≡ false → by_token t words ≡ None
   nothing (Plain (OfLeaf kind)) words e = absurd (cc)
   nothing (Plain (OfStruct h)) words e = unnamed (struct_name m h) words e
-  nothing (Reference t) words e = refl
-  nothing (MutableReference t) words e = refl
+  nothing _ _ _ = refl
 
   -- a field of a type has the values of its part
   part-value : (t : Token) (part : Part) (words : List ℕ) → IsPart modules m t part → by_token t words ≡ by_part part words
@@ -88,17 +65,15 @@ module _ (modules : List Module) (m : Module) (k : ℕ) where
   -- and fields have those of their parts
   parts-values : (fields : List Field) (parts : List Part) (words : List ℕ) → AreParts modules m fields parts → fields_from by_token fields words ≡ parts_from by_part parts words
   parts-values [] [] words are = refl
-  parts-values [] (p ∷ parts) words are = absurd are
-  parts-values (f ∷ fields) [] words are = absurd are
   parts-values (f ∷ fields) (p ∷ parts) words are =
       ap (λ o. o >>= λ first. fields_from by_token fields first.1 >>= joined first) (part-value f.token p words are.0)
       ∙ parts-rest fields parts (λ more. parts-values fields parts more are.1) (by_part p words)
+  parts-values _ _ _ are = absurd are
 
 -- ---- its value
 
 no_depth : (modules : List Module) (words : List ℕ) (o : Option StructName) → (o >>= λ name. struct_from zero modules name words) ≡ None
-no_depth modules words None = refl
-no_depth modules words (Some name) = refl
+no_depth modules words o = grind arith
 
 none-put : (o : Option (Value × List ℕ)) (old new : List ℕ) → o ≡ None → PutsText value_text o None old new
 none-put o old new e = let P : Option (Value × List ℕ) → Type 0 = λ o. PutsText value_text o None old new in subst P (sym e) refl
@@ -133,8 +108,7 @@ puts_fields published is depth d parts words rest old front most new deep made o
 -- ---- the value under a key
 
 first-of : {A B C : Type 0} (f : A → Option (B × C)) (o : Option A) → (o >>= λ n. f n >>= λ v. Some v.0) ≡ ((o >>= f) >>= λ v. Some v.0)
-first-of f None = refl
-first-of f (Some n) = refl
+first-of f o = grind arith
 
 module _ (modules : List Module) (d : Definition) (words : List ℕ) where
   abbrev name : Option StructName

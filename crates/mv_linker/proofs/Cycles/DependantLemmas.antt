@@ -4,46 +4,32 @@
 --   replaced-named   a published module that names one of the bundle names one whose place that takes
 --   apart-far, apart-unfound   a published module that doesn't have to be linked again
 --   DependantsSoFar   those at the first of some places
-use Rattle.mv_linker.proofs.Cycles.Common.{[], ℕ, ◌++◌, ◌+◌, ◌<◌, ◌↔◌, ◌∙◌, ◌∷◌, ◌≡◌, ◌≤◌, ◌⊎◌, Contains, List, None, Some, ap, arith, false, inl, inr, length, map, refl, slice_get, subst, sym, true}
-use Rattle.mv_linker.proofs.Cycles.Common.{both_ways, cases_Bool, cases_eq, cases_lt, eq-eqb, eqb-true, false_from_ne_true, length-map, map-append, same_Some, slice_get_within, list_any}
-use Rattle.mv_linker.proofs.Cycles.Common.{option_map_or, ◌==◌, All, is_some, position, Module, module_name, own_name, have_one_name, is_module, module_place, ModuleName, depends_on, AreDependencies}
-use Rattle.mv_linker.proofs.Cycles.Common.{offered}
-use Rattle.std.proofs.lemmas.List.Elements.{All-nil, All-push, Contains-append_left, Contains-push}
-use Rattle.mv_move_types.specs.declared.tables.ModuleHandle.{ModuleHandle}
-use Rattle.mv_move_types.specs.Options.{◌>>=◌}
-use Rattle.mv_move_types.specs.Published.{PublishedModule}
-use Rattle.mv_linker.specs.declared.dependants.Dependant.{Dependant}
-use Rattle.mv_linker.specs.declared.scope.Scope.{Scope}
-use Rattle.mv_linker.specs.Link.{tables_in}
-use Rattle.mv_linker.specs.Namers.{AreNamersOfAll}
-use Rattle.mv_linker.specs.Relinked.{Joins, bundled_target, NamesBundle, IsDependant, IsApart, AreDependants}
-use Rattle.mv_linker.specs.Targets.{modules_in}
+use Rattle.mv_linker.proofs.Common.{[], ℕ, ◌++◌, ◌+◌, ◌<◌, ◌==◌, ◌↔◌, ◌∙◌, ◌∷◌, ◌≡◌, ◌≤◌, ◌⊎◌, All, All-nil, All-push, AreDependants, AreDependencies, AreNamersOfAll, Contains}
+use Rattle.mv_linker.proofs.Common.{Contains-append_left, Contains-push, Dependant, IsApart, IsDependant, Joins, List, Module, ModuleName, NamesBundle, None, PublishedModule, Scope, Some}
+use Rattle.mv_linker.proofs.Common.{ap, arith, both_ways, bundled_target, cases_Bool, cases_eq, cases_lt, depends_on, eq-eqb, eqb-true, false, false_from_ne_true, have_one_name, inl, inr}
+use Rattle.mv_linker.proofs.Common.{is_module, is_some, length, length-map, list_any, map, map-append, module_name, module_place, modules_in, offered, on_bind, own_name, position, refl}
+use Rattle.mv_linker.proofs.Common.{same_Some, slice_get, slice_get_within, subst, sym, tables_in, true}
+use Rattle.mv_linker.proofs.Lemmas.{Contains-at, among-any, among-at, any-among, at-among, at-Contains, depends_on-from, depends_on-is, have_one_name-is, is_module-is, module_parts}
+use Rattle.mv_linker.proofs.Lemmas.{module_place-from, module_place-is, name_at_one, some-of, there_at}
 use Rattle.mv_linker.proofs.Joining.Bundled.{place-at}
 use Rattle.mv_linker.proofs.Cycles.DependenciesStay.{dependencies-stay}
 use Rattle.mv_linker.proofs.Cycles.DependencyLemmas.{all-there}
-use Rattle.mv_module_text.proofs.Texts.{on_bind}
-use Rattle.mv_linker.proofs.Found.{then_found, some-of, Contains-at, at-Contains, there_at}
 use Rattle.mv_linker.proofs.LinkedCode.JoinedCodes.{NamesNone}
 use Rattle.mv_linker.proofs.Cycles.JoinedOrder.{names-stay}
-use Rattle.mv_linker.proofs.Joining.Joins.{one-name, bundled-at, kept-at, placed-at, position-there}
-use Rattle.mv_linker.proofs.Members.{any-among, among-any, among-at, at-among}
-use Rattle.mv_linker.proofs.NameLemmas.{is_module-is, module_place-from, module_place-is, name_at_one, have_one_name-is, depends_on-is, depends_on-from}
+use Rattle.mv_linker.proofs.Joining.Joins.{bundled-at, kept-at, one-name, placed-at, position-there}
 use Rattle.mv_linker.proofs.Joining.Resolving.{modules_there_at}
 use Rattle.mv_linker.proofs.Joining.Scopes.{within_tables}
 
 -- a handle that names a module is there
 pub handle-below : (m : Module) (h : ℕ) (name : ModuleName) → module_name m h ≡ Some name → h < length m.module_handles
 handle-below m h name e =
-    on_bind (slice_get m.module_handles h) (λ (handle : ModuleHandle). slice_get m.addresses handle.address >>= λ address. slice_get m.identifiers handle.name >>= λ name. Some (record { address = address; name = name })) name e
-    (λ handle at rest. slice_get_within m.module_handles h handle at)
+    module_parts m h name e (λ handle at address_is name_is. slice_get_within m.module_handles h handle at)
 
 -- which module of the bundle a handle names, by parts
 pub target-parts : {P : Type 0} (s : Scope) (m : Module) (h k : ℕ) → bundled_target s m h ≡ Some k
     → ((name : ModuleName) (p : ℕ) → module_name m h ≡ Some name → module_place (modules_in s) name ≡ Some p → slice_get s.places.items k ≡ Some p → P) → P
 target-parts s m h k e go =
-    on_bind (module_name m h) (λ name. module_place (modules_in s) name >>= λ place. position (λ p. p == place) s.places.items) k e
-    (λ name named e1. on_bind (module_place (modules_in s) name) (λ place. position (λ p. p == place) s.places.items) k e1
-    (λ p found e2. go name p named found (place-at p k s.places.items e2)))
+    on_bind (module_name m h) _ k e (λ name named e1. on_bind (module_place (modules_in s) name) _ k e1 (λ p found e2. go name p named found (place-at p k s.places.items e2)))
 
 -- the modules don't become fewer
 pub no-fewer : (s : Scope) → length s.store.now ≤ length (modules_in s)
@@ -62,10 +48,7 @@ module _ (s : Scope) (joins : Joins s) where
       let at = at-among (offered s.new.now) n among in
       let place = placed-at s joins at.0 n at.1 in
       let found : module_place (modules_in s) name ≡ Some place.0 = module_place-from (modules_in s) name place.0 n (one-name s joins) (bundled-at s joins at.0 place.0 n at.1 place.1) own in
-      let target : bundled_target s m h ≡ position (λ p. p == place.0) s.places.items =
-      then_found (module_name m h) (λ name. module_place (modules_in s) name >>= λ place. position (λ p. p == place) s.places.items) name (position (λ p. p == place.0) s.places.items) named
-      (then_found (module_place (modules_in s) name) (λ place. position (λ p. p == place) s.places.items) place.0 (position (λ p. p == place.0) s.places.items) found refl) in
-      none (h, ap is_some target ∙ position-there place.0 at.0 s.places.items place.1)
+      none (h, rw (named, found) (position-there place.0 at.0 s.places.items place.1))
 
   -- a published module that stays names one of the bundle exactly where it depends on what stands at a place of one
   pub depends-names : (q : ℕ) (m : Module) (places : List ℕ) → slice_get (tables_in s.store.now) q ≡ Some m → position (λ p. p == q) s.places.items ≡ None
@@ -78,10 +61,7 @@ module _ (s : Scope) (joins : Joins s) where
         let n = there_at (modules_in s) j.0 (now.there j.0 listed) in
         let names = (depends_on-is m n.0 ((now.each j.0 n.0 n.1).0 listed)).1 in
         let found : module_place (modules_in s) names.name ≡ Some j.0 = module_place-from (modules_in s) names.name j.0 n.0 (one-name s joins) n.1 names.own in
-        let target : bundled_target s m names.handle ≡ position (λ p. p == j.0) s.places.items =
-        then_found (module_name m names.handle) (λ name. module_place (modules_in s) name >>= λ place. position (λ p. p == place) s.places.items) names.name (position (λ p. p == j.0) s.places.items) names.named
-        (then_found (module_place (modules_in s) names.name) (λ place. position (λ p. p == place) s.places.items) j.0 (position (λ p. p == j.0) s.places.items) found refl) in
-        (names.handle, ap is_some target ∙ j.2),
+        (names.handle, rw (names.named, found) j.2),
     λ w.
         let target = some-of (bundled_target s m w.0) w.1 in
         target-parts s m w.0 target.0 target.1 (λ name p named found placed.
@@ -89,7 +69,7 @@ module _ (s : Scope) (joins : Joins s) where
         let own : have_one_name m n.0 ≡ false = false_from_ne_true (have_one_name m n.0) (λ one.
         let names = have_one_name-is m n.0 one in
         let same : q ≡ p = name_at_one (modules_in s) names.0 q p m n.0 (one-name s joins) (kept-at s joins q free ∙ at) n.1 names.1 names.2 in
-        both_ways true (sym (ap is_some (sym free ∙ ap (λ k. position (λ p. p == k) s.places.items) same) ∙ position-there p target.0 s.places.items placed)) refl) in
+        both_ways true (sym (ap is_some (sym (rw same at free)) ∙ position-there p target.0 s.places.items placed)) refl) in
         let depends = depends_on-from m n.0 name w.0 (handle-below m w.0 name named) named n.2 own in
         let listed = Contains-at places p ((now.each p n.0 n.1).1 depends) in
         among-any (λ q. is_some (position (λ p. p == q) s.places.items)) places p (among-at places listed.0 p listed.1) (position-there p target.0 s.places.items placed)),
@@ -107,8 +87,7 @@ module _ (s : Scope) (joins : Joins s) where
       let target = some-of (bundled_target s m h) some in
       target-parts s m h target.0 target.1 (λ name p named found placed.
       let there = modules_there_at (tables_in s.store.now) m (length m.module_handles) h (handle-below m h name named) (all-there (tables_in s.store.now) q m at joins.store.links) in
-      let some_there : list_any (is_module name) (tables_in s.store.now) ≡ true = sym (ap (λ o. option_map_or (λ name. list_any (is_module name) (tables_in s.store.now)) o false) named) ∙ there in
-      let x = any-among (is_module name) (tables_in s.store.now) some_there in
+      let x = any-among (is_module name) (tables_in s.store.now) (rw named at there) in
       let x_at = at-among (tables_in s.store.now) x.0 x.1 in
       let own_is : own_name x.0 ≡ Some name = is_module-is name x.0 x.2 in
       let new_at = names-stay (tables_in s.store.now) (offered s.new.now) x_at.0 x.0 x_at.1 in
@@ -117,13 +96,8 @@ module _ (s : Scope) (joins : Joins s) where
       let own : have_one_name m x.0 ≡ false = false_from_ne_true (have_one_name m x.0) (λ one.
       let names = have_one_name-is m x.0 one in
       let here : q ≡ x_at.0 = name_at_one (tables_in s.store.now) names.0 q x_at.0 m x.0 joins.store.once at x_at.1 names.1 names.2 in
-      both_ways true (sym (ap is_some (sym free ∙ ap (λ k. position (λ p. p == k) s.places.items) (here ∙ same)) ∙ position-there p target.0 s.places.items placed)) refl) in (
-        p,
-        x.0,
-        at-Contains s.places.items target.0 p placed,
-        ap (slice_get (tables_in s.store.now)) (sym same) ∙ x_at.1,
-        depends_on-from m x.0 name h (handle-below m h name named) named own_is own,
-      ))
+      both_ways true (sym (ap is_some (sym (rw (here ∙ same) at free)) ∙ position-there p target.0 s.places.items placed)) refl) in
+      (p, x.0, at-Contains s.places.items target.0 p placed, rw (← same) x_at.1, depends_on-from m x.0 name h (handle-below m h name named) named own_is own))
 
   -- no module is where none was published
   pub apart-far : (q : ℕ) → length s.store.now ≤ q → IsApart s q
@@ -165,16 +139,11 @@ next-dependant s ds more places i p d so at pushed place is =
       each = subst (λ l. All (IsDependant s) l) (sym pushed) (All-push (IsDependant s) ds d so.each is);
       others = λ k q low q_at. elim (cases_eq k i) [
         | inl same ↦
-            let one : p ≡ q = same_Some p q (sym at ∙ subst (λ n. slice_get places n ≡ Some q) same q_at) in
-            inl (subst (λ l. Contains l q) (sym all) (subst (λ n. Contains (taken ds ++ d.place ∷ []) n) (place ∙ one) (Contains-push (taken ds) d.place)))
-        | inr other ↦ before q all (so.others k q (omega (arith, low, other)) q_at)
+            let one : p ≡ q = same_Some p q (sym at ∙ rw same at q_at) in
+            inl (rw (all, ← one, ← place) (Contains-push (taken ds) d.place))
+        | inr other ↦ elim (so.others k q (omega (arith, low, other)) q_at) [ inl there ↦ inl (rw all (Contains-append_left (taken ds) (d.place ∷ []) q there)) | inr apart ↦ inr apart ]
       ];
     }
-  where
-    before : (q : ℕ) → map (λ (d : Dependant). d.place) more ≡ map (λ (d : Dependant). d.place) ds ++ d.place ∷ [] → Contains (map (λ (d : Dependant). d.place) ds) q ⊎ IsApart s q
-        → Contains (map (λ (d : Dependant). d.place) more) q ⊎ IsApart s q
-    before q all (inl there) = inl (subst (λ l. Contains l q) (sym all) (Contains-append_left (map (λ (d : Dependant). d.place) ds) (d.place ∷ []) q there))
-    before q all (inr apart) = inr apart
 
 -- once all that were found were looked at
 pub all-dependants : (s : Scope) → Joins s → (ds : List Dependant) (found : List ℕ) (i : ℕ) → AreNamersOfAll (tables_in s.store.now) s.places.items found → DependantsSoFar s ds found i
@@ -185,9 +154,7 @@ all-dependants s joins ds found i all so most = record {
     | inl has ↦
         let p = any-among (λ p. p == q) found has in
         let at = at-among found p.0 p.1 in
-        let same : p.0 ≡ q = eqb-true p.0 q p.2 in
-        let low = slice_get_within found at.0 p.0 at.1 in
-        so.others at.0 q (omega (arith, low, most)) (at.1 ∙ ap Some same)
+        so.others at.0 q (omega (arith, slice_get_within found at.0 p.0 at.1, most)) (at.1 ∙ ap Some (eqb-true p.0 q p.2))
     | inr none ↦ inr (apart-unfound s joins found all q (λ has.
         let at = Contains-at found q has in
         both_ways true (sym (sym none ∙ among-any (λ p. p == q) found q (among-at found at.0 q at.1) (eq-eqb q q refl))) refl))

@@ -2,22 +2,17 @@
 --   dependencies-stay    of a module that stays
 --   bundled-dependencies, kept-dependencies    what stands at a place
 --   no-dependencies, keeps-dependencies        those that are kept, at first and once a bundle's are put
-use Rattle.mv_linker.proofs.Cycles.Common.{[], ℕ, ◌<◌, ◌||◌, ◌∙◌, ◌∷◌, ◌≡◌, Contains, Global, List, None, Option, Some, Vec, ap, ap₂, arith, false, inl, inr, length, map, option_map, refl, slice_get}
-use Rattle.mv_linker.proofs.Cycles.Common.{subst, suc, sym, true, zero, length-map, none-some, same_Some, slice_get-map, slice_get_within, zip, option_map_or, ◌&&◌, ◌==◌, not, position, Module}
-use Rattle.mv_linker.proofs.Cycles.Common.{module_name, own_name, have_one_name, is_module, ModuleName, all_differ, Links, depends_on, modules_are_there, names_module, AreDependencies}
-use Rattle.mv_linker.proofs.Cycles.Common.{AreDependenciesAt, AreDependenciesIn, ArePlaces, count_after, places_in, with_tables}
-use Rattle.mv_linker.specs.declared.dependencies.Dependencies.{Dependencies}
-use Rattle.mv_linker.specs.declared.dependencies.DependenciesAt.{DependenciesAt}
-use Rattle.mv_linker.specs.Stored.{AreDependenciesOf, KeepsDependencies}
+use Rattle.mv_linker.proofs.Common.{[], ℕ, ◌&&◌, ◌<◌, ◌==◌, ◌∙◌, ◌∷◌, ◌≡◌, AreDependencies, AreDependenciesAt, AreDependenciesIn, AreDependenciesOf, ArePlaces, Contains, Dependencies}
+use Rattle.mv_linker.proofs.Common.{DependenciesAt, Global, KeepsDependencies, Links, List, Module, None, Option, Some, Vec, all_differ, ap, ap₂, arith, count_after, depends_on}
+use Rattle.mv_linker.proofs.Common.{have_one_name, inl, inr, length, length-map, map, modules_are_there, names_module, none-some, not, own_name, places_in, position, refl, same_Some}
+use Rattle.mv_linker.proofs.Common.{slice_get, slice_get-map, slice_get_within, subst, suc, sym, true, with_tables, zero, zip}
+use Rattle.mv_linker.proofs.Lemmas.{Contains-at, at-Contains, depends_on-is, differ-result, each, name_at_one, one_test, there_at}
 use Rattle.mv_linker.proofs.Joining.Bundled.{bundle-at, old-at, place-at}
 use Rattle.mv_linker.proofs.Cycles.DependencyLemmas.{count-places, length-places, places-within}
-use Rattle.mv_linker.proofs.Found.{Contains-at, at-Contains, each, there_at}
 use Rattle.mv_linker.proofs.Cycles.Graphs.{named_there}
 use Rattle.mv_linker.proofs.Cycles.JoinedOrder.{names-stay}
 use Rattle.mv_linker.proofs.LinkedCode.Linkable.{mapped-at}
-use Rattle.mv_linker.proofs.Members.{differ-result}
-use Rattle.mv_linker.proofs.NameLemmas.{name_at_one, one_test, depends_on-is}
-use Rattle.mv_linker.proofs.Kept.WithAt.{length-put_all, from-put_all, WasPut, WasThere}
+use Rattle.mv_linker.proofs.Kept.WithAt.{WasPut, WasThere, from-put_all, length-put_all}
 
 -- no modules depend on none
 pub no-dependencies : (kept : List Dependencies) → kept ≡ [] → AreDependenciesOf [] kept
@@ -25,19 +20,11 @@ no-dependencies kept e = subst (AreDependenciesOf []) (sym e) (record { len = re
 
 -- what a module depends on is told by names
 have_one_name-alike : (m x n : Module) → own_name x ≡ own_name n → have_one_name m x ≡ have_one_name m n
-have_one_name-alike m x n e = by_name (own_name m)
-  where
-    by_name : (o : Option ModuleName) → option_map_or (λ own. is_module own x) o false ≡ option_map_or (λ own. is_module own n) o false
-    by_name None = refl
-    by_name (Some own) = one_test x n e own
+have_one_name-alike m x n e = simp (one_test x n e)
 
 names_module-alike : (m x n : Module) → own_name x ≡ own_name n → (k : ℕ) → names_module m x k ≡ names_module m n k
 names_module-alike m x n e zero = refl
-names_module-alike m x n e (suc k) = ap₂ (λ a b. a || b) (by_name (module_name m k)) (names_module-alike m x n e k)
-  where
-    by_name : (o : Option ModuleName) → option_map_or (λ name. is_module name x) o false ≡ option_map_or (λ name. is_module name n) o false
-    by_name None = refl
-    by_name (Some name) = one_test x n e name
+names_module-alike m x n e (suc k) = simp (one_test x n e, names_module-alike m x n e k)
 
 pub depends_on-alike : (m x n : Module) → own_name x ≡ own_name n → depends_on m x ≡ depends_on m n
 depends_on-alike m x n e = ap₂ (λ a b. not a && b) (have_one_name-alike m x n e) (names_module-alike m x n e (length m.module_handles))
@@ -69,7 +56,7 @@ dependencies-stay old ns once links q m at places d = record {
 -- a place of the bundle is there, and each of its modules has one
 pub place-there : (old ns : List Module) → all_differ have_one_name ns ≡ true → (k p : ℕ) → slice_get (places_in old ns) k ≡ Some p → p < length (with_tables old ns)
 place-there old ns apart k p at =
-    let n = there_at ns k (let low = slice_get_within (places_in old ns) k p at in omega (arith, low, length-places old ns)) in
+    let n = there_at ns k (omega (arith, slice_get_within (places_in old ns) k p at, length-places old ns)) in
     slice_get_within (with_tables old ns) p n.0 (bundle-at old ns k p n.0 apart n.1 at)
 
 pub placed-there : (old ns : List Module) → all_differ have_one_name ns ≡ true → (n : Module) → Contains ns n → (p : ℕ) × Contains (places_in old ns) p × (slice_get (with_tables old ns) p ≡ Some n)
@@ -101,10 +88,10 @@ with_place p = record { place = p.0; dependencies = record { places = p.1 } }
 abbrev pub placed : List ℕ → List (Vec ℕ Global) → List DependenciesAt
 placed places graph = map (λ p. record { place = p.0; dependencies = record { places = p.1 } }) (zip places graph)
 
-abbrev place : DependenciesAt → ℕ
+abbrev pub place : DependenciesAt → ℕ
 place d = d.place
 
-abbrev dependencies_of : DependenciesAt → Dependencies
+abbrev pub dependencies_of : DependenciesAt → Dependencies
 dependencies_of d = d.dependencies
 
 abbrev items : Vec ℕ Global → List ℕ
@@ -158,8 +145,7 @@ keeps-dependencies old ns once apart links places e graph are = record {
         let k = Contains-at (placed places graph) put.entry put.one in
         let parts = placed-at places graph k.0 put.entry k.1 in
         let standing : slice_get (places_in old ns) k.0 ≡ Some q = sym (ap (λ l. slice_get l k.0) e) ∙ parts.0 ∙ ap Some put.at in
-        let row : slice_get (map (λ (v : Vec ℕ Global). v.items) graph) k.0 ≡ Some d.places.items =
-        slice_get-map (λ (v : Vec ℕ Global). v.items) graph k.0 ∙ ap (option_map (λ (v : Vec ℕ Global). v.items)) parts.1 ∙ ap (λ (x : Dependencies). Some x.places.items) put.is in
+        let row : slice_get (map (λ (v : Vec ℕ Global). v.items) graph) k.0 ≡ Some d.places.items = rw (slice_get-map, parts.1) (ap (λ (x : Dependencies). Some x.places.items) put.is) in
         bundled-dependencies old ns once apart links (map (λ (v : Vec ℕ Global). v.items) graph) are k.0 q d.places.items standing row m at
 
     left_there : (kept : List Dependencies) → AreDependenciesOf old kept → (q : ℕ) (m : Module) (d : Dependencies) → slice_get (with_tables old ns) q ≡ Some m

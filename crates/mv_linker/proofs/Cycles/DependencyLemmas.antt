@@ -1,19 +1,16 @@
 -- Dependencies, place by place.
-use Rattle.mv_linker.proofs.Cycles.Common.{[], ℕ, ◌++◌, ◌+◌, ◌∙◌, ◌∷◌, ◌≡◌, ◌≤◌, Global, List, None, Option, Some, Vec, ap, arith, length, map, refl, slice_get, subst, suc, sym, length_push}
-use Rattle.mv_linker.proofs.Cycles.Common.{map-append, none-some, IsTrue, unwrap_or, Module, have_one_name, slice_get-second, Links, modules_are_there, AreDependencies, IsDependencyGraph}
-use Rattle.mv_linker.proofs.Cycles.Common.{AreDependenciesIn, ArePlaces, count_after, place_for, places_in, with_table, with_tables}
-use Rattle.mv_move_types.specs.Options.{find_index}
-use Rattle.mv_linker.proofs.Found.{place_below}
+use Rattle.mv_linker.proofs.Common.{[], ℕ, ◌++◌, ◌+◌, ◌∙◌, ◌∷◌, ◌≡◌, ◌≤◌, AreDependencies, AreDependenciesIn, ArePlaces, Global, IsDependencyGraph, IsTrue, Links, List, Module, Some, Vec}
+use Rattle.mv_linker.proofs.Common.{ap, arith, count_after, have_one_name, length, length_push, map, map-append, map-map, modules_are_there, none-some, place_for, places_in, refl}
+use Rattle.mv_linker.proofs.Common.{slice_get, slice_get-second, subst, suc, sym, with_table, with_tables}
+use Rattle.mv_linker.proofs.Lemmas.{all-among, among-at, place_below}
 use Rattle.mv_linker.proofs.Cycles.JoinedOrder.{with_tables-appended}
 use Rattle.mv_linker.proofs.Joining.JoinedTargets.{appended-joined}
-use Rattle.mv_linker.proofs.Members.{among-at, all-among}
 use Rattle.mv_linker.proofs.Joining.Resolving.{each_push}
 use Rattle.mv_linker.proofs.Joining.Scopes.{length-with_table}
 use Rattle.mv_linker.proofs.Joining.StillThere.{Joining}
 
 pub map-items : (f : List ℕ → List ℕ) (ds : List (Vec ℕ Global)) → map (λ (d : Vec ℕ Global). f d.items) ds ≡ map f (map (λ (d : Vec ℕ Global). d.items) ds)
-map-items f [] = refl
-map-items f (d ∷ ds) = ap (λ l. f d.items ∷ l) (map-items f ds)
+map-items f ds = sym (map-map f (λ (d : Vec ℕ Global). d.items) ds)
 
 -- a bundle's places tell how many modules there are then
 pub count-places : (ms ns : List Module) → count_after (places_in ms ns) (length ms) ≡ length (with_tables ms ns)
@@ -25,11 +22,7 @@ length-places ms [] = refl
 length-places ms (n ∷ ns) = ap suc (length-places (with_table ms n) ns)
 
 place-within : (ms : List Module) (n : Module) → place_for ms n ≤ length ms
-place-within ms n = by_place (find_index (have_one_name n) ms) refl
-  where
-    by_place : (o : Option ℕ) → find_index (have_one_name n) ms ≡ o → unwrap_or o (length ms) ≤ length ms
-    by_place None e = omega arith
-    by_place (Some k) e = (let low = place_below (have_one_name n) ms k e in omega (arith, low))
+place-within ms n = let low = place_below (have_one_name n) ms in grind (arith, low)
 
 -- a bundle's places are there, one after the other
 pub places-within : (ms ns : List Module) → ArePlaces (places_in ms ns) (length ms)
@@ -46,8 +39,7 @@ pub record DependenciesSoFar (modules bundle : List Module) (graph : List (List 
 
 pub none-yet : (modules bundle : List Module) (graph : List (Vec ℕ Global)) → graph ≡ [] → DependenciesSoFar modules bundle (map (λ (s : Vec ℕ Global). s.items) graph) 0
 none-yet modules bundle graph e =
-    let nothing : map (λ (s : Vec ℕ Global). s.items) graph ≡ [] = ap (map (λ (s : Vec ℕ Global). s.items)) e in
-    subst (λ (l : List (List ℕ)). DependenciesSoFar modules bundle l 0) (sym nothing) (record { len = refl; each = λ i places p. absurd (none-some places p) })
+    rw e (record { len = refl; each = λ i places p. absurd (none-some places p) })
 
 pub one-more : (modules bundle : List Module) (graph more : List (Vec ℕ Global)) (i : ℕ) (v : Vec ℕ Global) → DependenciesSoFar modules bundle (map (λ (s : Vec ℕ Global). s.items) graph) i
     → more ≡ graph ++ v ∷ []

@@ -1,13 +1,12 @@
 -- Dependencies by their places: a cycle of modules is a cycle of places.
-use Rattle.mv_linker.proofs.Cycles.Common.{ℕ, ◌+◌, ◌-◌, ◌<◌, ◌↔◌, ◌∙◌, ◌≡◌, ◌≤◌, Bool, Contains, List, None, Some, ap, arith, cond, eqb, inl, inr, leb, length, map, option_map, slice_get, subst, sym}
-use Rattle.mv_linker.proofs.Cycles.Common.{take, true, both_ways, cases_lt, eqb-false, false_from_ne_true, le-leb, leb-true, ne_eqb, not-true, length-map, cond_some, same_Some, slice_get-map}
-use Rattle.mv_linker.proofs.Cycles.Common.{slice_get_within, nat_le, not, Module, module_name, own_name, have_one_name, module_place, ModuleName, all_differ, Reaches, depends_on, directly, further}
-use Rattle.mv_linker.proofs.Cycles.Common.{AreDependencies, AreHandlePlaces, IsDependencyGraph, IsOrdered, others, shifted}
-use Rattle.mv_bounds.specs.Cycles.{LeadsTo, IsAcyclic}
+use Rattle.mv_linker.proofs.Common.{ℕ, ◌+◌, ◌-◌, ◌<◌, ◌↔◌, ◌∙◌, ◌≡◌, ◌≤◌, AreDependencies, AreHandlePlaces, Bool, Contains, IsAcyclic, IsDependencyGraph, IsOrdered, LeadsTo, List, Module}
+use Rattle.mv_linker.proofs.Common.{ModuleName, None, Reaches, Some, all_differ, ap, arith, both_ways, cases_lt, cond, cond_some, depends_on, directly, eqb, eqb-false, false_from_ne_true}
+use Rattle.mv_linker.proofs.Common.{further, have_one_name, inl, inr, leb, leb-true, length, length-map, map, module_name, module_place, nat_le, nat_tests, ne_eqb, not, not-true, on_bind}
+use Rattle.mv_linker.proofs.Common.{option_map, others, own_name, same_Some, shifted, slice_get, slice_get-map, slice_get_within, subst, sym, take, true}
+use Rattle.mv_linker.proofs.Lemmas.{Contains-at, at-Contains, depends_on-from, depends_on-is, have_one_name-from, have_one_name-is, kept_at, module_place-from, module_place-is}
+use Rattle.mv_linker.proofs.Lemmas.{name_at_one, there_at}
+use Rattle.mv_linker.proofs.Found.{kept_from, made_at, made_from, slice_get-take}
 use Rattle.mv_bounds.specs.Cycles as C
-use Rattle.mv_module_text.proofs.Texts.{on_bind}
-use Rattle.mv_linker.proofs.Found.{then_found, Contains-at, at-Contains, there_at, slice_get-take, kept_at, kept_from, made_at, made_from}
-use Rattle.mv_linker.proofs.NameLemmas.{have_one_name-from, have_one_name-is, name_at_one, module_place-is, module_place-from, depends_on-is, depends_on-from}
 
 -- the handles' places without a module's own are those of the modules that it depends on
 module _ (modules : List Module) (m : Module) (own : ℕ) (places : List ℕ) (here : slice_get modules own ≡ Some m) (once : all_differ have_one_name modules ≡ true)
@@ -26,15 +25,9 @@ module _ (modules : List Module) (m : Module) (own : ℕ) (places : List ℕ) (h
       let at = Contains-at (others own places) j has in
       let k = kept_from (λ q. not (eqb q own)) places at.0 j at.1 in
       let named = p.each k.place j k.at in
+      let low = slice_get_within places k.place j k.at in
       on_bind (module_name m k.place) (module_place modules) j named
-      (λ name e g. record {
-        apart = eqb-false j own (not-true (eqb j own) k.passes);
-        handle = k.place;
-        low = (let l = slice_get_within places k.place j k.at in omega (arith, l, p.len));
-        name = name;
-        named = e;
-        place = g;
-      })
+      (λ name e g. record { apart = eqb-false j own (not-true (eqb j own) k.passes); handle = k.place; low = omega (arith, low, p.len); name = name; named = e; place = g })
 
   pub dependencies_from : AreDependencies modules m (others own places)
   dependencies_from =
@@ -57,8 +50,7 @@ module _ (modules : List Module) (m : Module) (own : ℕ) (places : List ℕ) (h
               let h = d.1.handle in
               let low = d.1.below in
               let at = there_at places h (omega (arith, low, p.len)) in
-              let place : at.0 ≡ j =
-              same_Some at.0 j (sym (p.each h at.0 at.1) ∙ then_found (module_name m h) (module_place modules) d.1.name (Some j) d.1.named (module_place-from modules d.1.name j n once e d.1.own)) in
+              let place : at.0 ≡ j = same_Some at.0 j (sym (rw d.1.named at (p.each h at.0 at.1)) ∙ module_place-from modules d.1.name j n once e d.1.own) in
               let apart : j ≡ own → ⊥ = λ same.
               let one : n ≡ m = same_Some n m (sym e ∙ ap (slice_get modules) same ∙ here) in
               let own_is : own_name m ≡ Some d.1.name = subst (λ (x : Module). own_name x ≡ Some d.1.name) one d.1.own in
@@ -72,10 +64,11 @@ module _ (modules : List Module) (m : Module) (own : ℕ) (places : List ℕ) (h
 pub shifted_has : (base b : ℕ) (places : List ℕ) → Contains places (base + b) → Contains (shifted base places) b
 shifted_has base b places has =
     let at = Contains-at places (base + b) has in
-    let less : leb base (base + b) ≡ true = le-leb base (base + b) (omega arith) in
-    let rest : base + b - base ≡ b = omega arith in
-    let m = made_at (λ q. cond (nat_le base q) (Some (q - base)) None) places at.0 (base + b) b at.1 (ap (λ t. cond t (Some (base + b - base)) None) less ∙ ap (λ x. Some x) rest) in
+    let m = made_at (λ q. cond (nat_le base q) (Some (q - base)) None) places at.0 (base + b) b at.1 (back base b) in
     at-Contains (shifted base places) m.0 b m.1
+  where
+    back : (base b : ℕ) → cond (nat_le base (base + b)) (Some (base + b - base)) None ≡ Some b
+    back base b = grind (arith, nat_tests)
 
 pub shifted_from : (base b : ℕ) (places : List ℕ) → Contains (shifted base places) b → Contains places (base + b)
 shifted_from base b places has =
@@ -160,7 +153,7 @@ module _ (modules : List Module) (base : ℕ) (graph : List (List ℕ)) (g : IsD
   leads a b m n e f (C.directly i j s at has) =
       let p = entry a m e in
       let same : shifted base p.0 ≡ s = same_Some (shifted base p.0) s (sym (slice_get-map (shifted base) graph a ∙ ap (option_map (shifted base)) p.1) ∙ at) in
-      let there = shifted_from base b p.0 (subst (λ (xs : List ℕ). Contains xs b) (sym same) has) in
+      let there = shifted_from base b p.0 (rw same has) in
       directly m n (at-Contains modules (base + a) m e) (at-Contains modules (base + b) n f) (((g.each a m p.0 e p.1).each (base + b) n f).0 there)
   leads a c m o e f (C.further i b k first second) =
       let low = begins b c second in

@@ -5,27 +5,20 @@
 --   IsFinding      the pairs of one module that is named, one after the other
 --   namers-join    what modules name is among the pairs once a bundle joins
 --   namers-of      who names a module is found in them
-use Rattle.mv_linker.proofs.Cycles.Common.{[], ℕ, ◌+◌, ◌<◌, ◌↔◌, ◌∙◌, ◌∷◌, ◌≡◌, ◌≤◌, ◌⊎◌, Bool, Contains, Equal, List, Ordering, Some, ap, ap₂, arith, cond, eqb, false, inl, inr, length, map, refl}
-use Rattle.mv_linker.proofs.Cycles.Common.{slice_get, subst, sym, true, cases_Bool, cases_eq, none-some, same_Some, slice_get_within, ◌&&◌, not, Module, ArePlaces}
+use Rattle.mv_linker.proofs.Common.{[], ℕ, ◌&&◌, ◌+◌, ◌<◌, ◌↔◌, ◌∙◌, ◌∷◌, ◌≡◌, ◌≤◌, ◌⊎◌, AreDependenciesOf, AreNamed, AreNamedBy, AreNamers, AreNamersOf, ArePlaces, Bool, BTreeSet}
+use Rattle.mv_linker.proofs.Common.{Contains, Dependencies, DependenciesAt, Equal, HasAll, HashSet, HasOthers, Included, IsTotalOrder, KeepsDependencies, List, Module, NamesAt, Ordering}
+use Rattle.mv_linker.proofs.Common.{Some, Updates, ap, ap₂, arith, cases_Bool, cases_eq, cond, contains, eqb, false, inl, inr, keys_between, length, map, nat_eq_equiv, nat_tests}
+use Rattle.mv_linker.proofs.Common.{none-some, not, same_Some, slice_get, slice_get_within, subst, sym, true, with_dependencies}
 use Rattle.std.specs.BTreeMap.{is_at}
 use Rattle.std.specs.BTreeMap.Range.{range_contains}
-use Rattle.std.specs.BTreeSet.{BTreeSet, contains, keys_between, Updates}
-use Rattle.std.specs.Cmp.{IsTotalOrder}
-use Rattle.std.specs.HashSet as hash
-use Rattle.std.specs.HashSet.{HashSet}
 use Rattle.std.specs.Ordering.{is_le, is_lt, nat_cmp, ordering_then}
-use Rattle.std.specs.declared.ops.Bound.TheVariants.{Included}
-use Rattle.std.proofs.lemmas.Bool.Decides.{nat_tests}
-use Rattle.std.proofs.lemmas.Cmp.{nat_cmp_total, nat_eq_equiv, on_total, then_total}
+use Rattle.std.proofs.lemmas.Cmp.{nat_cmp_total, on_total, then_total}
 use Rattle.std.proofs.lemmas.Map.Lookups.{CmpEqualImpliesEq, exact_pairs, exact_unsigned}
 use Rattle.std.proofs.lemmas.Map.Views.{btree_set_contains_iff, exact_unsigned_eq, hash_set_contains_iff, tells_apart}
-use Rattle.mv_linker.specs.declared.dependencies.Dependencies.{Dependencies}
-use Rattle.mv_linker.specs.declared.dependencies.DependenciesAt.{DependenciesAt}
-use Rattle.mv_linker.specs.Namers.{AreNamedBy, AreNamers, AreNamersOf, NamesAt}
-use Rattle.mv_linker.specs.NamerSteps.{AreNamed, HasAll, HasOthers}
-use Rattle.mv_linker.specs.Stored.{AreDependenciesOf, KeepsDependencies, with_dependencies}
-use Rattle.mv_linker.proofs.Found.{Contains-at, at-Contains, kept_at, there_at}
+use Rattle.mv_linker.proofs.Lemmas.{Contains-at, at-Contains, kept_at, there_at}
+use Rattle.mv_linker.proofs.Cycles.DependenciesStay.{dependencies_of, place}
 use Rattle.mv_linker.proofs.Kept.WithAt.{first_or_later, from-put_all}
+use Rattle.std.specs.HashSet as hash
 
 -- ---- one pair
 
@@ -43,15 +36,14 @@ pairs-exact = exact_pairs nat_cmp nat_cmp exact_unsigned exact_unsigned
 key-is : (s : BTreeSet (ℕ × ℕ)) (x : ℕ × ℕ) → (contains pair_cmp s x ≡ true) ↔ Contains s.keys x
 key-is s x = btree_set_contains_iff pairs-total pairs-exact s x
 
+kept-true : (b c : Bool) → c ≡ true → cond b true c ≡ true
+kept-true b c e = grind (arith, e)
+
 -- a pair is put, and the others stay
 pub put-stays : (s n : BTreeSet (ℕ × ℕ)) (k : ℕ × ℕ) → Updates pair_cmp s n k true → HasAll s.keys n.keys
 put-stays s n k u x has =
     let was : contains pair_cmp s x ≡ true = (key-is s x).1 has in
-    (key-is n x).0 (u.0 x ∙ step (is_at (pair_cmp k) x) (contains pair_cmp s x) was)
-  where
-    step : (b c : Bool) → c ≡ true → cond b true c ≡ true
-    step true c e = refl
-    step false c e = e
+    (key-is n x).0 (u.0 x ∙ kept-true (is_at (pair_cmp k) x) (contains pair_cmp s x) was)
 
 pub put-there : (s n : BTreeSet (ℕ × ℕ)) (k : ℕ × ℕ) → Updates pair_cmp s n k true → Contains n.keys k
 put-there s n k u = (key-is n k).0 u.1
@@ -72,11 +64,7 @@ module _ {S : Type 0} (s n : HashSet ℕ S) (k : ℕ) (u : hash.Updates eqb s n 
   pub found-stays : HasAll s.keys n.keys
   found-stays x has =
       let was : hash.contains eqb s x ≡ true = (hash_set_contains_iff nat_eq_equiv exact_unsigned_eq s x).1 has in
-      (hash_set_contains_iff nat_eq_equiv exact_unsigned_eq n x).0 (u.0 x ∙ step (eqb k x) (hash.contains eqb s x) was)
-    where
-      step : (b c : Bool) → c ≡ true → cond b true c ≡ true
-      step true c e = refl
-      step false c e = e
+      (hash_set_contains_iff nat_eq_equiv exact_unsigned_eq n x).0 (u.0 x ∙ kept-true (eqb k x) (hash.contains eqb s x) was)
 
   pub found-there : Contains n.keys k
   found-there = (hash_set_contains_iff nat_eq_equiv exact_unsigned_eq n k).0 u.1
@@ -91,9 +79,6 @@ pub record PutSoFar {A B : Type 0} (Put : List B → A → Type 0) (old pairs : 
 -- more pairs take nothing away
 abbrev pub Keeps : {A B : Type 0} → (List B → A → Type 0) → Type 0
 Keeps {A} {B} Put = (old new : List B) (x : A) → HasAll old new → Put old x → Put new x
-
-pub put-none : {A B : Type 0} (Put : List B → A → Type 0) (old : List B) (items : List A) → PutSoFar Put old old items 0
-put-none Put old items = record { stays = λ x has. has; below = λ k x low at. absurd (omega (arith, low)) }
 
 pub put-next : {A B : Type 0} (Put : List B → A → Type 0) → Keeps Put → (old pairs more : List B) (items : List A) (i : ℕ) (x : A) → PutSoFar Put old pairs items i
     → slice_get items i ≡ Some x → HasAll pairs more → Put more x → PutSoFar Put old more items (i + 1)
@@ -118,9 +103,6 @@ PutBy namer pairs named = named < 65536 → namer < 65536 → Contains pairs (na
 abbrev pub PutOf : List (ℕ × ℕ) → DependenciesAt → Type 0
 PutOf pairs d = AreNamedBy pairs d.place d.dependencies.places.items
 
-pub keeps-by : (namer : ℕ) → Keeps (PutBy namer)
-keeps-by namer old new named grows put small few = grows (named, namer) (put small few)
-
 pub keeps-of : Keeps PutOf
 keeps-of old new d grows put named has small few = grows (named, d.place) (put named has small few)
 
@@ -142,9 +124,6 @@ forget-one pairs left kept named namer are others none place d at q has small fe
 pub record IsFinding (all left : List (ℕ × ℕ)) (old found : List ℕ) : Type 0 where
   pub stays : HasAll old found
   pub each : (x : ℕ × ℕ) → Contains all x → Contains left x ⊎ Contains found x.1
-
-pub finding-none : (all left : List (ℕ × ℕ)) (old : List ℕ) → all ≡ left → IsFinding all left old old
-finding-none all left old e = record { stays = λ p has. has; each = λ x has. inl (subst (λ l. Contains l x) e has) }
 
 pub finding-next : (all left rest : List (ℕ × ℕ)) (old found more : List ℕ) (x : ℕ × ℕ) → IsFinding all left old found → left ≡ x ∷ rest → HasAll found more → Contains more x.1
     → IsFinding all rest old more
@@ -193,12 +172,6 @@ in-range s named p low has =
 -- more of them take nothing away
 pub namers-grow : (was pairs : List (ℕ × ℕ)) (kept : List Dependencies) → AreNamers was kept → HasAll was pairs → AreNamers pairs kept
 namers-grow was pairs kept are grows q d at named has small few = grows (named, q) (are q d at named has small few)
-
-abbrev place : DependenciesAt → ℕ
-place d = d.place
-
-abbrev dependencies_of : DependenciesAt → Dependencies
-dependencies_of d = d.dependencies
 
 -- what the modules name that a store has once a bundle joins is among them, if what the bundle's name is
 pub namers-join : (old result : List Module) (kept : List Dependencies) (more : List DependenciesAt) (was pairs : List (ℕ × ℕ))

@@ -1,9 +1,6 @@
 -- A graph without edges has no cycle.
-use Rattle.mv_linker.proofs.Cycles.Common.{[], ℕ, ◌∙◌, ◌≡◌, ◌∷◌, Contains, Global, List, Some, Vec, ap, arith, length, map, none-some, same_Some, slice_get, subst, suc, sym, true, zero, eqb-true, ◌==◌, shifted}
-use Rattle.std.proofs.lemmas.Bool.{and_parts}
-use Rattle.std.proofs.lemmas.List.{nil_from_length}
-use Rattle.std.specs.List.{list_all}
-use Rattle.mv_bounds.specs.Cycles.{IsAcyclic}
+use Rattle.mv_linker.proofs.Common.{[], ℕ, ◌==◌, ◌∙◌, ◌∷◌, ◌≡◌, Contains, Global, IsAcyclic, List, Some, Vec, and_parts, ap, arith, eqb-true, length, list_all, map, nil_from_length}
+use Rattle.mv_linker.proofs.Common.{none-some, same_Some, shifted, slice_get, subst, suc, sym, true, zero}
 use Rattle.mv_bounds.proofs.EdgeLemmas.{last_edge}
 
 -- nothing stands in an empty list

@@ -4,16 +4,15 @@
 --   IsSearch       how far the search came
 --   reached-graph  its result
 --   ordered-reached   no module depends on itself by a chain if none that is reached does
-use Rattle.mv_linker.proofs.Cycles.Common.{[], ℕ, ◌++◌, ◌+◌, ◌<◌, ◌||◌, ◌↔◌, ◌∙◌, ◌∷◌, ◌≡◌, ◌≤◌, ◌⊎◌, Bool, Contains, Global, List, Some, Vec, ap, ap₂, arith, cond, eqb, false, get_or, inl, inr}
-use Rattle.mv_linker.proofs.Cycles.Common.{length, map, refl, slice_get, subst, suc, sym, true, zero, both_ways, cases_lt, cases_order, eq-eqb, eqb-true, length-map, length_push, map-append}
-use Rattle.mv_linker.proofs.Cycles.Common.{get_or_from_slice_get, none-some, same_Some, slice_get_within, IsDistinct, list_any, Module, have_one_name, slice_get-first, slice_get-second, all_differ}
-use Rattle.mv_linker.proofs.Cycles.Common.{Links, Reaches, depends_on, directly, further, AreDependencies, IsOrdered, AreDependenciesAt, with_tables}
+use Rattle.mv_linker.proofs.Common.{[], ℕ, ◌++◌, ◌+◌, ◌<◌, ◌↔◌, ◌∙◌, ◌∷◌, ◌≡◌, ◌≤◌, ◌⊎◌, AreDependencies, AreDependenciesAt, AreNumbers, AreReached, Contains, Global, IsDistinct}
+use Rattle.mv_linker.proofs.Common.{IsExtended, IsOrdered, IsReachedGraph, Links, List, Module, Reaches, Some, Vec, all_differ, ap, arith, both_ways, cases_order, cond, depends_on}
+use Rattle.mv_linker.proofs.Common.{directly, eq-eqb, eqb, eqb-true, false, further, get_or, get_or_from_slice_get, have_one_name, inl, inr, length, length-map, length_push, list_any, map}
+use Rattle.mv_linker.proofs.Common.{map-append, none-some, or_cases, refl, same_Some, slice_get, slice_get-first, slice_get_within, subst, suc, sym, true, with_tables, zero}
 use Rattle.std.proofs.lemmas.Map.Keys.{apart_from_distinct}
 use Rattle.std.proofs.lemmas.Map.Steps.{length-le_from_distinct_below}
-use Rattle.mv_linker.specs.Reached.{AreReached, IsReachedGraph, IsExtended, AreNumbers}
-use Rattle.mv_linker.proofs.Found.{Contains-at, at-Contains, there_at}
+use Rattle.mv_linker.proofs.Lemmas.{Contains-at, among-at, among-result, at-among, at-Contains, there_at}
+use Rattle.mv_linker.proofs.Found.{last_or_before}
 use Rattle.mv_linker.proofs.Cycles.Graphs.{whole-graph}
-use Rattle.mv_linker.proofs.Members.{among-at, at-among, among-result}
 use Rattle.mv_linker.proofs.Joining.Resolving.{each_push}
 
 -- ---- one more place
@@ -21,11 +20,7 @@ use Rattle.mv_linker.proofs.Joining.Resolving.{each_push}
 -- a place that was looked for is there
 any-at : (ps : List ℕ) (p : ℕ) → list_any (eqb p) ps ≡ true → (k : ℕ) × (slice_get ps k ≡ Some p)
 any-at [] p h = absurd (cc)
-any-at (x ∷ ps) p h = step (eqb p x) refl h (λ g. any-at ps p g)
-  where
-    step : (b : Bool) → eqb p x ≡ b → list_any (eqb p) (x ∷ ps) ≡ true → (list_any (eqb p) ps ≡ true → (k : ℕ) × (slice_get ps k ≡ Some p)) → (k : ℕ) × (slice_get (x ∷ ps) k ≡ Some p)
-    step true e g rest = (0, ap Some (sym (eqb-true p x e)))
-    step false e g rest = let r = rest (sym (ap (λ b. b || list_any (eqb p) ps) e) ∙ g) in (suc r.0, r.1)
+any-at (x ∷ ps) p h = elim (or_cases (eqb p x) (list_any (eqb p) ps) h) [ inl e ↦ (0, ap Some (sym (eqb-true p x e))) | inr e ↦ (let r = any-at ps p e in (suc r.0, r.1)) ]
 
 listed-there : (ps : List ℕ) (p : ℕ) → list_any (eqb p) ps ≡ true → Contains ps p
 listed-there ps p h = let x = any-at ps p h in at-Contains ps x.0 p x.1
@@ -35,27 +30,17 @@ abbrev with_place : List ℕ → ℕ → List ℕ
 with_place ps p = cond (list_any (eqb p) ps) ps (ps ++ p ∷ [])
 
 insert-stays : (ps : List ℕ) (p i q : ℕ) → slice_get ps i ≡ Some q → slice_get (with_place ps p) i ≡ Some q
-insert-stays ps p i q e = step (list_any (eqb p) ps)
-  where
-    step : (b : Bool) → slice_get (cond b ps (ps ++ p ∷ [])) i ≡ Some q
-    step true = e
-    step false = slice_get-first ps (p ∷ []) i (slice_get_within ps i q e) ∙ e
+insert-stays ps p i q e =
+    elim (list_any (eqb p) ps) as (λ b. slice_get (cond b ps (ps ++ p ∷ [])) i ≡ Some q) [ true ↦ e | false ↦ slice_get-first ps (p ∷ []) i (slice_get_within ps i q e) ∙ e ]
 
 pushed-or-there : (ps : List ℕ) (p q : ℕ) → Contains (ps ++ p ∷ []) q → Contains ps q ⊎ (q ≡ p)
-pushed-or-there ps p q has = let at = Contains-at (ps ++ p ∷ []) q has in elim (cases_lt at.0 (length ps)) [
-  | inl low ↦ inl (at-Contains ps at.0 q (sym (slice_get-first ps (p ∷ []) at.0 low) ∙ at.1))
-  | inr high ↦
-      let inside = slice_get_within (ps ++ p ∷ []) at.0 q at.1 in
-      let last : length ps + 0 ≡ at.0 = omega (arith, high, inside, length_push ps p) in
-      inr (same_Some q p (sym at.1 ∙ slice_get-second ps (p ∷ []) at.0 0 last))
-]
+pushed-or-there ps p q has =
+    let at = Contains-at (ps ++ p ∷ []) q has in
+    elim (last_or_before ps p at.0 q at.1) [ inl before ↦ inl (at-Contains ps at.0 q before) | inr end ↦ inr (sym end.1) ]
 
 insert-each : (ps : List ℕ) (p q : ℕ) → Contains (with_place ps p) q → Contains ps q ⊎ (q ≡ p)
-insert-each ps p q = step (list_any (eqb p) ps)
-  where
-    step : (b : Bool) → Contains (cond b ps (ps ++ p ∷ [])) q → Contains ps q ⊎ (q ≡ p)
-    step true has = inl has
-    step false has = pushed-or-there ps p q has
+insert-each ps p q =
+    elim (list_any (eqb p) ps) as (λ b. Contains (cond b ps (ps ++ p ∷ [])) q → Contains ps q ⊎ (q ≡ p)) [ true ↦ λ has. inl has | false ↦ pushed-or-there ps p q ]
 
 -- ---- the numbers of places
 
@@ -137,14 +122,13 @@ pub search-begins : (modules : List Module) (first old reached numbers : List �
     → IsExtended old first reached → AreNumbers reached first numbers
     → IsSearch modules first reached (map (λ (v : Vec ℕ Global). v.items) graph)
 search-begins modules first old reached numbers graph none empty low extended are =
-    let nothing : map (λ (v : Vec ℕ Global). v.items) graph ≡ [] = ap (map (λ (v : Vec ℕ Global). v.items)) empty in
-    subst (λ l. IsSearch modules first reached l) (sym nothing) (record {
+    rw empty (record {
       begun = λ p has.
           let k = Contains-at first p has in
           let j = there_at numbers k.0 (let low = slice_get_within first k.0 p k.1 in omega (arith, low, are.len)) in
           at-Contains reached j.0 p (are.each k.0 p j.0 k.1 j.1);
       low = λ p has. elim (extended.each p has) [
-        | inl there ↦ let at = Contains-at [] p (subst (λ l. Contains l p) none there) in absurd (none-some p at.1)
+        | inl there ↦ absurd (omega (arith, (rw none at there).1))
         | inr one ↦ low p one
       ];
       each = λ i numbers at. absurd (none-some numbers at);
@@ -211,11 +195,8 @@ selected modules (q ∷ places) low =
 -- a place stands at one number
 later-differs : (ps : List ℕ) (i j p : ℕ) → IsDistinct eqb ps → slice_get ps i ≡ Some p → slice_get ps j ≡ Some p → i < j → ⊥
 later-differs ps i j p once e g low =
-    let inside = slice_get_within ps j p g in
-    let apart : eqb (get_or ps i p) (get_or ps j p) ≡ false = apart_from_distinct eqb ps i j p once low inside in
-    let first : get_or ps i p ≡ p = get_or_from_slice_get ps i p p e in
-    let second : get_or ps j p ≡ p = get_or_from_slice_get ps j p p g in
-    both_ways (eqb p p) (sym (ap₂ eqb first second) ∙ apart) (eq-eqb p p refl)
+    let apart : eqb (get_or ps i p) (get_or ps j p) ≡ false = apart_from_distinct eqb ps i j p once low (slice_get_within ps j p g) in
+    both_ways (eqb p p) (rw (get_or_from_slice_get ps i p p e, get_or_from_slice_get ps j p p g) at apart) (eq-eqb p p refl)
 
 distinct-at : (ps : List ℕ) (i j p : ℕ) → IsDistinct eqb ps → slice_get ps i ≡ Some p → slice_get ps j ≡ Some p → i ≡ j
 distinct-at ps i j p once e g =

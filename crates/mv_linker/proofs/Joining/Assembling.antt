@@ -1,22 +1,19 @@
 -- The rules of linking over all modules of a result, from those over the bundle.
-use Rattle.mv_linker.proofs.Joining.Common.{[], ℕ, ◌++◌, ◌+◌, ◌∙◌, ◌∷◌, ◌≡◌, Bool, List, Some, ap, inl, inr, length, option_map, refl, subst, sym, take, true, and_from, and_parts, length-map}
-use Rattle.mv_linker.proofs.Joining.Common.{length_push, All-head, All-tail, none-some, slice_get-map, list_all, ◌&&◌, All, slice_get, Module, have_one_name, PublishedModule, InBounds, WellDefined}
-use Rattle.mv_linker.proofs.Joining.Common.{all_differ, IsPublishable, IsStore, are_compatible, tables_in, IsLinkedBundle, Links, function_is_there, modules_are_there, names_hold, struct_is_small}
-use Rattle.mv_linker.proofs.Joining.Common.{structs_are_there, offered, with_tables, New}
-use Rattle.mv_linker.specs.News.{published_of}
-use Rattle.mv_linker.specs.Stored.{AreNames, AreNamesOf}
-use Rattle.mv_linker.specs.declared.store_rules.Names.{Names}
-use Rattle.mv_linker.proofs.Members.{Among, among-at, all-among, among-all, among-result, bundle-there}
+use Rattle.mv_linker.proofs.Common.{[], ℕ, ◌++◌, ◌+◌, ◌∙◌, ◌∷◌, ◌≡◌, All, All-head, All-tail, AreNames, AreNamesOf, Bool, InBounds, IsLinkedBundle, IsPublishable, IsStore, Links, List}
+use Rattle.mv_linker.proofs.Common.{Module, Names, New, PublishedModule, Some, WellDefined, all_differ, and_from, and_parts, ap, are_compatible, function_is_there, have_one_name, inl, inr}
+use Rattle.mv_linker.proofs.Common.{length, length-map, length_push, list_all, modules_are_there, names_hold, none-some, offered, published_of, refl, slice_get, slice_get-map}
+use Rattle.mv_linker.proofs.Common.{struct_is_small, structs_are_there, subst, sym, tables_in, take, true, with_tables}
+use Rattle.mv_linker.proofs.Lemmas.{Among, all-among, among-all, among-at, among-result, bundle-there}
 use Rattle.mv_linker.proofs.StructSizes.JoinedSizes.{small-joined}
 use Rattle.mv_linker.proofs.Joining.Resolving.{each_push}
-use Rattle.mv_linker.proofs.Joining.Scopes.{offered-tables, offered-push}
-use Rattle.mv_linker.proofs.Joining.StillThere.{Joining, modules-still-there, structs-still-there, function-still-there}
+use Rattle.mv_linker.proofs.Joining.Scopes.{offered-push, offered-tables}
+use Rattle.mv_linker.proofs.Joining.StillThere.{Joining, function-still-there, modules-still-there, structs-still-there}
 
 -- the parts of what a module names
 pub names-parts : (modules : List Module) (m : Module) → names_hold modules m ≡ true
     → (modules_are_there modules m (length m.module_handles) ≡ true) × (structs_are_there modules m 0 m.struct_handles ≡ true) × (list_all (function_is_there modules m) m.function_handles ≡ true)
 names-parts modules m h =
-    let one = and_parts (modules_are_there modules m (length m.module_handles) && structs_are_there modules m 0 m.struct_handles) (list_all (function_is_there modules m) m.function_handles) h in
+    let one = and_parts _ (list_all (function_is_there modules m) m.function_handles) h in
     let two = and_parts (modules_are_there modules m (length m.module_handles)) (structs_are_there modules m 0 m.struct_handles) one.0 in
     (two.0, two.1, one.1)
 
@@ -44,19 +41,15 @@ pub joining-offered : (ps : List PublishedModule) (news : List New) → IsStore 
     → are_compatible (tables_in ps) (offered news) ≡ true → Joining (tables_in ps) (offered news)
 joining-offered ps news store passed apart fits =
     let same = offered-tables news in
-    subst (Joining (tables_in ps)) same
-    (joining ps (published_of news) store passed
-    (subst (λ (l : List Module). all_differ have_one_name l ≡ true) (sym same) apart)
-    (subst (λ (l : List Module). are_compatible (tables_in ps) l ≡ true) (sym same) fits))
+    subst (Joining (tables_in ps)) same (joining ps (published_of news) store passed (rw same apart) (rw same fits))
 
 -- what holds of all holds of the bundle
 pub bundle-links : (old ns : List Module) → all_differ have_one_name ns ≡ true → Links (with_tables old ns) → IsLinkedBundle (with_tables old ns) ns
 bundle-links old ns apart links = record {
   named = among-all (names_hold (with_tables old ns)) ns (λ m a.
       let there = bundle-there old ns m apart a in
-      and_from (modules_are_there (with_tables old ns) m (length m.module_handles) && structs_are_there (with_tables old ns) m 0 m.struct_handles) (list_all (function_is_there (with_tables old ns) m) m.function_handles)
-      (and_from (modules_are_there (with_tables old ns) m (length m.module_handles)) (structs_are_there (with_tables old ns) m 0 m.struct_handles)
-      (all-among (λ m. modules_are_there (with_tables old ns) m (length m.module_handles)) (with_tables old ns) m links.modules there)
+      and_from _ _
+      (and_from _ _ (all-among (λ m. modules_are_there (with_tables old ns) m (length m.module_handles)) (with_tables old ns) m links.modules there)
       (all-among (λ m. structs_are_there (with_tables old ns) m 0 m.struct_handles) (with_tables old ns) m links.structs there))
       (all-among (λ m. list_all (function_is_there (with_tables old ns) m) m.function_handles) (with_tables old ns) m links.functions there));
   ordered = links.ordered;
@@ -90,14 +83,14 @@ links-all old ns j links b = record {
 
 pub named-more : (p : Module → Bool) (news : List New) (i : ℕ) (n : New) → list_all p (offered (take i news)) ≡ true → take (i + 1) news ≡ take i news ++ n ∷ [] → p n.module ≡ true
     → list_all p (offered (take (i + 1) news)) ≡ true
-named-more p news i n h taken e = ap (λ l. list_all p (offered l)) taken ∙ ap (list_all p) (offered-push (take i news) n) ∙ push (offered (take i news)) h
+named-more p news i n h taken e = rw (taken, offered-push (take i news) n) (push (offered (take i news)) h)
   where
     push : (xs : List Module) → list_all p xs ≡ true → list_all p (xs ++ n.module ∷ []) ≡ true
     push [] h = and_from (p n.module) true e refl
     push (x ∷ xs) h = let parts = and_parts (p x) (list_all p xs) h in and_from (p x) (list_all p (xs ++ n.module ∷ [])) parts.0 (push xs parts.1)
 
 pub offered-at : (news : List New) (i : ℕ) (n : New) → slice_get news i ≡ Some n → slice_get (offered news) i ≡ Some n.module
-offered-at news i n e = slice_get-map (λ (x : New). x.module) news i ∙ ap (option_map (λ (x : New). x.module)) e
+offered-at news i n e = rw (slice_get-map, e) refl
 
 pub offered-among : (news : List New) (i : ℕ) (n : New) → slice_get news i ≡ Some n → Among (offered news) n.module
 offered-among news i n e = among-at (offered news) i n.module (offered-at news i n e)

@@ -1,11 +1,11 @@
 -- Where the modules of a bundle stand once it joins.
-use Rattle.mv_linker.proofs.Joining.Common.{[], ℕ, ◌<◌, ◌∙◌, ◌∷◌, ◌≡◌, ◌≤◌, Bool, List, None, Option, Some, ap, arith, cond, false, get_or, inl, inr, length, ltb, refl, suc, sym, true, zero}
-use Rattle.mv_linker.proofs.Joining.Common.{both_ways, eq-eqb, eqb-true, ltb-false, ne_eqb, get_or_from_slice_get, none-some, same_Some, slice_get-get_or, slice_get_within, position, position_or_len}
-use Rattle.mv_linker.proofs.Joining.Common.{◌==◌, slice_get, unwrap_or, Module, have_one_name, find_index, all_differ, newest_at, place_for, places_in, with_table, with_tables}
+use Rattle.mv_linker.proofs.Common.{[], ℕ, ◌==◌, ◌∙◌, ◌∷◌, ◌≡◌, List, Module, None, Option, Some, all_differ, ap, arith, both_ways, cond, eq-eqb, eqb-true, false, false_from_ne_true}
+use Rattle.mv_linker.proofs.Common.{find_index, get_or, have_one_name, inl, inr, length, ne_eqb, newest_at, none-some, place_for, places_in, position, refl, same_Some, slice_get}
+use Rattle.mv_linker.proofs.Common.{slice_get-get_or, slice_get_within, suc, sym, true, unwrap_or, with_table, with_tables, zero}
 use Rattle.std.proofs.lemmas.List.Quantifiers.{position-Some}
-use Rattle.std.proofs.lemmas.List.Sums.{fails_before_first}
-use Rattle.mv_linker.proofs.Found.{found_at}
-use Rattle.mv_linker.proofs.Members.{Among, first_differs, rest_differ, turned}
+use Rattle.mv_linker.proofs.Lemmas.{Among, found_at}
+use Rattle.mv_linker.proofs.Found.{any_found, position-find_index, some_passes}
+use Rattle.mv_linker.proofs.Members.{first_differs, rest_differ, turned}
 use Rattle.mv_linker.proofs.Joining.Scopes.{get-with_table, kept-there}
 
 -- a module of another name takes another place
@@ -13,7 +13,7 @@ other-place : (ms : List Module) (n x : Module) (p : ℕ) → slice_get ms p ≡
 other-place ms n x p at apart = by_place (find_index (have_one_name n) ms) refl
   where
     by_place : (o : Option ℕ) → find_index (have_one_name n) ms ≡ o → (unwrap_or o (length ms) == p) ≡ false
-    by_place None e = ne_eqb (length ms) p (λ same. let low : p < length ms = slice_get_within ms p x at in omega (arith, same, low))
+    by_place None e = ne_eqb (length ms) p (λ same. omega (arith, same, slice_get_within ms p x at))
     by_place (Some k) e = ne_eqb k p (λ same.
         let f = found_at (have_one_name n) ms k e in
         let one : f.entry ≡ x = same_Some f.entry x (sym f.at ∙ ap (slice_get ms) same ∙ at) in
@@ -40,16 +40,9 @@ bundle-at old (m ∷ ns) (suc k) p n apart at placed = bundle-at (with_table old
 
 -- where no place passes, none is the one asked for
 none-placed : (q : ℕ) (places : List ℕ) → position (λ p. p == q) places ≡ None → (k p : ℕ) → slice_get places k ≡ Some p → (p == q) ≡ false
-none-placed q places none k p at =
-    let here = get_or_from_slice_get places k p p at in
-    let within : k < length places = slice_get_within places k p at in
-    let past : length places ≤ position_or_len (λ p. p == q) places = by_test (ltb (position_or_len (λ p. p == q) places) (length places)) refl none in
-    ap (λ x. x == q) (sym here) ∙ fails_before_first (λ p. p == q) places k p (omega (arith, within, past))
-  where
-    by_test : (b : Bool) → ltb (position_or_len (λ p. p == q) places) (length places) ≡ b → cond b (Some (position_or_len (λ p. p == q) places)) None ≡ None
-        → length places ≤ position_or_len (λ p. p == q) places
-    by_test true e h = absurd (none-some (position_or_len (λ p. p == q) places) (sym h))
-    by_test false e h = ltb-false (position_or_len (λ p. p == q) places) (length places) e
+none-placed q places none k p at = false_from_ne_true (p == q) (λ is.
+    let some = any_found (λ p. p == q) places (some_passes (λ p. p == q) places k p at is) in
+    none-some some.0 (sym none ∙ position-find_index (λ p. p == q) places ∙ some.1))
 
 none-newest : (q : ℕ) (ns : List Module) (places : List ℕ) → ((k p : ℕ) → slice_get places k ≡ Some p → (p == q) ≡ false) → newest_at q ns places None ≡ None
 none-newest q [] places far = refl

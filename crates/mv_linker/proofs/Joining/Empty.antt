@@ -1,8 +1,5 @@
 -- No modules are a store.
-use Rattle.mv_linker.proofs.Joining.Common.{[], ◌≡◌, List, arith, refl, subst, sym, All-nil, Module, IsPublishable, IsStore, Reaches, directly, further}
-use Rattle.mv_linker.specs.declared.entry.Name.{Name}
-use Rattle.mv_linker.specs.declared.entry.Texts.{Texts}
-use Rattle.mv_linker.specs.Kept.{published_under, AreKeyed}
+use Rattle.mv_linker.proofs.Common.{[], ◌≡◌, All-nil, AreKeyed, IsPublishable, IsStore, List, Module, Name, Reaches, Texts, arith, directly, further, published_under, refl, subst, sym}
 
 none_reached : (m n : Module) → Reaches [] m n → ⊥
 none_reached m n (directly a b there _ _) = omega (arith, there.1)

@@ -1,18 +1,16 @@
 -- A store that a bundle joined is a store.
-use Rattle.mv_linker.proofs.Joining.Common.{[], ℕ, ◌∷◌, ◌≡◌, Bool, List, Option, cond, false, subst, sym, true, All-cons, All-head, All-nil, All-tail, All, Module, have_one_name, PublishedModule}
-use Rattle.mv_linker.proofs.Joining.Common.{has_name_of, with_module, with_modules, all_differ, IsPublishable, IsStore, MayJoin, tables_in}
-use Rattle.mv_linker.specs.Stored.{LinkedBundle, IsLinkedTo, Relinks, KeepsDependencies}
-use Rattle.mv_linker.proofs.Members.{differ-result}
+use Rattle.mv_linker.proofs.Common.{[], ℕ, ◌∷◌, ◌≡◌, All, All-cons, All-head, All-nil, All-tail, IsLinkedTo, IsPublishable, IsStore, KeepsDependencies, LinkedBundle, List, MayJoin, Module}
+use Rattle.mv_linker.proofs.Common.{Option, PublishedModule, Relinks, all_differ, cond, false, have_one_name, subst, sym, tables_in, true, with_module, with_modules}
+use Rattle.mv_move_types.specs.Published.{has_name_of}
+use Rattle.mv_linker.proofs.Lemmas.{differ-result}
 use Rattle.mv_linker.proofs.Joining.Scopes.{all_tables}
 
 -- what holds of each module, and of one more
 All-with_module : (P : PublishedModule → Type 0) (ps : List PublishedModule) (q : PublishedModule) → All P ps → P q → All P (with_module ps q)
 All-with_module P [] q all one = All-cons P q [] one (All-nil P)
-All-with_module P (p ∷ ps) q all one = step (has_name_of q.tables p) (All-with_module P ps q (All-tail P p ps all) one)
-  where
-    step : (b : Bool) → All P (with_module ps q) → All P (cond b (q ∷ ps) (p ∷ with_module ps q))
-    step true rest = All-cons P q ps one (All-tail P p ps all)
-    step false rest = All-cons P p (with_module ps q) (All-head P p ps all) rest
+All-with_module P (p ∷ ps) q all one =
+    elim (has_name_of q.tables p) as (λ b. All P (cond b (q ∷ ps) (p ∷ with_module ps q)))
+    [ true ↦ All-cons P q ps one (All-tail P p ps all) | false ↦ All-cons P p (with_module ps q) (All-head P p ps all) (All-with_module P ps q (All-tail P p ps all) one) ]
 
 pub All-with_modules : (P : PublishedModule → Type 0) (ps qs : List PublishedModule) → All P ps → All P qs → All P (with_modules ps qs)
 All-with_modules P ps [] all more = all

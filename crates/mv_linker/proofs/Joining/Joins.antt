@@ -1,32 +1,25 @@
 -- A scope whose bundle joins its store: where its modules stand, and that what they name is there.
-use Rattle.mv_linker.proofs.Joining.Common.{ℕ, ◌<◌, ◌∙◌, ◌≡◌, Bool, List, None, Option, Some, ap, arith, false, inl, inr, length, refl, sym, true, and_from, both_ways, eq-eqb, length-map}
-use Rattle.mv_linker.proofs.Joining.Common.{slice_get_within, list_all, position, ◌&&◌, ◌==◌, IsSome, is_some, not, slice_get, Module, have_one_name, find_index, InBounds, all_differ, tables_in}
-use Rattle.mv_linker.proofs.Joining.Common.{Links, function_is_there, modules_are_there, names_hold, structs_are_there, offered, modules_in, New}
-use Rattle.mv_linker.specs.declared.scope.Scope.{Scope}
-use Rattle.mv_linker.specs.Relinked.{Joins}
+use Rattle.mv_linker.proofs.Common.{ℕ, ◌==◌, ◌∙◌, ◌≡◌, InBounds, IsSome, Joins, Links, List, Module, New, None, Option, Scope, Some, all_differ, and_from, ap, arith, eq-eqb, false}
+use Rattle.mv_linker.proofs.Common.{find_index, function_is_there, have_one_name, inl, inr, is_some, length, length-map, list_all, modules_are_there, modules_in, names_hold, not, offered}
+use Rattle.mv_linker.proofs.Common.{position, refl, slice_get, slice_get_within, structs_are_there, sym, tables_in, true}
+use Rattle.std.proofs.lemmas.Bool.{not-false}
+use Rattle.mv_linker.proofs.Lemmas.{among-at, among-result, differ-result, each, there_at}
 use Rattle.mv_linker.proofs.Joining.Assembling.{joining-offered}
 use Rattle.mv_linker.proofs.Joining.Bundled.{bundle-at, old-at, place-at}
 use Rattle.mv_linker.proofs.Cycles.DependencyLemmas.{length-places}
-use Rattle.mv_linker.proofs.Found.{each, some_passes, there_at}
-use Rattle.mv_linker.proofs.Kept.Keyed.{position-find_index}
+use Rattle.mv_linker.proofs.Found.{position-find_index, some_passes}
 use Rattle.mv_linker.proofs.ListTests.{find_index-none}
-use Rattle.mv_linker.proofs.Members.{among-at, among-result, differ-result}
 use Rattle.mv_linker.proofs.Joining.StillThere.{Joining}
 
 -- no value
 pub none-of : {A : Type 0} (o : Option A) → is_some o ≡ false → o ≡ None
-none-of None e = refl
-none-of (Some x) e = absurd (both_ways true e refl)
+none-of o e = grind (arith, e)
 
 -- a place that is there is found
 pub position-there : (q k : ℕ) (places : List ℕ) → slice_get places k ≡ Some q → IsSome (position (λ p. p == q) places)
 position-there q k places at =
     ap is_some (position-find_index (λ p. p == q) places)
-    ∙ not_false (is_some (find_index (λ p. p == q) places)) (find_index-none (λ p. p == q) places ∙ ap not (some_passes (λ p. p == q) places k q at (eq-eqb q q refl)))
-  where
-    not_false : (b : Bool) → not b ≡ false → b ≡ true
-    not_false true e = refl
-    not_false false e = sym e
+    ∙ not-false (is_some (find_index (λ p. p == q) places)) (find_index-none (λ p. p == q) places ∙ ap not (some_passes (λ p. p == q) places k q at (eq-eqb q q refl)))
 
 -- a bundle takes as many places as it has modules
 pub placed-length : (s : Scope) → length s.places.items ≡ length s.new.now
@@ -35,9 +28,8 @@ placed-length s = ap length s.placed ∙ length-places (tables_in s.store.now) (
 -- all that a module of linked ones names is there
 pub names-hold : (modules : List Module) (place : ℕ) (m : Module) → Links modules → slice_get modules place ≡ Some m → names_hold modules m ≡ true
 names-hold modules place m links at =
-    and_from (modules_are_there modules m (length m.module_handles) && structs_are_there modules m 0 m.struct_handles) (list_all (function_is_there modules m) m.function_handles)
-    (and_from (modules_are_there modules m (length m.module_handles)) (structs_are_there modules m 0 m.struct_handles)
-    (each (λ m. modules_are_there modules m (length m.module_handles)) modules place m links.modules at)
+    and_from _ _
+    (and_from _ _ (each (λ m. modules_are_there modules m (length m.module_handles)) modules place m links.modules at)
     (each (λ m. structs_are_there modules m 0 m.struct_handles) modules place m links.structs at))
     (each (λ m. list_all (function_is_there modules m) m.function_handles) modules place m links.functions at)
 
@@ -59,17 +51,14 @@ module _ (s : Scope) (joins : Joins s) where
   -- each module of the bundle has its place
   pub placed-at : (k : ℕ) (n : Module) → slice_get (offered s.new.now) k ≡ Some n → (p : ℕ) × (slice_get s.places.items k ≡ Some p)
   placed-at k n at =
-      let low : k < length (offered s.new.now) = slice_get_within (offered s.new.now) k n at in
-      let long = ap length s.placed ∙ length-places (tables_in s.store.now) (offered s.new.now) in
-      there_at s.places.items k (omega (arith, low, long))
+      there_at s.places.items k (omega (arith, slice_get_within (offered s.new.now) k n at, ap length s.placed ∙ length-places (tables_in s.store.now) (offered s.new.now)))
 
   -- what stands at the place of one of the bundle
   pub same-bundled : (k q : ℕ) → position (λ p. p == q) s.places.items ≡ Some k → slice_get (offered s.new.now) k ≡ slice_get (modules_in s) q
   same-bundled k q found =
       let at = place-at q k s.places.items found in
-      let low : k < length s.places.items = slice_get_within s.places.items k q at in
       let long = ap length s.placed ∙ length-places (tables_in s.store.now) (offered s.new.now) in
-      let n = there_at (offered s.new.now) k (omega (arith, low, long)) in
+      let n = there_at (offered s.new.now) k (omega (arith, slice_get_within s.places.items k q at, long)) in
       n.1 ∙ sym (bundled-at k q n.0 n.1 at)
 
   -- the indices of each module are in bounds

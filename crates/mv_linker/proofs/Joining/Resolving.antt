@@ -1,17 +1,12 @@
 -- What a handle names, in the module that its module handle leads to.
-use Rattle.mv_linker.proofs.Joining.Common.{[], ℕ, ◌++◌, ◌+◌, ◌<◌, ◌∙◌, ◌∷◌, ◌≡◌, ◌≤◌, ◌⊎◌, Bool, List, None, Option, Some, ap, arith, cond, false, inl, inr, length, option_map, refl, subst, suc, sym}
-use Rattle.mv_linker.proofs.Joining.Common.{true, zero, and_from, cases_eq, length_push, same_Some, slice_get_within, first_so, second_so, list_all, list_any, option_map_or, ◌||◌, IsTrue}
-use Rattle.mv_linker.proofs.Joining.Common.{option_and_then, slice_get, same_abilities, Module, module_name, struct_name, declared, declared_in, is_module, module_named, module_place, ModuleName}
-use Rattle.mv_linker.proofs.Joining.Common.{StructName, ◌>>=◌, StructHandle, on_bind, function_fits, function_is_there, function_named, module_is_there, modules_are_there, struct_is_there}
-use Rattle.mv_linker.proofs.Joining.Common.{structs_are_there, AreTargets, EachAt, IsFunctionAt, IsFunctionIn, IsStructAt, IsStructIn, IsTarget, function_matches, struct_matches, tables_of}
-use Rattle.mv_move_types.specs.declared.tables.Definition.{Definition}
-use Rattle.mv_move_types.specs.declared.tables.FunctionHandle.{FunctionHandle}
-use Rattle.mv_move_types.specs.declared.refusal.Refusal.{Refusal}
-use Rattle.mv_move_types.specs.declared.refusal.Refusal.TheVariants.{Phase, Memory}
-use Rattle.mv_move_types.specs.Refusals.{IsRefusedIn}
-use Rattle.mv_linker.specs.declared.targets.Target.{Target}
-use Rattle.mv_linker.proofs.Members.{among-any, among-at, at-among, among-all, all-among}
-use Rattle.mv_linker.proofs.Found.{found_at, there_at, place_below}
+use Rattle.mv_linker.proofs.Common.{[], ℕ, ◌++◌, ◌+◌, ◌<◌, ◌>>=◌, ◌∙◌, ◌∷◌, ◌≡◌, ◌≤◌, Abilities, AreTargets, Definition, EachAt, FunctionHandle, IsFunctionAt, IsFunctionIn, IsRefusedIn}
+use Rattle.mv_linker.proofs.Common.{IsStructAt, IsStructIn, IsTarget, IsTrue, List, Memory, Module, ModuleName, None, Option, Phase, Refusal, Some, StructHandle, StructName, Target}
+use Rattle.mv_linker.proofs.Common.{and_from, and_parts, ap, arith, both_ways, cases_eq, declared, declared_in, false, first_so, function_is_there, function_matches, inl, inr, is_module}
+use Rattle.mv_linker.proofs.Common.{length, length_push, list_all, list_any, module_is_there, module_name, module_named, module_place, modules_are_there, option_and_then, option_map_or}
+use Rattle.mv_linker.proofs.Common.{refl, same_abilities, same_Some, second_so, slice_get, slice_get_past, slice_get_within, struct_is_there, struct_matches, structs_are_there, subst, suc}
+use Rattle.mv_linker.proofs.Common.{sym, tables_of, true, zero}
+use Rattle.mv_linker.proofs.Lemmas.{all-among, among-all, among-any, among-at, at-among, found_at, past_from, place_below, struct_parts}
+use Rattle.mv_linker.proofs.Found.{last_or_before}
 
 -- the module of the name that a target has
 target_named : (modules : List Module) (m : Module) (h : ℕ) (t : Target) (is : IsTarget modules m h t) → module_named modules is.name ≡ Some (tables_of t.module)
@@ -20,13 +15,7 @@ target_named modules m h t is = ap (option_and_then (slice_get modules)) is.plac
 -- a name that is the place of no module
 pub not_there : (modules : List Module) (name : ModuleName) → module_place modules name ≡ None → list_any (is_module name) modules ≡ false
 not_there [] name e = refl
-not_there (m ∷ ms) name e = step (is_module name m) (module_place ms name) refl e (λ f. not_there ms name f)
-  where
-    step : (b : Bool) (o : Option ℕ) → module_place ms name ≡ o → cond b (Some 0) (option_map suc o) ≡ None → (module_place ms name ≡ None → list_any (is_module name) ms ≡ false)
-        → (b || list_any (is_module name) ms) ≡ false
-    step true o p e ih = absurd cc
-    step false None p e ih = ih p
-    step false (Some k) p e ih = absurd cc
+not_there (m ∷ ms) name e = let rest = not_there ms name in grind (arith, rest)
 
 -- and one that is
 pub is_there : (modules : List Module) (name : ModuleName) (k : ℕ) → module_place modules name ≡ Some k → list_any (is_module name) modules ≡ true
@@ -40,35 +29,24 @@ refused_by P Q Memory f r = r
 
 -- ---- structs and functions
 
+-- a struct of this name is among the modules with these abilities where it is in one of them with these
+abbrev AreOne : List Module → Module → Abilities → Option StructName → Type 0
+AreOne modules n abilities o =
+    option_map_or (λ name. option_map_or (same_abilities abilities) (declared modules name) false) o false
+    ≡ option_map_or (λ name. option_map_or (same_abilities abilities) (declared_in name n) false) o false
+
 module _ (modules : List Module) (m : Module) (targets : List Target) (named : AreTargets modules m targets) where
   pub struct_there_is : (h : ℕ) (handle : StructHandle) (t : Target) → slice_get m.struct_handles h ≡ Some handle → slice_get targets handle.module ≡ Some t
       → struct_is_there modules m h handle ≡ struct_matches m h handle.abilities (tables_of t.module)
   struct_there_is h handle t p q =
       let is = named.each handle.module t q in
-      go is (slice_get m.identifiers handle.name) refl
-    where
-      named_as : (is : IsTarget modules m handle.module t) (name : Option (List ℕ)) → slice_get m.identifiers handle.name ≡ name
-          → struct_name m h ≡ (name >>= λ n. Some (record { home = is.name; name = n }))
-      named_as is name e =
-          ap (λ o. o >>= λ s. module_name m s.module >>= λ home. slice_get m.identifiers s.name >>= λ n. Some (record { home = home; name = n })) p
-          ∙ ap (λ o. o >>= λ home. slice_get m.identifiers handle.name >>= λ n. Some (record { home = home; name = n })) is.named
-          ∙ ap (λ o. o >>= λ n. Some (record { home = is.name; name = n })) e
-
-      go : (is : IsTarget modules m handle.module t) (name : Option (List ℕ)) → slice_get m.identifiers handle.name ≡ name
-          → struct_is_there modules m h handle ≡ struct_matches m h handle.abilities (tables_of t.module)
-      go is None e =
-          ap (λ o. option_map_or (λ name. option_map_or (same_abilities handle.abilities) (declared modules name) false) o false) (named_as is None e)
-          ∙ sym (ap (λ o. option_map_or (λ name. option_map_or (same_abilities handle.abilities) (declared_in name (tables_of t.module)) false) o false) (named_as is None e))
-      go is (Some n) e =
-          ap (λ o. option_map_or (λ name. option_map_or (same_abilities handle.abilities) (declared modules name) false) o false) (named_as is (Some n) e)
-          ∙ ap (λ o. option_map_or (same_abilities handle.abilities) (option_and_then (declared_in (record { home = is.name; name = n })) o) false) (target_named modules m handle.module t is)
-          ∙ sym (ap (λ o. option_map_or (λ name. option_map_or (same_abilities handle.abilities) (declared_in name (tables_of t.module)) false) o false) (named_as is (Some n) e))
+      rw (p, is.named) (elim (slice_get m.identifiers handle.name) as (λ o. AreOne modules (tables_of t.module) handle.abilities (o >>= λ n. Some (record { home = is.name; name = n }))) [
+        | None ↦ refl
+        | Some n ↦ rw (target_named modules m handle.module t is) refl
+      ])
 
   pub function_there_is : (handle : FunctionHandle) (t : Target) → slice_get targets handle.module ≡ Some t → function_is_there modules m handle ≡ function_matches m handle (tables_of t.module)
-  function_there_is handle t q =
-      let is = named.each handle.module t q in
-      ap (λ o. option_map_or (λ n. option_map_or (λ name. option_map_or (function_fits m handle n) (function_named n name) false) (slice_get m.identifiers handle.name) false) (o >>= module_named modules) false) is.named
-      ∙ ap (λ o. option_map_or (λ n. option_map_or (λ name. option_map_or (function_fits m handle n) (function_named n name) false) (slice_get m.identifiers handle.name) false) o false) (target_named modules m handle.module t is)
+  function_there_is handle t q = let is = named.each handle.module t q in rw (is.named, target_named modules m handle.module t is) refl
 
   pub struct_at : (h : ℕ) (handle : StructHandle) (t : Target) (i : ℕ) → slice_get m.struct_handles h ≡ Some handle → slice_get targets handle.module ≡ Some t → IsStructIn m h (tables_of t.module) i
       → IsStructAt modules m h (record { place = t.place; index = i })
@@ -84,15 +62,8 @@ module _ (modules : List Module) (m : Module) (targets : List Target) (named : A
       }
     where
       homes : (is : IsTarget modules m handle.module t) → s.name.home ≡ is.name
-      homes is =
-          on_bind (slice_get m.struct_handles h) _ s.name s.named (λ x x_is e1.
-          on_bind (module_name m x.module) _ s.name e1 (λ home home_is e2.
-          on_bind (slice_get m.identifiers x.name) _ s.name e2 (λ n n_is e3.
-          let full : StructName = record { home = home; name = n } in
-          let same : full ≡ s.name = same_Some full s.name e3 in
-          let handles : x ≡ handle = same_Some x handle (sym x_is ∙ p) in
-          let home_same : home ≡ is.name = same_Some home is.name (sym home_is ∙ ap (λ z. module_name m z.module) handles ∙ is.named) in
-          sym (ap (λ (z : StructName). z.home) same) ∙ home_same)))
+      homes is = struct_parts m h s.name s.named (λ x x_is home_is name_is.
+          same_Some s.name.home is.name (sym home_is ∙ ap (λ z. module_name m z.module) (same_Some x handle (sym x_is ∙ p)) ∙ is.named))
 
   pub function_at : (h : ℕ) (handle : FunctionHandle) (t : Target) (i : ℕ) → slice_get m.function_handles h ≡ Some handle → slice_get targets handle.module ≡ Some t
       → IsFunctionIn m handle (tables_of t.module) i
@@ -106,43 +77,22 @@ module _ (modules : List Module) (m : Module) (targets : List Target) (named : A
   target_below h t q = place_below (is_module (named.each h t q).name) modules t.place (named.each h t q).place
 
   -- a handle whose module handle is not there names nothing
+  unnamed : (h : ℕ) → slice_get targets h ≡ None → module_name m h ≡ None
+  unnamed h none = rw (slice_get_past m.module_handles h (past_from targets m.module_handles h (sym named.len) none)) refl
+
   pub struct_nowhere : (h : ℕ) (handle : StructHandle) → slice_get m.struct_handles h ≡ Some handle → slice_get targets handle.module ≡ None → IsTrue (struct_is_there modules m h handle) → ⊥
-  struct_nowhere h handle p q e = none (module_name m handle.module) refl
-    where
-      none : (o : Option ModuleName) → module_name m handle.module ≡ o → ⊥
-      none None r =
-          let nameless : struct_name m h ≡ None =
-          ap (λ o. o >>= λ s. module_name m s.module >>= λ home. slice_get m.identifiers s.name >>= λ n. Some (record { home = home; name = n })) p
-          ∙ ap (λ o. o >>= λ home. slice_get m.identifiers handle.name >>= λ n. Some (record { home = home; name = n })) r in
-          let bad : false ≡ true = sym (ap (λ o. option_map_or (λ name. option_map_or (same_abilities handle.abilities) (declared modules name) false) o false) nameless) ∙ e in
-          cc
-      none (Some name) r = on_bind (slice_get m.module_handles handle.module) _ name r (λ x x_is rest.
-          let there = there_at targets handle.module (subst (λ n. handle.module < n) (sym named.len) (slice_get_within m.module_handles handle.module x x_is)) in
-          let clash : Some there.0 ≡ None = sym there.1 ∙ q in
-          cc)
+  struct_nowhere h handle p q e = both_ways true (sym (rw (p, unnamed handle.module q) at e)) refl
 
   pub function_nowhere : (handle : FunctionHandle) → slice_get targets handle.module ≡ None → IsTrue (function_is_there modules m handle) → ⊥
-  function_nowhere handle q e = none (module_name m handle.module) refl
-    where
-      none : (o : Option ModuleName) → module_name m handle.module ≡ o → ⊥
-      none None r =
-          let bad : false ≡ true =
-          sym (ap (λ o. option_map_or (λ n. option_map_or (λ name. option_map_or (function_fits m handle n) (function_named n name) false) (slice_get m.identifiers handle.name) false) (o >>= module_named modules) false) r) ∙ e in
-          cc
-      none (Some name) r = on_bind (slice_get m.module_handles handle.module) _ name r (λ x x_is rest.
-          let there = there_at targets handle.module (subst (λ n. handle.module < n) (sym named.len) (slice_get_within m.module_handles handle.module x x_is)) in
-          let clash : Some there.0 ≡ None = sym there.1 ∙ q in
-          cc)
+  function_nowhere handle q e = both_ways true (sym (rw (unnamed handle.module q) at e)) refl
 
 -- ---- lists of handles, place by place
 
 pub modules_there_at : (modules : List Module) (m : Module) (n h : ℕ) → h < n → modules_are_there modules m n ≡ true → module_is_there modules m h ≡ true
 modules_there_at modules m zero h l e = absurd (omega (arith, l))
-modules_there_at modules m (suc n) h l e = step (cases_eq h n) (λ k. modules_there_at modules m n h k (second_so (module_is_there modules m n) (modules_are_there modules m n) e))
-  where
-    step : (h ≡ n) ⊎ (h ≡ n → ⊥) → (h < n → module_is_there modules m h ≡ true) → module_is_there modules m h ≡ true
-    step (inl p) ih = ap (module_is_there modules m) p ∙ first_so (module_is_there modules m n) (modules_are_there modules m n) e
-    step (inr p) ih = ih (omega (arith, l, p))
+modules_there_at modules m (suc n) h l e =
+    let parts = and_parts (module_is_there modules m n) (modules_are_there modules m n) e in
+    elim (cases_eq h n) [ inl p ↦ rw p parts.0 | inr p ↦ modules_there_at modules m n h (omega (arith, l, p)) parts.1 ]
 
 pub structs_there_at : (modules : List Module) (m : Module) (base : ℕ) (handles : List StructHandle) (k : ℕ) (s : StructHandle) → structs_are_there modules m base handles ≡ true
     → slice_get handles k ≡ Some s → struct_is_there modules m (base + k) s ≡ true
@@ -165,10 +115,7 @@ structs_there_all modules m base (x ∷ xs) f =
 
 -- one more element
 pub each_push : {A : Type 0} (P : ℕ → A → Type 0) (xs : List A) (x : A) → EachAt P xs → P (length xs) x → (k : ℕ) (y : A) → slice_get (xs ++ x ∷ []) k ≡ Some y → P k y
-each_push P [] x all last zero y e = subst (P 0) (same_Some x y e) last
-each_push P [] x all last (suc k) y e = absurd cc
-each_push P (z ∷ xs) x all last zero y e = all 0 y e
-each_push P (z ∷ xs) x all last (suc k) y e = each_push (λ j. P (suc j)) xs x (λ j w p. all (suc j) w p) last k y e
+each_push P xs x all last k y e = elim (last_or_before xs x k y e) [ inl before ↦ all k y before | inr end ↦ rw (end.0, ← end.1) last ]
 
 -- a handle whose module has no place
 pub nowhere : (modules : List Module) (m : Module) (h : ℕ) (name : ModuleName) → Some name ≡ module_name m h → None ≡ module_place modules name → IsTrue (module_is_there modules m h) → ⊥
@@ -215,14 +162,11 @@ pub more-structs : (modules : List Module) (m : Module) (ds more : List Definiti
 more-structs modules m ds more h handle d s e at is there = record {
   len = ap length e ∙ length_push ds d ∙ ap (λ n. n + 1) s.len;
   each = λ k x p. each_push (IsStructAt modules m) ds d s.each (subst (λ n. IsStructAt modules m n d) (sym s.len) is) k x (sym (ap (λ l. slice_get l k) e) ∙ p);
-  there = λ k x l p. step k x l p (cases_eq k h);
+  there = λ k x l p. elim (cases_eq k h) [
+    | inl q ↦ (let same : x ≡ handle = same_Some x handle (sym p ∙ ap (slice_get m.struct_handles) q ∙ at) in rw (q, same) there)
+    | inr q ↦ s.there k x (omega (arith, l, q)) p
+  ];
 }
-  where
-    step : (k : ℕ) (x : StructHandle) → k < h + 1 → slice_get m.struct_handles k ≡ Some x → (k ≡ h) ⊎ (k ≡ h → ⊥) → struct_is_there modules m k x ≡ true
-    step k x l p (inl q) =
-        let same : x ≡ handle = same_Some x handle (sym p ∙ ap (slice_get m.struct_handles) q ∙ at) in
-        ap (λ n. struct_is_there modules m n x) q ∙ ap (struct_is_there modules m h) same ∙ there
-    step k x l p (inr q) = s.there k x (omega (arith, l, q)) p
 
 pub all-structs : (modules : List Module) (m : Module) (ds : List Definition) (h : ℕ) → StructsSoFar modules m ds h → length m.struct_handles ≤ h
     → structs_are_there modules m 0 m.struct_handles ≡ true
@@ -250,14 +194,11 @@ pub more-functions : (modules : List Module) (m : Module) (ds more : List Defini
 more-functions modules m ds more h handle d s e at is there = record {
   len = ap length e ∙ length_push ds d ∙ ap (λ n. n + 1) s.len;
   each = λ k x p. each_push (IsFunctionAt modules m) ds d s.each (subst (λ n. IsFunctionAt modules m n d) (sym s.len) is) k x (sym (ap (λ l. slice_get l k) e) ∙ p);
-  there = λ k x l p. step k x l p (cases_eq k h);
+  there = λ k x l p. elim (cases_eq k h) [
+    | inl q ↦ (let same : x ≡ handle = same_Some x handle (sym p ∙ ap (slice_get m.function_handles) q ∙ at) in rw same there)
+    | inr q ↦ s.there k x (omega (arith, l, q)) p
+  ];
 }
-  where
-    step : (k : ℕ) (x : FunctionHandle) → k < h + 1 → slice_get m.function_handles k ≡ Some x → (k ≡ h) ⊎ (k ≡ h → ⊥) → function_is_there modules m x ≡ true
-    step k x l p (inl q) =
-        let same : x ≡ handle = same_Some x handle (sym p ∙ ap (slice_get m.function_handles) q ∙ at) in
-        ap (function_is_there modules m) same ∙ there
-    step k x l p (inr q) = s.there k x (omega (arith, l, q)) p
 
 pub all-functions : (modules : List Module) (m : Module) (ds : List Definition) (h : ℕ) → FunctionsSoFar modules m ds h → length m.function_handles ≤ h
     → list_all (function_is_there modules m) m.function_handles ≡ true

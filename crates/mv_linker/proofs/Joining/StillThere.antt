@@ -1,21 +1,17 @@
 -- The handles of an old module that stays lead where they led, once a bundle joins that replaces what it may.
-use Rattle.mv_linker.proofs.Joining.Common.{[], ℕ, ◌+◌, ◌∙◌, ◌∷◌, ◌≡◌, ◌⊎◌, Bool, List, None, Option, Some, ap, ap₂, false, inl, inr, refl, subst, suc, sym, true, zero, and_from, and_parts}
-use Rattle.mv_linker.proofs.Joining.Common.{cases_Bool, or_left, same_Some, first_so, second_so, list_all, list_any, option_map_or, ◌&&◌, ◌||◌, not, option_and_then, slice_get, same_abilities}
-use Rattle.mv_linker.proofs.Joining.Common.{FunctionDefinition, Module, module_name, name_of_function, own_name, struct_name, declared, declared_in, function_place, have_one_name, is_module}
-use Rattle.mv_linker.proofs.Joining.Common.{is_public, module_named, ModuleName, StructName, ◌>>=◌, StructHandle, on_bind, InBounds, WellDefined, all_differ, are_compatible, function_fits}
-use Rattle.mv_linker.proofs.Joining.Common.{function_is_there, function_named, module_is_there, modules_are_there, struct_is_there, structs_are_there, with_tables, function_stays, have_one_type}
-use Rattle.mv_linker.proofs.Joining.Common.{may_replace, structs_stay}
-use Rattle.std.specs.Str.{bytes_eq}
-use Rattle.std.proofs.lemmas.Slice.Eq.{bytes_eq-Decides}
-use Rattle.mv_move_types.specs.declared.token.Abilities.{Abilities}
-use Rattle.mv_move_types.specs.declared.tables.FunctionHandle.{FunctionHandle}
-use Rattle.mv_linker.specs.TypesByName.{both_there, signature_named, same_signature}
-use Rattle.mv_move_types.specs.Tags.{Tag, same_tags}
-use Rattle.mv_linker.proofs.Members.{Among, all-among, any-among, among-any, among-at, so-named, named-so, follower}
+use Rattle.mv_linker.proofs.Common.{[], ℕ, ◌&&◌, ◌+◌, ◌>>=◌, ◌||◌, ◌∙◌, ◌∷◌, ◌≡◌, Abilities, Bool, FunctionDefinition, FunctionHandle, InBounds, List, Module, ModuleName, Option, Some}
+use Rattle.mv_linker.proofs.Common.{StructHandle, StructName, Tag, WellDefined, all_differ, and_from, and_parts, ap, are_compatible, both_there, bytes_eq, declared, declared_in, false}
+use Rattle.mv_linker.proofs.Common.{false_from_ne_true, first_so, function_fits, function_is_there, function_named, function_place, function_stays, have_one_name, have_one_type, inl, inr}
+use Rattle.mv_linker.proofs.Common.{is_module, is_public, list_all, list_any, may_replace, module_is_there, module_name, module_named, modules_are_there, name_of_function, not, on_bind}
+use Rattle.mv_linker.proofs.Common.{option_map_or, or_left, own_name, refl, same_abilities, same_signature, same_Some, same_tags, second_so, signature_named, slice_get, struct_is_there}
+use Rattle.mv_linker.proofs.Common.{struct_name, structs_are_there, structs_stay, subst, suc, sym, true, with_tables, zero}
+use Rattle.std.proofs.lemmas.Option.{option_and_then_some}
+use Rattle.mv_linker.proofs.Lemmas.{Among, all-among, among-any, among-at, any-among, follower, found_at, have_one_name-from, have_one_name-is, is_module-is, named-so, owns-structs}
+use Rattle.mv_linker.proofs.Lemmas.{passing, so-named}
 use Rattle.mv_linker.proofs.Joining.Upgraded.{Replaces, both-there, declared-stays}
 use Rattle.mv_linker.proofs.TagTests.{same_tags-is, same_tags-same}
-use Rattle.mv_linker.proofs.NameLemmas.{is_module-is, is_module-from, have_one_name-from, have_one_name-is}
-use Rattle.mv_linker.proofs.Found.{found_at}
+use Rattle.mv_linker.proofs.NameLemmas.{is_module-from}
+use Rattle.mv_linker.proofs.OwnDefinitions.{function_named_so}
 
 -- a bundle that may join old modules
 pub record Joining (old ns : List Module) : Type 0 where
@@ -39,15 +35,12 @@ signatures-joined a b c h k =
 module _ (old ns : List Module) (j : Joining old ns) where
   -- c
   module-still-there : (m : Module) (h : ℕ) → module_is_there old m h ≡ true → module_is_there (with_tables old ns) m h ≡ true
-  module-still-there m h e = go (module_name m h) e
-    where
-      go : (o : Option ModuleName) → option_map_or (λ name. list_any (is_module name) old) o false ≡ true → option_map_or (λ name. list_any (is_module name) (with_tables old ns)) o false ≡ true
-      go None e = absurd cc
-      go (Some k) e =
-          let x = any-among (is_module k) old e in
-          let f = follower old ns j.once j.apart j.fits k x.0 (so-named old k x.0 j.once x.1 (is_module-is k x.0 x.2)) in
-          let n = named-so (with_tables old ns) k f.0 f.1 in
-          among-any (is_module k) (with_tables old ns) f.0 n.0 (is_module-from k f.0 n.1)
+  module-still-there m h e =
+      let k = passing (λ name. list_any (is_module name) old) (module_name m h) e in
+      let x = any-among (is_module k.0) old k.2 in
+      let f = follower old ns j.once j.apart j.fits k.0 x.0 (so-named old k.0 x.0 j.once x.1 (is_module-is k.0 x.0 x.2)) in
+      let n = named-so (with_tables old ns) k.0 f.0 f.1 in
+      rw k.1 (among-any (is_module k.0) (with_tables old ns) f.0 n.0 (is_module-from k.0 f.0 n.1))
 
   pub modules-still-there : (m : Module) (h : ℕ) → modules_are_there old m h ≡ true → modules_are_there (with_tables old ns) m h ≡ true
   modules-still-there m zero e = refl
@@ -62,40 +55,23 @@ module _ (old ns : List Module) (j : Joining old ns) where
       let p = named-so old k m e in
       let q = named-so (with_tables old ns) k n f in
       record {
-        bounds = j.bounds m p.0;
-        defined = j.defined m p.0;
-        new_bounds = j.new_bounds n a;
-        new_defined = j.new_defined n a;
+        owns = owns-structs m (j.defined m p.0);
+        new_owns = owns-structs n (j.new_defined n a);
         named = p.1 ∙ sym q.1;
         stays = first_so (structs_stay m m.structs n n.structs) (list_all (function_stays m n) m.functions) h;
       }
 
   -- d
   declared-still : (name : StructName) (a : Abilities) → declared old name ≡ Some a → declared (with_tables old ns) name ≡ Some a
-  declared-still name a e = go (module_named old name.home) refl e
-    where
-      go : (o : Option Module) → module_named old name.home ≡ o → option_and_then (declared_in name) o ≡ Some a → declared (with_tables old ns) name ≡ Some a
-      go None p q = absurd cc
-      go (Some m) p q =
-          let f = follower old ns j.once j.apart j.fits name.home m p in
-          ap (option_and_then (declared_in name)) f.1 ∙ there f.0 f.1 f.2
-        where
-          there : (n : Module) → module_named (with_tables old ns) name.home ≡ Some n → (n ≡ m) ⊎ (Among ns n × (may_replace m n ≡ true)) → declared_in name n ≡ Some a
-          there n g (inl same) = ap (declared_in name) same ∙ q
-          there n g (inr r) = declared-stays m n (replaced name.home m n p g r.0 r.1) name a q
+  declared-still name a e = option_and_then_some (declared_in name) (module_named old name.home) a e (λ m p q.
+      let f = follower old ns j.once j.apart j.fits name.home m p in
+      rw f.1 (elim f.2 [ inl same ↦ rw same q | inr r ↦ declared-stays m f.0 (replaced name.home m f.0 p f.1 r.0 r.1) name a q ]))
 
   struct-still-there : (m : Module) (h : ℕ) (handle : StructHandle) → struct_is_there old m h handle ≡ true → struct_is_there (with_tables old ns) m h handle ≡ true
-  struct-still-there m h handle e = go (struct_name m h) e
-    where
-      go : (o : Option StructName) → option_map_or (λ name. option_map_or (same_abilities handle.abilities) (declared old name) false) o false ≡ true
-          → option_map_or (λ name. option_map_or (same_abilities handle.abilities) (declared (with_tables old ns) name) false) o false ≡ true
-      go None e = absurd cc
-      go (Some name) e = deeper (declared old name) refl e
-        where
-          deeper : (o : Option Abilities) → declared old name ≡ o → option_map_or (same_abilities handle.abilities) o false ≡ true → option_map_or (same_abilities handle.abilities)
-              (declared (with_tables old ns) name) false ≡ true
-          deeper None p q = absurd cc
-          deeper (Some a) p q = ap (λ o. option_map_or (same_abilities handle.abilities) o false) (declared-still name a p) ∙ q
+  struct-still-there m h handle e =
+      let name = passing (λ name. option_map_or (same_abilities handle.abilities) (declared old name) false) (struct_name m h) e in
+      let a = passing (same_abilities handle.abilities) (declared old name.0) name.2 in
+      rw (name.1, declared-still name.0 a.0 a.1) a.2
 
   pub structs-still-there : (m : Module) (h : ℕ) (handles : List StructHandle) → structs_are_there old m h handles ≡ true → structs_are_there (with_tables old ns) m h handles ≡ true
   structs-still-there m h [] e = refl
@@ -106,18 +82,9 @@ module _ (old ns : List Module) (j : Joining old ns) where
 
   -- e: a function that is named is found by its name
   identifier-so : (x : Module) (name : List ℕ) (d : FunctionDefinition) → function_named x name ≡ Some d → name_of_function x d ≡ Some name
-  identifier-so x name d e = go (function_place x name) refl e
-    where
-      named : (d : FunctionDefinition) (o : Option (List ℕ)) → name_of_function x d ≡ o → option_map_or (bytes_eq name) o false ≡ true → name_of_function x d ≡ Some name
-      named d None p q = absurd cc
-      named d (Some own) p q = p ∙ ap Some (sym ((bytes_eq-Decides name own).0 q))
-
-      go : (o : Option ℕ) → function_place x name ≡ o → (o >>= slice_get x.functions) ≡ Some d → name_of_function x d ≡ Some name
-      go None p q = absurd cc
-      go (Some k) p q =
-          let f = found_at (λ (d : FunctionDefinition). option_map_or (bytes_eq name) (name_of_function x d) false) x.functions k p in
-          let same : f.entry ≡ d = same_Some f.entry d (sym f.at ∙ q) in
-          subst (λ z. name_of_function x z ≡ Some name) same (named f.entry (name_of_function x f.entry) refl f.passes)
+  identifier-so x name d e = on_bind (function_place x name) (slice_get x.functions) d e (λ k k_is at.
+      let f = found_at (λ (d : FunctionDefinition). option_map_or (bytes_eq name) (name_of_function x d) false) x.functions k k_is in
+      function_named_so (name_of_function x d) name (subst (λ z. option_map_or (bytes_eq name) (name_of_function x z) false ≡ true) (same_Some f.entry d (sym f.at ∙ at)) f.passes))
 
   function-among : (x : Module) (name : List ℕ) (d : FunctionDefinition) → function_named x name ≡ Some d → Among x.functions d
   function-among x name d e = on_bind (function_place x name) (slice_get x.functions) d e (λ k k_is at. among-at x.functions k d at)
@@ -126,94 +93,52 @@ module _ (old ns : List Module) (j : Joining old ns) where
   fits-still : (m x y : Module) (handle : FunctionHandle) (name : List ℕ) (d : FunctionDefinition) → have_one_name m x ≡ false → may_replace x y ≡ true → function_named x name ≡ Some d
       → function_fits m handle x d ≡ true → option_map_or (function_fits m handle y) (function_named y name) false ≡ true
   fits-still m x y handle name d apart h found fit =
-      let one = and_parts (is_public d || have_one_name m x) (option_map_or (λ (own : FunctionHandle). same_signature m handle.parameters x own.parameters && same_signature m handle.results x own.results) (slice_get x.function_handles d.handle) false) fit in
-      let public : is_public d ≡ true = called (is_public d) one.0 in
+      let one = and_parts (is_public d || have_one_name m x) _ fit in
+      let public : is_public d ≡ true = or_first (is_public d) (have_one_name m x) apart one.0 in
       let kept = all-among (function_stays x y) x.functions d (second_so (structs_stay x x.structs y y.structs) (list_all (function_stays x y) x.functions) h) (function-among x name d found) in
       let stays : option_map_or (λ (e : FunctionDefinition). is_public e && have_one_type x d y e) (name_of_function x d >>= function_named y) false ≡ true =
       sym (ap (λ b. not b || option_map_or (λ (e : FunctionDefinition). is_public e && have_one_type x d y e) (name_of_function x d >>= function_named y) false) public) ∙ kept in
       let named : option_map_or (λ (e : FunctionDefinition). is_public e && have_one_type x d y e) (function_named y name) false ≡ true =
       sym (ap (λ o. option_map_or (λ (e : FunctionDefinition). is_public e && have_one_type x d y e) (o >>= function_named y) false) (identifier-so x name d found)) ∙ stays in
-      go (function_named y name) named one.1
+      let e = passing (λ (e : FunctionDefinition). is_public e && have_one_type x d y e) (function_named y name) named in
+      let e_parts = and_parts (is_public e.0) (have_one_type x d y e.0) e.2 in
+      let b = both-there _ (slice_get x.function_handles d.handle) (slice_get y.function_handles e.0.handle) e_parts.1 in
+      let a = passing _ (slice_get x.function_handles d.handle) one.1 in
+      let same : a.0 ≡ b.0 = same_Some a.0 b.0 (sym a.1 ∙ b.2) in
+      let s = and_parts (same_signature x b.0.parameters y b.1.parameters) (same_signature x b.0.results y b.1.results) b.4 in
+      let t = and_parts (same_signature m handle.parameters x a.0.parameters) (same_signature m handle.results x a.0.results) a.2 in
+      let parameters = signatures-joined (signature_named m handle.parameters) (signature_named x b.0.parameters) (signature_named y b.1.parameters)
+      (subst (λ (z : FunctionHandle). same_signature m handle.parameters x z.parameters ≡ true) same t.0) s.0 in
+      let results = signatures-joined (signature_named m handle.results) (signature_named x b.0.results) (signature_named y b.1.results)
+      (subst (λ (z : FunctionHandle). same_signature m handle.results x z.results ≡ true) same t.1) s.1 in
+      rw (e.1, b.3) (and_from _ _ (or_left (is_public e.0) (have_one_name m y) e_parts.0) (and_from _ _ parameters results))
     where
-      called : (b : Bool) → (b || have_one_name m x) ≡ true → b ≡ true
-      called true e = refl
-      called false e = let no : have_one_name m x ≡ true = e in absurd cc
-
-      go : (o : Option FunctionDefinition) → option_map_or (λ (e : FunctionDefinition). is_public e && have_one_type x d y e) o false ≡ true
-          → option_map_or (λ (own : FunctionHandle). same_signature m handle.parameters x own.parameters
-          && same_signature m handle.results x own.results) (slice_get x.function_handles d.handle) false ≡ true
-          → option_map_or (function_fits m handle y) o false ≡ true
-      go None e f = absurd cc
-      go (Some e) g f = deeper (slice_get x.function_handles d.handle) refl (slice_get y.function_handles e.handle) refl (first_so (is_public e) (have_one_type x d y e) g) (second_so (is_public e) (have_one_type x d y e) g) f
-        where
-          deeper : (a : Option FunctionHandle) → slice_get x.function_handles d.handle ≡ a → (b : Option FunctionHandle) → slice_get y.function_handles e.handle ≡ b → is_public e ≡ true
-              → have_one_type x d y e ≡ true
-              → option_map_or (λ (own : FunctionHandle). same_signature m handle.parameters x own.parameters && same_signature m handle.results x own.results) a false ≡ true
-              → function_fits m handle y e ≡ true
-          deeper None p b q public types f = absurd cc
-          deeper (Some a) p None q public types f =
-              let types' : both_there (λ (a b : FunctionHandle). same_signature x a.parameters y b.parameters && same_signature x a.results y b.results) (Some a) None ≡ true =
-              sym (ap₂ (λ u v. both_there (λ (a b : FunctionHandle). same_signature x a.parameters y b.parameters && same_signature x a.results y b.results) u v) p q) ∙ types in
-              absurd cc
-          deeper (Some a) p (Some b) q public types f =
-              let types' : (same_signature x a.parameters y b.parameters && same_signature x a.results y b.results) ≡ true =
-              sym (ap₂ (λ u v. both_there (λ (a b : FunctionHandle). same_signature x a.parameters y b.parameters && same_signature x a.results y b.results) u v) p q) ∙ types in
-              let s = and_parts (same_signature x a.parameters y b.parameters) (same_signature x a.results y b.results) types' in
-              let t = and_parts (same_signature m handle.parameters x a.parameters) (same_signature m handle.results x a.results) f in
-              let parameters : same_signature m handle.parameters y b.parameters ≡ true =
-              signatures-joined (signature_named m handle.parameters) (signature_named x a.parameters) (signature_named y b.parameters) t.0 s.0 in
-              let results : same_signature m handle.results y b.results ≡ true =
-              signatures-joined (signature_named m handle.results) (signature_named x a.results) (signature_named y b.results) t.1 s.1 in
-              and_from (is_public e || have_one_name m y) (option_map_or (λ (own : FunctionHandle). same_signature m handle.parameters y own.parameters && same_signature m handle.results y own.results) (slice_get y.function_handles e.handle) false)
-              (or_left (is_public e) (have_one_name m y) public)
-              (ap (λ o. option_map_or (λ (own : FunctionHandle). same_signature m handle.parameters y own.parameters && same_signature m handle.results y own.results) o false) q
-              ∙ and_from (same_signature m handle.parameters y b.parameters) (same_signature m handle.results y b.results) parameters results)
+      or_first : (a b : Bool) → b ≡ false → (a || b) ≡ true → a ≡ true
+      or_first true b e h = refl
+      or_first false b e h = cc
 
   -- of an old module that stays
   pub function-still-there : (m : Module) → ((n : Module) → Among ns n → have_one_name n m ≡ false) → (handle : FunctionHandle) → function_is_there old m handle ≡ true
       → function_is_there (with_tables old ns) m handle ≡ true
-  function-still-there m kept handle e = go (module_name m handle.module) refl e
+  function-still-there m kept handle e =
+      let fits : Module → Bool = λ n. option_map_or (λ name. option_map_or (function_fits m handle n) (function_named n name) false) (slice_get m.identifiers handle.name) false in
+      let x = passing fits (module_name m handle.module >>= module_named old) e in
+      on_bind (module_name m handle.module) (module_named old) x.0 x.1 (λ k named x_at.
+      let f = follower old ns j.once j.apart j.fits k x.0 x_at in
+      ap (λ o. option_map_or fits (o >>= module_named (with_tables old ns)) false) named ∙ ap (λ o. option_map_or fits o false) f.1 ∙ elim f.2 [
+        | inl same ↦ ap fits same ∙ x.2
+        | inr r ↦
+            let name = passing (λ name. option_map_or (function_fits m handle x.0) (function_named x.0 name) false) (slice_get m.identifiers handle.name) x.2 in
+            let d = passing (function_fits m handle x.0) (function_named x.0 name.0) name.2 in
+            ap (λ o. option_map_or (λ name. option_map_or (function_fits m handle f.0) (function_named f.0 name) false) o false) name.1
+            ∙ fits-still m x.0 f.0 handle name.0 d.0 (apart k x.0 f.0 x_at f.1 r.0) r.1 d.1 d.2
+      ])
     where
-      go : (o : Option ModuleName) → module_name m handle.module ≡ o
-          → option_map_or (λ n. option_map_or
-          (λ name. option_map_or (function_fits m handle n) (function_named n name) false) (slice_get m.identifiers handle.name) false) (o >>= module_named old) false ≡ true
-          → function_is_there (with_tables old ns) m handle ≡ true
-      go None p q = absurd cc
-      go (Some k) p q = deeper (module_named old k) refl q
-        where
-          by_name : (x y : Module) → have_one_name m x ≡ false → may_replace x y ≡ true → (o : Option (List ℕ))
-              → option_map_or (λ name. option_map_or (function_fits m handle x) (function_named x name) false) o false ≡ true
-              → option_map_or (λ name. option_map_or (function_fits m handle y) (function_named y name) false) o false ≡ true
-          by_name x y apart h None q = absurd cc
-          by_name x y apart h (Some name) q = found (function_named x name) refl q
-            where
-              found : (o : Option FunctionDefinition) → function_named x name ≡ o → option_map_or (function_fits m handle x) o false ≡ true → option_map_or (function_fits m handle y)
-                  (function_named y name) false ≡ true
-              found None p q = absurd cc
-              found (Some d) p q = fits-still m x y handle name d apart h p q
-
-          deeper : (o : Option Module) → module_named old k ≡ o
-              → option_map_or (λ n. option_map_or (λ name. option_map_or (function_fits m handle n) (function_named n name) false) (slice_get m.identifiers handle.name) false) o false ≡ true
-              → function_is_there (with_tables old ns) m handle ≡ true
-          deeper None p' q = absurd cc
-          deeper (Some x) p' q =
-              let f = follower old ns j.once j.apart j.fits k x p' in
-              ap (λ o. option_map_or (λ n. option_map_or (λ name. option_map_or (function_fits m handle n) (function_named n name) false) (slice_get m.identifiers handle.name) false) (o >>= module_named (with_tables old ns)) false) p
-              ∙ ap (λ o. option_map_or (λ n. option_map_or (λ name. option_map_or (function_fits m handle n) (function_named n name) false) (slice_get m.identifiers handle.name) false) o false) f.1
-              ∙ last f.0 f.1 f.2
-            where
-              last : (y : Module) → module_named (with_tables old ns) k ≡ Some y → (y ≡ x) ⊎ (Among ns y × (may_replace x y ≡ true))
-                  → option_map_or (λ name. option_map_or (function_fits m handle y) (function_named y name) false) (slice_get m.identifiers handle.name) false ≡ true
-              last y g (inl same) = subst (λ z. option_map_or (λ name. option_map_or (function_fits m handle z) (function_named z name) false) (slice_get m.identifiers handle.name) false ≡ true) (sym same) q
-              last y g (inr r) = by_name x y (apart (cases_Bool (have_one_name m x))) r.1 (slice_get m.identifiers handle.name) q
-                where
-                  apart : (have_one_name m x ≡ true) ⊎ (have_one_name m x ≡ false) → have_one_name m x ≡ false
-                  apart (inl one) =
-                      let o = have_one_name-is m x one in
-                      let x_named : own_name x ≡ Some k = (named-so old k x p').1 in
-                      let y_named : own_name y ≡ Some k = (named-so (with_tables old ns) k y g).1 in
-                      let same : o.0 ≡ k = same_Some o.0 k (sym o.2 ∙ x_named) in
-                      let yes : have_one_name y m ≡ true = have_one_name-from y m k y_named (o.1 ∙ ap Some same) in
-                      let never : have_one_name y m ≡ false = kept y r.0 in
-                      absurd cc
-                  apart (inr other) = other
+      apart : (k : ModuleName) (x y : Module) → module_named old k ≡ Some x → module_named (with_tables old ns) k ≡ Some y → Among ns y → have_one_name m x ≡ false
+      apart k x y x_at y_at new = false_from_ne_true (have_one_name m x) (λ one.
+          let o = have_one_name-is m x one in
+          let x_named : own_name x ≡ Some k = (named-so old k x x_at).1 in
+          let y_named : own_name y ≡ Some k = (named-so (with_tables old ns) k y y_at).1 in
+          let yes : have_one_name y m ≡ true = have_one_name-from y m k y_named cc in
+          let never : have_one_name y m ≡ false = kept y new in
+          cc)

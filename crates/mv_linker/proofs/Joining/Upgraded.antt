@@ -1,16 +1,12 @@
 -- What the old modules name stays there once a bundle joins that replaces what it may.
-use Rattle.mv_linker.proofs.Joining.Common.{[], ℕ, ◌<◌, ◌∙◌, ◌∷◌, ◌≡◌, Bool, List, None, Option, Some, ap, ap₂, arith, false, option_map, refl, subst, suc, sym, true, zero, and_parts, same_Some}
-use Rattle.mv_linker.proofs.Joining.Common.{booleans_Decides, first_so, second_so, option_map_or, ◌&&◌, option_and_then, slice_get, same_abilities, Module, StructDefinition, name_of_struct, own_name}
-use Rattle.mv_linker.proofs.Joining.Common.{struct_abilities, declared_in, is_struct, ModuleName, StructName, same_struct, ◌>>=◌, find_index, StructHandle, InBounds, WellDefined, same_fields}
-use Rattle.mv_linker.proofs.Joining.Common.{same_struct_definition, structs_stay}
-use Rattle.std.specs.Bool.{beq}
-use Rattle.std.specs.Str.{bytes_eq}
-use Rattle.std.proofs.lemmas.Slice.Eq.{bytes_eq-Decides}
-use Rattle.mv_move_types.specs.declared.token.Abilities.{Abilities}
-use Rattle.mv_linker.specs.TypesByName.{both_there}
+use Rattle.mv_linker.proofs.Common.{[], ℕ, ◌&&◌, ◌<◌, ◌∙◌, ◌∷◌, ◌≡◌, Abilities, Bool, List, Module, ModuleName, None, Option, OwnsStructs, Some, StructDefinition, StructName, and_parts}
+use Rattle.mv_linker.proofs.Common.{ap, ap₂, arith, beq, booleans_Decides, both_there, bytes_eq, bytes_eq-Decides, declared_in, false, find_index, first_so, is_struct, name_of_struct}
+use Rattle.mv_linker.proofs.Common.{option_map_or, own_name, refl, same_abilities, same_fields, same_Some, same_struct, same_struct_definition, second_so, slice_get, struct_abilities}
+use Rattle.mv_linker.proofs.Common.{structs_stay, subst, suc, sym, true, zero}
+use Rattle.std.proofs.lemmas.Option.{option_and_then_some}
+use Rattle.mv_linker.proofs.Lemmas.{found_at, map_as_bind, struct_named_so}
 use Rattle.mv_linker.proofs.NameLemmas.{same_struct-same}
-use Rattle.mv_linker.proofs.Found.{find_first, found_at, found_first}
-use Rattle.mv_linker.proofs.OwnDefinitions.{struct_named_so, owns-structs}
+use Rattle.mv_linker.proofs.Found.{find_first, found_first}
 
 -- ---- tests of two parts that are there
 
@@ -38,7 +34,7 @@ same_abilities-is a b h =
 -- ---- structs of a replaced module
 
 -- the definition at a place stays there
-stays-at : (m n : Module) (ds es : List StructDefinition) (k : ℕ) (d : StructDefinition) → structs_stay m ds n es ≡ true → slice_get ds k ≡ Some d
+pub stays-at : (m n : Module) (ds es : List StructDefinition) (k : ℕ) (d : StructDefinition) → structs_stay m ds n es ≡ true → slice_get ds k ≡ Some d
     → (e : StructDefinition) × (slice_get es k ≡ Some e) × (same_struct_definition m d n e ≡ true)
 stays-at m n [] es k d h p = absurd cc
 stays-at m n (x ∷ ds) [] k d h p = absurd cc
@@ -63,19 +59,17 @@ so-struct m name d e = subst (λ (x : Option StructName). option_map_or (λ own.
 
 -- a module that takes another's place, both of one name and with their own structs
 pub record Replaces (m n : Module) : Type 0 where
-  pub bounds : InBounds m
-  pub defined : WellDefined m
-  pub new_bounds : InBounds n
-  pub new_defined : WellDefined n
+  pub owns : OwnsStructs m
+  pub new_owns : OwnsStructs n
   pub named : own_name m ≡ own_name n
   pub stays : structs_stay m m.structs n n.structs ≡ true
 
 module _ (m n : Module) (r : Replaces m n) where
   -- the parts of a definition that stays
-  parts : (d e : StructDefinition) → same_struct_definition m d n e ≡ true
+  pub parts-stay : (d e : StructDefinition) → same_struct_definition m d n e ≡ true
       → (both_there (λ (a b : StructName). bytes_eq a.name b.name) (name_of_struct m d) (name_of_struct n e) ≡ true)
       × (both_there same_abilities (struct_abilities m d) (struct_abilities n e) ≡ true) × (same_fields m d.fields n e.fields ≡ true)
-  parts d e h =
+  parts-stay d e h =
       let one = and_parts (both_there (λ (a b : StructName). bytes_eq a.name b.name) (name_of_struct m d) (name_of_struct n e) && both_there same_abilities (struct_abilities m d) (struct_abilities n e)) (same_fields m d.fields n e.fields) h in
       let two = and_parts (both_there (λ (a b : StructName). bytes_eq a.name b.name) (name_of_struct m d) (name_of_struct n e)) (both_there same_abilities (struct_abilities m d) (struct_abilities n e)) one.0 in
       (two.0, two.1, one.1)
@@ -84,8 +78,8 @@ module _ (m n : Module) (r : Replaces m n) where
   one_name : (j : ℕ) (d e : StructDefinition) → slice_get m.structs j ≡ Some d → slice_get n.structs j ≡ Some e → same_struct_definition m d n e ≡ true
       → (name : StructName) × (name_of_struct m d ≡ Some name) × (name_of_struct n e ≡ Some name)
   one_name j d e p q h =
-      let b = both-there (λ (a b : StructName). bytes_eq a.name b.name) (name_of_struct m d) (name_of_struct n e) (parts d e h).0 in
-      let homes : b.0.home ≡ b.1.home = same_Some b.0.home b.1.home (sym (owns-structs m r.defined j d b.0 p b.2) ∙ r.named ∙ owns-structs n r.new_defined j e b.1 q b.3) in
+      let b = both-there (λ (a b : StructName). bytes_eq a.name b.name) (name_of_struct m d) (name_of_struct n e) (parts-stay d e h).0 in
+      let homes : b.0.home ≡ b.1.home = same_Some b.0.home b.1.home (sym (r.owns j d b.0 p b.2) ∙ r.named ∙ r.new_owns j e b.1 q b.3) in
       let names : b.0.name ≡ b.1.name = (bytes_eq-Decides b.0.name b.1.name).0 b.4 in
       (b.0, b.2, b.3 ∙ ap Some (sym (ap₂ name_with homes names)))
 
@@ -104,28 +98,10 @@ module _ (m n : Module) (r : Replaces m n) where
 
   -- with its abilities
   pub declared-stays : (name : StructName) (a : Abilities) → declared_in name m ≡ Some a → declared_in name n ≡ Some a
-  declared-stays name a e = step (find_index (is_struct m name) m.structs) refl e
-    where
-      one : (m : Module) (d : StructDefinition) → struct_abilities m d ≡ option_map (λ (h : StructHandle). h.abilities) (slice_get m.struct_handles d.handle)
-      one m d = go (slice_get m.struct_handles d.handle)
-        where
-          go : (o : Option StructHandle) → (o >>= λ h. Some h.abilities) ≡ option_map (λ (h : StructHandle). h.abilities) o
-          go None = refl
-          go (Some h) = refl
-
-      step : (o : Option ℕ) → find_index (is_struct m name) m.structs ≡ o
-          → option_and_then (λ i. option_and_then (λ (d : StructDefinition). option_map (λ (h : StructHandle). h.abilities) (slice_get m.struct_handles d.handle)) (slice_get m.structs i)) o ≡ Some a
-          → declared_in name n ≡ Some a
-      step None p g = absurd cc
-      step (Some k) p g =
-          let f = found_at (is_struct m name) m.structs k p in
-          let s = stays-at m n m.structs n.structs k f.entry r.stays f.at in
-          let b = both-there same_abilities (struct_abilities m f.entry) (struct_abilities n s.0) (parts f.entry s.0 s.2).1 in
-          let old : option_map (λ (h : StructHandle). h.abilities) (slice_get m.struct_handles f.entry.handle) ≡ Some a =
-          sym (ap (option_and_then (λ (d : StructDefinition). option_map (λ (h : StructHandle). h.abilities) (slice_get m.struct_handles d.handle))) f.at) ∙ g in
-          let is : b.0 ≡ a = same_Some b.0 a (sym b.2 ∙ one m f.entry ∙ old) in
-          let new : option_map (λ (h : StructHandle). h.abilities) (slice_get n.struct_handles s.0.handle) ≡ Some a =
-          sym (one n s.0) ∙ b.3 ∙ ap Some (sym (same_abilities-is b.0 b.1 b.4) ∙ is) in
-          ap (option_and_then (λ i. option_and_then (λ (d : StructDefinition). option_map (λ (h : StructHandle). h.abilities) (slice_get n.struct_handles d.handle)) (slice_get n.structs i))) (struct-stays name k p)
-          ∙ ap (option_and_then (λ (d : StructDefinition). option_map (λ (h : StructHandle). h.abilities) (slice_get n.struct_handles d.handle))) s.1
-          ∙ new
+  declared-stays name a e = option_and_then_some _ (find_index (is_struct m name) m.structs) a e (λ k p g.
+      let f = found_at (is_struct m name) m.structs k p in
+      let s = stays-at m n m.structs n.structs k f.entry r.stays f.at in
+      let b = both-there same_abilities (struct_abilities m f.entry) (struct_abilities n s.0) (parts-stay f.entry s.0 s.2).1 in
+      let old = rw (f.at, map_as_bind) at g in
+      let is : b.0 ≡ a = same_Some b.0 a (sym b.2 ∙ old) in
+      rw (struct-stays name k p, s.1, map_as_bind) (b.3 ∙ ap Some (sym (same_abilities-is b.0 b.1 b.4) ∙ is)))

@@ -1,22 +1,12 @@
 -- Where the structs of a bundle's handles are defined, once it joins.
-use Rattle.mv_linker.proofs.Kept.Common.{[], ℕ, ◌++◌, ◌+◌, ◌<◌, ◌∙◌, ◌∷◌, ◌≡◌, List, None, Some, ap, arith, length, refl, slice_get, subst, suc, sym, take, true, zero, take_more}
-use Rattle.mv_linker.proofs.Kept.Common.{get_or_from_slice_get, none-some, same_Some, slice_get_within, AllZip, list_all, ◌==◌, IsSome, is_some, position, Module, StructDefinition, name_at}
-use Rattle.mv_linker.proofs.Kept.Common.{name_of_struct, own_name, definition_of, is_struct, module_named, StructName, ◌>>=◌, find_index, Definition, AreNamesOf}
-use Rattle.mv_linker.specs.declared.store_rules.Names.{Names}
-use Rattle.mv_linker.specs.declared.sizes.Defined.{Defined}
-use Rattle.mv_linker.specs.declared.sizes.Defined.TheVariants.{Published, Bundled}
-use Rattle.mv_linker.specs.StoreRules.{structs_are_there}
-use Rattle.mv_linker.specs.Scope.{with_tables, places_in}
-use Rattle.mv_linker.specs.Sizes.{IsSized, IsDefined, AreDefined}
-use Rattle.mv_linker.specs.FoundStructs.{IsFoundAt, AreFoundFor}
-use Rattle.mv_linker.specs.Targets.{IsStructAt}
+use Rattle.mv_linker.proofs.Common.{[], ℕ, ◌++◌, ◌+◌, ◌==◌, ◌>>=◌, ◌∙◌, ◌∷◌, ◌≡◌, AllZip, AreDefined, AreFoundFor, AreNamesOf, Bundled, Defined, Definition, IsDefined, IsFoundAt, IsSized}
+use Rattle.mv_linker.proofs.Common.{IsSome, IsStructAt, List, Module, Names, None, Published, Some, StructDefinition, StructName, ap, arith, definition_of, find_index}
+use Rattle.mv_linker.proofs.Common.{get_or_from_slice_get, is_some, is_struct, length, list_all, module_named, name_at, name_of_struct, none-some, own_name, places_in, position, refl}
+use Rattle.mv_linker.proofs.Common.{same_Some, slice_get, slice_get_within, structs_are_there, subst, suc, sym, take, take_more, true, with_tables, zero}
+use Rattle.mv_linker.proofs.Lemmas.{among-at, at-among, bundle-there, differ-result, found_at, module_place-is, own-definition, so-named, struct_named_so, there_at}
 use Rattle.mv_linker.proofs.Joining.Bundled.{bundle-at, old-at, place-at}
 use Rattle.mv_linker.proofs.Cycles.DependencyLemmas.{length-places}
-use Rattle.mv_linker.proofs.Found.{then_found, found_at, there_at}
 use Rattle.mv_linker.proofs.StructSizes.JoinedSizes.{keeps-joined}
-use Rattle.mv_linker.proofs.Members.{among-at, at-among, so-named, bundle-there, differ-result}
-use Rattle.mv_linker.proofs.NameLemmas.{module_place-is}
-use Rattle.mv_linker.proofs.OwnDefinitions.{own-definition, struct_named_so}
 use Rattle.mv_linker.proofs.StructSizes.SizesStay.{definition_made, size-stays}
 use Rattle.mv_linker.proofs.Joining.StillThere.{Joining}
 
@@ -24,31 +14,25 @@ use Rattle.mv_linker.proofs.Joining.StillThere.{Joining}
 
 pub zip-length : {A B : Type 0} (R : A → B → Type 0) (xs : List A) (ys : List B) → AllZip R xs ys → length ys ≡ length xs
 zip-length R [] [] h = refl
-zip-length R [] (y ∷ ys) h = absurd h
-zip-length R (x ∷ xs) [] h = absurd h
 zip-length R (x ∷ xs) (y ∷ ys) h = ap suc (zip-length R xs ys h.1)
+zip-length R _ _ h = absurd h
 
 -- what an element of the second list has in the first
 zip-back : {A B : Type 0} (R : A → B → Type 0) (xs : List A) (ys : List B) (k : ℕ) (y : B) → AllZip R xs ys → slice_get ys k ≡ Some y → (x : A) × (slice_get xs k ≡ Some x) × R x y
-zip-back R [] [] k y h e = absurd (none-some y e)
+zip-back R xs [] k y h e = absurd (none-some y e)
 zip-back R [] (z ∷ ys) k y h e = absurd h
-zip-back R (x ∷ xs) [] k y h e = absurd h
 zip-back R (x ∷ xs) (z ∷ ys) zero y h e = (x, refl, subst (R x) (same_Some z y e) h.0)
 zip-back R (x ∷ xs) (z ∷ ys) (suc k) y h e = zip-back R xs ys k y h.1 e
 
 -- one more element of each
 pub zip-more : {A B : Type 0} (R : A → B → Type 0) (xs : List A) (ys : List B) (i : ℕ) (x : A) (y : B) → AllZip R (take i xs) ys → slice_get xs i ≡ Some x → R x y → AllZip R (take (i + 1) xs)
     (ys ++ y ∷ [])
-zip-more {A = A} {B = B} R xs ys i x y h e r = subst (λ l. AllZip R l (ys ++ y ∷ [])) (sym taken) (push (take i xs) ys h)
+zip-more {A = A} {B = B} R xs ys i x y h e r = rw (take_more xs i x (slice_get_within xs i x e), get_or_from_slice_get xs i x x e) (push (take i xs) ys h)
   where
-    taken : take (i + 1) xs ≡ take i xs ++ x ∷ []
-    taken = take_more xs i x (slice_get_within xs i x e) ∙ ap (λ z. take i xs ++ z ∷ []) (get_or_from_slice_get xs i x x e)
-
     push : (us : List A) (vs : List B) → AllZip R us vs → AllZip R (us ++ x ∷ []) (vs ++ y ∷ [])
     push [] [] h = (r, tt)
-    push [] (v ∷ vs) h = absurd h
-    push (u ∷ us) [] h = absurd h
     push (u ∷ us) (v ∷ vs) h = (h.0, push us vs h.1)
+    push _ _ h = absurd h
 
 -- ---- structs
 
@@ -56,8 +40,7 @@ zip-more {A = A} {B = B} R xs ys i x y h e r = subst (λ l. AllZip R l (ys ++ y 
 pub name-found : (modules : List Module) (p i : ℕ) (m : Module) (name : StructName) → slice_get modules p ≡ Some m → find_index (is_struct m name) m.structs ≡ Some i → name_at modules p i ≡ Some name
 name-found modules p i m name at found =
     let f = found_at (is_struct m name) m.structs i found in
-    then_found (slice_get modules p) (λ m. slice_get m.structs i >>= λ d. name_of_struct m d) m (Some name) at
-    (then_found (slice_get m.structs i) (λ d. name_of_struct m d) f.entry (Some name) f.at (struct_named_so (name_of_struct m f.entry) name f.passes))
+    rw (at, f.at) (struct_named_so (name_of_struct m f.entry) name f.passes)
 
 -- the struct of a handle is there
 pub struct-there : (modules : List Module) (m : Module) (h : ℕ) (d : Definition) → IsStructAt modules m h d → IsSome (name_at modules d.place d.index)
@@ -72,8 +55,7 @@ module _ (old ns : List Module) (j : Joining old ns) (linked : list_all (λ m. s
   defined-one : (m : Module) (h : ℕ) (d : Definition) (f : Defined) → IsStructAt (with_tables old ns) m h d → IsFoundAt old (places_in old ns) d f → IsDefined (with_tables old ns) ns m h f
   defined-one m h d (Bundled k index) s (found, same) =
       let place : slice_get (places_in old ns) k ≡ Some d.place = place-at d.place k (places_in old ns) found in
-      let below : k < length ns = (let low = slice_get_within (places_in old ns) k d.place place in omega (arith, low, length-places old ns)) in
-      let n = there_at ns k below in
+      let n = there_at ns k (omega (arith, slice_get_within (places_in old ns) k d.place place, length-places old ns)) in
       let home : s.home ≡ n.0 = same_Some s.home n.0 (sym s.there ∙ bundle-at old ns k d.place n.0 j.apart n.1 place) in
       (s.name, s.named, ap (name_at ns k) same ∙ name-found ns k d.index s.home s.name (n.1 ∙ ap (λ x. Some x) (sym home)) s.index)
   defined-one m h d (Published size) s (none, at) =
@@ -83,11 +65,8 @@ module _ (old ns : List Module) (j : Joining old ns) (linked : list_all (λ m. s
       let own : own_name s.home ≡ Some s.name.home = ap own_name (same_Some s.home found.0 (sym s.there ∙ found.1)) ∙ found.2 in
       let home : module_named old s.name.home ≡ Some s.home = so-named old s.name.home s.home j.once (among-at old d.place s.home there) own in
       let defined : definition_of old s.name ≡ Some (s.home, f.entry.fields) = definition_made old s.name s.home d.index f.entry home s.index f.at in
-      let one : at.name ≡ s.name = same_Some at.name s.name (sym at.named ∙ name-found old d.place d.index s.home s.name there s.index) in (
-        s.name,
-        s.named,
-        size-stays old (with_tables old ns) (keeps-joined old ns j) linked s.name s.home f.entry.fields size defined (subst (λ (x : StructName). IsSized old x size) one at.sized),
-      )
+      let one : at.name ≡ s.name = same_Some at.name s.name (sym at.named ∙ name-found old d.place d.index s.home s.name there s.index) in
+      (s.name, s.named, size-stays old (with_tables old ns) (keeps-joined old ns j) linked s.name s.home f.entry.fields size defined (subst (λ (x : StructName). IsSized old x size) one at.sized))
 
   -- the bundle's own structs
   own-defined : (i k : ℕ) (m : Module) (d : StructDefinition) → slice_get ns i ≡ Some m → slice_get m.structs k ≡ Some d

@@ -1,29 +1,23 @@
 -- The modules of a bundle are found in maps as the lists say.
-use Rattle.mv_linker.proofs.Kept.Common.{[], ℕ, ◌++◌, ◌∙◌, ◌∷◌, ◌≡◌, ◌≤◌, Bool, List, None, Option, Some, ap, arith, cond, false, length, refl, suc, sym, take, true, zero, list_any, option_map_or}
-use Rattle.mv_linker.proofs.Kept.Common.{option_or, ◌&&◌, ◌||◌, is_some, not, Module, own_name, have_one_name, is_module, ModuleName, same_module, Kept, name_in, Name}
-use Rattle.std.specs.Map.{lookup}
+use Rattle.mv_linker.proofs.Common.{[], ℕ, ◌&&◌, ◌++◌, ◌||◌, ◌∙◌, ◌∷◌, ◌≡◌, ◌≤◌, AreNamesIn, ArePlacesOf, Bool, Kept, List, Module, ModuleName, Name, None, Option, PutsName, PutsPlace}
+use Rattle.mv_linker.proofs.Common.{Some, all_differ, ap, arith, cases_Bool, cond, false, found_among, have_one_name, inl, inr, is_module, is_some, length, list_any, lookup, name_in, not}
+use Rattle.mv_linker.proofs.Common.{option_map_or, option_or, own_name, refl, same_module, sym, take, true}
+use Rattle.std.proofs.lemmas.List.{length-take-le}
 use Rattle.std.proofs.lemmas.List.Folds.{list_any-append}
-use Rattle.mv_bounds.specs.Definitions.{all_differ}
-use Rattle.mv_linker.specs.Indexed.{ArePlacesOf, AreNamesIn, PutsPlace, PutsName}
-use Rattle.mv_linker.specs.Scope.{found_among}
 use Rattle.mv_linker.proofs.Kept.Keyed.{same_module-turns}
 
 -- the first of two, and then a third
 or-or : {A : Type 0} (o : Option A) (p : A) (before : Option A) → option_or (option_or o (Some p)) before ≡ option_or o (Some p)
-or-or None p before = refl
-or-or (Some x) p before = refl
+or-or o p before = grind arith
 
 -- what is found among a bundle comes before what was found before
 pub found-before : (name : ModuleName) (ns : List Module) (places : List ℕ) (before : Option ℕ) → found_among name ns places before ≡ option_or (found_among name ns places None) before
 found-before name [] places before = refl
 found-before name (n ∷ ns) [] before = refl
-found-before name (n ∷ ns) (p ∷ places) before = step (is_module name n) (found-before name ns places (Some p)) (found-before name ns places before)
-  where
-    step : (b : Bool) → found_among name ns places (Some p) ≡ option_or (found_among name ns places None) (Some p)
-        → found_among name ns places before ≡ option_or (found_among name ns places None) before
-        → found_among name ns places (cond b (Some p) before) ≡ option_or (found_among name ns places (cond b (Some p) None)) before
-    step true f g = f ∙ sym (or-or (found_among name ns places None) p before) ∙ ap (λ (o : Option ℕ). option_or o before) (sym f)
-    step false f g = g
+found-before name (n ∷ ns) (p ∷ places) before = elim (cases_Bool (is_module name n)) [
+  | inl here ↦ (let f = found-before name ns places (Some p) in rw (here, f) (sym (or-or (found_among name ns places None) p before)))
+  | inr other ↦ rw other (found-before name ns places before)
+]
 
 -- one more of a bundle is found at its place
 found-push : (name : ModuleName) (ns : List Module) (places : List ℕ) (n : Module) (p : ℕ) (before : Option ℕ) → length places ≡ length ns
@@ -35,7 +29,7 @@ found-push name (m ∷ ns) (x ∷ places) n p before e = found-push name ns plac
 
 -- whether a module has a name, by its own
 has-name : (n : Module) (own name : ModuleName) → own_name n ≡ Some own → is_module name n ≡ same_module own name
-has-name n own name e = ap (λ o. option_map_or (λ own. same_module own name) o false) e
+has-name n own name e = rw e refl
 
 pub places-put : (old new : List (Name × ℕ)) (ns : List Module) (places : List ℕ) (n : Module) (own : Name) (p : ℕ) → ArePlacesOf old ns places → PutsPlace old new own p
     → own_name n ≡ Some (name_in own) → length places ≡ length ns → ArePlacesOf new (ns ++ n ∷ []) (places ++ p ∷ [])
@@ -47,30 +41,18 @@ places-put old new ns places n own p so puts named len q =
 
 -- ---- names that differ
 
-or-false : (b : Bool) → (b || false) ≡ b
-or-false true = refl
-or-false false = refl
-
 pub differ-push : {A : Type 0} (same : A → A → Bool) (xs : List A) (x : A) → all_differ same (xs ++ x ∷ []) ≡ (all_differ same xs && not (list_any (λ y. same y x) xs))
 differ-push same [] x = refl
 differ-push same (y ∷ ys) x =
-    ap (λ b. not b && all_differ same (ys ++ x ∷ [])) (list_any-append (same y) ys (x ∷ []) ∙ ap (λ b. list_any (same y) ys || b) (or-false (same y x)))
-    ∙ ap (λ b. not (list_any (same y) ys || same y x) && b) (differ-push same ys x)
-    ∙ step (list_any (same y) ys) (same y x) (all_differ same ys) (list_any (λ y. same y x) ys)
+    rw (list_any-append (same y) ys (x ∷ []), differ-push same ys x) (step (list_any (same y) ys) (same y x) (all_differ same ys) (list_any (λ y. same y x) ys))
   where
-    step : (a b c d : Bool) → (not (a || b) && (c && not d)) ≡ ((not a && c) && not (b || d))
-    step true b c d = refl
-    step false true true d = refl
-    step false true false d = refl
-    step false false c d = refl
+    step : (a b c d : Bool) → (not (a || (b || false)) && (c && not d)) ≡ ((not a && c) && not (b || d))
+    step a b c d = grind arith
 
 -- a module has the name of one whose name is known exactly where it is the module of that name
 one-name : (m n : Module) (own : ModuleName) → own_name n ≡ Some own → have_one_name m n ≡ is_module own m
-one-name m n own e = step (own_name m)
-  where
-    step : (o : Option ModuleName) → option_map_or (λ name. is_module name n) o false ≡ option_map_or (λ name. same_module name own) o false
-    step None = refl
-    step (Some name) = has-name n own name e ∙ same_module-turns own name
+one-name m n own e = elim (own_name m) as (λ o. option_map_or (λ name. is_module name n) o false ≡ option_map_or (λ name. same_module name own) o false)
+    [ None ↦ refl | Some name ↦ has-name n own name e ∙ same_module-turns own name ]
 
 any-same : (kept : List Kept) (n : Module) (own : ModuleName) → own_name n ≡ Some own
     → list_any (λ (k : Kept). have_one_name k.published.tables n) kept ≡ list_any (λ (k : Kept). is_module own k.published.tables) kept
@@ -86,9 +68,6 @@ differ kept = all_differ (λ (j k : Kept). have_one_name j.published.tables k.pu
 pub record SeenSoFar {V : Type 0} (entries : List (Name × V)) (kept : List Kept) (so : Bool) : Type 0 where
   pub names : AreNamesIn entries kept
   pub differ : so ≡ differ kept
-
-pub seen-none : {V : Type 0} (entries : List (Name × V)) → entries ≡ [] → SeenSoFar entries [] true
-seen-none entries e = record { names = λ q. ap (λ l. is_some (lookup (λ k. same_module (name_in q) (name_in k)) l)) e; differ = refl }
 
 pub seen-more : {V : Type 0} (old new : List (Name × V)) (kept : List Kept) (k : Kept) (own : Name) (so is_new next : Bool) → SeenSoFar old kept so → PutsName old new own
     → is_new ≡ not (is_some (lookup (λ k. same_module (name_in own) (name_in k)) old)) → own_name k.published.tables ≡ Some (name_in own) → next ≡ (so && is_new)
@@ -106,13 +85,8 @@ seen-more old new kept k own so is_new next seen puts is named e = record {
 }
   where
     either : (a b : Bool) → cond a true b ≡ (b || (a || false))
-    either true true = refl
-    either true false = refl
-    either false true = refl
-    either false false = refl
+    either a b = grind arith
 
 -- the first so many are so many
 pub length-taken : {A : Type 0} (xs : List A) (k : ℕ) → k ≤ length xs → length (take k xs) ≡ k
-length-taken xs zero h = refl
-length-taken [] (suc k) h = absurd (omega (arith, h))
-length-taken (x ∷ xs) (suc k) h = ap suc (length-taken xs k (omega (arith, h)))
+length-taken xs k h = length-take-le k xs h

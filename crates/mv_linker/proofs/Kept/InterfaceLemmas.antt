@@ -3,16 +3,12 @@
 --   interface-made     an interface with those parts is the definition's
 --   function-found     the first interface with an identifier has the place of the function of this name
 --   interface-at       the interface at an index is that of the definition there
-use Rattle.mv_linker.proofs.Kept.Common.{[], ℕ, ◌∙◌, ◌∷◌, ◌≡◌, List, Option, Some, ap, ap₂, arith, cond, false, length, option_map, refl, slice_get, subst, suc, sym, true, unwrap_or, ltb-true}
-use Rattle.mv_linker.proofs.Kept.Common.{slice_get_within, list_all, option_map_or, ◌&&◌, IfSome, position, FunctionDefinition, Module, name_of_function, parameter_tokens, function_place, find_index}
-use Rattle.std.specs.Cmp.{first_so, second_so}
-use Rattle.std.specs.Str.{bytes_eq}
-use Rattle.mv_move_types.specs.declared.token.Token.{Token}
-use Rattle.mv_bounds.specs.Bounds.{InBounds, below, function_in, function_handle_in, instruction_in, local_count}
-use Rattle.mv_linker.specs.declared.interfaces.Interface.{Interface}
-use Rattle.mv_linker.specs.Interfaces.{IsInterfaceOf, AreInterfacesOf, IsInterfaceAt}
-use Rattle.mv_linker.proofs.Found.{each, then_found, there_at}
-use Rattle.mv_linker.proofs.Kept.Keyed.{position-find_index}
+use Rattle.mv_linker.proofs.Common.{[], ℕ, ◌&&◌, ◌∙◌, ◌∷◌, ◌≡◌, AreInterfacesOf, FunctionDefinition, IfSome, InBounds, Interface, IsInterfaceAt, IsInterfaceOf, List, Module, Option, Some}
+use Rattle.mv_linker.proofs.Common.{Token, ap, ap₂, arith, below, bytes_eq, cond, false, find_index, first_so, function_handle_in, function_place, length, ltb-true, name_of_function}
+use Rattle.mv_linker.proofs.Common.{option_map, option_map_or, parameter_tokens, position, refl, second_so, slice_get, slice_get_within, subst, suc, sym, true, unwrap_or}
+use Rattle.mv_bounds.proofs.FunctionLemmas.{handle_below, signatures_below}
+use Rattle.mv_linker.proofs.Lemmas.{each, there_at}
+use Rattle.mv_linker.proofs.Found.{position-find_index}
 
 -- the identifier and the parameters of a function definition
 record Parts (m : Module) (d : FunctionDefinition) : Type 0 where
@@ -24,23 +20,18 @@ record Parts (m : Module) (d : FunctionDefinition) : Type 0 where
 -- they are there, where indices are in bounds
 defined-parts : (m : Module) → InBounds m → (f : ℕ) (d : FunctionDefinition) → slice_get m.functions f ≡ Some d → Parts m d
 defined-parts m bounds f d at =
-    let fine : function_in m d ≡ true = each (function_in m) m.functions f d bounds.functions at in
-    let low =
-    first_so (below d.handle m.function_handles) (below d.locals m.signatures)
-    (first_so (below d.handle m.function_handles && below d.locals m.signatures) (list_all (λ i. below i m.structs) d.acquires)
-    (first_so (below d.handle m.function_handles && below d.locals m.signatures && list_all (λ i. below i m.structs) d.acquires) (list_all (instruction_in m (local_count m d) (length d.code)) d.code) fine)) in
-    let handle = there_at m.function_handles d.handle (ltb-true d.handle (length m.function_handles) low) in
+    let handle = there_at m.function_handles d.handle (handle_below m bounds f d at).0 in
     let h = handle.0 in
     let whole : function_handle_in m h ≡ true = each (function_handle_in m) m.function_handles d.handle h bounds.function_handles handle.1 in
     let first = first_so (below h.module m.module_handles && below h.name m.identifiers && below h.parameters m.signatures) (below h.results m.signatures) whole in
     let names = first_so (below h.module m.module_handles && below h.name m.identifiers) (below h.parameters m.signatures) first in
     let name = there_at m.identifiers h.name (ltb-true h.name (length m.identifiers) (second_so (below h.module m.module_handles) (below h.name m.identifiers) names)) in
-    let tokens = there_at m.signatures h.parameters (ltb-true h.parameters (length m.signatures) (second_so (below h.module m.module_handles && below h.name m.identifiers) (below h.parameters m.signatures) first)) in
+    let tokens = there_at m.signatures h.parameters (signatures_below m bounds d.handle h handle.1).0 in
     record {
       identifier = name.0;
       tokens = tokens.0;
-      identifier_is = then_found (slice_get m.function_handles d.handle) (λ handle. slice_get m.identifiers handle.name) h (Some name.0) handle.1 name.1;
-      tokens_are = then_found (slice_get m.function_handles d.handle) (λ handle. slice_get m.signatures handle.parameters) h (Some tokens.0) handle.1 tokens.1;
+      identifier_is = rw handle.1 name.1;
+      tokens_are = rw handle.1 tokens.1;
     }
 
 -- an interface with those parts is the definition's

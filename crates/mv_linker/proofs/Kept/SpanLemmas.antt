@@ -1,8 +1,8 @@
 -- Lists that stand in one list, one after the other.
 --   AreSpanned lists all spans   the spans of the list are these lists
 --   spanned-more                 one more is put at the end
-use Rattle.mv_linker.proofs.Kept.Common.{[], ◌++◌, ◌∙◌, ◌∷◌, ◌≡◌, ◌≤◌, List, ap, ap₂, arith, drop, length, length-append, map, refl, subst, sym, true, and_from, and_parts, le-leb, leb-true}
-use Rattle.mv_linker.proofs.Kept.Common.{map-append, take-append-le, take_all, list_all, nat_le}
+use Rattle.mv_linker.proofs.Common.{[], ◌++◌, ◌∙◌, ◌∷◌, ◌≡◌, ◌≤◌, List, and_from, and_parts, ap, ap₂, arith, drop, le-leb, leb-true, length, length-append, list_all, map, map-append}
+use Rattle.mv_linker.proofs.Common.{nat_le, refl, subst, sym, take-append-le, take_all, true}
 use Rattle.std.proofs.lemmas.Slice.{between_is}
 use Rattle.std.proofs.Math.Seq.{drop-append_seam}
 use Rattle.mv_linker.specs.declared.spans.Span.{Span}

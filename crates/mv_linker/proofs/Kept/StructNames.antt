@@ -1,18 +1,13 @@
 -- The names of a store's structs, by the name of their module and their identifiers there.
 --   unnamed-there    no struct stands where there is no identifier
 --   named-there      the name of a struct, by the key of its module and its identifier
-use Rattle.mv_linker.proofs.Kept.Common.{[], ℕ, ◌∙◌, ◌≡◌, List, None, Option, Some, ap, ap₂, option_map, refl, slice_get, subst, sym, unwrap_or, none-some, same_Some, slice_get-map, Module}
-use Rattle.mv_linker.proofs.Kept.Common.{StructDefinition, module_name, name_at, name_of_struct, own_name, StructName, ◌>>=◌, PublishedModule, AreKeyed, name_in, published_as, published_under}
-use Rattle.mv_linker.proofs.Kept.Common.{IsStore, tables_in, AreCodesOf, Name, Texts}
-use Rattle.mv_type_states.specs.Sound.{IsSound}
-use Rattle.mv_linker.specs.declared.code.Code.{Code}
-use Rattle.mv_linker.specs.Identifiers.{identifier_or_none}
+use Rattle.mv_linker.proofs.Common.{ℕ, ◌>>=◌, ◌∙◌, ◌≡◌, AreCodesOf, AreKeyed, Code, IsSound, IsStore, List, Module, Name, None, Option, Some, StructDefinition, StructName, Texts, ap, ap₂}
+use Rattle.mv_linker.proofs.Common.{arith, identifier_or_none, name_at, name_in, name_of_struct, option_map, own_name, published_as, published_under, refl, same_Some, slice_get}
+use Rattle.mv_linker.proofs.Common.{slice_get-map, subst, sym, tables_in}
+use Rattle.mv_linker.proofs.Lemmas.{among-at, own-definition, owns-structs, struct_parts}
 use Rattle.mv_linker.proofs.Joining.Assembling.{passed-among}
-use Rattle.mv_module_text.proofs.Texts.{on_bind}
-use Rattle.mv_linker.proofs.Found.{then_found}
 use Rattle.mv_linker.proofs.LinkedCode.Linkable.{at-all, mapped-at}
-use Rattle.mv_linker.proofs.Members.{among-at}
-use Rattle.mv_linker.proofs.OwnDefinitions.{named_in, own-definition, owns-structs}
+use Rattle.mv_linker.proofs.OwnDefinitions.{named_in}
 use Rattle.mv_linker.proofs.LinkedCode.StoredCodes.{module-there}
 
 -- an identifier of a module's structs
@@ -27,30 +22,20 @@ pub unnamed-there : (modules : List Module) (codes : List Code) (place index : �
     → name_at modules place index ≡ None
 unnamed-there modules codes place index code are code_at none =
     let m = module-there modules codes place code are code_at in
-    then_found (slice_get modules place) (λ m. slice_get m.structs index >>= λ d. name_of_struct m d) m.0 None m.1
-    (by_struct m.0 (slice_get m.0.structs index) (sym (identifiers-at modules codes place index m.0 code are m.1 code_at) ∙ none))
+    rw m.1 (by_struct m.0 (slice_get m.0.structs index) (sym (identifiers-at modules codes place index m.0 code are m.1 code_at) ∙ none))
   where
     by_struct : (m : Module) (o : Option StructDefinition) → option_map (identifier_or_none m) o ≡ None → (o >>= λ d. name_of_struct m d) ≡ None
-    by_struct m None e = refl
-    by_struct m (Some d) e = absurd (none-some (identifier_or_none m d) (sym e))
+    by_struct m o e = grind (arith, e)
 
 -- the identifier in a struct's name
 identifier-in : (m : Module) (d : StructDefinition) (name : StructName) → name_of_struct m d ≡ Some name → name.name ≡ identifier_or_none m d
-identifier-in m d name named =
-    on_bind (slice_get m.struct_handles d.handle) (λ handle. module_name m handle.module >>= λ home. slice_get m.identifiers handle.name >>= λ id. Some (named_in home id)) name named
-    (λ handle is e1. on_bind (module_name m handle.module) (λ home. slice_get m.identifiers handle.name >>= λ id. Some (named_in home id)) name e1
-    (λ home is2 e2. on_bind (slice_get m.identifiers handle.name) (λ id. Some (named_in home id)) name e2
-    (λ id is3 e3.
-    sym (ap (λ (s : StructName). s.name) (same_Some (named_in home id) name e3))
-    ∙ sym (ap (λ o. unwrap_or o []) (then_found (slice_get m.struct_handles d.handle) (λ handle. slice_get m.identifiers handle.name) handle (Some id) is is3)))))
+identifier-in m d name named = struct_parts m d.handle name named (λ handle is home_is name_is. rw (is, name_is) refl)
 
 -- the key of a module is its name
 key-named : (entries : List (Name × Texts)) (place : ℕ) (m : Module) (key : Name) (texts : Texts) → AreKeyed entries → slice_get entries place ≡ Some (key, texts)
     → slice_get (tables_in (published_under entries)) place ≡ Some m → own_name m ≡ Some (name_in key)
 key-named entries place m key texts keyed at m_at =
-    let there : slice_get (tables_in (published_under entries)) place ≡ Some (published_as texts).tables =
-    slice_get-map (λ (p : PublishedModule). p.tables) (published_under entries) place
-    ∙ ap (option_map (λ (p : PublishedModule). p.tables)) (slice_get-map (λ (e : Name × Texts). published_as e.1) entries place ∙ ap (option_map (λ (e : Name × Texts). published_as e.1)) at) in
+    let there : slice_get (tables_in (published_under entries)) place ≡ Some (published_as texts).tables = simp (slice_get-map, at) in
     ap own_name (same_Some m (published_as texts).tables (sym m_at ∙ there)) ∙ at-all (λ (e : Name × Texts). own_name (published_as e.1).tables ≡ Some (name_in e.0)) entries place (key, texts) keyed at
 
 -- the name of a struct, by the key of its module and its identifier
@@ -68,5 +53,4 @@ named-there entries codes place index code key texts identifier s keyed are code
     let home : own.0.home ≡ name_in key =
     same_Some own.0.home (name_in key) (sym (owns-structs m.0 sound.defined index d.0 own.0 d.1 own.1) ∙ key-named entries place m.0 key texts keyed key_at m.1) in
     let name : own.0.name ≡ identifier = identifier-in m.0 d.0 own.0 own.1 ∙ d.2 in
-    then_found (slice_get (tables_in store) place) (λ m. slice_get m.structs index >>= λ d. name_of_struct m d) m.0 (Some (named_in (name_in key) identifier)) m.1
-    (then_found (slice_get m.0.structs index) (λ d. name_of_struct m.0 d) d.0 (Some (named_in (name_in key) identifier)) d.1 (own.1 ∙ ap₂ (λ h n. Some (named_in h n)) home name))
+    rw (m.1, d.1) (own.1 ∙ ap₂ (λ h n. Some (named_in h n)) home name)

@@ -2,10 +2,9 @@
 --   length-with_at, put-at, other-at   one entry
 --   set-with_at, push-with_at          how it gets there
 --   length-put_all, from-put_all       several, one after the other
-use Rattle.mv_linker.proofs.Kept.Common.{[], ℕ, ◌++◌, ◌+◌, ◌∙◌, ◌∷◌, ◌≡◌, ◌≤◌, ◌⊎◌, Bool, Contains, List, Some, ap, arith, cond, false, inl, inr, length, map, refl, slice_get, subst, suc, sym, true}
-use Rattle.mv_linker.proofs.Kept.Common.{zero, eqb-false, eqb-true, none-some, same_Some, ◌==◌, fold, slice_set, with_at}
-use Rattle.mv_linker.specs.ScopeDependencies.{count_after, ArePlaces}
-use Rattle.mv_linker.proofs.Found.{Contains-at, at-Contains}
+use Rattle.mv_linker.proofs.Common.{[], ℕ, ◌++◌, ◌+◌, ◌==◌, ◌∙◌, ◌∷◌, ◌≡◌, ◌≤◌, ◌⊎◌, ArePlaces, Contains, List, Some, ap, arith, cases_eq, cond, count_after, eq-eqb, fold, inl, inr}
+use Rattle.mv_linker.proofs.Common.{length, map, ne_eqb, none-some, refl, same_Some, slice_get, slice_set, subst, suc, sym, with_at, zero}
+use Rattle.mv_linker.proofs.Lemmas.{Contains-at, at-Contains}
 
 -- ---- one entry
 
@@ -21,11 +20,10 @@ length-next (y ∷ ys) zero x e = absurd (omega (arith, e))
 length-next (y ∷ ys) (suc p) x e = omega (arith, length-next ys p x (omega (arith, e)))
 
 pub length-with_at : {A : Type 0} (xs : List A) (p : ℕ) (x : A) → p ≤ length xs → length (with_at p x xs) ≡ cond (p == length xs) (length xs + 1) (length xs)
-length-with_at xs p x h = by_case (p == length xs) refl
-  where
-    by_case : (b : Bool) → (p == length xs) ≡ b → length (with_at p x xs) ≡ cond b (length xs + 1) (length xs)
-    by_case true e = length-next xs p x (eqb-true p (length xs) e)
-    by_case false e = let other : p ≡ length xs → ⊥ = eqb-false p (length xs) e in length-there xs p x (omega (arith, h, other))
+length-with_at xs p x h = elim (cases_eq p (length xs)) [
+  | inl same ↦ rw (eq-eqb p (length xs) same) (length-next xs p x same)
+  | inr other ↦ rw (ne_eqb p (length xs) other) (length-there xs p x (omega (arith, h, other)))
+]
 
 -- what was put stands at its place
 pub put-at : {A : Type 0} (xs : List A) (p : ℕ) (x : A) → p ≤ length xs → slice_get (with_at p x xs) p ≡ Some x
@@ -96,17 +94,13 @@ from-put_all {E} {A} place value xs (e ∷ es) h q x at =
     let long = length-with_at xs (place e) (value e) h.0 in
     elim (from-put_all place value (with_at (place e) (value e) xs) es (subst (λ n. ArePlaces (map place es) n) (sym long) h.1) q x at) [
       | inl put ↦ inl (record { entry = put.entry; one = later e put.entry es put.one; at = put.at; is = put.is })
-      | inr there ↦ by_place there (q == place e) refl
-    ]
-  where
-    by_place : WasThere place (with_at (place e) (value e) xs) es q x → (b : Bool) → (q == place e) ≡ b → WasPut place value (e ∷ es) q x ⊎ WasThere place xs (e ∷ es) q x
-    by_place there true s =
-        let same : q ≡ place e = eqb-true q (place e) s in
-        let is : value e ≡ x = same_Some (value e) x (sym (ap (slice_get (with_at (place e) (value e) xs)) same ∙ put-at xs (place e) (value e) h.0) ∙ there.at) in
-        inl (record { entry = e; one = at-Contains (e ∷ es) 0 e refl; at = sym same; is = is })
-    by_place there false s =
-        let other : q ≡ place e → ⊥ = eqb-false q (place e) s in
-        inr (record {
+      | inr there ↦ elim (cases_eq q (place e)) [
+        | inl same ↦
+            let is : value e ≡ x = same_Some (value e) x (sym (ap (slice_get (with_at (place e) (value e) xs)) same ∙ put-at xs (place e) (value e) h.0) ∙ there.at) in
+            inl (record { entry = e; one = at-Contains (e ∷ es) 0 e refl; at = sym same; is = is })
+        | inr other ↦ inr (record {
           none = λ o c same. elim (first_or_later e o es c) [ inl first ↦ other (sym (ap place first ∙ same)) | inr rest ↦ there.none o rest same ];
           at = sym (other-at xs (place e) (value e) q h.0 other) ∙ there.at;
         })
+      ]
+    ]

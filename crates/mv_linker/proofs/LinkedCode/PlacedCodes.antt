@@ -2,22 +2,16 @@
 --   count-below                   the places that were taken
 --   placed-at, listed             the codes, by their places
 --   relinking                     what the codes are
-use Rattle.mv_linker.proofs.LinkedCode.Common.{[], ℕ, ◌++◌, ◌+◌, ◌<◌, ◌∙◌, ◌∷◌, ◌≡◌, Contains, List, None, Option, Some, ap, arith, cond, inl, inr, length, map, refl, slice_get, subst, suc, sym, zero}
-use Rattle.mv_linker.proofs.LinkedCode.Common.{ap₂, ne_eqb, none-some, same_Some, slice_get_within, zip, ◌==◌, position, Module, AreCodes, AreToLink, IsCode, offered, modules_in, Code, ToLink}
-use Rattle.std.specs.Prelude.{drop}
-use Rattle.std.proofs.lemmas.List.Elements.{Contains-append_left, Contains-append_right}
-use Rattle.mv_linker.specs.declared.code.CodeAt.{CodeAt}
-use Rattle.mv_linker.specs.declared.dependants.Dependant.{Dependant}
-use Rattle.mv_linker.specs.declared.scope.Scope.{Scope}
-use Rattle.mv_linker.specs.Link.{tables_in}
-use Rattle.mv_linker.specs.ScopeDependencies.{count_after, ArePlaces}
-use Rattle.mv_linker.specs.Relinked.{Joins, IsDependant, AreDependants, AreLinkable}
+use Rattle.mv_linker.proofs.Common.{[], ℕ, ◌++◌, ◌+◌, ◌<◌, ◌==◌, ◌∙◌, ◌∷◌, ◌≡◌, AreCodes, AreDependants, AreLinkable, ArePlaces, AreToLink, Code, CodeAt, Contains, Contains-append_left}
+use Rattle.mv_linker.proofs.Common.{Contains-append_right, Dependant, IsCode, IsDependant, Joins, List, Module, None, Option, Scope, Some, ToLink, ap, ap₂, arith, cond, count_after, drop}
+use Rattle.mv_linker.proofs.Common.{inl, inr, length, map, modules_in, ne_eqb, none-some, offered, position, refl, same_Some, slice_get, slice_get_within, subst, suc, sym, tables_in, zero}
+use Rattle.mv_linker.proofs.Common.{zip}
+use Rattle.mv_linker.proofs.Lemmas.{Contains-at, at-Contains}
 use Rattle.mv_linker.proofs.Cycles.DependantLemmas.{names-none}
 use Rattle.mv_linker.proofs.Joining.Joins.{joining, kept-at}
 use Rattle.mv_linker.proofs.Cycles.DependencyLemmas.{count-places, places-within}
 use Rattle.mv_linker.proofs.Joining.Bundled.{place-at}
-use Rattle.mv_linker.proofs.Found.{Contains-at, at-Contains}
-use Rattle.mv_linker.proofs.LinkedCode.Linkable.{at-all, mapped-at, are-to-link}
+use Rattle.mv_linker.proofs.LinkedCode.Linkable.{are-to-link, at-all, mapped-at}
 use Rattle.mv_linker.proofs.LinkedCode.RelinkingLemmas.{IsRelinking}
 use Rattle.mv_linker.proofs.LinkedCode.JoinedCodes.{code-kept}
 

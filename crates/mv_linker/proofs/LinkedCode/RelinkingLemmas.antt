@@ -1,8 +1,7 @@
 -- Modules that were linked: the codes of a store's modules with theirs are those of the result's modules.
-use Rattle.mv_linker.proofs.LinkedCode.Common.{ℕ, ◌∙◌, ◌≡◌, Contains, List, Some, ap, inl, inr, length, map, slice_get, subst, sym, same_Some, Module, IsCode, Relinks, Code}
-use Rattle.mv_linker.specs.declared.code.CodeAt.{CodeAt}
-use Rattle.mv_linker.specs.ScopeDependencies.{count_after, ArePlaces}
-use Rattle.mv_linker.proofs.Kept.WithAt.{length-put_all, from-put_all, WasPut}
+use Rattle.mv_linker.proofs.Common.{ℕ, ◌∙◌, ◌≡◌, ArePlaces, Code, CodeAt, Contains, IsCode, List, Module, Relinks, Some, ap, count_after, inl, inr, length, map, same_Some, slice_get}
+use Rattle.mv_linker.proofs.Common.{subst, sym}
+use Rattle.mv_linker.proofs.Kept.WithAt.{WasPut, from-put_all, length-put_all}
 
 -- Each module that was linked has its code in the result, where it stands at its place or at the next one; and the code of each
 -- other one stays.
@@ -37,6 +36,4 @@ relinks old result linked r codes are =
     was_put q m code at put =
         let made = r.codes put.entry put.one in
         let same : made.0 ≡ m = same_Some made.0 m (sym made.1 ∙ ap (slice_get result) put.at ∙ at) in
-        subst (λ (x : Code). IsCode result q m x) put.is
-        (subst (λ (n : Module). IsCode result q n put.entry.code) same
-        (subst (λ (k : ℕ). IsCode result k made.0 put.entry.code) put.at made.2))
+        rw (← put.is, ← same, ← put.at) made.2

@@ -1,14 +1,6 @@
 -- Sizes once a bundle joins: its structs alone have to be looked at.
-use Rattle.std.proofs.Common.{List, inl, inr}
-use Rattle.std.specs.List.{list_all}
-use Rattle.std.specs.Cmp.{first_so}
-use Rattle.mv_move_types.specs.Module.{Module}
-use Rattle.mv_linker.specs.StoreRules.{Links, struct_is_small}
-use Rattle.mv_linker.specs.Scope.{with_tables}
-use Rattle.mv_linker.specs.Upgrades.{structs_stay, function_stays}
-use Rattle.mv_linker.specs.Sizes.{Keeps, AreSmall}
-use Rattle.mv_linker.proofs.Members.{all-among, among-all, at-among, named-so, among-result, follower}
-use Rattle.mv_linker.proofs.OwnDefinitions.{owns-structs}
+use Rattle.mv_linker.proofs.Common.{AreSmall, Keeps, Links, List, Module, first_so, function_stays, inl, inr, list_all, struct_is_small, structs_stay, with_tables}
+use Rattle.mv_linker.proofs.Lemmas.{all-among, among-all, among-result, at-among, follower, named-so, owns-structs}
 use Rattle.mv_linker.proofs.StructSizes.SizesStay.{small-stays}
 use Rattle.mv_linker.proofs.Joining.StillThere.{Joining}
 

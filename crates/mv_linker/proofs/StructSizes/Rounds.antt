@@ -1,30 +1,12 @@
 -- Sizes by rounds: what is known after a round, of rows and of structs.
-use Rattle.std.proofs.Common.{◌≡◌, ℕ, zero, suc, ◌+◌, ◌<◌, ◌≤◌, Bool, true, false, cond, List, [], ◌∷◌, ◌++◌, length, map, take, Option, Some, None}
-use Rattle.std.proofs.Common.{option_map, slice_get, unwrap_or, refl, sym, ap, ap₂, ◌∙◌, subst, arith, inl, inr, leb, ltb, add-one}
-use Rattle.std.specs.Prelude.{◌&&◌, is_some}
-use Rattle.std.specs.List.{list_all}
-use Rattle.std.specs.Option.{option_map_or}
-use Rattle.std.proofs.lemmas.Bool.{leb-true, leb-false, le-leb, lt-leb, lt-ltb, ltb-true, cases_lt, both_ways}
-use Rattle.std.proofs.lemmas.List.{length-map}
-use Rattle.std.proofs.lemmas.Option.{same_Some, none-some, slice_get-map, slice_get_within, slice_get_past, cond_some}
-use Rattle.mv_move_types.specs.Options.{◌>>=◌}
-use Rattle.mv_move_types.specs.declared.token.Token.{Token}
-use Rattle.mv_move_types.specs.declared.token.Token.TheVariants.{Plain, Reference, MutableReference}
-use Rattle.mv_move_types.specs.declared.token.ValueType.TheVariants.{OfLeaf, OfStruct}
-use Rattle.mv_move_types.specs.declared.tables.Field.{Field}
-use Rattle.mv_move_types.specs.declared.tables.StructHandle.{StructHandle}
-use Rattle.mv_move_types.specs.Names.{StructName}
-use Rattle.mv_move_types.specs.Module.{Module, StructDefinition, struct_name, name_of_struct, name_at, module_name}
-use Rattle.mv_move_types.specs.Named.{definition_of}
-use Rattle.mv_move_types.specs.Leaves.{leaves_within, leaves_of, sum_of_fields}
-use Rattle.mv_linker.specs.StoreRules.{struct_is_small}
-use Rattle.mv_linker.specs.declared.sizes.Size.{Size}
-use Rattle.mv_linker.specs.declared.sizes.Defined.{Defined}
-use Rattle.mv_linker.specs.declared.sizes.Defined.TheVariants.{Published, Bundled}
-use Rattle.mv_linker.specs.Sizes.{IsSized, IsDefined, AreDefined, AreSizes, AreSmall, Total, greater, total_of, small_size, size_at, size_of_token, size_of_struct, row_of, next_rows, rows_after}
-use Rattle.mv_module_text.proofs.Texts.{on_bind}
-use Rattle.mv_linker.proofs.Found.{then_found, there_at, each, all_from, some_fails}
-use Rattle.mv_linker.proofs.StructSizes.Totals.{greater-left, greater-right}
+use Rattle.mv_linker.proofs.Common.{[], ℕ, ◌&&◌, ◌++◌, ◌+◌, ◌<◌, ◌>>=◌, ◌∙◌, ◌∷◌, ◌≡◌, ◌≤◌, AreDefined, AreSizes, AreSmall, Bool, Bundled, Defined, Field, IsDefined, IsSized, List, Module}
+use Rattle.mv_linker.proofs.Common.{MutableReference, None, OfLeaf, OfStruct, Option, Plain, Published, Reference, Size, Some, StructDefinition, StructName, Token, Total, add-one, ap, ap₂}
+use Rattle.mv_linker.proofs.Common.{arith, both_ways, cond, cond_some, definition_of, false, greater, is_some, le-leb, leaves_of, leaves_within, leb, leb-false, leb-true, length}
+use Rattle.mv_linker.proofs.Common.{length-map, list_all, lt-leb, lt-ltb, ltb, ltb-true, map, name_at, name_of_struct, nat_tests, next_rows, none-some, on_bind, option_map, refl, row_of}
+use Rattle.mv_linker.proofs.Common.{rows_after, same_Some, size_at, size_of_struct, size_of_token, slice_get, slice_get-map, slice_get_past, slice_get_within, small_size, struct_is_small}
+use Rattle.mv_linker.proofs.Common.{struct_name, subst, suc, sum_of_fields, sym, take, total_of, true, unwrap_or, zero}
+use Rattle.mv_linker.proofs.Lemmas.{all_from, each, name_parts, passing, past_from, there_at}
+use Rattle.mv_linker.proofs.Found.{some_fails}
 
 -- the rows of the first modules, and of one more
 pub rows_more : (rows : List (List (Option Size))) (ms : List Module) (ds : List (List Defined)) (i : ℕ) (m : Module) (d : List Defined) → slice_get ms i ≡ Some m → slice_get ds i ≡ Some d
@@ -72,41 +54,7 @@ HasLeaves leaves n nesting = (q : ℕ) → leaves q ≡ cond (leb nesting q) (So
 
 -- two sums
 sum_two : (a b n m q : ℕ) → (cond (leb a q) (Some n) None >>= λ x. cond (leb b q) (Some m) None >>= λ y. Some (x + y)) ≡ cond (leb (greater a b) q) (Some (n + m)) None
-sum_two a b n m q = elim (cases_lt q a) [
-  | inl deep ↦
-      let above : a ≤ greater a b = greater_first a b in
-      ap (λ t. cond t (Some n) None >>= λ x. cond (leb b q) (Some m) None >>= λ y. Some (x + y)) (lt-leb a q deep)
-      ∙ sym (ap (λ t. cond t (Some (n + m)) None) (lt-leb (greater a b) q (omega (arith, deep, above))))
-  | inr fine ↦
-      ap (λ t. cond t (Some n) None >>= λ x. cond (leb b q) (Some m) None >>= λ y. Some (x + y)) (le-leb a q fine)
-      ∙ elim (cases_lt q b) [
-        | inl deep ↦
-            let above : b ≤ greater a b = greater_second a b in
-            ap (λ t. cond t (Some m) None >>= λ y. Some (n + y)) (lt-leb b q deep)
-            ∙ sym (ap (λ t. cond t (Some (n + m)) None) (lt-leb (greater a b) q (omega (arith, deep, above))))
-        | inr low ↦
-            ap (λ t. cond t (Some m) None >>= λ y. Some (n + y)) (le-leb b q low)
-            ∙ sym (ap (λ t. cond t (Some (n + m)) None) (le-leb (greater a b) q (greater_least a b q fine low)))
-      ]
-]
-  where
-    greater_first : (a b : ℕ) → a ≤ greater a b
-    greater_first a b = elim (cases_lt b a) [
-      | inl low ↦ (let e = greater-left a b (omega (arith, low)) in omega (arith, e))
-      | inr high ↦ (let e = greater-right a b high in omega (arith, e, high))
-    ]
-
-    greater_second : (a b : ℕ) → b ≤ greater a b
-    greater_second a b = elim (cases_lt b a) [
-      | inl low ↦ (let e = greater-left a b (omega (arith, low)) in omega (arith, e, low))
-      | inr high ↦ (let e = greater-right a b high in omega (arith, e))
-    ]
-
-    greater_least : (a b q : ℕ) → a ≤ q → b ≤ q → greater a b ≤ q
-    greater_least a b q h k = elim (cases_lt b a) [
-      | inl low ↦ (let e = greater-left a b (omega (arith, low)) in omega (arith, e, h))
-      | inr high ↦ (let e = greater-right a b high in omega (arith, e, k))
-    ]
+sum_two a b n m q = grind (arith, nat_tests)
 
 module _ (modules bundle : List Module) (handles : List (List Defined)) (a : AreDefined modules bundle handles) where
   -- what is known of each struct of the bundle
@@ -129,9 +77,6 @@ module _ (modules bundle : List Module) (handles : List (List Defined)) (a : Are
   defined_known k rows knows m h (Published size) is = λ q. ap (λ o. o >>= leaves_within q modules) is.1 ∙ is.2 q
   defined_known k rows knows m h (Bundled i j) is = struct_known k m h is.0 (at_place rows i j) is.1 (knows i j is.0 is.2)
 
-  struct_none : (m : Module) (h : ℕ) → slice_get m.struct_handles h ≡ None → struct_name m h ≡ None
-  struct_none m h e = ap (λ o. o >>= λ (handle : StructHandle). module_name m handle.module >>= λ home. slice_get m.identifiers handle.name >>= λ name. Some (record { home = home; name = name })) e
-
   token_known : (k : ℕ) (rows : List (List (Option Size))) → Knows k rows → (i : ℕ) (m : Module) (ds : List Defined) → slice_get bundle i ≡ Some m → slice_get handles i ≡ Some ds → (t : Token)
       → TokenKnown k m t (size_of_token rows ds t)
   token_known k rows knows i m ds e f (Plain (OfLeaf kind)) = λ q. sym (ap (λ b. cond b (Some 1) None) (le-leb 0 q (omega arith)))
@@ -141,13 +86,10 @@ module _ (modules bundle : List Module) (handles : List (List Defined)) (a : Are
     where
       by_defined : (o : Option Defined) → slice_get ds h ≡ o → TokenKnown k m (Plain (OfStruct h)) (o >>= size_at rows)
       by_defined (Some d) g = defined_known k rows knows m h d (a.each i h m ds d e f g)
-      by_defined None g = λ n l. absurd (none-some n (sym (ap (λ o. o >>= leaves_within k modules) (struct_none m h missing)) ∙ l))
+      by_defined None g = λ n l. struct_at n l (slice_get_past m.struct_handles h (past_from ds m.struct_handles h (sym (a.count i m ds e f)) g))
         where
-          missing : slice_get m.struct_handles h ≡ None
-          missing = elim (cases_lt h (length ds)) [
-            | inl low ↦ (let there = there_at ds h low in absurd (none-some there.0 (sym g ∙ there.1)))
-            | inr high ↦ slice_get_past m.struct_handles h (let c = a.count i m ds e f in omega (arith, high, c))
-          ]
+          struct_at : (n : ℕ) → leaves_at k m (Plain (OfStruct h)) ≡ Some n → slice_get m.struct_handles h ≡ None → 256 < n
+          struct_at n l none = absurd (none-some n (rw none at l))
 
   abbrev fields_at : ℕ → Module → List Field → Option ℕ
   fields_at q m fs = sum_of_fields (leaves_at q m) fs
@@ -160,13 +102,9 @@ module _ (modules bundle : List Module) (handles : List (List Defined)) (a : Are
   field_more : (k : ℕ) (m : Module) (f : Field) (fs : List Field) (s : Option Size) (r : Option Total) → TokenKnown k m f.token s → FieldsKnown k m fs r
       → FieldsKnown k m (f ∷ fs) (s >>= λ s. r >>= λ r. Some (record { leaves = s.leaves + r.leaves; nesting = greater s.nesting r.nesting }))
   field_more k m f fs None r token rest = λ n e.
-      on_bind (leaves_at k m f.token) (λ x. fields_at k m fs >>= λ y. Some (x + y)) n e
-      (λ x is e1. on_bind (fields_at k m fs) (λ y. Some (x + y)) n e1
-      (λ y is2 e2. (let big = token x is in let sum = same_Some (x + y) n e2 in omega (arith, big, sum))))
+      on_bind (leaves_at k m f.token) _ n e (λ x is e1. on_bind (fields_at k m fs) _ n e1 (λ y is2 e2. omega (arith, token x is, same_Some (x + y) n e2)))
   field_more k m f fs (Some s) None token rest = λ n e.
-      on_bind (leaves_at k m f.token) (λ x. fields_at k m fs >>= λ y. Some (x + y)) n e
-      (λ x is e1. on_bind (fields_at k m fs) (λ y. Some (x + y)) n e1
-      (λ y is2 e2. (let big = rest y is2 in let sum = same_Some (x + y) n e2 in omega (arith, big, sum))))
+      on_bind (leaves_at k m f.token) _ n e (λ x is e1. on_bind (fields_at k m fs) _ n e1 (λ y is2 e2. omega (arith, rest y is2, same_Some (x + y) n e2)))
   field_more k m f fs (Some s) (Some r) token rest = λ q.
       ap₂ (λ x y. x >>= λ a. y >>= λ b. Some (a + b)) (token q) (rest q) ∙ sum_two s.nesting r.nesting s.leaves r.leaves q
 
@@ -190,24 +128,20 @@ module _ (modules bundle : List Module) (handles : List (List Defined)) (a : Are
 
       exact : IsSized modules name (sized_as t)
       exact zero = sym (ap (λ b. cond b (Some t.leaves) None) (lt-leb (t.nesting + 1) 0 (omega arith)))
-      exact (suc q) = within q ∙ ap (λ b. cond b (Some t.leaves) None) (elim (cases_lt q t.nesting) [
-        | inl deep ↦ lt-leb t.nesting q deep ∙ sym (lt-leb (t.nesting + 1) (suc q) (omega (arith, deep)))
-        | inr fine ↦ le-leb t.nesting q fine ∙ sym (le-leb (t.nesting + 1) (suc q) (omega (arith, fine)))
-      ])
+      exact (suc q) = within q ∙ deeper t.nesting t.leaves q
+        where
+          deeper : (a n q : ℕ) → cond (leb a q) (Some n) None ≡ cond (leb (a + 1) (suc q)) (Some n) None
+          deeper a n q = grind (arith, nat_tests)
 
       by_leaves : (b c : Bool) → leb t.leaves 256 ≡ b → ltb t.nesting 8 ≡ c → KnownWithin modules (suc k) name (cond (b && c) (Some (sized_as t)) None)
-      by_leaves true true p q =
-          let few = leb-true t.leaves 256 p in
-          let shallow = ltb-true t.nesting 8 q in
-          (exact, few, omega (arith, shallow))
+      by_leaves true true p q = (exact, leb-true t.leaves 256 p, omega (arith, ltb-true t.nesting 8 q))
       by_leaves true false p q = λ n g.
           let had = cond_some (leb t.nesting k) t.leaves n (sym (within k) ∙ g) in
           let shallow = leb-true t.nesting k had.0 in
           absurd (both_ways (ltb t.nesting 8) q (lt-ltb t.nesting 8 (omega (arith, shallow, low))))
       by_leaves false c p q = λ n g.
           let had = cond_some (leb t.nesting k) t.leaves n (sym (within k) ∙ g) in
-          let many = leb-false t.leaves 256 p in
-          (let same = had.1 in omega (arith, same, many))
+          omega (arith, had.1, leb-false t.leaves 256 p)
 
   -- a struct of the bundle, and where it stands
   record IsAt (i j : ℕ) (name : StructName) : Type 0 where
@@ -220,20 +154,15 @@ module _ (modules bundle : List Module) (handles : List (List Defined)) (a : Are
     pub named : name_of_struct home definition ≡ Some name
 
   is_at : (i j : ℕ) (name : StructName) → name_at bundle i j ≡ Some name → IsAt i j name
-  is_at i j name e =
-      on_bind (slice_get bundle i) (λ m. slice_get m.structs j >>= λ d. name_of_struct m d) name e
-      (λ m is e1. on_bind (slice_get m.structs j) (λ d. name_of_struct m d) name e1
-      (λ d is2 e2.
-      let low = slice_get_within bundle i m is in
-      let there = there_at handles i (omega (arith, low, a.len)) in
-      record { home = m; definition = d; handles_there = there.0; at_home = is; at_index = is2; at_handles = there.1; named = e2 }))
+  is_at i j name e = name_parts bundle i j name e (λ m d is is2 e2.
+      let there = there_at handles i (omega (arith, slice_get_within bundle i m is, a.len)) in
+      record { home = m; definition = d; handles_there = there.0; at_home = is; at_index = is2; at_handles = there.1; named = e2 })
 
   -- the entry of a row
   entry_is : (rows : List (List (Option Size))) (i j : ℕ) (name : StructName) (s : IsAt i j name)
       → at_place (next_rows rows bundle handles) i j ≡ size_of_struct rows s.handles_there s.definition.fields
   entry_is rows i j name s =
-      ap (λ o. o >>= λ row. unwrap_or (slice_get row j) None) (row_at rows bundle handles i s.home s.handles_there s.at_home s.at_handles)
-      ∙ ap (λ o. unwrap_or o None) (slice_get-map (λ (d : StructDefinition). size_of_struct rows s.handles_there d.fields) s.home.structs j ∙ ap (option_map (λ (d : StructDefinition). size_of_struct rows s.handles_there d.fields)) s.at_index)
+      rw (row_at rows bundle handles i s.home s.handles_there s.at_home s.at_handles, slice_get-map, s.at_index) refl
 
   round_knows : (k : ℕ) (rows : List (List (Option Size))) → k < 8 → Knows k rows → Knows (suc k) (next_rows rows bundle handles)
   round_knows k rows low knows i j name e =
@@ -263,22 +192,12 @@ module _ (modules bundle : List Module) (handles : List (List Defined)) (a : Are
 
   -- a struct is small exactly where its size is known
   small_from : (m : Module) (d : StructDefinition) (name : StructName) (s : Size) → name_of_struct m d ≡ Some name → KnownWithin modules 8 name (Some s) → struct_is_small modules m d ≡ true
-  small_from m d name s e known =
-      ap (λ o. option_map_or (λ n. leb n 256) o false) (ap (λ o. o >>= leaves_within 8 modules) e ∙ known.0 8 ∙ ap (λ b. cond b (Some s.leaves) None) (le-leb s.nesting 8 known.2))
-      ∙ le-leb s.leaves 256 known.1
+  small_from m d name s e known = rw (e, known.0 8, le-leb s.nesting 8 known.2) (le-leb s.leaves 256 known.1)
 
   not_small : (m : Module) (d : StructDefinition) (name : StructName) → name_of_struct m d ≡ Some name → KnownWithin modules 8 name None → struct_is_small modules m d ≡ true → ⊥
-  not_small m d name e known small = by_leaves (leaves_within 8 modules name) refl
-    where
-      seen : option_map_or (λ n. leb n 256) (leaves_within 8 modules name) false ≡ true
-      seen = sym (ap (λ o. option_map_or (λ n. leb n 256) (o >>= leaves_within 8 modules) false) e) ∙ small
-
-      by_leaves : (o : Option ℕ) → leaves_within 8 modules name ≡ o → ⊥
-      by_leaves None g = both_ways (option_map_or (λ n. leb n 256) (leaves_within 8 modules name) false) (ap (λ o. option_map_or (λ n. leb n 256) o false) g) seen
-      by_leaves (Some n) g =
-          let few = leb-true n 256 (sym (ap (λ o. option_map_or (λ n. leb n 256) o false) g) ∙ seen) in
-          let many = known n g in
-          omega (arith, few, many)
+  not_small m d name e known small =
+      let n = passing (λ n. leb n 256) (leaves_within 8 modules name) (rw e at small) in
+      omega (arith, leb-true n.0 256 n.2, known n.0 n.1)
 
   pub not_known : (rows : List (List (Option Size))) → rows ≡ after 8 → list_all (list_all is_some) rows ≡ false → AreSmall modules bundle → ⊥
   not_known rows is fails small =
@@ -295,26 +214,23 @@ module _ (modules bundle : List Module) (handles : List (List Defined)) (a : Are
       let long : length r.1 ≡ length m.0.structs = sym (ap length same) ∙ row.2 in
       let d = there_at m.0.structs j (omega (arith, inside, long)) in
       let own = a.own i j m.0 d.0 m.1 d.1 in
-      let named : name_at bundle i j ≡ Some own.0 =
-      then_found (slice_get bundle i) (λ m. slice_get m.structs j >>= λ d. name_of_struct m d) m.0 (Some own.0) m.1 (then_found (slice_get m.0.structs j) (λ d. name_of_struct m.0 d) d.0 (Some own.0) d.1 own.1) in
-      let unknown : at_place (after 8) i j ≡ None =
-      ap (λ o. o >>= λ row. unwrap_or (slice_get row j) None) at ∙ ap (λ o. unwrap_or o None) entry.2 ∙ none_is entry.1 entry.3 in
+      let named : name_at bundle i j ≡ Some own.0 = rw (m.1, d.1) own.1 in
+      let unknown : at_place (after 8) i j ≡ None = rw (at, entry.2) (none_is entry.1 entry.3) in
       not_small m.0 d.0 own.0 own.1 (subst (λ (o : Option Size). KnownWithin modules 8 own.0 o) unknown (rows_know 8 (omega arith) i j own.0 named))
       (each (struct_is_small modules m.0) m.0.structs j d.0 (each (λ m. list_all (struct_is_small modules m) m.structs) bundle i m.0 small m.1) d.1)
     where
       none_is : (o : Option Size) → is_some o ≡ false → o ≡ None
-      none_is None h = refl
-      none_is (Some s) h = absurd (both_ways true h refl)
+      none_is o h = grind (arith, h)
 
   -- where each is known
-  size_at_after : (rounds : ℕ) (sizes : List (List Size)) → after rounds ≡ map (map (λ (s : Size). Some s)) sizes → (i j : ℕ) (row : List Size) (s : Size) → slice_get sizes i ≡ Some row → slice_get row j ≡ Some s
+  size_at_after : (rounds : ℕ) (sizes : List (List Size)) → after rounds ≡ map (map (λ (s : Size). Some s)) sizes → (i j : ℕ) (row : List Size) (s : Size) → slice_get sizes i ≡ Some row
+      → slice_get row j ≡ Some s
       → at_place (after rounds) i j ≡ Some s
   size_at_after rounds sizes is i j row s e f =
-      ap (λ rows. at_place rows i j) is
-      ∙ ap (λ o. o >>= λ row. unwrap_or (slice_get row j) None) (slice_get-map (map (λ (s : Size). Some s)) sizes i ∙ ap (option_map (map (λ (s : Size). Some s))) e)
-      ∙ ap (λ o. unwrap_or o None) (slice_get-map (λ (s : Size). Some s) row j ∙ ap (option_map (λ (s : Size). Some s)) f)
+      rw (is, slice_get-map, e, slice_get-map, f) refl
 
-  pub sizes_known : (rounds : ℕ) → 0 < rounds → rounds ≤ 8 → (sizes : List (List Size)) → after rounds ≡ map (map (λ (s : Size). Some s)) sizes → AreSizes modules bundle sizes × AreSmall modules bundle
+  pub sizes_known : (rounds : ℕ) → 0 < rounds → rounds ≤ 8 → (sizes : List (List Size)) → after rounds ≡ map (map (λ (s : Size). Some s)) sizes
+      → AreSizes modules bundle sizes × AreSmall modules bundle
   sizes_known zero some few sizes is = absurd (omega (arith, some))
   sizes_known (suc q) some few sizes is = (
     record {
@@ -331,8 +247,7 @@ module _ (modules bundle : List Module) (handles : List (List Defined)) (a : Are
         (λ i m e. all_from (struct_is_small modules m) m.structs
         (λ j d f.
         let own = a.own i j m d e f in
-        let named : name_at bundle i j ≡ Some own.0 =
-        then_found (slice_get bundle i) (λ m. slice_get m.structs j >>= λ d. name_of_struct m d) m (Some own.0) e (then_found (slice_get m.structs j) (λ d. name_of_struct m d) d (Some own.0) f own.1) in
+        let named : name_at bundle i j ≡ Some own.0 = rw (e, f) own.1 in
         let low = slice_get_within bundle i m e in
         let row = there_at sizes i (omega (arith, low, long)) in
         let r = row_after q i m e in

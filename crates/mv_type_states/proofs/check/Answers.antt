@@ -1,5 +1,4 @@
-use Rattle.std.proofs.Common.{subst}
-use Rattle.mv_move_types.specs.Module.{Module}
+use Rattle.mv_type_states.proofs.Common.{subst, Module}
 use Rattle.mv_bounds.specs.Bounds.{InBounds}
 use Rattle.mv_bounds.specs.Definitions.{WellDefined}
 use Rattle.mv_type_states.proofs.Functions.{FlowHolds-from_AreGraphs}

@@ -1,10 +1,4 @@
-use Rattle.std.proofs.Common.{◌≡◌, ◌<◌, length, map, sym, ap, ◌∙◌, true, arith}
-use Rattle.std.specs.Result.{is_ok}
-use Rattle.std.proofs.lemmas.List.{take_all}
-use Rattle.std.proofs.lemmas.Option.{slice_get_within}
-use Rattle.std.proofs.lemmas.Result.{err_from_is_err_and}
-use Rattle.mv_type_states.specs.TypesHold.{function_is_typed}
-use Rattle.mv_type_states.specs.Sound.{types_before}
+use Rattle.mv_type_states.proofs.Common.{◌<◌, ◌∙◌, ◌≡◌, ap, arith, length, map, sym, true, take_all, slice_get_within, err_from_is_err_and, is_ok, types_before, function_is_typed}
 use Rattle.mv_type_states.proofs.Functions.{types_refused, types_listed, graph-here, AreTyped-push}
 use Rattle.mv_type_states.proofs.Stacks.{list_all-each}
 use Rattle.mv_type_states.proofs.check_functions.Goals as goal

@@ -1,5 +1,4 @@
-use Rattle.std.proofs.Common.{◌≡◌, map, take}
-use Rattle.mv_type_states.specs.Sound.{types_before}
+use Rattle.mv_type_states.proofs.Common.{◌≡◌, map, take, types_before}
 use Rattle.mv_type_states.proofs.Functions.{AreTyped}
 use Rattle.mv_type_states.proofs.check_functions.Given as goal
 

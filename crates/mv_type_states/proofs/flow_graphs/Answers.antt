@@ -1,6 +1,4 @@
-use Rattle.std.proofs.Common.{◌≡◌, length, sym, ap, ◌∙◌, true, arith}
-use Rattle.std.specs.Result.{is_ok}
-use Rattle.std.proofs.lemmas.Result.{err_from_is_err_and}
+use Rattle.mv_type_states.proofs.Common.{◌∙◌, ◌≡◌, ap, arith, length, sym, true, err_from_is_err_and, is_ok}
 use Rattle.mv_type_states.proofs.Functions.{flow_refused, AreGraphs-push}
 use Rattle.mv_type_states.proofs.flow_graphs.Goals as goal
 

@@ -1,4 +1,4 @@
-use Rattle.mv_type_states.specs.Graphs.{AreGraphs}
+use Rattle.mv_type_states.proofs.Common.{AreGraphs}
 use Rattle.mv_type_states.proofs.flow_graphs.Given as goal
 
 abbrev pub invariant-loop-f : goal.invariant-loop-f

@@ -1,11 +1,7 @@
-use Rattle.std.proofs.Common.{◌≡◌, ◌+◌, ◌<◌, ◌≤◌, ◌++◌, ◌∷◌, [], length, Err, option_map, refl, ap, arith, sym, ◌∙◌, vec_len}
-use Rattle.std.proofs.lemmas.Grind.{common_steps}
-use Rattle.std.proofs.lemmas.List.{map_push}
+use Rattle.mv_binary_format.proofs.Common.{[], ◌++◌, ◌+◌, ◌<◌, ◌∙◌, ◌∷◌, ◌≡◌, ◌≤◌, Err, ap, arith, length, option_map, refl, sym, common_steps, map_push, Phase, header_of, headers_of}
+use Rattle.mv_binary_format.proofs.Common.{begins_at, contents_from, without, table_of, tables_of}
+use Rattle.std.proofs.Common.{vec_len}
 use Rattle.std.proofs.lemmas.Option.{MatchOption-at_some}
-use Rattle.mv_move_types.specs.declared.refusal.Refusal.TheVariants.{Phase}
-use Rattle.mv_binary_format.specs.Parsing.{without, begins_at, contents_from}
-use Rattle.mv_binary_format.specs.Kinds.{header_of, headers_of}
-use Rattle.mv_binary_format.specs.Tables.{table_of, tables_of}
 use Rattle.mv_binary_format.proofs.Placed.{placed-next, placed-gap, placed-beyond, placed-cut, placed-done, length-without}
 use Rattle.mv_binary_format.proofs.Takings.{Takes-refused}
 use Rattle.mv_binary_format.proofs.Taken.{empty_map, some_map}

@@ -1,6 +1,4 @@
-use Rattle.std.proofs.Common.{length, ◌≤◌, ◌≡◌}
-use Rattle.mv_binary_format.specs.Kinds.{headers_of}
-use Rattle.mv_binary_format.specs.Tables.{tables_of}
+use Rattle.mv_binary_format.proofs.Common.{◌≡◌, ◌≤◌, length, headers_of, tables_of}
 use Rattle.mv_binary_format.proofs.Loops.{with_front}
 use Rattle.mv_binary_format.proofs.Placed.{placed_from}
 use Rattle.mv_binary_format.proofs.contents.read_contents.Given as goal

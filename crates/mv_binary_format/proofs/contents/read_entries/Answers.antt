@@ -1,10 +1,5 @@
-use Rattle.std.proofs.Common.{◌≡◌, ◌+◌, ◌<◌, ◌++◌, ◌∷◌, [], length, Err, ap, arith, subst, sym, ◌∙◌}
-use Rattle.std.proofs.lemmas.Grind.{common_steps}
+use Rattle.mv_binary_format.proofs.Common.{[], ◌++◌, ◌+◌, ◌<◌, ◌∙◌, ◌∷◌, ◌≡◌, Err, ap, arith, length, subst, sym, common_steps, version_number, table_code, content_of, entries_of, tables_of}
 use Rattle.std.proofs.lemmas.Bool.{false≢true}
-use Rattle.mv_move_types.specs.Versions.{version_number}
-use Rattle.mv_binary_format.specs.Kinds.{table_code}
-use Rattle.mv_binary_format.specs.Parsing.{entries_of, content_of}
-use Rattle.mv_binary_format.specs.Tables.{tables_of}
 use Rattle.mv_binary_format.proofs.Loops.{AllReads, AllReads-next, AllReads-stops}
 use Rattle.mv_binary_format.proofs.Takings.{Takes-passes, entries-none}
 use Rattle.mv_binary_format.proofs.contents.read_entries.Goals as goal

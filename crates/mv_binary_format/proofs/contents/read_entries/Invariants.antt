@@ -1,5 +1,4 @@
-use Rattle.std.proofs.Common.{length}
-use Rattle.mv_move_types.specs.Versions.{version_number}
+use Rattle.mv_binary_format.proofs.Common.{length, version_number}
 use Rattle.mv_binary_format.proofs.Loops.{AllReads}
 use Rattle.mv_binary_format.proofs.contents.read_entries.Given as goal
 

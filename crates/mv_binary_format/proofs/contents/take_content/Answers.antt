@@ -1,11 +1,6 @@
-use Rattle.std.proofs.Common.{◌≡◌, ◌==◌, ℕ, Bool, List, [], Option, Some, None, option_map, ap, ◌∙◌, sym}
-use Rattle.std.specs.List.{position}
+use Rattle.mv_binary_format.proofs.Common.{[], ℕ, ◌==◌, ◌∙◌, ◌≡◌, Bool, List, None, Option, Some, ap, option_map, sym, position, table_code, Table, is_of, table_of, tables_of}
 use Rattle.std.specs.Option.{option_map_or}
 use Rattle.mv_binary_format.specs.declared.contents.Table.{Table as ReadTable}
-use Rattle.mv_binary_format.specs.ModuleText.{Table}
-use Rattle.mv_binary_format.specs.Parsing.{is_of}
-use Rattle.mv_binary_format.specs.Kinds.{table_code}
-use Rattle.mv_binary_format.specs.Tables.{table_of, tables_of}
 use Rattle.mv_binary_format.proofs.Taken.{find-map, without-map, without-none, first_at, none_at}
 use Rattle.mv_binary_format.proofs.contents.take_content.Goals as goal
 

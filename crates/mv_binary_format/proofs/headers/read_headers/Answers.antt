@@ -1,13 +1,9 @@
-use Rattle.std.proofs.Common.{◌≡◌, ◌+◌, ◌++◌, ◌∷◌, [], true, List, Vec, Global, refl, ap, arith, subst, sym, ◌∙◌}
+use Rattle.mv_binary_format.proofs.Common.{[], ◌++◌, ◌+◌, ◌∙◌, ◌∷◌, ◌≡◌, List, ap, arith, refl, subst, sym, true, map_push, ◌>>=◌, counted_from, entries_from, header_of, headers_of, Header}
+use Rattle.mv_binary_format.proofs.Common.{header_from}
+use Rattle.std.proofs.Common.{Vec, Global}
 use Rattle.std.specs.Result.{is_ok}
-use Rattle.std.proofs.lemmas.List.{map_push}
 use Rattle.std.proofs.lemmas.Result.{err_from_is_err_and}
-use Rattle.mv_move_types.specs.Options.{◌>>=◌}
-use Rattle.mv_module_text.specs.Parsing.{counted_from, entries_from}
 use Rattle.mv_binary_format.specs.declared.headers.Header.{Header as Entry}
-use Rattle.mv_binary_format.specs.ModuleText.{Header}
-use Rattle.mv_binary_format.specs.Parsing.{header_from}
-use Rattle.mv_binary_format.specs.Kinds.{header_of, headers_of}
 use Rattle.mv_binary_format.proofs.Loops.{ReadsOn, ReadsOn-next, ReadsOn-stops, ReadsOn-end}
 use Rattle.mv_binary_format.proofs.Takings.{Takes-refused}
 use Rattle.mv_binary_format.proofs.headers.read_headers.Goals as goal

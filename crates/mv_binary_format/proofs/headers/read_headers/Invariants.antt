@@ -1,5 +1,4 @@
-use Rattle.mv_binary_format.specs.Parsing.{header_from}
-use Rattle.mv_binary_format.specs.Kinds.{headers_of}
+use Rattle.mv_binary_format.proofs.Common.{headers_of, header_from}
 use Rattle.mv_binary_format.proofs.Loops.{ReadsOn}
 use Rattle.mv_binary_format.proofs.headers.read_headers.Given as goal
 

@@ -1,8 +1,5 @@
-use Rattle.std.proofs.Common.{◌≡◌, ◌==◌, Bool, Some, None, option_map, ap, ◌∙◌, sym}
-use Rattle.std.specs.List.{position}
+use Rattle.mv_binary_format.proofs.Common.{◌==◌, ◌∙◌, ◌≡◌, Bool, None, Some, ap, option_map, sym, position, header_of, headers_of, begins_at}
 use Rattle.mv_binary_format.specs.declared.headers.Header.{Header}
-use Rattle.mv_binary_format.specs.Parsing.{begins_at}
-use Rattle.mv_binary_format.specs.Kinds.{header_of, headers_of}
 use Rattle.mv_binary_format.proofs.Taken.{find-map, without-map, first_at, none_at}
 use Rattle.mv_binary_format.proofs.headers.take_header.Goals as goal
 

@@ -1,4 +1,4 @@
-use Rattle.std.proofs.Common.{arith}
+use Rattle.mv_binary_format.proofs.Common.{arith}
 use Rattle.mv_binary_format.proofs.Back.{all-are_bytes}
 use Rattle.mv_binary_format.proofs.laws.are_bytes.Goals as goal
 

@@ -1,4 +1,4 @@
-use Rattle.std.proofs.Common.{ℕ}
+use Rattle.mv_binary_format.proofs.Common.{ℕ}
 use Rattle.mv_binary_format.proofs.OfTables.{TableLaws}
 use Rattle.mv_binary_format.proofs.Back.{whole-sound, whole-complete}
 use Rattle.mv_binary_format.proofs.laws.modules_are_read_by_text.Goals as goal

@@ -1,5 +1,4 @@
-use Rattle.std.proofs.Common.{sym, ◌∙◌}
-use Rattle.std.proofs.lemmas.Option.{same_Some}
+use Rattle.mv_binary_format.proofs.Common.{◌∙◌, sym, same_Some}
 use Rattle.mv_binary_format.proofs.laws.texts_are_of_one_module.Goals as goal
 
 pub returns : goal.returns

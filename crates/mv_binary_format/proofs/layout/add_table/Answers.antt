@@ -1,7 +1,4 @@
-use Rattle.std.proofs.Common.{◌≡◌, length, flat_map, sym, arith}
-use Rattle.std.proofs.lemmas.Grind.{common_steps}
-use Rattle.mv_binary_format.specs.Kinds.{table_code}
-use Rattle.mv_binary_format.specs.Written.{written_headers}
+use Rattle.mv_binary_format.proofs.Common.{◌≡◌, arith, length, sym, common_steps, flat_map, table_code, written_headers}
 use Rattle.mv_binary_format.proofs.Ordered.{AreOf-next}
 use Rattle.mv_binary_format.proofs.layout.add_table.Goals as goal
 

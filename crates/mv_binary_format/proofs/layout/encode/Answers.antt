@@ -1,6 +1,5 @@
-use Rattle.std.proofs.Common.{sym, subst}
+use Rattle.mv_binary_format.proofs.Common.{subst, sym, IsModuleText}
 use Rattle.std.proofs.lemmas.Result.{IfOk-weaker}
-use Rattle.mv_binary_format.specs.ModuleText.{IsModuleText}
 use Rattle.mv_binary_format.proofs.Ordered.{ordered_is_text, IfOk-both}
 use Rattle.mv_binary_format.proofs.layout.encode.Goals as goal
 

@@ -1,5 +1,4 @@
-use Rattle.std.proofs.Common.{[]}
-use Rattle.mv_binary_format.specs.Written.{written_headers, AreOf}
+use Rattle.mv_binary_format.proofs.Common.{[], AreOf, written_headers}
 use Rattle.mv_binary_format.proofs.Ordered.{AreOf-start}
 use Rattle.mv_binary_format.proofs.layout.lay_out.Goals as goal
 

@@ -1,4 +1,4 @@
-use Rattle.std.proofs.Common.{◌≡◌, ◌++◌, flat_map, take}
+use Rattle.mv_binary_format.proofs.Common.{◌++◌, ◌≡◌, take, flat_map}
 use Rattle.mv_binary_format.proofs.layout.write_entries.Given as goal
 
 abbrev pub invariant-loop-entry : goal.invariant-loop-entry

@@ -1,6 +1,4 @@
-use Rattle.std.proofs.Common.{◌≡◌, ◌∙◌, ap, length, get_or, Some, slice_get, refl}
-use Rattle.std.proofs.lemmas.Option.{slice_get_read}
-use Rattle.mv_move_types.specs.Module.{Module}
+use Rattle.mv_bounds.proofs.Common.{◌∙◌, ◌≡◌, Some, ap, get_or, length, refl, slice_get_read, slice_get, Module}
 use Rattle.mv_bounds.proofs.Bounded.code.Goals as goal
 
 pub returns : goal.returns

@@ -1,8 +1,5 @@
-use Rattle.std.proofs.Common.{◌≡◌, length, slice_get, Some, get_or, subst, ◌∙◌, sym, ap, refl}
-use Rattle.std.proofs.lemmas.Option.{slice_get-get_or, slice_get_read}
-use Rattle.mv_move_types.specs.Module.{Module}
-use Rattle.mv_bounds.specs.Bounds.{InBounds}
-use Rattle.mv_bounds.specs.Functions.{IsDefined}
+use Rattle.mv_bounds.proofs.Common.{◌∙◌, ◌≡◌, Some, ap, get_or, length, refl, subst, sym, slice_get_read, slice_get, Module, InBounds, IsDefined}
+use Rattle.std.proofs.lemmas.Option.{slice_get-get_or}
 use Rattle.mv_bounds.proofs.FunctionLemmas.{is_defined, handle_below}
 use Rattle.mv_bounds.proofs.Bounded.defined.Goals as goal
 

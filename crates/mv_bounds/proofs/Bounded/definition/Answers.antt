@@ -1,9 +1,5 @@
-use Rattle.std.proofs.Common.{◌∙◌, ap, ◌==◌, None, Option, List, ℕ}
+use Rattle.mv_bounds.proofs.Common.{ℕ, ◌==◌, ◌∙◌, List, None, Option, ap, unwrap_or-slice_get, slice_get, FunctionDefinition, Module, find_index}
 use Rattle.std.specs.Option.{unwrap_or}
-use Rattle.std.specs.List.{slice_get}
-use Rattle.std.proofs.lemmas.Option.{unwrap_or-slice_get}
-use Rattle.mv_move_types.specs.Options.{find_index}
-use Rattle.mv_move_types.specs.Module.{Module, FunctionDefinition}
 use Rattle.mv_bounds.proofs.HandleLemmas.{function_at, found-below}
 use Rattle.mv_bounds.proofs.Bounded.definition.Goals as goal
 

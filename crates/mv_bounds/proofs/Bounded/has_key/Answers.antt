@@ -1,5 +1,4 @@
-use Rattle.std.proofs.Common.{refl, ap, ◌∙◌}
-use Rattle.mv_move_types.specs.Module.{Module}
+use Rattle.mv_bounds.proofs.Common.{◌∙◌, ap, refl, Module}
 use Rattle.mv_bounds.proofs.Entries.{got, missed}
 use Rattle.mv_bounds.proofs.Bounded.has_key.Goals as goal
 

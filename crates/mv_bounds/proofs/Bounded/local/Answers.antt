@@ -1,4 +1,4 @@
-use Rattle.std.proofs.Common.{ap, sym, ◌∙◌, ◌++◌, slice_get}
+use Rattle.mv_bounds.proofs.Common.{◌++◌, ◌∙◌, ap, sym, slice_get}
 use Rattle.mv_bounds.proofs.FunctionLemmas.{parameters_are, others_are, local_is}
 use Rattle.mv_bounds.proofs.Bounded.local.Goals as goal
 

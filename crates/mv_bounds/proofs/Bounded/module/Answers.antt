@@ -1,5 +1,4 @@
-use Rattle.std.proofs.Common.{subst}
-use Rattle.mv_bounds.specs.Bounds.{InBounds}
+use Rattle.mv_bounds.proofs.Common.{subst, InBounds}
 use Rattle.mv_bounds.proofs.Bounded.module.Goals as goal
 
 pub returns-clause-bounds : goal.returns-clause-bounds

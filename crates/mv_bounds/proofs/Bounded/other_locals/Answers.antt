@@ -1,4 +1,4 @@
-use Rattle.std.proofs.Common.{ap, sym, ◌∙◌, slice_get}
+use Rattle.mv_bounds.proofs.Common.{◌∙◌, ap, sym, slice_get}
 use Rattle.mv_bounds.proofs.FunctionLemmas.{others_are}
 use Rattle.mv_bounds.proofs.Bounded.other_locals.Goals as goal
 

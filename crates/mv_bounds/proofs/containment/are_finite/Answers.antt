@@ -1,7 +1,4 @@
-use Rattle.std.proofs.Common.{◌≡◌, ◌↔◌, ◌∙◌, ap, map, ℕ, List, Vec, Global, true}
-use Rattle.std.proofs.lemmas.Result.{IfOk-weaker}
-use Rattle.mv_bounds.specs.Definitions.{Holds}
-use Rattle.mv_bounds.specs.Cycles.{IsAcyclic}
+use Rattle.mv_bounds.proofs.Common.{ℕ, ◌↔◌, ◌∙◌, ◌≡◌, Global, List, Vec, ap, map, true, IfOk-weaker, IsAcyclic, Holds}
 use Rattle.mv_bounds.proofs.ContainmentLemmas.{finite_from_acyclic}
 use Rattle.mv_bounds.proofs.containment.are_finite.Goals as goal
 

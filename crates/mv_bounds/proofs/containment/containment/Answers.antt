@@ -1,7 +1,4 @@
-use Rattle.std.proofs.Common.{◌≤◌, ◌∙◌, ap, map, ℕ, List, Vec, Global, length, subst}
-use Rattle.std.proofs.lemmas.List.{take_all}
-use Rattle.mv_move_types.specs.Module.{StructDefinition}
-use Rattle.mv_bounds.specs.Containment.{places_of}
+use Rattle.mv_bounds.proofs.Common.{ℕ, ◌∙◌, ◌≤◌, Global, List, Vec, ap, length, map, subst, take_all, StructDefinition, places_of}
 use Rattle.mv_bounds.proofs.ContainmentLemmas.{containment_is}
 use Rattle.mv_bounds.proofs.containment.containment.Goals as goal
 

@@ -1,6 +1,4 @@
-use Rattle.std.proofs.Common.{◌≡◌, map, take, ℕ, Vec, Global}
-use Rattle.mv_move_types.specs.Module.{StructDefinition}
-use Rattle.mv_bounds.specs.Containment.{places_of}
+use Rattle.mv_bounds.proofs.Common.{ℕ, ◌≡◌, Global, Vec, map, take, StructDefinition, places_of}
 use Rattle.mv_bounds.proofs.containment.containment.Given as goal
 
 abbrev pub invariant-loop-d : goal.invariant-loop-d

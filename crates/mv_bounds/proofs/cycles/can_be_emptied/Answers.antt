@@ -1,9 +1,6 @@
-use Rattle.std.proofs.Common.{◌≡◌, ◌<◌, ◌≤◌, ◌∙◌, sym, refl, ap, subst, arith, ℕ, Bool, true, List, Vec, Global, Some, get_or, set, drop, length, map, slice_get, []}
-use Rattle.std.proofs.lemmas.List.{take_at, length-map, nil_from_length}
-use Rattle.std.specs.List.{list_all}
-use Rattle.std.proofs.lemmas.Option.{slice_get-map, slice_get_read}
-use Rattle.std.specs.Option.{option_map}
-use Rattle.mv_bounds.specs.Removal.{times, is_zero, are_nodes, Removal, Released}
+use Rattle.mv_bounds.proofs.Common.{[], ℕ, ◌<◌, ◌∙◌, ◌≡◌, ◌≤◌, Bool, Global, List, Some, Vec, ap, arith, drop, get_or, length, map, refl, set, subst, sym, true, length-map, take_at}
+use Rattle.mv_bounds.proofs.Common.{slice_get-map, slice_get_read, list_all, slice_get, option_map, Released, Removal, are_nodes, is_zero, times}
+use Rattle.std.proofs.lemmas.List.{nil_from_length}
 use Rattle.mv_bounds.proofs.RemovalLemmas.{removal_begins, node_within, unmarked, edges_held, removal_more, removal_ends, fewer_remain}
 use Rattle.mv_bounds.proofs.cycles.can_be_emptied.Goals as goal
 

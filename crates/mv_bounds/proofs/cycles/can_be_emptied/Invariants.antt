@@ -1,5 +1,4 @@
-use Rattle.std.proofs.Common.{map, ℕ, Vec, Global}
-use Rattle.mv_bounds.specs.Removal.{Removal}
+use Rattle.mv_bounds.proofs.Common.{ℕ, Global, Vec, map, Removal}
 use Rattle.mv_bounds.proofs.RemovalLemmas.{remaining}
 use Rattle.mv_bounds.proofs.cycles.can_be_emptied.Given as goal
 

@@ -1,6 +1,4 @@
-use Rattle.std.proofs.Common.{ℕ, List, ◌+◌, ◌≤◌, arith, get_or, take, length, refl, ap, ◌∙◌, length-take-le}
-use Rattle.std.proofs.lemmas.List.{take_all}
-use Rattle.mv_bounds.specs.Removal.{times}
+use Rattle.mv_bounds.proofs.Common.{ℕ, ◌+◌, ◌∙◌, ◌≤◌, List, ap, arith, get_or, length, refl, take, length-take-le, take_all, times}
 use Rattle.mv_bounds.proofs.TimesLemmas.{times_length}
 use Rattle.mv_bounds.proofs.CountLemmas.{count_hit, count_miss}
 use Rattle.mv_bounds.proofs.cycles.count.Goals.{then-target-counts, else-target-counts}

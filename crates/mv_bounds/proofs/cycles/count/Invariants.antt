@@ -1,5 +1,4 @@
-use Rattle.std.proofs.Common.{◌≡◌, ℕ, ◌+◌, ◌<◌, length, get_or, take}
-use Rattle.mv_bounds.specs.Removal.{times}
+use Rattle.mv_bounds.proofs.Common.{ℕ, ◌+◌, ◌<◌, ◌≡◌, get_or, length, take, times}
 use Rattle.mv_bounds.proofs.cycles.count.Given as goal
 
 abbrev pub invariant-loop-target : goal.invariant-loop-target

@@ -1,6 +1,4 @@
-use Rattle.std.proofs.Common.{◌≡◌, ◌<◌, ◌+◌, ◌^◌, ℕ, List, arith, get_or, take, drop, ◌++◌, length, sym, ap, ◌∙◌, subst}
-use Rattle.std.proofs.lemmas.List.{take_at}
-use Rattle.mv_bounds.specs.Removal.{times}
+use Rattle.mv_bounds.proofs.Common.{ℕ, ◌++◌, ◌+◌, ◌<◌, ◌^◌, ◌∙◌, ◌≡◌, List, ap, arith, drop, get_or, length, subst, sym, take, take_at, times}
 use Rattle.mv_bounds.proofs.TimesLemmas.{times_length}
 use Rattle.mv_bounds.proofs.CountLemmas.{incoming_more}
 use Rattle.mv_bounds.proofs.cycles.incoming.Goals as goal

@@ -1,5 +1,4 @@
-use Rattle.std.proofs.Common.{◌≡◌, ℕ, ◌*◌, ◌^◌, ◌<◌, ◌≤◌, length, get_or, take, map, [], Vec, Global}
-use Rattle.mv_bounds.specs.Removal.{edges_to}
+use Rattle.mv_bounds.proofs.Common.{[], ℕ, ◌*◌, ◌<◌, ◌^◌, ◌≡◌, ◌≤◌, Global, Vec, get_or, length, map, take, edges_to}
 use Rattle.mv_bounds.proofs.cycles.incoming.Given as goal
 
 abbrev pub invariant-loop-targets : goal.invariant-loop-targets

@@ -1,6 +1,5 @@
-use Rattle.std.proofs.Common.{◌≡◌, ◌<◌, ◌+◌, ◌-◌, ◌∙◌, sym, refl, ap, subst, arith, ℕ, List, Vec, Global, get_or, set, take, length, [], ◌∷◌, ◌++◌, get_or-set_same}
-use Rattle.std.proofs.lemmas.List.{take_all}
-use Rattle.mv_bounds.specs.Removal.{Released}
+use Rattle.mv_bounds.proofs.Common.{[], ℕ, ◌++◌, ◌+◌, ◌<◌, ◌∙◌, ◌∷◌, ◌≡◌, Global, List, Vec, ap, arith, get_or, get_or-set_same, length, refl, set, subst, sym, take, take_all, Released}
+use Rattle.std.proofs.Common.{◌-◌}
 use Rattle.mv_bounds.proofs.ReleaseLemmas.{one_left, released_past, released_more, released_last}
 use Rattle.mv_bounds.proofs.cycles.release.Goals.{then-target-waiting+then-waiting-target-eq0+in_ok-push, then-target-waiting+else-waiting-target-eq0, else-target-waiting}
 use Rattle.mv_bounds.proofs.cycles.release.Goals as goal

@@ -1,5 +1,4 @@
-use Rattle.std.proofs.Common.{length, take}
-use Rattle.mv_bounds.specs.Removal.{Released}
+use Rattle.mv_bounds.proofs.Common.{length, take, Released}
 use Rattle.mv_bounds.proofs.cycles.release.Given as goal
 
 abbrev pub invariant-loop-target : goal.invariant-loop-target

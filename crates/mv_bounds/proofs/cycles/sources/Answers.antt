@@ -1,5 +1,4 @@
-use Rattle.std.proofs.Common.{◌≡◌, ◌∙◌, ap, Vec, ℕ, Global, length, ◌∷◌, [], ◌++◌}
-use Rattle.mv_bounds.specs.Removal.{are_nodes, times}
+use Rattle.mv_bounds.proofs.Common.{[], ℕ, ◌++◌, ◌∙◌, ◌∷◌, ◌≡◌, Global, Vec, ap, length, are_nodes, times}
 use Rattle.mv_bounds.proofs.CountLemmas.{source_more, source_none, nodes_push}
 use Rattle.mv_bounds.proofs.cycles.sources.Goals.{then-waiting-node-eq0+in_ok-push, else-waiting-node-eq0}
 use Rattle.mv_bounds.proofs.cycles.sources.Goals as goal

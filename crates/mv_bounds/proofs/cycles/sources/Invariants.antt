@@ -1,5 +1,4 @@
-use Rattle.std.proofs.Common.{◌≡◌, ℕ, cond, true, length, get_or, nat_lt}
-use Rattle.mv_bounds.specs.Removal.{times, is_zero, are_nodes}
+use Rattle.mv_bounds.proofs.Common.{ℕ, ◌≡◌, cond, get_or, length, nat_lt, true, are_nodes, is_zero, times}
 use Rattle.mv_bounds.proofs.cycles.sources.Given as goal
 
 abbrev pub invariant-loop-node : goal.invariant-loop-node

@@ -1,7 +1,4 @@
-use Rattle.std.proofs.Common.{◌≡◌, ◌∙◌, ap, ap₂, map, Bor, List, ℕ}
-use Rattle.std.proofs.lemmas.List.{take_all}
-use Rattle.mv_move_types.specs.Module.{Constant}
-use Rattle.mv_bounds.specs.Codes.{token_code}
+use Rattle.mv_bounds.proofs.Common.{ℕ, ◌∙◌, ◌≡◌, Bor, List, ap, ap₂, map, take_all, Constant, token_code}
 use Rattle.mv_bounds.proofs.Entries.{gather_more}
 use Rattle.mv_bounds.proofs.duplicates.constant_keys.Goals as goal
 

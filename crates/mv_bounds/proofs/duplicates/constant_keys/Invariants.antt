@@ -1,6 +1,4 @@
-use Rattle.std.proofs.Common.{◌≡◌, List, ℕ, map, take}
-use Rattle.mv_move_types.specs.Module.{Constant}
-use Rattle.mv_bounds.specs.Codes.{token_code}
+use Rattle.mv_bounds.proofs.Common.{ℕ, ◌≡◌, List, map, take, Constant, token_code}
 use Rattle.mv_bounds.proofs.duplicates.constant_keys.Given as goal
 
 abbrev pub invariant-loop-constant : goal.invariant-loop-constant

@@ -1,6 +1,4 @@
-use Rattle.std.proofs.Common.{◌∙◌, ap, eqb, ◌&&◌, bytes_eq, map, Bool, Bor, List, ℕ}
-use Rattle.mv_move_types.specs.Module.{Constant}
-use Rattle.mv_bounds.specs.Codes.{token_code}
+use Rattle.mv_bounds.proofs.Common.{ℕ, ◌&&◌, ◌∙◌, Bool, Bor, List, ap, bytes_eq, eqb, map, Constant, token_code}
 use Rattle.mv_bounds.specs.Definitions.{same_constant}
 use Rattle.mv_bounds.proofs.Distinct.{answer_by_keys}
 use Rattle.mv_bounds.proofs.TypeLemmas.{tokens_by_code}

@@ -1,5 +1,4 @@
-use Rattle.std.proofs.Common.{arith, ap, Vec, Global, ℕ, count_by, ◌==◌, ◌∙◌}
-use Rattle.std.proofs.lemmas.List.{take_all}
+use Rattle.mv_bounds.proofs.Common.{ℕ, ◌==◌, ◌∙◌, Global, Vec, ap, arith, count_by, take_all}
 use Rattle.mv_bounds.proofs.Defined.{counted_low, counted_hit, counted_miss}
 use Rattle.mv_bounds.proofs.duplicates.counts.Goals.{then-at-n, else-at-n}
 use Rattle.mv_bounds.proofs.duplicates.counts.Goals as goal

@@ -1,5 +1,4 @@
-use Rattle.std.proofs.Common.{◌≡◌, ◌<◌, ◌==◌, ℕ, cond, length, get_or, count_by, ne_eqb, sym, ◌∙◌, arith}
-use Rattle.std.proofs.lemmas.List.{get_or_read}
+use Rattle.mv_bounds.proofs.Common.{ℕ, ◌<◌, ◌==◌, ◌∙◌, ◌≡◌, arith, cond, count_by, get_or, length, ne_eqb, sym, get_or_read}
 use Rattle.mv_bounds.proofs.Defined.{fails_at, number_of}
 use Rattle.mv_bounds.proofs.duplicates.defined_once.Goals as goal
 

@@ -1,5 +1,5 @@
-use Rattle.std.proofs.Common.{◌≡◌, true, slice_index}
-use Rattle.mv_bounds.specs.Definitions.{defined_once}
+use Rattle.mv_bounds.proofs.Common.{◌≡◌, true, defined_once}
+use Rattle.std.proofs.Common.{slice_index}
 use Rattle.mv_bounds.proofs.duplicates.defined_once.Given as goal
 
 abbrev pub invariant-loop-h : goal.invariant-loop-h

@@ -1,4 +1,4 @@
-use Rattle.std.proofs.Common.{eqb, length, ap, ◌∙◌, sym}
+use Rattle.mv_bounds.proofs.Common.{◌∙◌, ap, eqb, length, sym}
 use Rattle.std.specs.Ordering.{eq_by_cmp}
 use Rattle.std.proofs.lemmas.Map.Views.{btree_set_len-from_list}
 use Rattle.mv_bounds.proofs.Distinct.{all_differ_by_count, all_differ_alike}

@@ -1,4 +1,4 @@
-use Rattle.std.proofs.Common.{ℕ, ◌==◌, ◌&&◌, ◌∙◌}
+use Rattle.mv_bounds.proofs.Common.{ℕ, ◌&&◌, ◌==◌, ◌∙◌}
 use Rattle.mv_move_types.specs.declared.tables.FieldHandle.{FieldHandle}
 use Rattle.mv_bounds.proofs.Distinct.{answer_of_keys}
 use Rattle.mv_bounds.proofs.duplicates.field_handles_differ.Goals as goal

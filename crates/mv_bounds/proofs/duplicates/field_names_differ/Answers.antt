@@ -1,5 +1,4 @@
-use Rattle.std.proofs.Common.{◌==◌, ◌∙◌, sym}
-use Rattle.mv_move_types.specs.declared.tables.Field.{Field}
+use Rattle.mv_bounds.proofs.Common.{◌==◌, ◌∙◌, sym, Field}
 use Rattle.mv_bounds.proofs.Distinct.{first_differs}
 use Rattle.mv_bounds.proofs.duplicates.field_names_differ.Goals as goal
 

@@ -1,6 +1,4 @@
-use Rattle.std.proofs.Common.{◌≡◌, ◌==◌, length}
-use Rattle.mv_move_types.specs.declared.tables.Field.{Field}
-use Rattle.mv_bounds.specs.Definitions.{all_differ}
+use Rattle.mv_bounds.proofs.Common.{◌==◌, ◌≡◌, length, Field, all_differ}
 use Rattle.mv_bounds.proofs.duplicates.field_names_differ.Given as goal
 
 abbrev pub invariant-loop-first : goal.invariant-loop-first

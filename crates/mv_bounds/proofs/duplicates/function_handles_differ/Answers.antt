@@ -1,5 +1,4 @@
-use Rattle.std.proofs.Common.{ℕ, ◌==◌, ◌&&◌, ◌∙◌}
-use Rattle.mv_move_types.specs.declared.tables.FunctionHandle.{FunctionHandle}
+use Rattle.mv_bounds.proofs.Common.{ℕ, ◌&&◌, ◌==◌, ◌∙◌, FunctionHandle}
 use Rattle.mv_bounds.proofs.Distinct.{answer_of_keys}
 use Rattle.mv_bounds.proofs.duplicates.function_handles_differ.Goals as goal
 

@@ -1,6 +1,4 @@
-use Rattle.std.proofs.Common.{◌∙◌, map}
-use Rattle.mv_move_types.specs.Module.{FunctionDefinition}
-use Rattle.mv_move_types.specs.declared.tables.FunctionHandle.{FunctionHandle}
+use Rattle.mv_bounds.proofs.Common.{◌∙◌, map, FunctionDefinition, FunctionHandle}
 use Rattle.mv_bounds.proofs.Defined.{answer_of_homes}
 use Rattle.mv_bounds.proofs.duplicates.functions_defined_once.Goals as goal
 

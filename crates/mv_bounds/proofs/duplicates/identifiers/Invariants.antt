@@ -1,4 +1,4 @@
-use Rattle.std.proofs.Common.{◌≡◌, map, take}
+use Rattle.mv_bounds.proofs.Common.{◌≡◌, map, take}
 use Rattle.mv_bounds.proofs.duplicates.identifiers.Given as goal
 
 abbrev pub invariant-loop-i : goal.invariant-loop-i

@@ -1,4 +1,4 @@
-use Rattle.std.proofs.Common.{ℕ, ◌==◌, ◌&&◌, ◌∙◌}
+use Rattle.mv_bounds.proofs.Common.{ℕ, ◌&&◌, ◌==◌, ◌∙◌}
 use Rattle.mv_move_types.specs.declared.tables.ModuleHandle.{ModuleHandle}
 use Rattle.mv_bounds.proofs.Distinct.{answer_of_keys}
 use Rattle.mv_bounds.proofs.duplicates.module_names_differ.Goals as goal

@@ -1,5 +1,4 @@
-use Rattle.std.proofs.Common.{◌≡◌, map, take}
-use Rattle.mv_bounds.specs.Codes.{token_code}
+use Rattle.mv_bounds.proofs.Common.{◌≡◌, map, take, token_code}
 use Rattle.mv_bounds.proofs.duplicates.signature_codes.Given as goal
 
 abbrev pub invariant-loop-i : goal.invariant-loop-i

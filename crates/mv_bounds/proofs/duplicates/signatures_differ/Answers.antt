@@ -1,7 +1,4 @@
-use Rattle.std.proofs.Common.{◌≡◌, ◌∙◌, ap, eqb, refl, map, Bor, List, ℕ, Vec, Global}
-use Rattle.std.specs.Cmp.Lexicographic.{pointwise}
-use Rattle.mv_move_types.specs.Tokens.{same_tokens}
-use Rattle.mv_bounds.specs.Codes.{token_code}
+use Rattle.mv_bounds.proofs.Common.{ℕ, ◌∙◌, ◌≡◌, Bor, Global, List, Vec, ap, eqb, map, refl, pointwise, same_tokens, token_code}
 use Rattle.mv_bounds.proofs.Distinct.{answer_by_keys}
 use Rattle.mv_bounds.proofs.TypeLemmas.{lists_by_code}
 use Rattle.mv_bounds.proofs.duplicates.signatures_differ.Goals as goal

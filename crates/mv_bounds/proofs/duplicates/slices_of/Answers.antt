@@ -1,5 +1,4 @@
-use Rattle.std.proofs.Common.{◌∙◌, ap, map, Bor, List, ℕ, Vec, Global}
-use Rattle.std.proofs.lemmas.List.{take_all}
+use Rattle.mv_bounds.proofs.Common.{ℕ, ◌∙◌, Bor, Global, List, Vec, ap, map, take_all}
 use Rattle.mv_bounds.proofs.Entries.{gather_more}
 use Rattle.mv_bounds.proofs.duplicates.slices_of.Goals as goal
 

@@ -1,6 +1,4 @@
-use Rattle.std.proofs.Common.{◌∙◌, map}
-use Rattle.mv_move_types.specs.Module.{StructDefinition}
-use Rattle.mv_move_types.specs.declared.tables.StructHandle.{StructHandle}
+use Rattle.mv_bounds.proofs.Common.{◌∙◌, map, StructDefinition, StructHandle}
 use Rattle.mv_bounds.proofs.Defined.{answer_of_homes}
 use Rattle.mv_bounds.proofs.duplicates.structs_defined_once.Goals as goal
 

@@ -1,6 +1,4 @@
-use Rattle.std.proofs.Common.{sym, ap, ◌∙◌, ◌≡◌, bytes_eq, List, ℕ, Bor, map}
-use Rattle.std.proofs.lemmas.Result.{IfOk-weaker}
-use Rattle.mv_bounds.specs.Definitions.{all_differ}
+use Rattle.mv_bounds.proofs.Common.{ℕ, ◌∙◌, ◌≡◌, Bor, List, ap, bytes_eq, map, sym, IfOk-weaker, all_differ}
 use Rattle.mv_bounds.proofs.Distinct.{all_differ_mapped}
 use Rattle.mv_bounds.proofs.duplicates.texts_differ.Goals as goal
 

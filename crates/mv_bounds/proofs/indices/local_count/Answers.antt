@@ -1,4 +1,4 @@
-use Rattle.std.proofs.Common.{refl, sym, ap, ◌∙◌, slice_get, length-append}
+use Rattle.mv_bounds.proofs.Common.{◌∙◌, ap, length-append, refl, sym, slice_get}
 use Rattle.mv_bounds.proofs.Entries.{got, missed}
 use Rattle.mv_bounds.proofs.indices.local_count.Goals as goal
 

@@ -1,6 +1,4 @@
-use Rattle.std.proofs.Common.{sym, ◌∙◌}
-use Rattle.std.specs.List.{list_all}
-use Rattle.mv_bounds.specs.Bounds.{token_in}
+use Rattle.mv_bounds.proofs.Common.{◌∙◌, sym, list_all, token_in}
 use Rattle.mv_bounds.proofs.Entries.{all_pass_more, all_pass_not}
 use Rattle.mv_bounds.proofs.indices.signatures_in.Goals as goal
 

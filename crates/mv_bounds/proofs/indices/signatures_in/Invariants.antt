@@ -1,6 +1,4 @@
-use Rattle.std.proofs.Common.{◌≡◌, true, take}
-use Rattle.std.specs.List.{list_all}
-use Rattle.mv_bounds.specs.Bounds.{token_in}
+use Rattle.mv_bounds.proofs.Common.{◌≡◌, take, true, list_all, token_in}
 use Rattle.mv_bounds.proofs.indices.signatures_in.Given as goal
 
 abbrev pub invariant-loop-i : goal.invariant-loop-i

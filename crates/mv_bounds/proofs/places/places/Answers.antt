@@ -1,11 +1,7 @@
-use Rattle.std.proofs.Common.{◌≡◌, ◌<◌, ◌∙◌, sym, ap, subst, arith, ℕ, Bool, true, false, Option, Some, None, List, Vec, Global, get_or, length, refl}
+use Rattle.mv_bounds.proofs.Common.{ℕ, ◌<◌, ◌∙◌, ◌≡◌, Bool, Global, List, None, Option, Some, Vec, ap, arith, false, get_or, length, not, refl, subst, sym, true, false≢true, get_or_read}
+use Rattle.mv_bounds.proofs.Common.{take_all, none-some, ArePlaces}
 use Rattle.std.specs.Option.{is_some}
-use Rattle.std.specs.Prelude.{not}
-use Rattle.std.proofs.lemmas.Option.{none-some}
-use Rattle.std.proofs.lemmas.Bool.{false≢true}
 use Rattle.std.proofs.lemmas.Grind.{get_or_default_zero}
-use Rattle.std.proofs.lemmas.List.{get_or_read, take_all}
-use Rattle.mv_bounds.specs.Places.{ArePlaces}
 use Rattle.mv_bounds.proofs.HandleLemmas.{places_new, places_kept, some_place}
 use Rattle.mv_bounds.proofs.places.places.Goals.{then-handle-len+then-is_none, else-handle-len, else-handle-len-via-then-handle-len+else-is_none, else-handle-len-via-else-handle-len}
 use Rattle.mv_bounds.proofs.places.places.Goals as goal

@@ -1,5 +1,4 @@
-use Rattle.std.proofs.Common.{take}
-use Rattle.mv_bounds.specs.Places.{ArePlaces}
+use Rattle.mv_bounds.proofs.Common.{take, ArePlaces}
 use Rattle.mv_bounds.proofs.places.places.Given as goal
 
 abbrev pub invariant-loop-i : goal.invariant-loop-i

@@ -1,4 +1,4 @@
-use Rattle.std.proofs.lemmas.Result.{IfErr-weaker}
+use Rattle.mv_certificate.proofs.Common.{IfErr-weaker}
 use Rattle.mv_certificate.proofs.Refusals.{acquires-refused}
 use Rattle.mv_certificate.proofs.checking.check_acquires.Goals as goal
 

@@ -1,4 +1,4 @@
-use Rattle.std.proofs.lemmas.Result.{IfErr-weaker}
+use Rattle.mv_certificate.proofs.Common.{IfErr-weaker}
 use Rattle.mv_certificate.proofs.Refusals.{locals-refused}
 use Rattle.mv_certificate.proofs.checking.check_locals.Goals as goal
 

@@ -1,5 +1,4 @@
-use Rattle.std.proofs.Common.{◌∙◌, ap}
-use Rattle.mv_lattice.specs.Flow.{states_of}
+use Rattle.mv_certificate.proofs.Common.{◌∙◌, ap, states_of}
 use Rattle.mv_certificate.proofs.States.{graph-at, locals-flow-at}
 use Rattle.mv_certificate.proofs.Holds.{locals_exact_at, refused_flow}
 use Rattle.mv_certificate.proofs.checking.check_locals_of.Goals as goal

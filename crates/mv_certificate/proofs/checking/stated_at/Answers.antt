@@ -1,4 +1,4 @@
-use Rattle.std.proofs.Common.{arith}
+use Rattle.mv_certificate.proofs.Common.{arith}
 use Rattle.mv_certificate.proofs.States.{fit-at, fit-length}
 use Rattle.mv_certificate.proofs.checking.stated_at.Goals as goal
 

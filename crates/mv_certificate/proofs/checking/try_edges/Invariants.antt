@@ -1,6 +1,4 @@
-use Rattle.std.proofs.Common.{◌≡◌, ℕ, ◌<◌, Some, slice_get}
-use Rattle.mv_certificate.specs.Certificate.{Stated}
-use Rattle.mv_certificate.specs.Functions.{EdgesHoldAt}
+use Rattle.mv_certificate.proofs.Common.{ℕ, ◌<◌, ◌≡◌, Some, slice_get, Stated, EdgesHoldAt}
 use Rattle.mv_certificate.proofs.checking.try_edges.Given as goal
 
 abbrev pub invariant-loop-f : goal.invariant-loop-f

@@ -1,9 +1,4 @@
-use Rattle.std.proofs.Common.{IsTrue, sym, ◌∙◌, subst, arith, rules}
-use Rattle.std.proofs.lemmas.Option.{same_Some, slice_get_within}
-use borrow.Author.Count.{below_more}
-use Rattle.mv_move_types.specs.Refusals.{IsRefusedIn}
-use Rattle.mv_certificate.specs.Certificate.{all_locals_hold}
-use Rattle.mv_certificate.specs.Functions.{LocalsHoldAt}
+use Rattle.mv_certificate.proofs.Common.{below_more, ◌∙◌, IsTrue, arith, rules, subst, sym, same_Some, slice_get_within, IsRefusedIn, all_locals_hold, LocalsHoldAt}
 use Rattle.mv_certificate.proofs.States.{fit-length}
 use Rattle.mv_certificate.proofs.Holds.{each-passes, passes-each, refused_one}
 use Rattle.mv_certificate.proofs.checking.try_locals.Goals as goal

@@ -1,7 +1,5 @@
-use Rattle.std.proofs.Common.{◌≡◌, ◌+◌, ◌++◌, ◌∷◌, [], arith, subst, sym}
-use Rattle.std.proofs.lemmas.Grind.{common_steps}
-use Rattle.mv_certificate.specs.Parsing.{availability_from}
-use Rattle.mv_module_text.proofs.Entries.{ReadsOn, ReadsOn-start, ReadsOn-next}
+use Rattle.mv_certificate.proofs.Common.{[], ◌++◌, ◌+◌, ◌∷◌, ◌≡◌, arith, subst, sym, common_steps, ReadsOn, ReadsOn-next, availability_from}
+use Rattle.mv_module_text.proofs.Entries.{ReadsOn-start}
 use Rattle.mv_certificate.proofs.Loops.{ReadsOn-breaks, ReadsOn-whole}
 use Rattle.mv_certificate.proofs.reading.read_availabilities.Goals as goal
 

@@ -1,5 +1,4 @@
-use Rattle.mv_certificate.specs.Parsing.{availability_from}
-use Rattle.mv_module_text.proofs.Entries.{ReadsOn}
+use Rattle.mv_certificate.proofs.Common.{ReadsOn, availability_from}
 use Rattle.mv_certificate.proofs.reading.read_availabilities.Given as goal
 
 abbrev pub invariant-locals : goal.invariant-locals

@@ -1,6 +1,4 @@
-use Rattle.std.proofs.Common.{◌≡◌, ◌+◌, ◌++◌, ◌∷◌, ◌∙◌, [], Err, inl, inr, ap, arith, subst, sym, true≢false}
-use Rattle.std.proofs.lemmas.Grind.{common_steps}
-use Rattle.mv_certificate.specs.Reads.{IsUnreadAt}
+use Rattle.mv_certificate.proofs.Common.{[], ◌++◌, ◌+◌, ◌∙◌, ◌∷◌, ◌≡◌, Err, ap, arith, inl, inr, subst, sym, true≢false, common_steps, IsUnreadAt}
 use Rattle.mv_certificate.proofs.Marks.{all-bytes}
 use Rattle.mv_certificate.proofs.Functions.{CertOn, CertOn-start, CertOn-next, CertOn-end, CertOn-unread, CertOn-left}
 use Rattle.mv_certificate.proofs.reading.read_certificate.Goals as goal

@@ -1,8 +1,4 @@
-use Rattle.std.proofs.Common.{◌≡◌, ◌+◌, ◌++◌, ◌∷◌, [], Err, ap, arith, subst, sym, false, None, inl, inr}
-use Rattle.std.proofs.lemmas.Grind.{common_steps}
-use Rattle.mv_edges.specs.Ascending.{are_ascending}
-use Rattle.mv_certificate.specs.Parsing.{edge_from}
-use Rattle.mv_module_text.proofs.Entries.{ReadsOn, ReadsOn-next}
+use Rattle.mv_certificate.proofs.Common.{[], ◌++◌, ◌+◌, ◌∷◌, ◌≡◌, Err, None, ap, arith, false, inl, inr, subst, sym, common_steps, ReadsOn, ReadsOn-next, are_ascending, edge_from}
 use Rattle.mv_certificate.proofs.Loops.{edges-fail, edges-break, edges-end}
 use Rattle.mv_certificate.proofs.reading.read_edges.Goals as goal
 

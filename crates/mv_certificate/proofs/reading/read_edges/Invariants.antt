@@ -1,7 +1,4 @@
-use Rattle.std.proofs.Common.{◌≡◌, true}
-use Rattle.mv_edges.specs.Ascending.{are_ascending}
-use Rattle.mv_certificate.specs.Parsing.{edge_from}
-use Rattle.mv_module_text.proofs.Entries.{ReadsOn}
+use Rattle.mv_certificate.proofs.Common.{◌≡◌, true, ReadsOn, are_ascending, edge_from}
 use Rattle.mv_certificate.proofs.reading.read_edges.Given as goal
 
 abbrev pub invariant-edges : goal.invariant-edges

@@ -1,4 +1,4 @@
-use Rattle.std.proofs.Common.{arith}
+use Rattle.mv_certificate.proofs.Common.{arith}
 use Rattle.mv_certificate.proofs.Loops.{position-next, label-stops, label-unread, label-open, label-exact}
 use Rattle.mv_certificate.proofs.reading.read_label.Goals as goal
 

@@ -1,6 +1,4 @@
-use Rattle.std.proofs.Common.{◌≡◌, false}
-use Rattle.mv_uleb.specs.Parsing.{number_from}
-use Rattle.mv_module_text.proofs.Entries.{ReadsOn}
+use Rattle.mv_certificate.proofs.Common.{◌≡◌, false, number_from, ReadsOn}
 use Rattle.mv_certificate.proofs.reading.read_label.Given as goal
 
 abbrev pub invariant-positions : goal.invariant-positions

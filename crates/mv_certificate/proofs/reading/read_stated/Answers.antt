@@ -1,7 +1,4 @@
-use Rattle.std.proofs.Common.{◌≡◌, ◌≤◌, length, ◌+◌, ◌++◌, ◌∷◌, [], Err, None, ap, arith, subst, sym, map, inl, inr}
-use Rattle.std.proofs.lemmas.Grind.{common_steps}
-use Rattle.std.proofs.lemmas.List.{length-map}
-use Rattle.mv_certificate.specs.Parsing.{block_from}
+use Rattle.mv_certificate.proofs.Common.{[], ◌++◌, ◌+◌, ◌∷◌, ◌≡◌, ◌≤◌, Err, None, ap, arith, inl, inr, length, map, subst, sym, common_steps, length-map, block_from}
 use Rattle.mv_certificate.proofs.Loops.{StatedOn, StatedOn-start, StatedOn-next, StatedOn-end, StatedOn-breaks}
 use Rattle.mv_certificate.proofs.reading.read_stated.Goals as goal
 

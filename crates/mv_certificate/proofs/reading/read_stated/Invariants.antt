@@ -1,4 +1,4 @@
-use Rattle.std.proofs.Common.{map}
+use Rattle.mv_certificate.proofs.Common.{map}
 use Rattle.mv_certificate.proofs.Loops.{StatedOn}
 use Rattle.mv_certificate.proofs.reading.read_stated.Given as goal
 

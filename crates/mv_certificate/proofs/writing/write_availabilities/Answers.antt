@@ -1,4 +1,4 @@
-use Rattle.mv_certificate.specs.CertificateText.{availability_code}
+use Rattle.mv_certificate.proofs.Common.{availability_code}
 use Rattle.mv_certificate.proofs.Lists.{codes-more, codes-end}
 use Rattle.mv_certificate.proofs.writing.write_availabilities.Goals as goal
 

@@ -1,5 +1,4 @@
-use Rattle.std.proofs.Common.{◌≡◌, ◌++◌, map, take}
-use Rattle.mv_certificate.specs.CertificateText.{availability_code}
+use Rattle.mv_certificate.proofs.Common.{◌++◌, ◌≡◌, map, take, availability_code}
 use Rattle.mv_certificate.proofs.writing.write_availabilities.Given as goal
 
 abbrev pub invariant-loop-local : goal.invariant-loop-local

@@ -1,7 +1,4 @@
-use Rattle.std.proofs.Common.{◌≡◌, List, ◌++◌, sym, subst, append-nil}
-use Rattle.mv_edges.specs.Edges.{Edge}
-use Rattle.mv_module_text.specs.Entries.{counted}
-use Rattle.mv_certificate.specs.CertificateText.{edge_text}
+use Rattle.mv_certificate.proofs.Common.{◌++◌, ◌≡◌, List, append-nil, subst, sym, counted, Edge, edge_text}
 use Rattle.mv_certificate.proofs.Lists.{text-more, counted-end}
 use Rattle.mv_certificate.proofs.writing.write_edges.Goals as goal
 

@@ -1,5 +1,4 @@
-use Rattle.std.proofs.Common.{◌≡◌, ◌++◌, flat_map, take}
-use Rattle.mv_certificate.specs.CertificateText.{edge_text}
+use Rattle.mv_certificate.proofs.Common.{◌++◌, ◌≡◌, flat_map, take, edge_text}
 use Rattle.mv_certificate.proofs.writing.write_edges.Given as goal
 
 abbrev pub invariant-loop-edge : goal.invariant-loop-edge

@@ -1,5 +1,4 @@
-use Rattle.std.proofs.Common.{sym, append-nil}
-use Rattle.mv_uleb.specs.Uleb.{uleb}
+use Rattle.mv_certificate.proofs.Common.{append-nil, sym, uleb}
 use Rattle.mv_certificate.proofs.Lists.{text-next, counted-end}
 use Rattle.mv_certificate.proofs.writing.write_path.Goals as goal
 

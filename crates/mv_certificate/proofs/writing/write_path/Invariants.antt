@@ -1,5 +1,4 @@
-use Rattle.std.proofs.Common.{◌≡◌, ◌++◌, flat_map, take}
-use Rattle.mv_uleb.specs.Uleb.{uleb}
+use Rattle.mv_certificate.proofs.Common.{◌++◌, ◌≡◌, flat_map, take, uleb}
 use Rattle.mv_certificate.proofs.writing.write_path.Given as goal
 
 abbrev pub invariant-loop-position : goal.invariant-loop-position

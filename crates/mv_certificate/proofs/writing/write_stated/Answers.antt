@@ -1,5 +1,4 @@
-use Rattle.std.proofs.Common.{◌∙◌}
-use Rattle.mv_certificate.specs.CertificateText.{stated_text}
+use Rattle.mv_certificate.proofs.Common.{◌∙◌, stated_text}
 use Rattle.mv_certificate.proofs.Lists.{text-more_of, text-end_of}
 use Rattle.mv_certificate.proofs.writing.write_stated.Goals as goal
 

@@ -1,5 +1,4 @@
-use Rattle.std.proofs.Common.{◌≡◌, ◌++◌, flat_map, take}
-use Rattle.mv_certificate.specs.CertificateText.{stated_text}
+use Rattle.mv_certificate.proofs.Common.{◌++◌, ◌≡◌, flat_map, take, stated_text}
 use Rattle.mv_certificate.proofs.writing.write_stated.Given as goal
 
 abbrev pub invariant-loop-block : goal.invariant-loop-block

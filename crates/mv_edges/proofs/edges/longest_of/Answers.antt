@@ -1,4 +1,4 @@
-use Rattle.std.proofs.Common.{◌≡◌, length, ap, ◌∙◌, arith}
+use Rattle.mv_edges.proofs.Common.{◌∙◌, ◌≡◌, ap, arith, length}
 use Rattle.mv_edges.proofs.Lengths.{longest_more}
 use Rattle.mv_edges.proofs.edges.longest_of.Goals as goal
 

@@ -1,5 +1,4 @@
-use Rattle.std.proofs.Common.{◌≡◌, take}
-use Rattle.mv_edges.specs.Edges.{longest}
+use Rattle.mv_edges.proofs.Common.{◌≡◌, take, longest}
 use Rattle.mv_edges.proofs.edges.longest_of.Given as goal
 
 abbrev pub invariant-loop-e : goal.invariant-loop-e

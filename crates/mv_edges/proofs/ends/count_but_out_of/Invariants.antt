@@ -1,5 +1,4 @@
-use Rattle.std.proofs.Common.{◌≡◌, ◌≤◌, length, take}
-use Rattle.mv_edges.specs.Edges.{but_out_of}
+use Rattle.mv_edges.proofs.Common.{◌≡◌, ◌≤◌, length, take, but_out_of}
 use Rattle.mv_edges.proofs.ends.count_but_out_of.Given as goal
 
 abbrev pub invariant-loop-count : goal.invariant-loop-count

@@ -1,5 +1,4 @@
-use Rattle.std.proofs.Common.{◌≡◌, ◌≤◌, length, take}
-use Rattle.mv_edges.specs.Edges.{without}
+use Rattle.mv_edges.proofs.Common.{◌≡◌, ◌≤◌, length, take, without}
 use Rattle.mv_edges.proofs.ends.count_without.Given as goal
 
 abbrev pub invariant-loop-count : goal.invariant-loop-count

@@ -1,6 +1,4 @@
-use Rattle.std.proofs.Common.{◌≡◌, take, ◌∙◌, ap, subst, not, ◌&&◌, rules}
-use Rattle.std.proofs.lemmas.Fn.{filter_same}
-use Rattle.mv_edges.specs.Edges.{same_node, without}
+use Rattle.mv_edges.proofs.Common.{◌&&◌, ◌∙◌, ◌≡◌, ap, not, rules, subst, take, filter_same, same_node, without}
 use Rattle.mv_edges.proofs.ends.remove_at.Goals as goal
 
 pub returns-then-any_at : goal.returns-then-any_at

@@ -1,6 +1,4 @@
-use Rattle.std.proofs.Common.{◌≡◌, take, ◌∙◌, ap, subst, not, rules}
-use Rattle.std.proofs.lemmas.Fn.{filter_same}
-use Rattle.mv_edges.specs.Edges.{same_node, but_out_of}
+use Rattle.mv_edges.proofs.Common.{◌∙◌, ◌≡◌, ap, not, rules, subst, take, filter_same, but_out_of, same_node}
 use Rattle.mv_edges.proofs.ends.remove_out_of.Goals as goal
 
 pub returns-then-any_out_of : goal.returns-then-any_out_of

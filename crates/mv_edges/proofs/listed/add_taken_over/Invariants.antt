@@ -1,6 +1,4 @@
-use Rattle.std.proofs.Common.{◌≡◌, ◌++◌, take, flat_map}
-use Rattle.mv_edges.specs.Edges.{opened, inherited}
-use Rattle.mv_edges.specs.Sorted.{sorted}
+use Rattle.mv_edges.proofs.Common.{◌++◌, ◌≡◌, flat_map, take, inherited, opened, sorted}
 use Rattle.mv_edges.proofs.listed.add_taken_over.Given as goal
 
 -- what is taken over of the nodes so far is added

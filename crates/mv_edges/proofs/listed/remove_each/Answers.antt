@@ -1,4 +1,4 @@
-use Rattle.std.proofs.Common.{◌∙◌, arith}
+use Rattle.mv_edges.proofs.Common.{◌∙◌, arith}
 use Rattle.mv_edges.proofs.InOrder.{without_last}
 use Rattle.mv_edges.proofs.listed.remove_each.Goals as goal
 

@@ -1,5 +1,4 @@
-use Rattle.std.proofs.Common.{◌≡◌, ◌≤◌, length, take}
-use Rattle.mv_edges.specs.Graph.{without_each}
+use Rattle.mv_edges.proofs.Common.{◌≡◌, ◌≤◌, length, take, without_each}
 use Rattle.mv_edges.proofs.listed.remove_each.Given as goal
 
 -- without the edges at the other nodes, these are the edges without those at all

@@ -1,8 +1,4 @@
-use Rattle.std.proofs.Common.{◌++◌, flat_map, ap, ◌∙◌}
-use Rattle.std.proofs.lemmas.List.{take_all}
-use Rattle.mv_edges.specs.Edges.{inherited, opened}
-use Rattle.mv_edges.specs.Sorted.{sorted}
-use Rattle.mv_edges.specs.Graph.{taken_over, without_each}
+use Rattle.mv_edges.proofs.Common.{◌++◌, ◌∙◌, ap, flat_map, take_all, inherited, opened, taken_over, without_each, sorted}
 use Rattle.mv_edges.proofs.InOrder.{heir_more, in_order, tied_in_order}
 use Rattle.mv_edges.proofs.listed.tied.Goals as goal
 

@@ -1,7 +1,4 @@
-use Rattle.std.proofs.Common.{◌≡◌, true, take}
-use Rattle.mv_edges.specs.Ascending.{are_ascending}
-use Rattle.mv_edges.specs.Sorted.{sorted}
-use Rattle.mv_edges.specs.Graph.{taken_over}
+use Rattle.mv_edges.proofs.Common.{◌≡◌, take, true, are_ascending, taken_over, sorted}
 use Rattle.mv_edges.proofs.listed.tied.Given as goal
 
 -- what the heirs so far take over

@@ -1,5 +1,4 @@
-use Rattle.std.proofs.Common.{◌≡◌, ◌-◌, ◌≤◌, ◌++◌, length, take}
-use Rattle.mv_edges.specs.Edges.{renamed, into}
+use Rattle.mv_edges.proofs.Common.{◌++◌, ◌-◌, ◌≡◌, ◌≤◌, length, take, into, renamed}
 use Rattle.mv_edges.proofs.renaming.push_renamed_into.Given as goal
 
 abbrev pub invariant-loop-place : goal.invariant-loop-place

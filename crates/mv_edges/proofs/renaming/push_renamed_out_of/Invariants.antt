@@ -1,5 +1,4 @@
-use Rattle.std.proofs.Common.{◌≡◌, ◌-◌, ◌≤◌, ◌++◌, length, take}
-use Rattle.mv_edges.specs.Edges.{renamed, out_of}
+use Rattle.mv_edges.proofs.Common.{◌++◌, ◌-◌, ◌≡◌, ◌≤◌, length, take, out_of, renamed}
 use Rattle.mv_edges.proofs.renaming.push_renamed_out_of.Given as goal
 
 abbrev pub invariant-loop-place : goal.invariant-loop-place

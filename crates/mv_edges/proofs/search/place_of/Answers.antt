@@ -1,6 +1,4 @@
-use Rattle.std.proofs.Common.{◌≡◌, ◌+◌, ◌-◌, ◌/◌, ◌<◌, true, Some, length, sym, ap, ◌∙◌, subst, arith}
-use Rattle.std.proofs.lemmas.Option.{slice_get-get_or}
-use Rattle.mv_edges.specs.Ascending.{edge_before, edge_order}
+use Rattle.mv_edges.proofs.Common.{◌+◌, ◌-◌, ◌/◌, ◌<◌, ◌∙◌, ◌≡◌, Some, ap, arith, length, subst, sym, true, slice_get-get_or, edge_before, edge_order}
 use Rattle.mv_edges.proofs.Comparisons.{order_same, order_less, order_greater}
 use Rattle.mv_edges.proofs.Counting.{counted_more, middle_below, lower_half, upper_half, spends_half, spends_found}
 use Rattle.mv_edges.proofs.Sorting.{all_before_at, all_after_at}

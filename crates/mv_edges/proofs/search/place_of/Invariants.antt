@@ -1,7 +1,4 @@
-use Rattle.std.proofs.Common.{◌≡◌, ◌-◌, ◌<◌, ◌≤◌, true, length, take, drop}
-use Rattle.std.specs.List.{list_all}
-use Rattle.mv_edges.specs.Ascending.{edge_before}
-use Rattle.mv_edges.specs.Counts.{counted}
+use Rattle.mv_edges.proofs.Common.{◌-◌, ◌<◌, ◌≡◌, ◌≤◌, drop, length, take, true, list_all, edge_before, counted}
 use Rattle.mv_edges.proofs.Counting.{Spends}
 use Rattle.mv_edges.proofs.search.place_of.Given as goal
 

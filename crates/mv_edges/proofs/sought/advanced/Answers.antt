@@ -1,6 +1,4 @@
-use Rattle.std.proofs.Common.{◌≡◌, ◌+◌, ◌-◌, ◌<◌, length, sym, ◌∙◌, subst, arith}
-use Rattle.mv_edges.specs.Ascending.{list_before, nodes_code}
-use Rattle.mv_edges.specs.Sought.{ComeBefore}
+use Rattle.mv_edges.proofs.Common.{◌+◌, ◌-◌, ◌<◌, ◌∙◌, ◌≡◌, arith, length, subst, sym, list_before, nodes_code, ComeBefore}
 use Rattle.mv_edges.proofs.Passed.{all_before, passes_at}
 use Rattle.mv_edges.proofs.sought.advanced.Goals as goal
 

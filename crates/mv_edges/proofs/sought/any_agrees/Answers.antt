@@ -1,5 +1,4 @@
-use Rattle.std.proofs.Common.{◌≡◌, true, sym, ap, ◌∙◌, subst}
-use Rattle.mv_edges.specs.Edges.{same_node, agrees}
+use Rattle.mv_edges.proofs.Common.{◌∙◌, ◌≡◌, ap, subst, sym, true, agrees, same_node}
 use Rattle.mv_edges.proofs.Passed.{one_of_all}
 use Rattle.mv_edges.proofs.sought.any_agrees.Goals as goal
 

@@ -1,6 +1,4 @@
-use Rattle.std.proofs.Common.{◌≡◌, ◌-◌, ◌<◌, ◌≤◌, true, false, length, take, filter, get_or}
-use Rattle.std.specs.List.{list_any}
-use Rattle.mv_edges.specs.Edges.{Edge, same_node, agrees}
+use Rattle.mv_edges.proofs.Common.{◌-◌, ◌<◌, ◌≡◌, ◌≤◌, false, filter, get_or, length, take, true, list_any, Edge, agrees, same_node}
 use Rattle.mv_edges.proofs.sought.any_agrees.Given as goal
 
 abbrev pub invariant-loop-place : goal.invariant-loop-place

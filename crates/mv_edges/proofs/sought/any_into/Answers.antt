@@ -1,4 +1,4 @@
-use Rattle.mv_edges.specs.Edges.{same_node}
+use Rattle.mv_edges.proofs.Common.{same_node}
 use Rattle.mv_edges.proofs.Passed.{any_found}
 use Rattle.mv_edges.proofs.sought.any_into.Goals as goal
 

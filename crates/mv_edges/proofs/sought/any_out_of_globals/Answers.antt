@@ -1,4 +1,4 @@
-use Rattle.mv_edges.specs.Edges.{is_global_node}
+use Rattle.mv_edges.proofs.Common.{is_global_node}
 use Rattle.mv_edges.proofs.Passed.{some_pass}
 use Rattle.mv_edges.proofs.sought.any_out_of_globals.Goals as goal
 

@@ -1,5 +1,4 @@
-use Rattle.std.proofs.Common.{sym, ◌∙◌}
-use Rattle.mv_edges.specs.Edges.{is_global_node}
+use Rattle.mv_edges.proofs.Common.{◌∙◌, sym, is_global_node}
 use Rattle.mv_edges.proofs.Passed.{leapt}
 use Rattle.mv_edges.proofs.sought.first_out_of_globals.Goals as goal
 

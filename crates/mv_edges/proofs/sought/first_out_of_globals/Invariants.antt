@@ -1,5 +1,4 @@
-use Rattle.std.proofs.Common.{◌≡◌, ◌-◌, ◌≤◌, [], length, take, filter}
-use Rattle.mv_edges.specs.Edges.{is_global_node}
+use Rattle.mv_edges.proofs.Common.{[], ◌-◌, ◌≡◌, ◌≤◌, filter, length, take, is_global_node}
 use Rattle.mv_edges.proofs.sought.first_out_of_globals.Given as goal
 
 abbrev pub invariant-loop-place : goal.invariant-loop-place

@@ -1,5 +1,4 @@
-use Rattle.std.proofs.Common.{◌-◌, ◌<◌, ◌≤◌, length}
-use Rattle.mv_edges.specs.Sought.{ComeBefore}
+use Rattle.mv_edges.proofs.Common.{◌-◌, ◌<◌, ◌≤◌, length, ComeBefore}
 use Rattle.mv_edges.proofs.sought.leap.Given as goal
 
 abbrev pub invariant-loop-place : goal.invariant-loop-place

@@ -1,5 +1,4 @@
-use Rattle.std.proofs.Common.{sym, ◌∙◌, arith}
-use Rattle.mv_edges.specs.Edges.{same_node}
+use Rattle.mv_edges.proofs.Common.{◌∙◌, arith, sym, same_node}
 use Rattle.mv_edges.proofs.Passed.{leapt}
 use Rattle.mv_edges.proofs.sought.next_out_of.Goals as goal
 

@@ -1,5 +1,4 @@
-use Rattle.std.proofs.Common.{◌≡◌, ◌-◌, ◌≤◌, length, take, filter}
-use Rattle.mv_edges.specs.Edges.{same_node}
+use Rattle.mv_edges.proofs.Common.{◌-◌, ◌≡◌, ◌≤◌, filter, length, take, same_node}
 use Rattle.mv_edges.proofs.sought.next_out_of.Given as goal
 
 abbrev pub invariant-loop-place : goal.invariant-loop-place

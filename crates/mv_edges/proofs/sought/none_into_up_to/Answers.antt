@@ -1,7 +1,4 @@
-use Rattle.std.proofs.Common.{◌≡◌, ◌-◌, ◌<◌, max, ◌∷◌, [], sym, ap, ◌∙◌, subst}
-use Rattle.mv_edges.specs.Edges.{same_node}
-use Rattle.mv_edges.specs.Ascending.{list_before, node_code, nodes_code, edge_height}
-use Rattle.mv_edges.specs.Sought.{FailUpTo}
+use Rattle.mv_edges.proofs.Common.{[], ◌-◌, ◌<◌, ◌∙◌, ◌∷◌, ◌≡◌, ap, max, subst, sym, edge_height, list_before, node_code, nodes_code, same_node, FailUpTo}
 use Rattle.mv_edges.proofs.Leaps.{none_into_first_of, none_into_end_of}
 use Rattle.mv_edges.proofs.sought.none_into_up_to.Goals as goal
 

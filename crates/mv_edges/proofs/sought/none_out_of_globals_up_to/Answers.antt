@@ -1,5 +1,4 @@
-use Rattle.std.proofs.Common.{sym, ap, ◌∙◌}
-use Rattle.mv_edges.specs.Ascending.{edge_height}
+use Rattle.mv_edges.proofs.Common.{◌∙◌, ap, sym, edge_height}
 use Rattle.mv_edges.proofs.Leaps.{none_global_first, none_global_end}
 use Rattle.mv_edges.proofs.sought.none_out_of_globals_up_to.Goals as goal
 

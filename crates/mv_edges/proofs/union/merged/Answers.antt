@@ -1,6 +1,5 @@
-use Rattle.std.proofs.Common.{◌≡◌, ◌+◌, ◌≤◌, ◌++◌, ◌⊎◌, inl, inr, length, drop, sym, ap, ◌∙◌, arith}
+use Rattle.mv_edges.proofs.Common.{◌++◌, ◌+◌, ◌∙◌, ◌≡◌, ◌≤◌, ◌⊎◌, ap, arith, drop, inl, inr, length, sym, sorted}
 use Rattle.std.proofs.lemmas.List.{take_rest}
-use Rattle.mv_edges.specs.Sorted.{sorted}
 use Rattle.mv_edges.proofs.Comparisons.{order_same, order_less, order_greater, order_of_views}
 use Rattle.mv_edges.proofs.Sorting.{left_first, right_first, both_first, merged_more, merged_rest}
 use Rattle.mv_edges.proofs.union.merged.Goals.{then-loop-i-test+else-j-b, else-loop-i-test}

@@ -1,5 +1,4 @@
-use Rattle.std.proofs.Common.{◌≡◌, ◌+◌, ◌-◌, ◌≤◌, ◌++◌, length, drop}
-use Rattle.mv_edges.specs.Sorted.{sorted}
+use Rattle.mv_edges.proofs.Common.{◌++◌, ◌+◌, ◌-◌, ◌≡◌, ◌≤◌, drop, length, sorted}
 use Rattle.mv_edges.proofs.union.merged.Given as goal
 
 abbrev pub invariant-loop-i : goal.invariant-loop-i

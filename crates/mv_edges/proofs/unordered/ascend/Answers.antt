@@ -1,4 +1,4 @@
-use Rattle.std.proofs.Common.{sym, ◌∙◌, arith}
+use Rattle.mv_edges.proofs.Common.{◌∙◌, arith, sym}
 use Rattle.mv_edges.proofs.Passed.{ascending_take_more, ascending_one}
 use Rattle.mv_edges.proofs.unordered.ascend.Goals as goal
 

@@ -1,5 +1,4 @@
-use Rattle.std.proofs.Common.{◌≡◌, ◌-◌, ◌<◌, true, length, take}
-use Rattle.mv_edges.specs.Ascending.{are_ascending}
+use Rattle.mv_edges.proofs.Common.{◌-◌, ◌<◌, ◌≡◌, length, take, true, are_ascending}
 use Rattle.mv_edges.proofs.unordered.ascend.Given as goal
 
 abbrev pub invariant-loop-place : goal.invariant-loop-place

@@ -1,8 +1,6 @@
-use Rattle.std.proofs.Common.{◌≡◌, true, sym, subst, ◌∙◌, rules}
+use Rattle.mv_edges.proofs.Common.{◌∙◌, ◌≡◌, rules, subst, sym, true, are_ascending, edge_before, same_edge}
 use Rattle.std.proofs.lemmas.List.Filters.{dedup_is}
 use Rattle.std.proofs.lemmas.List.Sorted.{answers_always}
-use Rattle.mv_edges.specs.Edges.{same_edge}
-use Rattle.mv_edges.specs.Ascending.{edge_before, are_ascending}
 use Rattle.mv_edges.proofs.Comparisons.{order_before}
 use Rattle.mv_edges.proofs.Sorting.{sorted-ascending}
 use Rattle.mv_edges.proofs.Deduped.{edge_weak, deduped}

@@ -1,4 +1,4 @@
-use Rattle.std.proofs.Common.{◌<◌, ◌-◌, refl, arith, length, get_or, Some, ◌∙◌, ap, set, inl, inr, true}
+use Rattle.std.proofs.Common.{◌≡◌, ℕ, ◌<◌, ◌-◌, Bool, List, refl, arith, length, get_or, Some, ◌∙◌, ap, set, inl, inr, true}
 use Rattle.std.proofs.lemmas.Option.{slice_get-get_or, slice_get_within}
 use Rattle.std.proofs.lemmas.Result.{on_ok_weaker}
 use Rattle.mv_lattice.specs.Flow.{IsAt}
@@ -6,12 +6,18 @@ use Rattle.mv_lattice.proofs.Searches.{turn_over, turn_exceeds, turn_fails, turn
 use Rattle.mv_lattice.proofs.Visits.{work_skips, counted_visit, fewer_left}
 use Rattle.mv_lattice.proofs.search.turn.Goals as goal
 
+-- how many visits are left of a block that waits
+left_there : (waiting : List Bool) (left : List ℕ) (n k : ℕ) → IsAt waiting k true → length left ≡ n → length waiting ≡ n → IsAt left k (get_or left k 0)
+left_there waiting left n k waits lefts marks =
+    let low : k < length waiting = slice_get_within waiting k true waits in
+    let within : k < length left = omega (arith, low, lefts, marks) in
+    slice_get-get_or left k 0 within
+
 pub returns-then-left-k-eq0-clause-complex : goal.returns-then-left-k-eq0-clause-complex
 returns-then-left-k-eq0-clause-complex g c = λ _.
     let k = c.args.k in
-    let in' : k < length c.args.waiting.now = slice_get_within c.args.waiting.now k true c.requires.waits in
-    let within : k < length c.args.left.now = omega (arith, c.requires.lefts, c.requires.work.marks) in
-    let left : IsAt c.args.left.now k 0 = slice_get-get_or c.args.left.now k 0 within ∙ ap Some c.if-left-k-eq0.true in
+    let here = left_there c.args.waiting.now c.args.left.now _ k c.requires.waits c.requires.lefts c.requires.work.marks in
+    let left : IsAt c.args.left.now k 0 = here ∙ ap Some c.if-left-k-eq0.true in
     let s = c.requires.counts.active k c.requires.waits in
     inr (s.0, c.requires.counts.waits k 0 256 s.0 s.1 c.requires.waits left refl)
 
@@ -24,9 +30,7 @@ returns-clause-counts g c =
     let d = c.args.d.now in
     let k = c.args.k in
     let l = get_or c.args.left.now k 0 in
-    let in' : k < length c.args.waiting.now = slice_get_within c.args.waiting.now k true c.requires.waits in
-    let within : k < length c.args.left.now = omega (arith, c.requires.lefts, c.requires.work.marks) in
-    let left : IsAt c.args.left.now k l = slice_get-get_or c.args.left.now k 0 within in
+    let left = left_there c.args.waiting.now c.args.left.now _ k c.requires.waits c.requires.lefts c.requires.work.marks in
     let some : 0 < l = omega (arith, c.if-left-k-eq0.false) in
     on_ok_weaker c.visit.result
     (λ keeps. keeps (set c.args.left.now k (l - 1)) (counted_visit (λ r. m.is_state d r × m.may_begin d r) (m.below d) c.args.left.now c.args.states.now c.args.waiting.now c.requires.counts k l c.requires.waits left some))
@@ -38,9 +42,7 @@ returns-then-left-k-eq0-clause-limit g c = λ _ start has.
     let d = c.args.d.now in
     let k = c.args.k in
     let l = get_or c.args.left.now k 0 in
-    let in' : k < length c.args.waiting.now = slice_get_within c.args.waiting.now k true c.requires.waits in
-    let within : k < length c.args.left.now = omega (arith, c.requires.lefts, c.requires.work.marks) in
-    let left : IsAt c.args.left.now k l = slice_get-get_or c.args.left.now k 0 within in
+    let left = left_there c.args.waiting.now c.args.left.now _ k c.requires.waits c.requires.lefts c.requires.work.marks in
     turn_over (m.is_state d) (m.is_small d) (m.below d) (m.steps d) c.args.g.now start c.args.left.now c.args.states.now c.args.waiting.now has k l c.requires.waits c.requires.first left c.if-left-k-eq0.true
 
 pub visit-requires-clause-stated : goal.visit-requires-clause-stated
@@ -52,9 +54,7 @@ returns-clause-search g c =
     let d = c.args.d.now in
     let k = c.args.k in
     let l = get_or c.args.left.now k 0 in
-    let in' : k < length c.args.waiting.now = slice_get_within c.args.waiting.now k true c.requires.waits in
-    let within : k < length c.args.left.now = omega (arith, c.requires.lefts, c.requires.work.marks) in
-    let left : IsAt c.args.left.now k l = slice_get-get_or c.args.left.now k 0 within in
+    let left = left_there c.args.waiting.now c.args.left.now _ k c.requires.waits c.requires.lefts c.requires.work.marks in
     let some : 0 < l = omega (arith, c.if-left-k-eq0.false) in
     on_ok_weaker c.visit.result
     (λ visit start has. turn_done (m.is_state d) (m.is_small d) (m.below d) (m.steps d) c.args.g.now start c.args.left.now c.args.states.now c.args.waiting.now has k l c.requires.waits c.requires.first left some c.visit.new.states c.visit.new.waiting visit)
@@ -66,9 +66,7 @@ returns-clause-fails g c = λ e start has.
     let d = c.args.d.now in
     let k = c.args.k in
     let l = get_or c.args.left.now k 0 in
-    let in' : k < length c.args.waiting.now = slice_get_within c.args.waiting.now k true c.requires.waits in
-    let within : k < length c.args.left.now = omega (arith, c.requires.lefts, c.requires.work.marks) in
-    let left : IsAt c.args.left.now k l = slice_get-get_or c.args.left.now k 0 within in
+    let left = left_there c.args.waiting.now c.args.left.now _ k c.requires.waits c.requires.lefts c.requires.work.marks in
     let some : 0 < l = omega (arith, c.if-left-k-eq0.false) in
     turn_fails (m.is_state d) (m.is_small d) (m.below d) (m.steps d) c.args.g.now start c.args.left.now c.args.states.now c.args.waiting.now has k l c.requires.waits c.requires.first left some (c.visit.ensures.fails e)
 
@@ -78,9 +76,7 @@ returns-clause-limit g c = λ e start has.
     let d = c.args.d.now in
     let k = c.args.k in
     let l = get_or c.args.left.now k 0 in
-    let in' : k < length c.args.waiting.now = slice_get_within c.args.waiting.now k true c.requires.waits in
-    let within : k < length c.args.left.now = omega (arith, c.requires.lefts, c.requires.work.marks) in
-    let left : IsAt c.args.left.now k l = slice_get-get_or c.args.left.now k 0 within in
+    let left = left_there c.args.waiting.now c.args.left.now _ k c.requires.waits c.requires.lefts c.requires.work.marks in
     let some : 0 < l = omega (arith, c.if-left-k-eq0.false) in
     turn_exceeds (m.is_state d) (m.is_small d) (m.below d) (m.steps d) c.args.g.now start c.args.left.now c.args.states.now c.args.waiting.now has k l c.requires.waits c.requires.first left some (c.visit.ensures.exceeds e)
 

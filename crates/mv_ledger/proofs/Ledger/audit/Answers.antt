@@ -1,4 +1,4 @@
-use Rattle.mv_ledger.proofs.Common.{[], ◌*◌, ◌∙◌, ◌∷◌, ◌≤◌, Some, ap, arith, length, subst, AsJson, AsText, ToldLines, ToldRefused, Replies, LedgerView, all_of, view_of}
+use Rattle.mv_ledger.proofs.Common.{[], ◌*◌, ◌∙◌, ◌∷◌, ◌≤◌, Some, ap, arith, length, subst, AsJson, AsText, ToldRefused, ToldLines, Replies, LedgerView, all_of, view_of}
 use Rattle.mv_ledger.proofs.Shows.Reports.{unasked_replies, audit_replies, audit-lines, audit-json, few_tallies}
 use Rattle.mv_ledger.proofs.Ledger.audit.Goals as goal
 

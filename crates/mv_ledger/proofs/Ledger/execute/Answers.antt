@@ -1,8 +1,5 @@
-use Rattle.mv_ledger.proofs.Common.{◌∙◌, Err, Some, ap, inl, inr, subst, sym, ToldRejected, Replies, told, request_of, LedgerView, all_of, view_of}
-use Rattle.mv_ledger.specs.declared.executing.Barred.{Barred}
+use Rattle.mv_ledger.proofs.Common.{◌∙◌, Err, Some, ap, inl, inr, subst, sym, ToldRejected, Replies, told, request_of, IsShapeless, IsAdmitted, LedgerView, all_of, view_of, Barred}
 use Rattle.mv_ledger.specs.Changes.{IsKept}
-use Rattle.mv_ledger.specs.RecordText.{IsShapeless}
-use Rattle.mv_ledger.specs.Running.{IsAdmitted}
 use Rattle.mv_ledger.proofs.Phases.{phase-no-memory}
 use Rattle.mv_ledger.proofs.Ledgers.{ledger-run, ledger-kept}
 use Rattle.mv_ledger.proofs.Replying.{bad_run_replies, rejected_replies, had_sound, had_replies, unchanged, untold_replies}
@@ -12,21 +9,18 @@ use Rattle.mv_ledger.proofs.Ledger.execute.Goals.{then-is_told, else-is_told}
 pub invariant_of-self : goal.invariant_of-self
 invariant_of-self c =
     ledger-run c.self.inside.store c.self.inside.storage c.execute-reply.new.storage c.self.inside.tallies c.execute-reply.new.tallies c.self.inside.counters c.execute-reply.new.counters
-    c.self.inside.runs
-    c.execute-reply.ensures.stored c.execute-reply.ensures.placed c.execute-reply.ensures.scarce c.execute-reply.ensures.named (c.execute-reply.ensures.small c.self.inside.runs)
+    c.self.inside.runs c.execute-reply.ensures.stored c.execute-reply.ensures.placed c.execute-reply.ensures.scarce c.execute-reply.ensures.named (c.execute-reply.ensures.small c.self.inside.runs)
     c.in-Ok-admitted.ensures.runs
     (had_sound c.self.inside.store c.args.payload.now c.self.inside.storage (all_of c.self.inside.tallies) c.self.inside.runs (request_of c.in-Ok.asked) c.in-Ok.ensures.ok c.self.invariant.sound
     c.in-Ok-admitted.call c.in-Ok-admitted.ensures.admitted c.execute-reply.new.storage (all_of c.execute-reply.new.tallies) (told c.execute-reply.result)
-    (sym c.is_told.ensures ∙ c.if-is_told.true) c.execute-reply.ensures.settled)
-    c.execute-reply.ensures.clear c.execute-reply.ensures.countable c.self.invariant
+    (sym c.is_told.ensures ∙ c.if-is_told.true) c.execute-reply.ensures.settled) c.execute-reply.ensures.clear c.execute-reply.ensures.countable c.self.invariant
 
 pub invariant_of-self-else-is_told : goal.invariant_of-self-else-is_told
 invariant_of-self-else-is_told c =
     let kept : IsKept c.self.inside.storage c.execute-reply.new.storage (all_of c.self.inside.tallies) (all_of c.execute-reply.new.tallies) =
     unchanged (told c.execute-reply.result) _ _ _ _ (sym c.is_told.ensures ∙ c.if-is_told.false) c.execute-reply.ensures.kept in
     ledger-kept c.self.inside.store c.self.inside.storage c.execute-reply.new.storage c.self.inside.tallies c.execute-reply.new.tallies c.self.inside.counters c.execute-reply.new.counters
-    c.self.inside.runs kept.0 c.execute-reply.ensures.placed c.execute-reply.ensures.scarce kept.1
-    c.execute-reply.ensures.clear c.execute-reply.ensures.countable c.self.invariant
+    c.self.inside.runs kept.0 c.execute-reply.ensures.placed c.execute-reply.ensures.scarce kept.1 c.execute-reply.ensures.clear c.execute-reply.ensures.countable c.self.invariant
 
 pub returns-after-is_told : goal.returns-after-is_told
 returns-after-is_told c =
@@ -36,8 +30,7 @@ returns-after-is_told c =
           subst (λ (v : LedgerView). Replies 2 c.args.payload.now (told c.execute-reply.result) (view_of c.self.inside.store c.self.inside.storage (all_of c.self.inside.tallies) c.self.inside.runs) v)
           (sym w.self-is)
           (had_replies c.self.inside.store c.args.payload.now c.self.inside.storage (all_of c.self.inside.tallies) c.self.inside.runs (request_of c.in-Ok.asked) c.in-Ok.ensures.ok
-          c.self.invariant.sound
-          c.in-Ok-admitted.call c.in-Ok-admitted.ensures.admitted c.execute-reply.new.storage (all_of c.execute-reply.new.tallies) (told c.execute-reply.result)
+          c.self.invariant.sound c.in-Ok-admitted.call c.in-Ok-admitted.ensures.admitted c.execute-reply.new.storage (all_of c.execute-reply.new.tallies) (told c.execute-reply.result)
           (sym c.is_told.ensures ∙ w.if-is_told.true) c.execute-reply.ensures.settled c.execute-reply.ensures.kept)
       | else-is_told w ↦
           subst (λ (v : LedgerView). Replies 2 c.args.payload.now (told c.execute-reply.result) (view_of c.self.inside.store c.self.inside.storage (all_of c.self.inside.tallies) c.self.inside.runs) v)

@@ -1,7 +1,5 @@
-use Rattle.std.proofs.Common.{subst}
-use Rattle.mv_ledger.specs.SavedLaws.{IsSavable}
-use Rattle.mv_ledger.specs.View.{LedgerView, state_of}
-use Rattle.mv_ledger.proofs.Saves.SavedLimits.{ledger-savable}
+use Rattle.mv_ledger.proofs.Common.{subst, IsSavable, LedgerView, state_of}
+use Rattle.mv_ledger.proofs.Saves.SavedLoads.{ledger-savable}
 use Rattle.mv_ledger.proofs.Ledger.is_savable.Goals as goal
 
 pub returns : goal.returns

@@ -1,5 +1,4 @@
-use Rattle.mv_ledger.proofs.Common.{◌∙◌, Err, ap, arith, sym, all-bytes, BeginsWith, head_from, head_of}
-use Rattle.mv_ledger.specs.declared.loading.LoadError.TheVariants.{Head}
+use Rattle.mv_ledger.proofs.Common.{◌∙◌, Err, ap, arith, sym, all-bytes, BeginsWith, head_from, head_of, Head}
 use Rattle.mv_ledger.proofs.Loads.LoadedHead.{head-none}
 use Rattle.mv_ledger.proofs.Loads.Loaded.{refused-as}
 use Rattle.mv_ledger.proofs.Ledger.load.Goals as goal

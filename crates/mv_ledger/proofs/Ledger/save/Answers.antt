@@ -1,5 +1,4 @@
-use Rattle.std.proofs.Common.{arith}
-use Rattle.mv_ledger.specs.View.{all_of}
+use Rattle.mv_ledger.proofs.Common.{arith, all_of}
 use Rattle.mv_ledger.proofs.Saves.Written.{all-writable, saved-so}
 use Rattle.mv_ledger.proofs.Ledger.save.Goals as goal
 

@@ -1,4 +1,4 @@
-use Rattle.mv_ledger.proofs.Common.{[], ◌∙◌, ◌∷◌, Some, ap, arith, subst, AsJson, AsText, ToldLines, ToldRefused, Replies, LedgerView, all_of, view_of}
+use Rattle.mv_ledger.proofs.Common.{[], ◌∙◌, ◌∷◌, Some, ap, arith, subst, AsJson, AsText, ToldRefused, ToldLines, Replies, LedgerView, all_of, view_of}
 use Rattle.mv_ledger.proofs.Shows.Reports.{unasked_replies, show_replies}
 use Rattle.mv_ledger.proofs.Ledger.show.Goals as goal
 

@@ -1,4 +1,4 @@
-use Rattle.std.proofs.Common.{length}
+use Rattle.mv_ledger.proofs.Common.{length}
 use Rattle.mv_ledger.proofs.executing.+are_passed.Given as goal
 
 abbrev pub decreases-are_passed : goal.decreases-are_passed

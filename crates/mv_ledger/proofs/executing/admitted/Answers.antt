@@ -1,15 +1,9 @@
-use Rattle.mv_ledger.proofs.Common.{ℕ, ◌<◌, ◌∙◌, ◌≡◌, ◌≤◌, Bor, Err, List, None, Option, Some, ap, arith, length, map, option_map, refl, slice_get, subst, sym, true, err_from_is_err_and, IfSome}
-use Rattle.mv_ledger.proofs.Common.{FunctionDefinition, Module, parameter_tokens, PublishedModule, RunRequest, are_arguments, with_sender, tables_in, arg_value, request_of}
-use Rattle.mv_move_types.specs.declared.token.Token.{Token}
-use Rattle.mv_move_types.specs.Named.{is_module, module_place, function_place}
-use Rattle.mv_machine.specs.Value.{Value}
-use Rattle.mv_machine.specs.Run.{FunctionCall}
-use Rattle.mv_linker.specs.declared.interfaces.Interface.{Interface}
+use Rattle.mv_ledger.proofs.Common.{◌<◌, ◌∙◌, ◌≡◌, ◌≤◌, Bor, Err, List, None, Option, Some, ap, arith, length, map, option_map, refl, subst, sym, true, ℕ, err_from_is_err_and, IfSome, slice_get}
+use Rattle.mv_ledger.proofs.Common.{FunctionDefinition, Module, parameter_tokens, function_place, is_module, module_place, PublishedModule, Token, RunRequest, are_arguments, with_sender}
+use Rattle.mv_ledger.proofs.Common.{FunctionCall, Value, found_at, tables_in, arg_value, request_of, Rejected}
 use Rattle.mv_linker.specs.Interfaces.{IsInterfaceAt}
-use Rattle.mv_linker.proofs.Found.{found_at}
-use Rattle.mv_ledger.specs.declared.executing.Barred.TheVariants.{Rejected}
-use Rattle.mv_ledger.proofs.Runs.Calls.{place-below}
-use Rattle.mv_ledger.proofs.Runs.Admissions.{FindsModule, FindsFunction, FindsTypes, hit, miss, rejected-as, no_budget, no_module, no_function, no_entry, no_arguments, no_runs, admits}
+use Rattle.mv_linker.specs.declared.interfaces.Interface.{Interface}
+use Rattle.mv_ledger.proofs.Runs.Admissions.{FindsModule, FindsFunction, FindsTypes, hit, miss, rejected-as, no_budget, no_module, no_function, no_entry, no_arguments, no_runs, admits, place-below}
 use Rattle.mv_ledger.proofs.executing.admitted.Goals as goal
 use Rattle.mv_ledger.proofs.executing.admitted.Goals.{In_ok-index, After-are_passed}
 
@@ -118,8 +112,7 @@ types-found c f =
 
 same-arguments : (c : After-are_passed)
     → are_arguments c.as_slice-tokens.result.now (with_sender c.args.asked.sender c.as_slice-tokens.result.now (map arg_value c.args.asked.arguments.items)) ≡ c.are_passed.result
-same-arguments c =
-    ap (are_arguments c.as_slice-tokens.result.now) (sym c.in_ok-arguments.ensures.value ∙ ap (map arg_value) (sym c.deref.ensures.value)) ∙ sym c.are_passed.ensures
+same-arguments c = ap (are_arguments c.as_slice-tokens.result.now) (sym c.in_ok-arguments.ensures.value ∙ ap (map arg_value) (sym c.deref.ensures.value)) ∙ sym c.are_passed.ensures
 
 pub returns-then-not-are_passed-clause-admitted : goal.returns-then-not-are_passed-clause-admitted
 returns-then-not-are_passed-clause-admitted c =

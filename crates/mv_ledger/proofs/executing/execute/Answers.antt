@@ -1,8 +1,6 @@
-use Rattle.mv_ledger.proofs.Common.{◌+◌, ◌-◌, ◌^◌, ◌∙◌, ◌≡◌, List, ap, map, rules, subst, sym, All, FlatEntry, tables_in, Agrees, AtMost, IsFineWords, tally_after, AreCountable, AreScarce, IsNamed}
-use Rattle.mv_ledger.proofs.Common.{IsSmall, all_of, Tally}
+use Rattle.mv_ledger.proofs.Common.{◌+◌, ◌-◌, ◌^◌, ◌∙◌, ◌≡◌, List, ap, map, rules, subst, sym, All, StructTally, FlatEntry, RunOutcome, tables_in, Agrees, AtMost, IsFineWords, tally_after}
+use Rattle.mv_ledger.proofs.Common.{AreCountable, AreScarce, IsNamed, IsSmall, all_of, Tally}
 use Rattle.mv_machine.specs.declared.Ending.TheVariants.{Returned}
-use Rattle.mv_machine.specs.Run.{RunOutcome}
-use Rattle.mv_frames.specs.declared.counters.StructTally.{StructTally}
 use Rattle.mv_ledger.proofs.Runs.Countable.{all-countable-kept, run-countable}
 use Rattle.mv_ledger.proofs.Runs.StoredRuns.{run-same, tallied-after, settled-returned, settled-kept, small-kept}
 use Rattle.mv_ledger.proofs.Runs.ScarceTallies.{all-scarce, scarce-ordered}

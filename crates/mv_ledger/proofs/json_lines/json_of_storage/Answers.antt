@@ -1,4 +1,4 @@
-use Rattle.mv_ledger.proofs.Common.{ℕ, List, ap, codes, map, refl, FlatEntry, storage_of, entry_object, tables_in}
+use Rattle.mv_ledger.proofs.Common.{List, ap, codes, map, refl, ℕ, FlatEntry, storage_of, entry_object, tables_in}
 use Rattle.mv_ledger.proofs.Shows.Objects.{none_put, more_put, all_put}
 use Rattle.mv_ledger.proofs.json_lines.json_of_storage.Goals as goal
 

@@ -1,4 +1,4 @@
-use Rattle.mv_ledger.proofs.Common.{ℕ, List, ap, codes, map, refl, Tallied, tables_in, count_object, stored_of, all_of, tallied}
+use Rattle.mv_ledger.proofs.Common.{List, ap, codes, map, refl, ℕ, Tallied, tables_in, count_object, stored_of, all_of, tallied}
 use Rattle.mv_ledger.proofs.Shows.Objects.{none_put, more_put, all_put}
 use Rattle.mv_ledger.proofs.json_lines.json_of_tallies.Goals as goal
 

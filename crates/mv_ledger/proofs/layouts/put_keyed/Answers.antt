@@ -1,7 +1,4 @@
-use Rattle.std.proofs.Common.{◌<◌, ◌≤◌, length, ap, ◌∙◌, arith, Vec, Global}
-use Rattle.mv_move_types.specs.declared.tables.Definition.{Definition}
-use Rattle.mv_linker.specs.Link.{tables_in}
-use Rattle.mv_linker.specs.Shapes.{structs_in}
+use Rattle.mv_ledger.proofs.Common.{◌<◌, ◌∙◌, ◌≤◌, ap, arith, length, Global, Vec, Definition, tables_in, structs_in}
 use Rattle.mv_ledger.proofs.Saves.KeyedIndices.{keyed-first, keyed-found, keyed-passed, keyed-all, structs-of}
 use Rattle.mv_ledger.proofs.layouts.put_keyed.Goals as goal
 use Rattle.mv_ledger.proofs.layouts.put_keyed.Goals.{then-is_keyed+in_ok-push, else-is_keyed}

@@ -1,5 +1,4 @@
-use Rattle.mv_ledger.proofs.Common.{◌≤◌, List, ap, arith, length, subst, length-map, err_from_is_err_and, offer_of, offers_of, AreJoined, AreNotJoined, head_of}
-use Rattle.mv_ledger.specs.declared.payload.Offered.{Offered}
+use Rattle.mv_ledger.proofs.Common.{◌≤◌, List, ap, arith, length, subst, length-map, err_from_is_err_and, offer_of, offers_of, AreJoined, AreNotJoined, head_of, Offered}
 use Rattle.mv_ledger.proofs.Loads.Loaded.{fails-joined, head-few}
 use Rattle.mv_ledger.proofs.loading.load_after.Goals as goal
 

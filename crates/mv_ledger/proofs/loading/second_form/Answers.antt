@@ -1,4 +1,4 @@
-use Rattle.mv_ledger.specs.View.{state_of}
+use Rattle.mv_ledger.proofs.Common.{state_of}
 use Rattle.mv_ledger.proofs.loading.second_form.Goals as goal
 
 pub returns-clause-new : goal.returns-clause-new

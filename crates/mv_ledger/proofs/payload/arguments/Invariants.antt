@@ -1,5 +1,4 @@
-use Rattle.mv_ledger.proofs.Common.{list_all, IsTrue, ReadsOn, number_fits, argument_from}
-use Rattle.mv_interpreter.specs.declared.Arg.{Arg as Argument}
+use Rattle.mv_ledger.proofs.Common.{IsTrue, list_all, ReadsOn, number_fits, Argument, argument_from}
 use Rattle.mv_ledger.proofs.payload.arguments.Given as goal
 
 abbrev pub invariant-each : goal.invariant-each

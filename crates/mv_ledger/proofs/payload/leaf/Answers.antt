@@ -1,9 +1,5 @@
-use Rattle.mv_ledger.proofs.Common.{ℕ, ◌<◌, ◌^◌, ◌∙◌, ◌≡◌, Err, List, None, Ok, Result, Some, ap, nat_lt, subst, sym, lt-ltb, IfOk-weaker, IfErr, IfOk, IsTrue, ◌>>=◌, Refusal, Boolean, Read}
-use Rattle.mv_ledger.proofs.Common.{byte_from, Reads, number_fits, leaf_from}
-use Rattle.std.specs.Bool.{then_some}
-use Rattle.mv_move_types.specs.Tokens.{width_bits}
-use Rattle.mv_move_types.specs.declared.refusal.Refusal.TheVariants.{Phase}
-use Rattle.mv_move_types.specs.declared.token.LeafKind.{LeafKind}
+use Rattle.mv_ledger.proofs.Common.{◌<◌, ◌^◌, ◌∙◌, ◌≡◌, Err, IsTrue, List, None, Ok, Result, Some, ap, lt-ltb, subst, sym, ℕ, IfOk-weaker, then_some, IfErr, IfOk, nat_lt, ◌>>=◌, width_bits}
+use Rattle.mv_ledger.proofs.Common.{Refusal, Phase, LeafKind, Boolean, Read, byte_from, Reads, number_fits, leaf_from}
 use Rattle.mv_ledger.proofs.payload.leaf.Goals as goal
 
 module _ (from : List ℕ → Read ℕ) (old new : List ℕ) where
@@ -50,8 +46,7 @@ returns-in-Number-clause-errors c =
     errors (leaf_from c.args.kind) c.args.reader.now c.number_of.new.self c.number_of.result (at-kind c.args.kind _ _ _ _ c.in-Number.is c.number_of.ensures.reads)
 
 pub returns-in-Address-clause-ok : goal.returns-in-Address-clause-ok
-returns-in-Address-clause-ok c =
-    ok (leaf_from c.args.kind) c.args.reader.now c.address.new.self c.address.result (at-kind c.args.kind _ _ _ _ c.in-Address.is c.address.ensures)
+returns-in-Address-clause-ok c = ok (leaf_from c.args.kind) c.args.reader.now c.address.new.self c.address.result (at-kind c.args.kind _ _ _ _ c.in-Address.is c.address.ensures)
 
 pub returns-in-Address-clause-refused : goal.returns-in-Address-clause-refused
 returns-in-Address-clause-refused c =

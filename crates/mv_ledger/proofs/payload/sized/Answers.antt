@@ -1,5 +1,4 @@
-use Rattle.mv_ledger.proofs.Common.{ℕ, ◌∙◌, ◌≡◌, Bor, Err, List, None, Ok, Result, Some, ap, IfErr, IfOk, ◌>>=◌, Refusal, bytes_from, ReadsAs, sized_from}
-use Rattle.mv_move_types.specs.declared.refusal.Refusal.TheVariants.{Phase}
+use Rattle.mv_ledger.proofs.Common.{◌∙◌, ◌≡◌, Bor, Err, List, None, Ok, Result, Some, ap, ℕ, IfErr, IfOk, ◌>>=◌, Refusal, Phase, bytes_from, ReadsAs, sized_from}
 use Rattle.mv_ledger.proofs.payload.sized.Goals as goal
 
 -- what was read after the number

@@ -1,6 +1,4 @@
-use Rattle.mv_ledger.proofs.Common.{Err, ap, subst, sym, err_from_is_err_and, Module, Offer, Passes}
-use Rattle.mv_acquires.specs.Acquires.{AcquiresHold}
-use Rattle.mv_certificate.specs.Certificate.{Certificate}
+use Rattle.mv_ledger.proofs.Common.{Err, ap, subst, sym, err_from_is_err_and, Module, AcquiresHold, Offer, Certificate, Passes}
 use Rattle.mv_certificate.specs.Verified.{IsCertifiedBy}
 use Rattle.mv_ledger.proofs.Phases.{refused_stated, refused_check}
 use Rattle.mv_ledger.proofs.publishing.certified.Goals as goal
@@ -21,8 +19,7 @@ returns-in_err-module-clause-refused c = λ text spells.
 
 pub returns-clause-certified : goal.returns-clause-certified
 returns-clause-certified c =
-    subst (λ (m : Module). IsCertifiedBy m c.args.certificate.now) (sym c.in_ok-module.ensures.ok)
-    (c.in_ok-stated.stated, (c.in_ok-stated.ensures.ok, c.in_ok-module.ensures.holds))
+    subst (λ (m : Module). IsCertifiedBy m c.args.certificate.now) (sym c.in_ok-module.ensures.ok) (c.in_ok-stated.stated, (c.in_ok-stated.ensures.ok, c.in_ok-module.ensures.holds))
 
 pub returns-clause-passes : goal.returns-clause-passes
 returns-clause-passes c = λ text spells.

@@ -1,5 +1,4 @@
-use Rattle.std.proofs.Common.{ℕ, ◌<◌, ◌≤◌, get_or}
-use Rattle.std.specs.Prelude.{All}
+use Rattle.mv_ledger.proofs.Common.{◌<◌, ◌≤◌, get_or, ℕ, All}
 use Rattle.mv_ledger.proofs.publishing.counted_structs.Given as goal
 
 -- those so far are below it, and it is no more than what all are below

@@ -1,4 +1,4 @@
-use Rattle.std.proofs.Common.{◌+◌, nat_lt, ap, arith}
+use Rattle.mv_ledger.proofs.Common.{◌+◌, ap, arith, nat_lt}
 use Rattle.mv_ledger.proofs.publishing.is_too_much.Goals as goal
 
 pub overflow_add-result : goal.overflow_add-result

@@ -1,6 +1,5 @@
 use Rattle.mv_ledger.proofs.Common.{◌∙◌, ◌≤◌, List, Some, ap, arith, length, subst, sym, length-map, err_from_is_err_and, PublishedModule, with_modules, IsStore, tables_in, published_of}
-use Rattle.mv_ledger.proofs.Common.{published_one, New, offers_of, AllPass, IsRefusedAmong, ArePlacedFor, AreCountable}
-use Rattle.mv_ledger.specs.declared.payload.Offered.{Offered}
+use Rattle.mv_ledger.proofs.Common.{published_one, New, offers_of, AllPass, IsRefusedAmong, ArePlacedFor, AreCountable, Offered}
 use Rattle.mv_ledger.proofs.Runs.Countable.{all-countable-kept, with-placed-countable}
 use Rattle.mv_ledger.proofs.Bundles.Verifying.{as-many}
 use Rattle.mv_ledger.proofs.Phases.{refused_among, refused_link, refused_room, accepted}
@@ -41,15 +40,13 @@ bundle-of c = record {
   join = c.in_ok-linked.ensures.joins;
   at =
       subst (λ (ns : List New). ArePlacedFor (tables_in c.args.store.now) c.args.tallies.now (length c.args.store.now) (tables_in (published_of ns)) c.in_ok-placed.placed.items)
-      c.deref-2.ensures.value
-      c.in_ok-placed.ensures.placed;
+      c.deref-2.ensures.value c.in_ok-placed.ensures.placed;
   theirs = c.in_ok-placed.ensures.theirs;
   scarce = c.requires.scarce;
 }
 
 pub join-requires-clause-placed : goal.join-requires-clause-placed
-join-requires-clause-placed c =
-    joined-within _ _ _ _ _ (bundle-of (goal.at.join-requires-clause-placed c).In_ok-linked) c.requires.placed
+join-requires-clause-placed c = joined-within _ _ _ _ _ (bundle-of (goal.at.join-requires-clause-placed c).In_ok-linked) c.requires.placed
 
 pub returns-clause-whole : goal.returns-clause-whole
 returns-clause-whole c = subst IsStore (sym c.in_ok-join.ensures.ok) c.in_ok-linked.ensures.linked.whole
@@ -105,8 +102,7 @@ returns-in_err-linked-clause-refused c = λ payload asked.
 pub returns-then-is_too_much-clause-refused : goal.returns-then-is_too_much-clause-refused
 returns-then-is_too_much-clause-refused c = λ payload asked.
     refused_room c.args.store.now payload c.args.bundle.now.sender (offers_of c.args.bundle.now.offers.items) asked (published_of c.in_ok-news.news.items)
-    (subst (λ (xs : List Offered). AllPass (offers_of xs) (published_of c.in_ok-news.news.items)) c.deref.ensures.value c.in_ok-news.ensures.passed)
-    c.in_ok-linked.ensures.joins
+    (subst (λ (xs : List Offered). AllPass (offers_of xs) (published_of c.in_ok-news.news.items)) c.deref.ensures.value c.in_ok-news.ensures.passed) c.in_ok-linked.ensures.joins
     (no-room-for _ _ _ _ _ (bundle-of (goal.at.returns-then-is_too_much-clause-refused c).In_ok-linked)
     c.len-published.result c.deref-3.result.now c.len-published.ensures.count c.deref-3.ensures.value (sym c.is_too_much.ensures ∙ c.if-is_too_much.true))
 

@@ -1,6 +1,4 @@
-use Rattle.std.proofs.Common.{option_and_then, ap, ◌∙◌}
-use Rattle.mv_move_types.specs.Named.{module_place}
-use Rattle.mv_linker.specs.Link.{tables_in}
+use Rattle.mv_ledger.proofs.Common.{◌∙◌, ap, option_and_then, module_place, tables_in}
 use Rattle.mv_ledger.proofs.publishing.place_of.Goals as goal
 
 pub returns-in_err-address : goal.returns-in_err-address

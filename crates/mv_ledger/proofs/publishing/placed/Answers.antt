@@ -1,5 +1,4 @@
-use Rattle.mv_ledger.proofs.Common.{[], ℕ, ◌++◌, ◌+◌, ◌<◌, ◌∙◌, ◌≡◌, Bool, List, ap, arith, cond, drop, length, map, slice_get, subst, sym, unwrap_or, All, is_none, New, fresh_tally}
-use Rattle.mv_frames.specs.Counters.{KeepsCounts}
+use Rattle.mv_ledger.proofs.Common.{[], ◌++◌, ◌+◌, ◌<◌, ◌∙◌, ◌≡◌, Bool, List, ap, arith, cond, drop, length, map, subst, sym, ℕ, All, is_none, slice_get, unwrap_or, KeepsCounts, New, fresh_tally}
 use Rattle.mv_ledger.proofs.Runs.Countable.{IsCountable, countable-at, placed-countable, pushed-countable}
 use Rattle.mv_ledger.proofs.Bundles.Placing.{placing-more, placing-low, none-so}
 use Rattle.mv_ledger.proofs.publishing.placed.Goals as goal
@@ -8,15 +7,13 @@ use Rattle.mv_ledger.proofs.publishing.placed.Goals.{then-is_none, else-is_none}
 pub overflow_cast-place : goal.overflow_cast-place
 overflow_cast-place c =
     let low : c.unwrap_or-place.result < 65536 = placing-low c.args.store.now c.args.tallies.now c.args.news.now c.each.new-index c.each.all.items c.each.next c.module-module.result.now
-    c.place_of-found.result c.each.invariant.0 c.each-test.true c.requires.few
-    c.place_of-found.ensures c.unwrap_or-place.result c.unwrap_or-place.ensures in
+    c.place_of-found.result c.each.invariant.0 c.each-test.true c.requires.few c.place_of-found.ensures c.unwrap_or-place.result c.unwrap_or-place.ensures in
     omega (arith, low)
 
 pub extended-requires : goal.extended-requires
 extended-requires c =
     placing-low c.args.store.now c.args.tallies.now c.args.news.now c.each.new-index c.each.all.items c.each.next c.module-module.result.now c.place_of-found.result c.each.invariant.0 c.each-test.true
-    c.requires.few c.place_of-found.ensures
-    c.unwrap_or-place.result c.unwrap_or-place.ensures
+    c.requires.few c.place_of-found.ensures c.unwrap_or-place.result c.unwrap_or-place.ensures
 
 pub each-preserved : goal.each-preserved
 each-preserved c =

@@ -1,7 +1,4 @@
-use Rattle.std.proofs.Common.{map}
-use Rattle.mv_frames.specs.Counters.{AreSameCounts, KeepsCounts}
-use Rattle.mv_ledger.specs.declared.tallies.Placed.{Placed}
-use Rattle.mv_ledger.specs.View.{AreCountable}
+use Rattle.mv_ledger.proofs.Common.{map, AreSameCounts, KeepsCounts, AreCountable, Placed}
 use Rattle.mv_ledger.proofs.Bundles.Placing.{IsPlacing}
 use Rattle.mv_ledger.proofs.publishing.placed.Given as goal
 

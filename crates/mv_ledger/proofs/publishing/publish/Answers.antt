@@ -1,5 +1,4 @@
-use Rattle.std.proofs.Common.{Err, inl, inr, ap}
-use Rattle.mv_ledger.specs.Exact.{no_bundle}
+use Rattle.mv_ledger.proofs.Common.{Err, ap, inl, inr, no_bundle}
 use Rattle.mv_ledger.proofs.Phases.{phase-no-memory}
 use Rattle.mv_ledger.proofs.publishing.publish.Goals as goal
 

@@ -1,6 +1,4 @@
-use Rattle.mv_ledger.proofs.Common.{ℕ, ◌∙◌, ◌≡◌, Err, List, Some, ap, subst, sym, IfErr-weaker, IfOk-weaker, err_from_is_err_and, Module, IsRefusedOffer, Spells}
-use Rattle.mv_binary_format.specs.Parsing.{module_of}
-use Rattle.mv_type_states.specs.Sound.{IsRefusedByTypes}
+use Rattle.mv_ledger.proofs.Common.{◌∙◌, ◌≡◌, Err, List, Some, ap, subst, sym, ℕ, IfErr-weaker, IfOk-weaker, err_from_is_err_and, Module, module_of, IsRefusedByTypes, IsRefusedOffer, Spells}
 use Rattle.mv_ledger.proofs.Phases.{refused_text, refused_bounds, refused_types}
 use Rattle.mv_ledger.proofs.publishing.typed.Goals as goal
 

@@ -1,5 +1,4 @@
-use Rattle.std.proofs.Common.{Some, sym, ap, ◌∙◌}
-use Rattle.std.proofs.lemmas.Result.{err_from_is_err_and}
+use Rattle.mv_ledger.proofs.Common.{◌∙◌, Some, ap, sym, err_from_is_err_and}
 use Rattle.mv_ledger.proofs.publishing.verified.Goals as goal
 
 pub returns-in_err-typed-clause-refused : goal.returns-in_err-typed-clause-refused

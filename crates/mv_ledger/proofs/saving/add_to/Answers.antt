@@ -1,4 +1,4 @@
-use Rattle.std.proofs.Common.{refl}
+use Rattle.mv_ledger.proofs.Common.{refl}
 use Rattle.mv_ledger.proofs.Saves.Sections.{adds-value}
 use Rattle.mv_ledger.proofs.saving.add_to.Goals as goal
 

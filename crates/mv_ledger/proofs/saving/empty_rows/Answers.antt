@@ -1,7 +1,4 @@
-use Rattle.mv_ledger.proofs.Common.{[], ◌+◌, ◌∙◌, ◌∷◌, ◌≤◌, List, ap, arith, length, subst, sym, map-append, sections_of}
-use Rattle.std.specs.declared.vec.Vec.{Vec}
-use Rattle.std.specs.declared.alloc.Global.{Global}
-use Rattle.mv_ledger.specs.declared.saving.Section.{Section}
+use Rattle.mv_ledger.proofs.Common.{[], ◌+◌, ◌∙◌, ◌∷◌, ◌≤◌, List, ap, arith, length, subst, sym, map-append, Global, Vec, sections_of, Section}
 use Rattle.mv_ledger.proofs.Saves.Sections.{AreEmptyRows, empty-more, empty-all}
 use Rattle.mv_ledger.proofs.saving.empty_rows.Goals as goal
 

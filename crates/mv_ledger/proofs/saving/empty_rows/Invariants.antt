@@ -1,4 +1,4 @@
-use Rattle.mv_ledger.specs.Parts.Saving.{sections_of}
+use Rattle.mv_ledger.proofs.Common.{sections_of}
 use Rattle.mv_ledger.proofs.Saves.Sections.{AreEmptyRows}
 use Rattle.mv_ledger.proofs.saving.empty_rows.Given as goal
 

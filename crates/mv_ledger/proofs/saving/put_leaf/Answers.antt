@@ -1,6 +1,4 @@
-use Rattle.mv_ledger.proofs.Common.{ℕ, ◌++◌, ◌^◌, ◌≡◌, Err, List, Ok, Result, arith, ltb-true, OnOk}
-use Rattle.mv_move_types.specs.Tokens.{width_bits}
-use Rattle.mv_module_text.specs.Entries.{address_text}
+use Rattle.mv_ledger.proofs.Common.{◌++◌, ◌^◌, ◌≡◌, Err, List, Ok, Result, arith, ℕ, ltb-true, OnOk, width_bits, address_text}
 use Rattle.mv_module_text.specs.Writes.{Writes}
 use Rattle.mv_ledger.proofs.saving.put_leaf.Goals as goal
 
@@ -22,5 +20,4 @@ pub returns-in-Number : goal.returns-in-Number
 returns-in-Number c = rw c.in-Number.is c.put_number.ensures
 
 pub returns-in-Address : goal.returns-in-Address
-returns-in-Address c =
-    rw c.in-Address.is (wrote c.write_address.result (address_text c.args.n) c.args.text.now.items c.write_address.new.out.items c.write_address.ensures)
+returns-in-Address c = rw c.in-Address.is (wrote c.write_address.result (address_text c.args.n) c.args.text.now.items c.write_address.new.out.items c.write_address.ensures)

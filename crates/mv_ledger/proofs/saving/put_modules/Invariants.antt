@@ -1,6 +1,4 @@
-use Rattle.mv_ledger.proofs.Common.{◌++◌, ◌≡◌, length, map, take, flat_map, offered}
-use Rattle.mv_uleb.specs.Uleb.{uleb}
-use Rattle.mv_ledger.specs.RecordText.{offer_text}
+use Rattle.mv_ledger.proofs.Common.{◌++◌, ◌≡◌, flat_map, length, map, take, uleb, offered, offer_text}
 use Rattle.mv_ledger.proofs.saving.put_modules.Given as goal
 
 abbrev pub invariant-each : goal.invariant-each

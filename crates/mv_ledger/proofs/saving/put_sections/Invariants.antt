@@ -1,5 +1,4 @@
-use Rattle.mv_ledger.proofs.Common.{◌++◌, ◌≡◌, List, take, flat_map, FlatEntry, storage_of, AreSections, sections_of}
-use Rattle.mv_ledger.specs.SavedText.{keyed_from, struct_text}
+use Rattle.mv_ledger.proofs.Common.{◌++◌, ◌≡◌, List, flat_map, take, FlatEntry, storage_of, AreSections, sections_of, keyed_from, struct_text}
 use Rattle.mv_ledger.proofs.saving.put_sections.Given as goal
 
 abbrev pub invariant-each : goal.invariant-each

@@ -1,4 +1,4 @@
-use Rattle.std.proofs.Common.{arith}
+use Rattle.mv_ledger.proofs.Common.{arith}
 use Rattle.mv_ledger.proofs.Saves.Written.{tallies-at, tallies-more}
 use Rattle.mv_ledger.proofs.saving.put_tallies.Goals as goal
 

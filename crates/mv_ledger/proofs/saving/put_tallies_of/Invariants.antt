@@ -1,5 +1,4 @@
-use Rattle.std.proofs.Common.{◌≡◌, ◌++◌, take}
-use Rattle.mv_ledger.specs.Parts.Saving.{counts_text}
+use Rattle.mv_ledger.proofs.Common.{◌++◌, ◌≡◌, take, counts_text}
 use Rattle.mv_ledger.proofs.saving.put_tallies_of.Given as goal
 
 abbrev pub invariant-each : goal.invariant-each

@@ -1,4 +1,5 @@
-use Rattle.mv_ledger.specs.Parts.Saving.{sections_of, struct_of}
+use Rattle.mv_ledger.proofs.Common.{sections_of}
+use Rattle.mv_ledger.specs.Parts.Saving.{struct_of}
 use Rattle.mv_ledger.proofs.Saves.Filling.{readable, fill-start, fill-fine, fill-there, fill-few, fill-known, fill-leaves, fill-more}
 use Rattle.mv_ledger.proofs.saving.sections_in.Goals as goal
 

@@ -1,5 +1,4 @@
-use Rattle.std.proofs.Common.{length}
-use Rattle.mv_ledger.specs.Parts.Saving.{sections_of}
+use Rattle.mv_ledger.proofs.Common.{length, sections_of}
 use Rattle.mv_ledger.proofs.Saves.Filling.{IsFilled}
 use Rattle.mv_ledger.proofs.saving.sections_in.Given as goal
 

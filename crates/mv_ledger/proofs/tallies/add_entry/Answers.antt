@@ -1,6 +1,4 @@
-use Rattle.std.proofs.Common.{rules}
-use Rattle.std.proofs.lemmas.List.Sorted.{answers_always}
-use Rattle.mv_ledger.specs.declared.tallies.Tally.{Tally}
+use Rattle.mv_ledger.proofs.Common.{rules, answers_always, Tally}
 use Rattle.mv_ledger.proofs.Runs.TalliesFound.{found-own, found-room, found-alone, none-own}
 use Rattle.mv_ledger.proofs.tallies.add_entry.Goals as goal
 

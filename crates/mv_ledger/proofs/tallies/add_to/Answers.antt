@@ -1,4 +1,4 @@
-use Rattle.std.proofs.Common.{arith}
+use Rattle.mv_ledger.proofs.Common.{arith}
 use Rattle.mv_ledger.proofs.Runs.TalliesFound.{tally-own}
 use Rattle.mv_ledger.proofs.tallies.add_to.Goals as goal
 

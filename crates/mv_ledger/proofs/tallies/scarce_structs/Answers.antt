@@ -1,6 +1,4 @@
-use Rattle.std.proofs.Common.{◌≤◌, ◌∷◌, [], ◌++◌, ℕ, List, length, arith, ◌∙◌, ap}
-use Rattle.std.specs.declared.vec.Vec.{Vec}
-use Rattle.std.specs.declared.alloc.Global.{Global}
+use Rattle.mv_ledger.proofs.Common.{[], ◌++◌, ◌∙◌, ◌∷◌, ◌≤◌, List, ap, arith, length, ℕ, Global, Vec}
 use Rattle.mv_ledger.proofs.Bundles.TalliesFresh.{scarce-found, scarce-passed, scarce-all}
 use Rattle.mv_ledger.proofs.tallies.scarce_structs.Goals as goal
 use Rattle.mv_ledger.proofs.tallies.scarce_structs.Goals.{then-is_scarce+in_ok-push, else-is_scarce}

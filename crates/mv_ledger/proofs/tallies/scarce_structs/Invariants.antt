@@ -1,6 +1,4 @@
-use Rattle.std.proofs.Common.{◌≡◌, map, take}
-use Rattle.std.specs.List.{filter, enumerate_from}
-use Rattle.mv_move_types.specs.Scarce.{is_scarce_struct}
+use Rattle.mv_ledger.proofs.Common.{◌≡◌, map, take, enumerate_from, filter, is_scarce_struct}
 use Rattle.mv_ledger.proofs.tallies.scarce_structs.Given as goal
 
 abbrev pub invariant-loop-i : goal.invariant-loop-i

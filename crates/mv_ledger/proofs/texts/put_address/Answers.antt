@@ -1,5 +1,4 @@
-use Rattle.std.proofs.Common.{◌≡◌, ◌∙◌, ap}
-use Rattle.hex.specs.Hex.{encode_lower}
+use Rattle.mv_ledger.proofs.Common.{◌∙◌, ◌≡◌, ap, encode_lower}
 use Rattle.mv_machine.specs.Lines.{address_text}
 use Rattle.mv_ledger.proofs.Shows.Digits.{address_digits, put_after}
 use Rattle.mv_ledger.proofs.texts.put_address.Goals as goal

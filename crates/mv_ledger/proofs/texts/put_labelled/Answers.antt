@@ -1,5 +1,4 @@
-use Rattle.std.proofs.Common.{◌++◌, decimal, ◌∙◌, ap, append_assoc}
-use Rattle.std.proofs.lemmas.Result.{IfOk-equal}
+use Rattle.mv_ledger.proofs.Common.{◌++◌, ◌∙◌, ap, append_assoc, decimal, IfOk-equal}
 use Rattle.mv_ledger.proofs.texts.put_labelled.Goals as goal
 
 pub returns : goal.returns

@@ -1,17 +1,13 @@
-use Rattle.mv_ledger.proofs.Common.{ℕ, ◌++◌, ◌==◌, ◌∙◌, ◌≡◌, ◌≢◌, ◌⊎◌, Bool, Bor, List, ap, codes, cond, false, inl, inr, refl, sym, true, eqb-true, IfOk-equal, Address, Boolean, Signer}
-use Rattle.mv_move_types.specs.declared.token.LeafKind.{LeafKind}
-use Rattle.mv_machine.specs.Lines.{address_text, leaf_text}
+use Rattle.mv_ledger.proofs.Common.{◌++◌, ◌∙◌, ◌≡◌, ◌≢◌, ◌⊎◌, Bool, Bor, List, ap, arith, codes, cond, false, inl, inr, refl, sym, true, ℕ, eqb-true, IfOk-equal, ◌==◌, LeafKind, Address, Boolean}
+use Rattle.mv_ledger.proofs.Common.{Signer, leaf_text}
+use Rattle.mv_machine.specs.Lines.{address_text}
 use Rattle.mv_ledger.proofs.Shows.Digits.{put_after}
 use Rattle.mv_ledger.proofs.texts.put_leaf.Goals as goal
 use Rattle.mv_ledger.proofs.texts.put_leaf.Goals.{then-n-eq0, else-n-eq0}
 
 -- a number that isn't zero
 apart : (n : ℕ) → n ≢ 0 → (n == 0) ≡ false
-apart n some = by_case (n == 0) refl
-  where
-    by_case : (b : Bool) → (n == 0) ≡ b → (n == 0) ≡ false
-    by_case true e = absurd (some (eqb-true n 0 e))
-    by_case false e = e
+apart n some = grind (arith, eqb-true n 0)
 
 -- a boolean, by its number
 untrue : (kind : LeafKind) (n : ℕ) → kind ≡ Boolean → n ≡ 0 → codes "false" ≡ leaf_text kind n

@@ -1,7 +1,6 @@
-use Rattle.mv_ledger.proofs.Common.{Boolean, value_text, tables_in, Part, Leaf, PutsText}
-use Rattle.std.proofs.Common.{◌≡◌, ℕ, ◌+◌, ◌<◌, List, ◌∷◌, ◌++◌, length, drop, Some, sym, ap, ◌∙◌, subst, arith, codes, Vec, Global, get_or, add-one}
-use Rattle.std.proofs.Math.Seq.{drop-cons}
-use Rattle.mv_ledger.specs.ValueParts.{part_from}
+use Rattle.mv_ledger.proofs.Common.{◌++◌, ◌+◌, ◌<◌, ◌∙◌, ◌∷◌, ◌≡◌, List, Some, add-one, ap, arith, codes, drop, get_or, length, subst, sym, ℕ, drop-cons, Global, Vec, Boolean, value_text}
+use Rattle.mv_ledger.proofs.Common.{tables_in, Part, PutsText, part_from}
+use Rattle.mv_linker.specs.declared.shapes.Part.TheVariants.{Leaf}
 use Rattle.mv_ledger.proofs.Shows.Fields.{HasPut-first, HasPut-later, extends-same, extends-more}
 use Rattle.mv_ledger.proofs.Shows.Structs.{puts_no_depth, puts_missing, puts_fields}
 use Rattle.mv_ledger.proofs.values.+values.Goals as goal
@@ -25,8 +24,7 @@ put_struct-returns k c =
     let new = c.push-2.new.self.items in
     record {
       value = puts_fields c.args.store.now c.in-Some.ensures.store c.args.depth c.args.d c.in-Some.parts.now c.args.words.now c.in_ok-rest.rest old front most new c.if-depth-eq0.false
-          c.in-Some.ensures.fields c.in_ok-push.ensures.items
-          c.in_ok-rest.ensures.value c.in_ok-push-2.ensures.items;
+          c.in-Some.ensures.fields c.in_ok-push.ensures.items c.in_ok-rest.ensures.value c.in_ok-push-2.ensures.items;
       kept = extends-more old front new (codes "{", c.in_ok-push.ensures.items) (extends-more front most new c.in_ok-rest.ensures.kept (codes "}", c.in_ok-push-2.ensures.items));
     }
 

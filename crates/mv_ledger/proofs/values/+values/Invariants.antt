@@ -1,6 +1,4 @@
-use Rattle.std.proofs.Common.{◌+◌, ◌*◌}
-use Rattle.mv_linker.specs.Link.{tables_in}
-use Rattle.mv_ledger.specs.ValueParts.{part_from}
+use Rattle.mv_ledger.proofs.Common.{◌*◌, ◌+◌, tables_in, part_from}
 use Rattle.mv_ledger.proofs.Shows.Fields.{HasPut}
 use Rattle.mv_ledger.proofs.values.+values.Given as goal
 

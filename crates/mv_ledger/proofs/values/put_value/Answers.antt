@@ -1,4 +1,4 @@
-use Rattle.mv_linker.specs.Link.{tables_in}
+use Rattle.mv_ledger.proofs.Common.{tables_in}
 use Rattle.mv_ledger.proofs.Shows.Structs.{key-value}
 use Rattle.mv_ledger.proofs.values.put_value.Goals as goal
 

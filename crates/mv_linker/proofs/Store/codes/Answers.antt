@@ -1,5 +1,4 @@
-use Rattle.mv_linker.proofs.Common.{◌∙◌, ap, map, operations, published_under, tables_in}
-use Rattle.mv_linker.specs.Linked.{program_of}
+use Rattle.mv_linker.proofs.Common.{◌∙◌, ap, map, operations, program_of, published_under, tables_in}
 use Rattle.mv_linker.proofs.LinkedCode.StoredCodes.{program-is}
 use Rattle.mv_linker.proofs.Store.codes.Goals as goal
 

@@ -1,4 +1,5 @@
-use Rattle.mv_linker.proofs.Common.{ℕ, ◌<◌, ◌≡◌, List, Some, arith, length, refl, slice_get, subst, sym, length-map, slice_get_read, PublishedModule, tables_in, AreDependencies, AreDependenciesOf}
+use Rattle.mv_linker.proofs.Common.{ℕ, ◌<◌, ◌≡◌, AreDependencies, AreDependenciesOf, List, PublishedModule, Some, arith, length, length-map, refl, slice_get, slice_get_read, subst, sym}
+use Rattle.mv_linker.proofs.Common.{tables_in}
 use Rattle.mv_linker.proofs.Store.dependencies_at.Goals as goal
 
 pub returns : goal.returns

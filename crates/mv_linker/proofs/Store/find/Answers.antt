@@ -1,4 +1,4 @@
-use Rattle.mv_linker.proofs.Common.{◌∙◌, ap, refl, module_place, ModuleName, tables_in}
+use Rattle.mv_linker.proofs.Common.{◌∙◌, ModuleName, ap, module_place, refl, tables_in}
 use Rattle.mv_linker.proofs.Kept.Keyed.{place-keyed}
 use Rattle.mv_linker.proofs.Store.find.Goals as goal
 

@@ -1,13 +1,12 @@
-use Rattle.mv_linker.proofs.Common.{ℕ, ◌<◌, ◌∙◌, ◌≡◌, ◌≤◌, Bor, List, None, Option, Some, ap, arith, length, option_map, refl, slice_get, subst, sym, leb-true, length-map, slice_get_read, IfSome}
-use Rattle.mv_linker.proofs.Common.{IsTrue, nat_le, position, bytes_eq, Module, function_place, PublishedModule, AreInterfacesOf, IsStore, tables_in, AreCodesOf, Code, Interface}
+use Rattle.mv_linker.proofs.Common.{ℕ, ◌<◌, ◌∙◌, ◌≡◌, ◌≤◌, AreCodesOf, AreInterfacesOf, Bor, Code, IfSome, Interface, IsStore, IsTrue, List, Module, None, Option, PublishedModule, Some}
+use Rattle.mv_linker.proofs.Common.{ap, arith, bytes_eq, function_place, leb-true, length, length-map, nat_le, option_map, position, refl, slice_get, slice_get_read, subst, sym, tables_in}
+use Rattle.mv_linker.proofs.Lemmas.{among-at, place_below, there_at}
 use Rattle.mv_linker.proofs.Joining.Assembling.{passed-among}
-use Rattle.mv_linker.proofs.Found.{there_at, place_below}
 use Rattle.mv_linker.proofs.Kept.InterfaceLemmas.{function-found, interface-at}
-use Rattle.mv_linker.proofs.Kept.Keyed.{position-find_index}
-use Rattle.mv_linker.proofs.Members.{among-at}
+use Rattle.mv_linker.proofs.Found.{position-find_index}
 use Rattle.mv_linker.proofs.LinkedCode.StoredCodes.{interfaces-known}
-use Rattle.mv_linker.proofs.Store.function.Goals as goal
 use Rattle.mv_linker.proofs.Store.function.Goals.{After-index}
+use Rattle.mv_linker.proofs.Store.function.Goals as goal
 
 -- the module at the place, with its code's interfaces
 record Here (modules : List Module) (place : ℕ) (code : Code) : Type 0 where

@@ -1,4 +1,4 @@
-use Rattle.mv_linker.proofs.Common.{◌∙◌, ◌≡◌, List, None, Some, ap, ap₂, false, slice_get, subst, sym, unwrap_or, PublishedModule, tables_in, AreCodesOf}
+use Rattle.mv_linker.proofs.Common.{◌∙◌, ◌≡◌, AreCodesOf, List, None, PublishedModule, Some, ap, ap₂, false, slice_get, subst, sym, tables_in, unwrap_or}
 use Rattle.mv_linker.proofs.LinkedCode.StoredCodes.{got}
 use Rattle.mv_linker.proofs.Kept.StoredShapes.{key-known, no_key}
 use Rattle.mv_linker.proofs.Store.is_keyed.Goals as goal

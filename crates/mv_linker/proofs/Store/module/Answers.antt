@@ -1,7 +1,4 @@
-use Rattle.mv_linker.proofs.Common.{ℕ, ◌∙◌, ◌≡◌, Err, List, None, ap, inl, inr, slice_get, subst, sym, IfSome, PublishedModule}
-use Rattle.mv_move_types.specs.declared.refusal.Refusal.{Refusal}
-use Rattle.mv_move_types.specs.declared.refusal.Refusal.TheVariants.{Phase, Memory}
-use Rattle.mv_binary_format.specs.Parsing.{module_of}
+use Rattle.mv_linker.proofs.Common.{ℕ, ◌∙◌, ◌≡◌, Err, IfSome, List, Memory, None, Phase, PublishedModule, Refusal, ap, inl, inr, module_of, slice_get, subst, sym}
 use Rattle.mv_linker.proofs.Kept.Keyed.{module-at, spelled-at}
 use Rattle.mv_linker.proofs.Joining.Scopes.{tables-there}
 use Rattle.mv_linker.proofs.Store.module.Goals as goal

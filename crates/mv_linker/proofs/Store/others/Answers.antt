@@ -1,5 +1,4 @@
-use Rattle.mv_linker.proofs.Common.{◌∙◌, ◌≡◌, List, None, Option, Some, ap, ap₂, slice_get, subst, sym, PublishedModule, tables_in, AreCodesOf, Code}
-use Rattle.mv_move_types.specs.Options.{◌>>=◌}
+use Rattle.mv_linker.proofs.Common.{◌>>=◌, ◌∙◌, ◌≡◌, AreCodesOf, Code, List, None, Option, PublishedModule, Some, ap, ap₂, slice_get, subst, sym, tables_in}
 use Rattle.mv_linker.proofs.LinkedCode.StoredCodes.{got, others-known}
 use Rattle.mv_linker.proofs.Store.others.Goals as goal
 

@@ -1,4 +1,4 @@
-use Rattle.mv_linker.proofs.Common.{◌≤◌, List, arith, length, subst, length-map, on_ok_weaker, PublishedModule, tables_in, AreDependenciesOf}
+use Rattle.mv_linker.proofs.Common.{◌≤◌, AreDependenciesOf, List, PublishedModule, arith, length, length-map, on_ok_weaker, subst, tables_in}
 use Rattle.mv_linker.proofs.Cycles.NamerLemmas.{namers-of}
 use Rattle.mv_linker.proofs.Store.put_namers.Goals as goal
 

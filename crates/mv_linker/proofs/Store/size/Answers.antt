@@ -1,7 +1,7 @@
-use Rattle.mv_linker.proofs.Common.{◌∙◌, ◌≡◌, List, Some, ap, arith, get_or, length, refl, slice_get, subst, slice_get_read, PublishedModule, tables_in, AreCodesOf}
+use Rattle.mv_linker.proofs.Common.{◌∙◌, ◌≡◌, AreCodesOf, List, PublishedModule, Some, ap, arith, get_or, length, refl, slice_get, slice_get_read, subst, tables_in}
 use Rattle.mv_linker.proofs.LinkedCode.StoredCodes.{code-below, size-below, size-is}
-use Rattle.mv_linker.proofs.Store.size.Goals as goal
 use Rattle.mv_linker.proofs.Store.size.Goals.{After-index}
+use Rattle.mv_linker.proofs.Store.size.Goals as goal
 
 -- the codes are those of its modules
 codes-are : (c : After-index) → AreCodesOf (tables_in c.args.self.now) c.self.inside.codes.items

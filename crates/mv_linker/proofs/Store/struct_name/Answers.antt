@@ -1,8 +1,8 @@
-use Rattle.mv_linker.proofs.Common.{ℕ, ◌∙◌, ◌≡◌, List, None, Option, Some, ap, ap₂, slice_get, sym, name_at, ModuleName, StructName, name_in, published_under, tables_in}
+use Rattle.mv_linker.proofs.Common.{ℕ, ◌∙◌, ◌≡◌, List, ModuleName, None, Option, Some, StructName, ap, ap₂, name_at, name_in, published_under, slice_get, sym, tables_in}
 use Rattle.mv_linker.proofs.LinkedCode.StoredCodes.{got}
 use Rattle.mv_linker.proofs.Kept.StructNames.{named-there, unnamed-there}
-use Rattle.mv_linker.proofs.Store.struct_name.Goals as goal
 use Rattle.mv_linker.proofs.Store.struct_name.Goals.{After-from-2}
+use Rattle.mv_linker.proofs.Store.struct_name.Goals as goal
 
 -- the code of the module at the place
 at-place : (c : After-from-2) → slice_get c.self.inside.codes.items c.args.d.place ≡ Some c.in_ok-code.code.now

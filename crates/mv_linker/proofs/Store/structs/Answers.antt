@@ -1,4 +1,4 @@
-use Rattle.mv_linker.proofs.Common.{◌∙◌, ◌≡◌, List, None, Some, ap, arith, slice_get, subst, sym, PublishedModule, IsStore, tables_in, AreCodesOf}
+use Rattle.mv_linker.proofs.Common.{◌∙◌, ◌≡◌, AreCodesOf, IsStore, List, None, PublishedModule, Some, ap, arith, slice_get, subst, sym, tables_in}
 use Rattle.mv_linker.proofs.LinkedCode.StoredCodes.{got}
 use Rattle.mv_linker.proofs.Kept.StoredShapes.{few-structs, no_structs, structs-known}
 use Rattle.mv_linker.proofs.Store.structs.Goals as goal

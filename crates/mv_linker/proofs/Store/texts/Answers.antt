@@ -1,7 +1,5 @@
-use Rattle.mv_linker.proofs.Common.{[], ℕ, ◌∙◌, ◌∷◌, ◌≡◌, List, Option, Some, ap, map, option_map, refl, slice_get, subst, sym, slice_get-map, values_of, IfSome, PublishedModule, published_as}
-use Rattle.mv_linker.proofs.Common.{published_under}
-use Rattle.mv_linker.specs.declared.entry.Name.{Name}
-use Rattle.mv_linker.specs.declared.entry.Texts.{Texts}
+use Rattle.mv_linker.proofs.Common.{[], ℕ, ◌∙◌, ◌∷◌, ◌≡◌, IfSome, List, Name, Option, PublishedModule, Some, Texts, ap, map, option_map, published_as, published_under, refl, slice_get}
+use Rattle.mv_linker.proofs.Common.{slice_get-map, subst, sym, values_of}
 use Rattle.mv_linker.proofs.Store.texts.Goals as goal
 
 published-values : (es : List (Name × Texts)) → published_under es ≡ map published_as (values_of es)

@@ -1,9 +1,8 @@
-use Rattle.mv_linker.proofs.Common.{ℕ, ◌≡◌, List, Some, slice_get, subst, sym, Module, PublishedModule, IsStore, tables_in}
-use Rattle.mv_move_types.specs.declared.refusal.Refusal.{Refusal}
-use Rattle.mv_bounds.specs.Answers.{IsRefusedByBounds, FailsBounds, out_of_bounds, ill_defined}
-use Rattle.mv_type_states.specs.Sound.{IsSound, IsRefusedByTypes, FailsTypes, ill_signed, unable, endless, ill_typed}
+use Rattle.mv_linker.proofs.Common.{ℕ, ◌≡◌, FailsTypes, IsRefusedByTypes, IsSound, IsStore, List, Module, PublishedModule, Refusal, Some, endless, ill_signed, ill_typed, slice_get, subst}
+use Rattle.mv_linker.proofs.Common.{sym, tables_in, unable}
+use Rattle.mv_bounds.specs.Answers.{FailsBounds, IsRefusedByBounds, ill_defined, out_of_bounds}
+use Rattle.mv_linker.proofs.Lemmas.{among-at}
 use Rattle.mv_linker.proofs.Joining.Assembling.{passed-among}
-use Rattle.mv_linker.proofs.Members.{among-at}
 use Rattle.mv_linker.proofs.Store.tops.Goals as goal
 
 -- a store's modules are sound, and so no phase refuses them

@@ -1,8 +1,7 @@
-use Rattle.std.proofs.Common.{ℕ, Vec, Global, length, ap, ◌∙◌, rules}
-use Rattle.std.proofs.lemmas.Iterator.{items_from_collect, YieldsList-from_map, YieldsList-from_zip, YieldsList-from_slice}
+use Rattle.mv_linker.proofs.Common.{ℕ, ◌∙◌, DependenciesAt, Global, Vec, ap, length, rules}
+use Rattle.std.proofs.lemmas.Iterator.{YieldsList-from_map, YieldsList-from_slice, YieldsList-from_zip, items_from_collect}
 use Rattle.std.proofs.lemmas.Iterator.Adapters.{YieldsList-from_vec}
 use Rattle.std.proofs.lemmas.Iterator.Consumers.{YieldsList-at}
-use Rattle.mv_linker.specs.declared.dependencies.DependenciesAt.{DependenciesAt}
 use Rattle.mv_linker.proofs.dependencies.placed.Goals as goal
 
 abbrev made : ℕ × Vec ℕ Global → DependenciesAt

@@ -1,4 +1,4 @@
-use Rattle.mv_linker.proofs.Common.{ℕ, ◌≡◌, Global, List, Some, Vec, slice_get, subst, sym, true, IfOk-weaker, Module, all_differ, have_one_name, AreDependencies, AreHandlePlaces, others}
+use Rattle.mv_linker.proofs.Common.{ℕ, ◌≡◌, AreDependencies, AreHandlePlaces, Global, IfOk-weaker, List, Module, Some, Vec, all_differ, have_one_name, others, slice_get, subst, sym, true}
 use Rattle.mv_linker.proofs.Cycles.Depends.{dependencies_from}
 use Rattle.mv_linker.proofs.dependency_graph.dependencies.Goals as goal
 

@@ -1,5 +1,4 @@
-use Rattle.std.proofs.Common.{◌≡◌, map, take, ℕ, Vec, Global}
-use Rattle.mv_linker.specs.DependencyGraph.{shifted}
+use Rattle.mv_linker.proofs.Common.{ℕ, ◌≡◌, Global, Vec, map, shifted, take}
 use Rattle.mv_linker.proofs.dependency_graph.graph_from.Given as goal
 
 abbrev pub invariant-loop-places : goal.invariant-loop-places

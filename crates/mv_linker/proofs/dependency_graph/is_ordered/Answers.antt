@@ -1,5 +1,4 @@
-use Rattle.mv_linker.proofs.Common.{ℕ, ◌↔◌, ◌∙◌, ◌≡◌, Global, List, Vec, ap, map, refl, subst, sym, true, IfOk-weaker, Module, IsDependencyGraph, IsOrdered, shifted}
-use Rattle.mv_bounds.specs.Cycles.{IsAcyclic}
+use Rattle.mv_linker.proofs.Common.{ℕ, ◌↔◌, ◌∙◌, ◌≡◌, Global, IfOk-weaker, IsAcyclic, IsDependencyGraph, IsOrdered, List, Module, Vec, ap, map, refl, shifted, subst, sym, true}
 use Rattle.mv_linker.proofs.Cycles.Depends.{ordered-acyclic}
 use Rattle.mv_linker.proofs.Cycles.DependencyLemmas.{map-items}
 use Rattle.mv_linker.proofs.Cycles.NoEdges.{no-edges}

@@ -1,5 +1,5 @@
-use Rattle.mv_linker.proofs.Common.{[], ◌++◌, ◌+◌, ◌∙◌, ◌∷◌, ◌≡◌, ap, subst, sym, take, map-append, take_more, All, Kept, published_in, IsPublishable, published_of, published_one}
-use Rattle.std.proofs.lemmas.List.Elements.{All-push}
+use Rattle.mv_linker.proofs.Common.{[], ◌++◌, ◌+◌, ◌∙◌, ◌∷◌, ◌≡◌, All, All-push, IsPublishable, Kept, ap, map-append, published_in, published_of, published_one, subst, sym, take}
+use Rattle.mv_linker.proofs.Common.{take_more}
 use Rattle.mv_linker.proofs.entry.entries_of.Goals as goal
 
 pub loop-n-preserved : goal.loop-n-preserved

@@ -1,4 +1,4 @@
-use Rattle.mv_linker.proofs.Common.{◌≡◌, take, All, published_in, IsPublishable, published_of}
+use Rattle.mv_linker.proofs.Common.{◌≡◌, All, IsPublishable, published_in, published_of, take}
 use Rattle.mv_linker.proofs.entry.entries_of.Given as goal
 
 abbrev pub invariant-loop-n : goal.invariant-loop-n

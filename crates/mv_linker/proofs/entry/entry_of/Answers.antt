@@ -1,7 +1,6 @@
-use Rattle.std.proofs.Common.{◌≡◌, None, subst, sym}
-use Rattle.mv_move_types.specs.Module.{Module, own_name}
-use Rattle.mv_linker.proofs.entry.entry_of.Goals as goal
+use Rattle.mv_linker.proofs.Common.{◌≡◌, Module, None, own_name, subst, sym}
 use Rattle.mv_linker.proofs.OwnDefinitions.{own_name-not_none}
+use Rattle.mv_linker.proofs.entry.entry_of.Goals as goal
 
 pub unreachable-requires : goal.unreachable-requires
 unreachable-requires c =

@@ -1,4 +1,4 @@
-use Rattle.std.proofs.Common.{[], ◌≤◌, length, unwrap_or, sym, ap, subst}
+use Rattle.mv_linker.proofs.Common.{[], ◌≤◌, ap, length, subst, sym, unwrap_or}
 use Rattle.mv_linker.proofs.Kept.IdentifierLemmas.{identifier-short}
 use Rattle.mv_linker.proofs.identifiers.identifier_of.Goals as goal
 

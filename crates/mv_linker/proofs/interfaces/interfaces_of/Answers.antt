@@ -1,5 +1,5 @@
-use Rattle.mv_linker.proofs.Common.{[], ◌++◌, ◌+◌, ◌∙◌, ◌∷◌, ◌≡◌, Some, ap, arith, inl, inr, length, length-append, refl, slice_get, subst, sym, same_Some, slice_get_read, FunctionDefinition}
-use Rattle.mv_linker.proofs.Common.{IsInterfaceOf, Interface}
+use Rattle.mv_linker.proofs.Common.{[], ◌++◌, ◌+◌, ◌∙◌, ◌∷◌, ◌≡◌, FunctionDefinition, Interface, IsInterfaceOf, Some, ap, arith, inl, inr, length, length-append, refl, same_Some}
+use Rattle.mv_linker.proofs.Common.{slice_get, slice_get_read, subst, sym}
 use Rattle.mv_linker.proofs.LinkedCode.Calls.{last_or_before}
 use Rattle.mv_linker.proofs.Kept.InterfaceLemmas.{interface-made}
 use Rattle.mv_linker.proofs.interfaces.interfaces_of.Goals as goal

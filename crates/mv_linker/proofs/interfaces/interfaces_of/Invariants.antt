@@ -1,5 +1,4 @@
-use Rattle.mv_linker.proofs.Common.{ℕ, ◌≡◌, Some, length, slice_get, FunctionDefinition, IsInterfaceOf, Interface}
-use Rattle.mv_bounds.specs.Bounds.{InBounds}
+use Rattle.mv_linker.proofs.Common.{ℕ, ◌≡◌, FunctionDefinition, InBounds, Interface, IsInterfaceOf, Some, length, slice_get}
 use Rattle.mv_linker.proofs.interfaces.interfaces_of.Given as goal
 
 -- those of the functions so far

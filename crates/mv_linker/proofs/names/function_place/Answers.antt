@@ -1,5 +1,5 @@
-use Rattle.mv_linker.proofs.Common.{◌∙◌, false, option_map_or, bytes_eq, FunctionDefinition, name_of_function}
-use Rattle.mv_linker.proofs.Kept.Keyed.{position-find_index}
+use Rattle.mv_linker.proofs.Common.{◌∙◌, FunctionDefinition, bytes_eq, false, name_of_function, option_map_or}
+use Rattle.mv_linker.proofs.Found.{position-find_index}
 use Rattle.mv_linker.proofs.names.function_place.Goals as goal
 
 pub returns : goal.returns

@@ -1,4 +1,4 @@
-use Rattle.std.proofs.Common.{sym, ◌∙◌}
+use Rattle.mv_linker.proofs.Common.{◌∙◌, sym}
 use Rattle.mv_linker.proofs.OwnDefinitions.{function-at}
 use Rattle.mv_linker.proofs.LinkedCode.StoredCodes.{got-at}
 use Rattle.mv_linker.proofs.names.likely_function_place.Goals as goal

@@ -1,5 +1,5 @@
-use Rattle.std.proofs.Common.{sym}
-use Rattle.mv_linker.proofs.HandleNames.{not-at, nothing, unnamed-handle, unnamed-address, unnamed-identifier, named-by}
+use Rattle.mv_linker.proofs.Common.{sym}
+use Rattle.mv_linker.proofs.HandleNames.{named-by, not-at, nothing, unnamed-address, unnamed-handle, unnamed-identifier}
 use Rattle.mv_linker.proofs.LinkedCode.StoredCodes.{got-at}
 use Rattle.mv_linker.proofs.names.module_name.Goals as goal
 

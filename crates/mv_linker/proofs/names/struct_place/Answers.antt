@@ -1,6 +1,5 @@
-use Rattle.std.proofs.Common.{◌∙◌}
-use Rattle.mv_move_types.specs.Named.{is_struct}
-use Rattle.mv_linker.proofs.Kept.Keyed.{position-find_index}
+use Rattle.mv_linker.proofs.Common.{◌∙◌, is_struct}
+use Rattle.mv_linker.proofs.Found.{position-find_index}
 use Rattle.mv_linker.proofs.names.struct_place.Goals as goal
 
 pub returns : goal.returns

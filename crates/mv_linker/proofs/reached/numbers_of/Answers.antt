@@ -1,6 +1,5 @@
-use Rattle.std.proofs.Common.{◌≡◌, Some, get_or, slice_get, arith}
-use Rattle.std.proofs.lemmas.Option.{slice_get-get_or}
-use Rattle.mv_linker.proofs.Cycles.ReachedLemmas.{no-numbers, more-numbers, all-numbers}
+use Rattle.mv_linker.proofs.Common.{◌≡◌, Some, arith, get_or, slice_get, slice_get-get_or}
+use Rattle.mv_linker.proofs.Cycles.ReachedLemmas.{all-numbers, more-numbers, no-numbers}
 use Rattle.mv_linker.proofs.reached.numbers_of.Goals as goal
 
 pub loop-place-init : goal.loop-place-init

@@ -1,4 +1,4 @@
-use Rattle.mv_linker.proofs.Common.{◌∙◌, sym, PublishedModule, Kept, is_sent_by}
+use Rattle.mv_linker.proofs.Common.{◌∙◌, Kept, PublishedModule, is_sent_by, sym}
 use Rattle.mv_linker.proofs.ListTests.{list_all-maps}
 use Rattle.mv_linker.proofs.rules.all_sent.Goals as goal
 

@@ -1,8 +1,7 @@
-use Rattle.std.proofs.Common.{◌≡◌, ◌+◌, ◌++◌, ◌∷◌, [], ◌&&◌, take, ap, sym, subst, ◌∙◌}
-use Rattle.std.proofs.lemmas.List.{take_more}
+use Rattle.mv_linker.proofs.Common.{[], ◌&&◌, ◌++◌, ◌+◌, ◌∙◌, ◌∷◌, ◌≡◌, ap, subst, sym, take, take_more}
 use Rattle.mv_linker.proofs.Kept.IndexLemmas.{SeenSoFar, seen-more}
+use Rattle.mv_linker.proofs.rules.are_distinct.Goals.{else-differ, then-differ}
 use Rattle.mv_linker.proofs.rules.are_distinct.Goals as goal
-use Rattle.mv_linker.proofs.rules.are_distinct.Goals.{then-differ, else-differ}
 
 pub loop-i-preserved : goal.loop-i-preserved
 loop-i-preserved c =

@@ -1,4 +1,4 @@
-use Rattle.std.proofs.Common.{take}
+use Rattle.mv_linker.proofs.Common.{take}
 use Rattle.mv_linker.proofs.Kept.IndexLemmas.{SeenSoFar}
 use Rattle.mv_linker.proofs.rules.are_distinct.Given as goal
 

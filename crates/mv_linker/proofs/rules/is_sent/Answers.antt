@@ -1,4 +1,4 @@
-use Rattle.mv_linker.proofs.Common.{◌∙◌, Option, ap, false, sym, option_map_or, ◌==◌, ModuleName}
+use Rattle.mv_linker.proofs.Common.{◌==◌, ◌∙◌, ModuleName, Option, ap, false, option_map_or, sym}
 use Rattle.mv_linker.proofs.rules.is_sent.Goals as goal
 
 pub returns : goal.returns

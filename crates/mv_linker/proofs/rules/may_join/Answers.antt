@@ -1,8 +1,8 @@
-use Rattle.mv_linker.proofs.Common.{◌∙◌, ◌≡◌, IfOk, List, ap, arith, false, length, refl, subst, sym, true, length-map, All, Module, PublishedModule, with_modules, all_differ, AreSentBy}
-use Rattle.mv_linker.proofs.Common.{IsPublishable, IsStore, MayJoin, all_follow, are_compatible, have_one_name, tables_in, Links, published_of, offered, with_tables, KeepsDependencies, Relinks, New}
-use Rattle.mv_linker.proofs.Joining.Compatible.{follow-compatible, compatible-follow}
+use Rattle.mv_linker.proofs.Common.{◌∙◌, ◌≡◌, AreSentBy, Links, List, MayJoin, Module, New, PublishedModule, all_differ, all_follow, ap, are_compatible, arith, false, have_one_name}
+use Rattle.mv_linker.proofs.Common.{length, length-map, offered, published_of, refl, subst, sym, tables_in, true, with_modules, with_tables}
+use Rattle.mv_linker.proofs.Joining.Compatible.{compatible-follow, follow-compatible}
 use Rattle.mv_linker.proofs.Joining.Scopes.{offered-tables, scope-tables, with_tables-short}
-use Rattle.mv_linker.proofs.Outcomes.{on_ok, if_err}
+use Rattle.mv_linker.proofs.Outcomes.{if_err, on_ok}
 use Rattle.mv_linker.proofs.rules.may_join.Goals as goal
 
 pub returns-then-not-are_sent_by-clause-refused : goal.returns-then-not-are_sent_by-clause-refused
@@ -60,13 +60,11 @@ links-requires-clause-fits c =
     let follow : all_follow (tables_in c.args.s.now) (offered c.args.new.now) ≡ true = sym c.in_ok-all_follow.ensures ∙ c.if-not-branch.false in
     let fits = follow-compatible (tables_in c.args.s.now) (offered c.args.new.now) c.in_ok-scope.ensures.sound.once follow in
     record {
-      store = subst (λ (l : List PublishedModule). IsStore l) (sym c.in_ok-scope.ensures.store) c.in_ok-scope.ensures.sound;
-      passed = subst (λ (l : List New). All IsPublishable (published_of l)) (sym c.in_ok-scope.ensures.new) c.requires.passed;
-      once = subst (λ (l : List New). all_differ have_one_name (offered l) ≡ true) (sym c.in_ok-scope.ensures.new)
-          (subst (λ (l : List Module). all_differ have_one_name l ≡ true) (offered-tables c.args.new.now)
+      store = rw c.in_ok-scope.ensures.store c.in_ok-scope.ensures.sound;
+      passed = rw c.in_ok-scope.ensures.new c.requires.passed;
+      once = rw c.in_ok-scope.ensures.new (subst (λ (l : List Module). all_differ have_one_name l ≡ true) (offered-tables c.args.new.now)
           (sym (ap (λ (l : List PublishedModule). all_differ have_one_name (tables_in l)) c.requires.same) ∙ sym c.in_ok-differ.ensures ∙ c.if-not-differ.false));
-      compatible = subst (λ (l : List PublishedModule). are_compatible (tables_in l) (offered c.in_ok-scope.scope.new.now) ≡ true) (sym c.in_ok-scope.ensures.store)
-          (subst (λ (l : List New). are_compatible (tables_in c.args.s.now) (offered l) ≡ true) (sym c.in_ok-scope.ensures.new) fits);
+      compatible = rw (c.in_ok-scope.ensures.store, c.in_ok-scope.ensures.new) fits;
     }
 
 pub returns-clause-ok : goal.returns-clause-ok
@@ -77,30 +75,17 @@ returns-clause-ok c =
       sent = subst (λ (l : List PublishedModule). AreSentBy c.args.sender (tables_in l)) c.requires.same (c.are_sent_by.ensures.0 c.if-not-are_sent_by.false);
       once = sym (ap (λ (l : List PublishedModule). all_differ have_one_name (tables_in l)) c.requires.same) ∙ sym c.in_ok-differ.ensures ∙ c.if-not-differ.false;
       compatible = subst (λ (l : List Module). are_compatible (tables_in c.args.s.now) l ≡ true) (sym (offered-tables c.args.new.now)) (follow-compatible (tables_in c.args.s.now) (offered c.args.new.now) c.in_ok-scope.ensures.sound.once follow);
-      links = subst Links (sym (scope-tables c.args.s.now c.args.new.now))
-          (subst (λ (l : List PublishedModule). Links (with_tables (tables_in l) (offered c.args.new.now))) c.in_ok-scope.ensures.store
-          (subst (λ (l : List New). Links (with_tables (tables_in c.in_ok-scope.scope.store.now) (offered l))) c.in_ok-scope.ensures.new links));
+      links = subst Links (sym (scope-tables c.args.s.now c.args.new.now)) (rw (c.in_ok-scope.ensures.store, c.in_ok-scope.ensures.new) at links);
     }) c.links.ensures.ok
 
 pub returns-clause-linked : goal.returns-clause-linked
-returns-clause-linked c =
-    let scope = c.in_ok-scope.scope in
-    let old = tables_in c.args.s.now in
-    subst (λ (result : List Module). IfOk c.links.result (λ v. Relinks old result v.codes.items)) (sym (scope-tables c.args.s.now c.args.new.now))
-    (subst (λ (l : List PublishedModule). IfOk c.links.result (λ v. Relinks (tables_in l) (with_tables (tables_in l) (offered c.args.new.now)) v.codes.items)) c.in_ok-scope.ensures.store
-    (subst (λ (l : List New). IfOk c.links.result (λ v. Relinks (tables_in scope.store.now) (with_tables (tables_in scope.store.now) (offered l)) v.codes.items)) c.in_ok-scope.ensures.new c.links.ensures.codes))
+returns-clause-linked c = rw (scope-tables c.args.s.now c.args.new.now) (rw (c.in_ok-scope.ensures.store, c.in_ok-scope.ensures.new) at c.links.ensures.codes)
 
 pub returns-clause-dependencies : goal.returns-clause-dependencies
 returns-clause-dependencies c =
-    let scope = c.in_ok-scope.scope in
-    let old = tables_in c.args.s.now in
-    subst (λ (result : List Module). IfOk c.links.result (λ v. KeepsDependencies old result v.dependencies.items)) (sym (scope-tables c.args.s.now c.args.new.now))
-    (subst (λ (l : List PublishedModule). IfOk c.links.result (λ v. KeepsDependencies (tables_in l) (with_tables (tables_in l) (offered c.args.new.now)) v.dependencies.items)) c.in_ok-scope.ensures.store
-    (subst (λ (l : List New). IfOk c.links.result (λ v. KeepsDependencies (tables_in scope.store.now) (with_tables (tables_in scope.store.now) (offered l)) v.dependencies.items)) c.in_ok-scope.ensures.new c.links.ensures.dependencies))
+    rw (scope-tables c.args.s.now c.args.new.now) (rw (c.in_ok-scope.ensures.store, c.in_ok-scope.ensures.new) at c.links.ensures.dependencies)
 
 pub returns-clause-refused : goal.returns-clause-refused
 returns-clause-refused c =
     if_err _ _ _ (λ (j : MayJoin c.args.sender (tables_in c.args.s.now) (tables_in (published_of c.args.new.now)) (tables_in (with_modules c.args.s.now (published_of c.args.new.now)))).
-    subst (λ (l : List New). Links (with_tables (tables_in c.in_ok-scope.scope.store.now) (offered l))) (sym c.in_ok-scope.ensures.new)
-    (subst (λ (l : List PublishedModule). Links (with_tables (tables_in l) (offered c.args.new.now))) (sym c.in_ok-scope.ensures.store)
-    (subst Links (scope-tables c.args.s.now c.args.new.now) j.links))) c.links.ensures.refused
+    rw (c.in_ok-scope.ensures.store, c.in_ok-scope.ensures.new) (subst Links (scope-tables c.args.s.now c.args.new.now) j.links)) c.links.ensures.refused

@@ -1,4 +1,4 @@
-use Rattle.mv_linker.proofs.Common.{[], ◌∷◌, ◌≡◌, IfOk, List, arith, length, refl, subst, sym, true, PublishedModule, all_differ, Kept, published_in, have_one_name, tables_in}
+use Rattle.mv_linker.proofs.Common.{[], ◌∷◌, ◌≡◌, IfOk, Kept, List, PublishedModule, all_differ, arith, have_one_name, length, published_in, refl, subst, sym, tables_in, true}
 use Rattle.mv_linker.proofs.ListTests.{all_differ-maps}
 use Rattle.mv_linker.proofs.rules.names_differ.Goals as goal
 

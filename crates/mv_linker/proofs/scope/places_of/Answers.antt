@@ -21,7 +21,7 @@ loop-i-preserved c =
     let so = c.loop-i.invariant.0 in
     let old = tables_in c.args.store.now in
     let before = offered (take c.loop-i.i c.args.new.now) in
-    let own = c.in_ok-name.name in
+    let own = c.own_name-name.result in
     let stored = module_place old (name_in own) in
     let taken : take (c.loop-i.i + 1) c.args.new.now ≡ take c.loop-i.i c.args.new.now ++ n ∷ [] =
     take_more c.args.new.now c.loop-i.i n c.loop-i-test.true ∙ ap (λ x. take c.loop-i.i c.args.new.now ++ x ∷ []) (sym c.index-new-i.is) in
@@ -32,16 +32,16 @@ loop-i-preserved c =
     ∙ sym (find-with_tables old before (name_in own) so.named) in
     let at : c.unwrap_or-place.result ≡ place_for (with_tables old before) n.module =
     c.unwrap_or-place.ensures ∙ ap (λ (o : Option _). unwrap_or o c.loop-i.count) found ∙ ap (unwrap_or (module_place (with_tables old before) (name_in own))) so.counted
-    ∙ sym (place-for (with_tables old before) n.module (name_in own) c.in_ok-name.ensures) in
+    ∙ sym (place-for (with_tables old before) n.module (name_in own) c.own_name-name.ensures) in
     let all : offered (take (c.loop-i.i + 1) c.args.new.now) ≡ before ++ n.module ∷ [] = ap offered taken ∙ offered-push (take c.loop-i.i c.args.new.now) n in (
-      more-places _ _ _ _ c.loop-i.count _ c.unwrap_or-place.result _ n so taken c.in_ok-push.ensures.items at (ap is_some c.in_ok-name.ensures)
+      more-places _ _ _ _ c.loop-i.count _ c.unwrap_or-place.result _ n so taken c.in_ok-push.ensures.items at (ap is_some c.own_name-name.ensures)
           (elim c.if-place-count.branch [
             | then-place-count w ↦ w.count-is ∙ sym (ap (λ b. cond b (c.loop-i.count + 1) c.loop-i.count) (eq-eqb c.unwrap_or-place.result c.loop-i.count w.if-place-count.true))
             | else-place-count w ↦ w.count-is ∙ sym (ap (λ b. cond b (c.loop-i.count + 1) c.loop-i.count) (ne_eqb c.unwrap_or-place.result c.loop-i.count w.if-place-count.false))
           ]),
       subst (λ l. ArePlacesOf c.put.new.self l c.push.new.self.items) (sym all)
           (subst (λ l. ArePlacesOf c.put.new.self (before ++ n.module ∷ []) l) (sym c.in_ok-push.ensures.items)
-          (places-put c.loop-i.names c.put.new.self before c.loop-i.places.items n.module own c.unwrap_or-place.result c.loop-i.invariant.1 c.in_ok-put.ensures c.in_ok-name.ensures
+          (places-put c.loop-i.names c.put.new.self before c.loop-i.places.items n.module own c.unwrap_or-place.result c.loop-i.invariant.1 c.in_ok-put.ensures c.own_name-name.ensures
           (ap length so.placed ∙ length-places old before))),
     )
 

@@ -1,9 +1,5 @@
-use Rattle.mv_linker.proofs.Common.{[], ◌++◌, ◌∙◌, ◌∷◌, ◌≡◌, ◌≤◌, List, ap, arith, get_or, length, part_by, Part}
-use Rattle.mv_move_types.specs.declared.tables.Field.{Field}
-use Rattle.mv_move_types.specs.declared.token.LeafKind.TheVariants.{Boolean}
-use Rattle.mv_move_types.specs.declared.token.Token.TheVariants.{Plain}
-use Rattle.mv_move_types.specs.declared.token.ValueType.TheVariants.{OfLeaf}
-use Rattle.mv_linker.proofs.Kept.ShapeLemmas.{parts-first, parts-more, parts-all}
+use Rattle.mv_linker.proofs.Common.{[], ◌++◌, ◌∙◌, ◌∷◌, ◌≡◌, ◌≤◌, Boolean, Field, List, OfLeaf, Part, Plain, ap, arith, get_or, length, part_by}
+use Rattle.mv_linker.proofs.Kept.ShapeLemmas.{parts-all, parts-first, parts-more}
 use Rattle.mv_linker.proofs.shapes.put_parts.Goals as goal
 
 pub loop-field-init : goal.loop-field-init

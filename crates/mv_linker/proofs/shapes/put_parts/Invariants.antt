@@ -1,5 +1,4 @@
-use Rattle.std.proofs.Common.{◌≡◌, ◌+◌, ◌++◌, take, vec_len}
-use Rattle.mv_linker.specs.Shapes.{parts_by}
+use Rattle.mv_linker.proofs.Common.{◌++◌, ◌+◌, ◌≡◌, parts_by, take, vec_len}
 use Rattle.mv_linker.proofs.shapes.put_parts.Given as goal
 
 -- the parts of the fields so far

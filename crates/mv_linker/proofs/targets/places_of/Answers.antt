@@ -1,6 +1,4 @@
-use Rattle.std.proofs.Common.{◌≡◌, ◌+◌, ◌++◌, ◌∷◌, [], take, map, ap, sym, ◌∙◌}
-use Rattle.std.proofs.lemmas.List.{take_more, map-append}
-use Rattle.mv_linker.specs.declared.targets.Target.{Target}
+use Rattle.mv_linker.proofs.Common.{[], ◌++◌, ◌+◌, ◌∙◌, ◌∷◌, ◌≡◌, Target, ap, map, map-append, sym, take, take_more}
 use Rattle.mv_linker.proofs.targets.places_of.Goals as goal
 
 pub loop-t-preserved : goal.loop-t-preserved

@@ -1,5 +1,4 @@
-use Rattle.std.proofs.Common.{◌≡◌, map, take}
-use Rattle.mv_linker.specs.declared.targets.Target.{Target}
+use Rattle.mv_linker.proofs.Common.{◌≡◌, Target, map, take}
 use Rattle.mv_linker.proofs.targets.places_of.Given as goal
 
 abbrev pub invariant-loop-t : goal.invariant-loop-t

@@ -1,4 +1,4 @@
-use Rattle.std.proofs.Common.{length}
+use Rattle.mv_linker.proofs.Common.{length}
 use Rattle.mv_linker.proofs.types.+same_tokens.Given as goal
 
 abbrev pub decreases-same_tokens : goal.decreases-same_tokens

@@ -1,4 +1,4 @@
-use Rattle.std.proofs.Common.{length}
+use Rattle.mv_linker.proofs.Common.{length}
 use Rattle.mv_linker.proofs.upgrades.+same_fields.Given as goal
 
 abbrev pub decreases-same_fields : goal.decreases-same_fields

@@ -1,6 +1,5 @@
-use Rattle.std.proofs.Common.{sym, ◌∙◌}
-use Rattle.mv_linker.specs.Link.{tables_in}
-use Rattle.mv_linker.proofs.Joining.Compatible.{follows-none, follows-at, replaced-below}
+use Rattle.mv_linker.proofs.Common.{◌∙◌, sym, tables_in}
+use Rattle.mv_linker.proofs.Joining.Compatible.{follows-at, follows-none, replaced-below}
 use Rattle.mv_linker.proofs.upgrades.may_follow.Goals as goal
 
 pub module-requires : goal.module-requires

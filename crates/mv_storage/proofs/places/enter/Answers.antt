@@ -1,8 +1,6 @@
-use Rattle.std.proofs.Common.{◌≡◌, sym, ap, ◌∙◌, Some, cond}
-use Rattle.std.specs.BTreeMap.{get}
+use Rattle.mv_storage.proofs.Common.{◌∙◌, ◌≡◌, Some, ap, cond, sym, get, key_cmp}
 use Rattle.std.specs.BTreeMap.Entry.{map_with_value, entry_map_ref}
 use Rattle.std.specs.declared.collections.btree_map.Entry.TheVariants.{Vacant}
-use Rattle.mv_storage.specs.Slots.{key_cmp}
 use Rattle.mv_storage.proofs.Steps.{at-same}
 use Rattle.mv_storage.proofs.places.enter.Goals as goal
 

@@ -1,11 +1,4 @@
-use Rattle.std.proofs.Common.{refl, ap, ◌∙◌, is_some}
-use Rattle.std.specs.Option.{option_and_then}
-use Rattle.std.specs.Vec.{with_item}
-use Rattle.std.proofs.lemmas.Result.{on_ok_weaker, on_err_weaker, IfOk-weaker}
-use Rattle.mv_storage.specs.declared.places.Places.{Places}
-use Rattle.mv_storage.specs.declared.slot.Layer.TheVariants.{Committed, Current}
-use Rattle.mv_storage.specs.WordLists.{spliced}
-use Rattle.mv_storage.specs.Slots.{edited}
+use Rattle.mv_storage.proofs.Common.{◌∙◌, ap, is_some, refl, IfOk-weaker, on_err_weaker, on_ok_weaker, option_and_then, with_item, edited, spliced, Places, Committed, Current}
 use Rattle.mv_storage.proofs.Steps.{wrote}
 use Rattle.mv_storage.proofs.slots.edit_in.Goals as goal
 

@@ -1,9 +1,4 @@
-use Rattle.std.proofs.Common.{◌≡◌, refl, Some}
-use Rattle.std.specs.BTreeMap.{get}
-use Rattle.std.specs.Vec.{with_item}
-use Rattle.mv_storage.specs.declared.places.Places.{Places}
-use Rattle.mv_storage.specs.declared.slot.Layer.TheVariants.{Committed, Current}
-use Rattle.mv_storage.specs.Slots.{key_cmp, slot_at}
+use Rattle.mv_storage.proofs.Common.{◌≡◌, Some, refl, get, with_item, key_cmp, slot_at, Places, Committed, Current}
 use Rattle.mv_storage.proofs.PlaceLemmas.{wrote-at}
 use Rattle.mv_storage.proofs.Steps.{tracked-put, slot-read, has-shows, has-same}
 use Rattle.mv_storage.proofs.slots.put_into.Goals as goal

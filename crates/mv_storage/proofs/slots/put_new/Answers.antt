@@ -1,11 +1,5 @@
-use Rattle.std.proofs.Common.{◌≡◌, ◌<◌, sym, refl, ap, ◌∙◌, Some, None, is_some, cond, subst, inl, inr, arith, slice_get}
-use Rattle.std.proofs.lemmas.Option.{slice_get_within}
-use Rattle.std.specs.Option.{option_and_then}
-use Rattle.std.specs.BTreeMap.{get}
-use Rattle.std.specs.Vec.{with_item}
-use Rattle.mv_storage.specs.declared.places.Places.{Places}
-use Rattle.mv_storage.specs.declared.slot.Layer.TheVariants.{Committed, Current}
-use Rattle.mv_storage.specs.Slots.{key_cmp, slot_at, is_vacant, IsTracked}
+use Rattle.mv_storage.proofs.Common.{◌<◌, ◌∙◌, ◌≡◌, None, Some, ap, arith, cond, inl, inr, is_some, refl, slice_get, subst, sym, slice_get_within, get, option_and_then, with_item, IsTracked}
+use Rattle.mv_storage.proofs.Common.{is_vacant, key_cmp, slot_at, Places, Committed, Current}
 use Rattle.mv_storage.proofs.Keys.{same_key-refl}
 use Rattle.mv_storage.proofs.PlaceLemmas.{HasPlace, place-read, put-at, same-sound, same-slots}
 use Rattle.mv_storage.proofs.Steps.{tracked-same, tracked-added, tracked-put, placed-same, placed-entries, slot-read, has-shows, has-same, put-from}

@@ -1,5 +1,4 @@
-use Rattle.std.proofs.Common.{refl, ◌∙◌, subst}
-use Rattle.mv_storage.specs.Slots.{AreNoted, AreSettling}
+use Rattle.mv_storage.proofs.Common.{◌∙◌, refl, subst, AreNoted, AreSettling}
 use Rattle.mv_storage.proofs.Steps.{settling-placed, settling-last, settling-rest, noted-rest}
 use Rattle.mv_storage.proofs.slots.settle.Goals as goal
 

@@ -1,5 +1,4 @@
-use Rattle.std.proofs.Common.{length}
-use Rattle.mv_storage.specs.Slots.{IsSound, AreNoted, AreSettling, ShowsSame}
+use Rattle.mv_storage.proofs.Common.{length, AreNoted, AreSettling, IsSound, ShowsSame}
 use Rattle.mv_storage.proofs.slots.settle.Given as goal
 
 -- what is left to touch holds each slot that is changed, and the layer shows what it showed

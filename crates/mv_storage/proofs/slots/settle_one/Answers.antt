@@ -1,5 +1,5 @@
-use Rattle.std.proofs.Common.{refl, sym, ◌∙◌, arith, length-set}
-use Rattle.std.proofs.lemmas.Option.{slice_get_within}
+use Rattle.mv_storage.proofs.Common.{◌∙◌, arith, refl, sym, slice_get_within}
+use Rattle.std.proofs.Common.{length-set}
 use Rattle.mv_storage.proofs.PlaceLemmas.{place-read}
 use Rattle.mv_storage.proofs.Steps.{settles-none, settles-kept, settles-removed}
 use Rattle.mv_storage.proofs.slots.settle_one.Goals as goal

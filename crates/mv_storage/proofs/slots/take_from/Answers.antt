@@ -1,9 +1,4 @@
-use Rattle.std.proofs.Common.{refl, ap, ◌∙◌, None}
-use Rattle.std.specs.Vec.{with_item}
-use Rattle.std.proofs.lemmas.Result.{on_ok_weaker, on_err_weaker, IfOk-weaker}
-use Rattle.mv_storage.specs.declared.places.Places.{Places}
-use Rattle.mv_storage.specs.declared.slot.Layer.TheVariants.{Committed, Current}
-use Rattle.mv_storage.specs.Slots.{of_layer}
+use Rattle.mv_storage.proofs.Common.{◌∙◌, None, ap, refl, IfOk-weaker, on_err_weaker, on_ok_weaker, with_item, of_layer, Places, Committed, Current}
 use Rattle.mv_storage.proofs.Steps.{wrote}
 use Rattle.mv_storage.proofs.slots.take_from.Goals as goal
 

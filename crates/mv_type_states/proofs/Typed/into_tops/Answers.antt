@@ -1,4 +1,4 @@
-use Rattle.std.proofs.Common.{◌∙◌}
+use Rattle.mv_type_states.proofs.Common.{◌∙◌}
 use Rattle.mv_type_states.proofs.TopLemmas.{tops-listed}
 use Rattle.mv_type_states.proofs.Typed.into_tops.Goals as goal
 

@@ -1,6 +1,5 @@
-use Rattle.std.proofs.Common.{map, ap, ◌∙◌}
+use Rattle.mv_type_states.proofs.Common.{◌∙◌, ap, map, types_before}
 use Rattle.std.proofs.lemmas.List.{map-id}
-use Rattle.mv_type_states.specs.Sound.{types_before}
 use Rattle.mv_type_states.proofs.Functions.{listed_at}
 use Rattle.mv_type_states.proofs.Typed.stack_types.Goals as goal
 

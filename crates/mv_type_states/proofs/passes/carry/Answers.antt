@@ -1,6 +1,4 @@
-use Rattle.std.proofs.Common.{◌++◌, ◌∷◌, [], ◌+◌, drop, reverse, ap, ◌∙◌}
-use Rattle.std.proofs.lemmas.Result.{err_from_is_err_and}
-use Rattle.mv_type_states.specs.Sound.{types_each}
+use Rattle.mv_type_states.proofs.Common.{[], ◌++◌, ◌+◌, ◌∙◌, ◌∷◌, ap, drop, reverse, err_from_is_err_and, types_each}
 use Rattle.mv_type_states.proofs.BlockLemmas.{carried, listed, carried_refused, carried_all, listed_all}
 use Rattle.mv_type_states.proofs.passes.carry.Goals as goal
 

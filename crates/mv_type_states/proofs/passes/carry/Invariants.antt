@@ -1,7 +1,4 @@
-use Rattle.std.proofs.Common.{◌≡◌, ◌++◌, drop, length, reverse, IsSome}
-use Rattle.mv_stack_use.specs.Heights.{height_through}
-use Rattle.mv_type_states.specs.TypesHold.{types_through}
-use Rattle.mv_type_states.specs.Sound.{types_each}
+use Rattle.mv_type_states.proofs.Common.{◌++◌, ◌≡◌, IsSome, drop, length, reverse, height_through, types_each, types_through}
 use Rattle.mv_type_states.proofs.passes.carry.Given as goal
 
 -- what is left leads from the types as they are to where the whole leads from the first, and there is room for it; what is

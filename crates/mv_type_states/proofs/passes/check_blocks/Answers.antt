@@ -1,14 +1,15 @@
-use Rattle.std.proofs.Common.{◌≡◌, ◌+◌, ◌++◌, ◌<◌, ◌≤◌, [], List, length, reverse, get_or, Some, sym, ap, ◌∙◌, subst, arith, slice_get}
-use Rattle.std.specs.List.{slice_range}
-use Rattle.std.proofs.lemmas.List.{length-reverse, nil_from_length}
-use Rattle.std.proofs.lemmas.Option.{slice_get-get_or}
-use Rattle.std.proofs.lemmas.Result.{err_from_is_err_and}
-use Rattle.mv_cfg.specs.declared.Block.{Block}
-use Rattle.mv_cfg.specs.FlowGraph.{basic_block_of}
-use Rattle.mv_type_states.specs.TypesHold.{types_through}
-use Rattle.mv_type_states.specs.Sound.{types_each}
+use Rattle.mv_type_states.proofs.Common.{[], ℕ, ◌++◌, ◌+◌, ◌<◌, ◌∙◌, ◌≡◌, ◌≤◌, List, Some, ap, arith, get_or, length, reverse, slice_get, subst, sym, length-reverse, slice_get-get_or}
+use Rattle.mv_type_states.proofs.Common.{err_from_is_err_and, slice_range, basic_block_of, Block, Cfg, types_each, types_through}
+use Rattle.std.proofs.lemmas.List.{nil_from_length}
+use Rattle.mv_cfg.specs.Graph.{IsGraph}
 use Rattle.mv_type_states.proofs.BlockLemmas.{types_in, walked, listed_block, block_room, block_refused, all_typed, all_listed}
 use Rattle.mv_type_states.proofs.passes.check_blocks.Goals as goal
+
+-- a block that the loop comes to lies in the code
+inside : (g : Cfg) (size k : ℕ) (b : Block) (listed : List Block) → IsGraph g size → listed ≡ g.blocks.items → k < length listed → b ≡ get_or listed k b → (b.first ≤ b.last) × (b.last < size)
+inside g size k b listed graph same below is =
+    let at : slice_get g.blocks.items k ≡ Some b = ap (λ (bs : List Block). slice_get bs k) (sym same) ∙ slice_get-get_or listed k b below ∙ ap Some (sym is) in
+    (graph.starts k b at, graph.ends k b at)
 
 pub loop-block-preserved : goal.loop-block-preserved
 loop-block-preserved c =
@@ -38,68 +39,28 @@ loop-block-preserved c =
 
 pub overflow_add-block : goal.overflow_add-block
 overflow_add-block c =
-    let b = c.block-item.result in
-    let k = c.loop-block.block-index in
-    let bs = c.args.g.now.blocks.items in
-    let same = c.deref-block-items.ensures.value in
-    let below = subst (λ (bs : List Block). k < length bs) same c.loop-block-test.true in
-    let is_b = subst (λ (bs : List Block). b ≡ get_or bs k b) same c.block-item.is in
-    let at : slice_get bs k ≡ Some b = slice_get-get_or bs k b below ∙ ap Some (sym is_b) in
-    let first = c.requires.graph.graph.starts k b at in
-    let last = c.requires.graph.graph.ends k b at in
-    omega (arith, first, last, ap length c.requires.code)
+    let lies = inside c.args.g.now _ c.loop-block.block-index c.block-item.result _ c.requires.graph.graph c.deref-block-items.ensures.value c.loop-block-test.true c.block-item.is in
+    omega (arith, lies.0, lies.1, ap length c.requires.code)
 
 pub offset_bounds-code-block : goal.offset_bounds-code-block
 offset_bounds-code-block c =
-    let b = c.block-item.result in
-    let k = c.loop-block.block-index in
-    let bs = c.args.g.now.blocks.items in
-    let same = c.deref-block-items.ensures.value in
-    let below = subst (λ (bs : List Block). k < length bs) same c.loop-block-test.true in
-    let is_b = subst (λ (bs : List Block). b ≡ get_or bs k b) same c.block-item.is in
-    let at : slice_get bs k ≡ Some b = slice_get-get_or bs k b below ∙ ap Some (sym is_b) in
-    let first = c.requires.graph.graph.starts k b at in
-    let last = c.requires.graph.graph.ends k b at in
-    omega (arith, first, last, ap length c.requires.code)
+    let lies = inside c.args.g.now _ c.loop-block.block-index c.block-item.result _ c.requires.graph.graph c.deref-block-items.ensures.value c.loop-block-test.true c.block-item.is in
+    omega (arith, lies.0, lies.1, ap length c.requires.code)
 
 pub slice_bounds-carry-count : goal.slice_bounds-carry-count
 slice_bounds-carry-count c =
-    let b = c.block-item.result in
-    let k = c.loop-block.block-index in
-    let bs = c.args.g.now.blocks.items in
-    let same = c.deref-block-items.ensures.value in
-    let below = subst (λ (bs : List Block). k < length bs) same c.loop-block-test.true in
-    let is_b = subst (λ (bs : List Block). b ≡ get_or bs k b) same c.block-item.is in
-    let at : slice_get bs k ≡ Some b = slice_get-get_or bs k b below ∙ ap Some (sym is_b) in
-    let first = c.requires.graph.graph.starts k b at in
-    let last = c.requires.graph.graph.ends k b at in
-    omega (arith, first, last, ap length c.requires.code)
+    let lies = inside c.args.g.now _ c.loop-block.block-index c.block-item.result _ c.requires.graph.graph c.deref-block-items.ensures.value c.loop-block-test.true c.block-item.is in
+    omega (arith, lies.0, lies.1, ap length c.requires.code)
 
 pub slice_bounds-carry-start : goal.slice_bounds-carry-start
 slice_bounds-carry-start c =
-    let b = c.block-item.result in
-    let k = c.loop-block.block-index in
-    let bs = c.args.g.now.blocks.items in
-    let same = c.deref-block-items.ensures.value in
-    let below = subst (λ (bs : List Block). k < length bs) same c.loop-block-test.true in
-    let is_b = subst (λ (bs : List Block). b ≡ get_or bs k b) same c.block-item.is in
-    let at : slice_get bs k ≡ Some b = slice_get-get_or bs k b below ∙ ap Some (sym is_b) in
-    let first = c.requires.graph.graph.starts k b at in
-    let last = c.requires.graph.graph.ends k b at in
-    omega (arith, first, last, ap length c.requires.code)
+    let lies = inside c.args.g.now _ c.loop-block.block-index c.block-item.result _ c.requires.graph.graph c.deref-block-items.ensures.value c.loop-block-test.true c.block-item.is in
+    omega (arith, lies.0, lies.1, ap length c.requires.code)
 
 pub slice_bounds-carry-end : goal.slice_bounds-carry-end
 slice_bounds-carry-end c =
-    let b = c.block-item.result in
-    let k = c.loop-block.block-index in
-    let bs = c.args.g.now.blocks.items in
-    let same = c.deref-block-items.ensures.value in
-    let below = subst (λ (bs : List Block). k < length bs) same c.loop-block-test.true in
-    let is_b = subst (λ (bs : List Block). b ≡ get_or bs k b) same c.block-item.is in
-    let at : slice_get bs k ≡ Some b = slice_get-get_or bs k b below ∙ ap Some (sym is_b) in
-    let first = c.requires.graph.graph.starts k b at in
-    let last = c.requires.graph.graph.ends k b at in
-    omega (arith, first, last, ap length c.requires.code)
+    let lies = inside c.args.g.now _ c.loop-block.block-index c.block-item.result _ c.requires.graph.graph c.deref-block-items.ensures.value c.loop-block-test.true c.block-item.is in
+    omega (arith, lies.0, lies.1, ap length c.requires.code)
 
 pub carry-requires-clause-level : goal.carry-requires-clause-level
 carry-requires-clause-level c =

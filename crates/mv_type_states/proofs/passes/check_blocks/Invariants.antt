@@ -1,9 +1,4 @@
-use Rattle.std.proofs.Common.{◌≡◌, ◌++◌, [], drop, flat_map, map, IsTrue}
-use Rattle.std.specs.List.{list_all}
-use Rattle.mv_cfg.specs.FlowGraph.{basic_block_of}
-use Rattle.mv_stack_use.specs.Heights.{block_is_level}
-use Rattle.mv_type_states.specs.TypesHold.{block_is_typed, function_is_typed}
-use Rattle.mv_type_states.specs.Sound.{types_before}
+use Rattle.mv_type_states.proofs.Common.{[], ◌++◌, ◌≡◌, IsTrue, drop, flat_map, map, list_all, basic_block_of, block_is_level, types_before, block_is_typed, function_is_typed}
 use Rattle.mv_type_states.proofs.BlockLemmas.{types_in}
 use Rattle.mv_type_states.proofs.passes.check_blocks.Given as goal
 

@@ -1,7 +1,4 @@
-use Rattle.std.proofs.Common.{IsTrue}
-use Rattle.std.proofs.lemmas.Result.{err_from_is_err_and}
-use Rattle.mv_stack_use.specs.Heights.{function_is_level}
-use Rattle.mv_type_states.specs.TypesHold.{function_is_typed}
+use Rattle.mv_type_states.proofs.Common.{IsTrue, err_from_is_err_and, function_is_level, function_is_typed}
 use Rattle.mv_type_states.proofs.BlockLemmas.{level-from_typed}
 use Rattle.mv_type_states.proofs.Functions.{refused-wider}
 use Rattle.mv_type_states.proofs.passes.check_function.Goals as goal

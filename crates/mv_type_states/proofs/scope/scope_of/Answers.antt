@@ -1,6 +1,4 @@
-use Rattle.std.proofs.Common.{◌≡◌, List, length, get_or, slice_get, Some, refl, ap, ◌∙◌}
-use Rattle.std.proofs.lemmas.Option.{slice_get_read}
-use Rattle.mv_move_types.specs.Module.{FunctionDefinition}
+use Rattle.mv_type_states.proofs.Common.{◌∙◌, ◌≡◌, List, Some, ap, get_or, length, refl, slice_get, slice_get_read, FunctionDefinition}
 use Rattle.mv_type_states.proofs.LocalLemmas.{local_tokens-are}
 use Rattle.mv_type_states.proofs.scope.scope_of.Goals as goal
 

@@ -1,5 +1,4 @@
-use Rattle.std.proofs.Common.{◌-◌, refl, sym, ◌∙◌, arith}
-use Rattle.std.specs.Vec.{vec_len}
+use Rattle.mv_type_states.proofs.Common.{◌-◌, ◌∙◌, arith, refl, sym, vec_len}
 use Rattle.mv_type_states.proofs.Stacks.{exchanged}
 use Rattle.mv_type_states.proofs.stack.exchange.Goals as goal
 

@@ -1,5 +1,4 @@
-use Rattle.std.proofs.Common.{reverse}
-use Rattle.std.proofs.lemmas.Result.{err_from_is_err_and}
+use Rattle.mv_type_states.proofs.Common.{reverse, err_from_is_err_and}
 use Rattle.mv_type_states.proofs.Stacks.{two_refused, two_exchanged}
 use Rattle.mv_type_states.proofs.stack.exchange_two.Goals as goal
 

@@ -1,4 +1,4 @@
-use Rattle.std.proofs.lemmas.Result.{err_from_is_err_and}
+use Rattle.mv_type_states.proofs.Common.{err_from_is_err_and}
 use Rattle.mv_type_states.proofs.Stacks.{taken_turn, taken_refused}
 use Rattle.mv_type_states.proofs.stack.pop_all.Goals as goal
 

@@ -1,5 +1,4 @@
-use Rattle.std.proofs.Common.{◌≡◌, length, reverse}
-use Rattle.mv_type_states.specs.TypeRules.{taken}
+use Rattle.mv_type_states.proofs.Common.{◌≡◌, length, reverse, taken}
 use Rattle.mv_type_states.proofs.stack.pop_all.Given as goal
 
 -- what is left to take of the stack as it is, is what was to be taken at first

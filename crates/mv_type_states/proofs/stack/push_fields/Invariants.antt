@@ -1,4 +1,4 @@
-use Rattle.std.proofs.Common.{◌≡◌, ◌++◌, map, take}
+use Rattle.mv_type_states.proofs.Common.{◌++◌, ◌≡◌, map, take}
 use Rattle.mv_type_states.proofs.stack.push_fields.Given as goal
 
 -- the types of the fields so far are on the stack

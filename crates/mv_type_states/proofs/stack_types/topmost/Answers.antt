@@ -1,4 +1,4 @@
-use Rattle.std.proofs.Common.{reverse, drop, ap, ◌∙◌}
+use Rattle.mv_type_states.proofs.Common.{◌∙◌, ap, drop, reverse}
 use Rattle.std.proofs.lemmas.List.{take_rest}
 use Rattle.mv_type_states.proofs.TopLemmas.{reverse-last_two}
 use Rattle.mv_type_states.proofs.stack_types.topmost.Goals as goal

@@ -1,6 +1,4 @@
-use Rattle.std.proofs.Common.{arith}
-use Rattle.std.proofs.lemmas.Grind.{common_steps}
-use Rattle.mv_binary_format.specs.Parsing.{module_from}
+use Rattle.mv_binary_format.proofs.Common.{arith, common_steps, module_from}
 use Rattle.mv_binary_format.proofs.module.Module.read.Goals as goal
 
 pub invariant_of-result : goal.invariant_of-result

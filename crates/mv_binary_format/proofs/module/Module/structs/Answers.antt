@@ -1,5 +1,4 @@
-use Rattle.std.proofs.Common.{subst}
-use Rattle.mv_binary_format.specs.ModuleText.{HasText}
+use Rattle.mv_binary_format.proofs.Common.{subst, HasText}
 use Rattle.mv_binary_format.proofs.Fitting.{few_structs}
 use Rattle.mv_binary_format.proofs.module.Module.structs.Goals as goal
 

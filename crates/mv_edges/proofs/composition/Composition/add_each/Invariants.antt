@@ -1,4 +1,4 @@
-use Rattle.std.proofs.Common.{◌≡◌, ◌++◌}
+use Rattle.mv_edges.proofs.Common.{◌++◌, ◌≡◌}
 use Rattle.mv_edges.proofs.composition.Composition.add_each.Given as goal
 
 -- the bundles so far are added

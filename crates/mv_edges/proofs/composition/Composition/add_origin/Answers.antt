@@ -1,7 +1,4 @@
-use Rattle.std.proofs.Common.{◌≡◌, ◌∙◌, ◌+◌, ◌∷◌, [], ap, arith, subst, length, sym, true}
-use Rattle.std.proofs.lemmas.List.{length-append}
-use Rattle.std.specs.List.{list_all}
-use Rattle.mv_edges.specs.Composition.{Composition, is_numbered}
+use Rattle.mv_edges.proofs.Common.{[], ◌+◌, ◌∙◌, ◌∷◌, ◌≡◌, ap, arith, length, subst, sym, true, length-append, list_all, Composition, is_numbered}
 use Rattle.mv_edges.proofs.Bundles.{with_origin_whole}
 use Rattle.mv_edges.proofs.composition.Composition.add_origin.Goals as goal
 

@@ -1,5 +1,4 @@
-use Rattle.std.proofs.Common.{Some}
-use Rattle.mv_edges.specs.Composition.{Composition}
+use Rattle.mv_edges.proofs.Common.{Some, Composition}
 use Rattle.mv_edges.proofs.Bundles.{with_source_whole}
 use Rattle.mv_edges.proofs.composition.Composition.add_source.Goals as goal
 

@@ -1,8 +1,4 @@
-use Rattle.std.proofs.Common.{◌≡◌, length, take, flat_map, true}
-use Rattle.std.specs.List.{list_all}
-use Rattle.mv_edges.specs.Sorted.{sorted}
-use Rattle.mv_edges.specs.Composition.{Bundle, bundle_edges, edges_of, is_numbered}
-use Rattle.mv_edges.specs.Graph.{taken_over}
+use Rattle.mv_edges.proofs.Common.{◌≡◌, flat_map, length, take, true, list_all, Bundle, bundle_edges, edges_of, is_numbered, taken_over, sorted}
 use Rattle.mv_edges.proofs.composition.Composition.inherited_by.Given as goal
 
 -- the bundles of the heirs so far

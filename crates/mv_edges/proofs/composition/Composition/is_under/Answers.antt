@@ -1,6 +1,4 @@
-use Rattle.std.proofs.Common.{◌≡◌, ◌<◌, ◌≤◌, false, length, get_or, ap, ◌∙◌, arith}
-use Rattle.mv_edges.specs.Edges.{edges_leq}
-use Rattle.mv_edges.specs.Composition.{bundle_edges}
+use Rattle.mv_edges.proofs.Common.{◌<◌, ◌∙◌, ◌≡◌, ◌≤◌, ap, arith, false, get_or, length, bundle_edges, edges_leq}
 use Rattle.mv_edges.proofs.Composing.{leq_each, leq_not}
 use Rattle.mv_edges.proofs.composition.Composition.is_under.Goals as goal
 

@@ -1,7 +1,4 @@
-use Rattle.std.proofs.Common.{◌≡◌, true, take}
-use Rattle.std.specs.List.{list_all}
-use Rattle.mv_edges.specs.Edges.{edges_leq}
-use Rattle.mv_edges.specs.Composition.{bundle_edges}
+use Rattle.mv_edges.proofs.Common.{◌≡◌, take, true, list_all, bundle_edges, edges_leq}
 use Rattle.mv_edges.proofs.composition.Composition.is_under.Given as goal
 
 abbrev pub invariant-loop-bundle : goal.invariant-loop-bundle

@@ -1,4 +1,4 @@
-use Rattle.std.proofs.lemmas.Result.{on_ok_weaker}
+use Rattle.mv_edges.proofs.Common.{on_ok_weaker}
 use Rattle.mv_edges.proofs.Lent.{lent_again}
 use Rattle.mv_edges.proofs.composition.Composition.lend.Goals as goal
 

@@ -1,6 +1,4 @@
-use Rattle.std.proofs.Common.{◌≡◌, length, arith, ap, ◌∙◌}
-use Rattle.mv_edges.specs.Sorted.{sorted}
-use Rattle.mv_edges.specs.Origins.{led_into, bundles_from}
+use Rattle.mv_edges.proofs.Common.{◌∙◌, ◌≡◌, ap, arith, length, bundles_from, led_into, sorted}
 use Rattle.mv_edges.proofs.Gathering.{whole_of_edges, edges_of_edges}
 use Rattle.mv_edges.proofs.composition.Composition.of_edges.Goals as goal
 

@@ -1,5 +1,4 @@
-use Rattle.std.specs.Vec.{with_items}
-use Rattle.mv_edges.specs.Composition.{Composition, but_at}
+use Rattle.mv_edges.proofs.Common.{with_items, Composition, but_at}
 use Rattle.mv_edges.proofs.Bundles.{changed_in_place, gone_whole}
 use Rattle.mv_edges.proofs.composition.Composition.remove_at.Goals as goal
 

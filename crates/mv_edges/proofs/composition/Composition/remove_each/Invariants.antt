@@ -1,5 +1,4 @@
-use Rattle.std.proofs.Common.{◌≡◌, take, fold}
-use Rattle.mv_edges.specs.Composition.{gone}
+use Rattle.mv_edges.proofs.Common.{◌≡◌, fold, take, gone}
 use Rattle.mv_edges.proofs.composition.Composition.remove_each.Given as goal
 
 -- without the edges at the nodes so far

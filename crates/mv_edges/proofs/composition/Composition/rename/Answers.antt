@@ -1,7 +1,4 @@
-use Rattle.std.proofs.Common.{option_map}
-use Rattle.std.specs.Vec.{with_items}
-use Rattle.mv_edges.specs.Edges.{renamed_node}
-use Rattle.mv_edges.specs.Composition.{Bundle, Composition}
+use Rattle.mv_edges.proofs.Common.{option_map, with_items, Bundle, Composition, renamed_node}
 use Rattle.mv_edges.proofs.Bundles.{changed_in_place, moved_whole}
 use Rattle.mv_edges.proofs.composition.Composition.rename.Goals as goal
 

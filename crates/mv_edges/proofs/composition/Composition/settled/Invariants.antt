@@ -1,5 +1,4 @@
-use Rattle.std.proofs.Common.{◌≡◌, take, flat_map}
-use Rattle.mv_edges.specs.Composition.{bundle_edges}
+use Rattle.mv_edges.proofs.Common.{◌≡◌, flat_map, take, bundle_edges}
 use Rattle.mv_edges.proofs.composition.Composition.settled.Given as goal
 
 abbrev pub invariant-loop-bundle : goal.invariant-loop-bundle

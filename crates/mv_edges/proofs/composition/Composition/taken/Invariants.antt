@@ -1,7 +1,4 @@
-use Rattle.std.proofs.Common.{◌≡◌, map, flat_map, take}
-use Rattle.mv_move_types.specs.declared.borrow.Node.TheVariants.{Slot}
-use Rattle.mv_edges.specs.Edges.{an_edge, changed}
-use Rattle.mv_edges.specs.Composition.{strands_at}
+use Rattle.mv_edges.proofs.Common.{◌≡◌, flat_map, map, take, Slot, strands_at, an_edge, changed}
 use Rattle.mv_edges.proofs.composition.Composition.taken.Given as goal
 
 abbrev pub invariant-loop-n : goal.invariant-loop-n

@@ -1,8 +1,4 @@
-use Rattle.std.proofs.Common.{◌≡◌, true, length, List, sym, ap, ◌∙◌, subst}
-use Rattle.std.specs.List.{list_all}
-use Rattle.std.proofs.lemmas.Result.{on_ok_weaker}
-use Rattle.mv_edges.specs.Edges.{Edge}
-use Rattle.mv_edges.specs.Composition.{Bundle, Composition, is_numbered}
+use Rattle.mv_edges.proofs.Common.{◌∙◌, ◌≡◌, List, ap, length, subst, sym, true, on_ok_weaker, list_all, Bundle, Composition, is_numbered, Edge}
 use Rattle.mv_edges.proofs.Tied.{origins-gone_each, tied_edges}
 use Rattle.mv_edges.proofs.composition.Composition.tie.Goals as goal
 

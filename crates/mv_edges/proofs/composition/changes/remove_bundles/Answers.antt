@@ -1,7 +1,4 @@
-use Rattle.std.proofs.Common.{not, rules}
-use Rattle.std.proofs.lemmas.Fn.{filter_same}
-use Rattle.mv_edges.specs.Edges.{same_node}
-use Rattle.mv_edges.specs.Composition.{Bundle}
+use Rattle.mv_edges.proofs.Common.{not, rules, filter_same, Bundle, same_node}
 use Rattle.mv_edges.proofs.composition.changes.remove_bundles.Goals as goal
 
 pub returns : goal.returns

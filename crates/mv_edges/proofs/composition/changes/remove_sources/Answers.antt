@@ -1,5 +1,4 @@
-use Rattle.std.proofs.Common.{None}
-use Rattle.mv_edges.specs.Composition.{but_at}
+use Rattle.mv_edges.proofs.Common.{None, but_at}
 use Rattle.mv_edges.proofs.Bundles.{in_place}
 use Rattle.mv_edges.proofs.composition.changes.remove_sources.Goals as goal
 

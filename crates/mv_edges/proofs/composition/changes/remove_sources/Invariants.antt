@@ -1,5 +1,4 @@
-use Rattle.std.proofs.Common.{◌≡◌, ◌++◌, map, take, drop}
-use Rattle.mv_edges.specs.Composition.{but_at}
+use Rattle.mv_edges.proofs.Common.{◌++◌, ◌≡◌, drop, map, take, but_at}
 use Rattle.mv_edges.proofs.composition.changes.remove_sources.Given as goal
 
 abbrev pub invariant-loop-source : goal.invariant-loop-source

@@ -1,6 +1,4 @@
-use Rattle.std.proofs.Common.{◌≡◌, ◌++◌, map, take, drop}
-use Rattle.mv_edges.specs.Edges.{renamed_node}
-use Rattle.mv_edges.specs.Composition.{Bundle}
+use Rattle.mv_edges.proofs.Common.{◌++◌, ◌≡◌, drop, map, take, Bundle, renamed_node}
 use Rattle.mv_edges.proofs.composition.changes.rename_bundles.Given as goal
 
 abbrev pub invariant-loop-bundle : goal.invariant-loop-bundle

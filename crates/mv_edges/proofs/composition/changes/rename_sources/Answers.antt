@@ -1,5 +1,4 @@
-use Rattle.std.proofs.Common.{None, option_map}
-use Rattle.mv_edges.specs.Edges.{renamed_node}
+use Rattle.mv_edges.proofs.Common.{None, option_map, renamed_node}
 use Rattle.mv_edges.proofs.Bundles.{in_place}
 use Rattle.mv_edges.proofs.composition.changes.rename_sources.Goals as goal
 

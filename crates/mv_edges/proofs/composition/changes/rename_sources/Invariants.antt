@@ -1,5 +1,4 @@
-use Rattle.std.proofs.Common.{◌≡◌, ◌++◌, map, take, drop, option_map}
-use Rattle.mv_edges.specs.Edges.{renamed_node}
+use Rattle.mv_edges.proofs.Common.{◌++◌, ◌≡◌, drop, map, option_map, take, renamed_node}
 use Rattle.mv_edges.proofs.composition.changes.rename_sources.Given as goal
 
 abbrev pub invariant-loop-source : goal.invariant-loop-source

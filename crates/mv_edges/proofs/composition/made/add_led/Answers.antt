@@ -1,8 +1,4 @@
-use Rattle.std.proofs.Common.{◌≡◌, ◌++◌, ◌∷◌, [], Some, slice_get, sym, ap, ◌∙◌}
-use Rattle.mv_move_types.specs.declared.borrow.Node.TheVariants.{Slot}
-use Rattle.mv_edges.specs.Edges.{an_edge}
-use Rattle.mv_edges.specs.Sorted.{sorted, inserted}
-use Rattle.mv_edges.specs.Origins.{led_to, led_into}
+use Rattle.mv_edges.proofs.Common.{[], ◌++◌, ◌∙◌, ◌∷◌, ◌≡◌, Some, ap, slice_get, sym, Slot, an_edge, led_into, led_to, inserted, sorted}
 use Rattle.mv_edges.proofs.Gathering.{led_more, led_push}
 use Rattle.mv_edges.proofs.composition.made.add_led.Goals as goal
 

@@ -1,9 +1,4 @@
-use Rattle.std.proofs.Common.{◌≡◌, ◌++◌, ◌∷◌, [], length, take, get_or, sym, ap, ◌∙◌, arith}
-use Rattle.std.proofs.lemmas.List.{take_more, length-take-le}
-use Rattle.mv_move_types.specs.declared.borrow.Node.TheVariants.{Slot, Glob}
-use Rattle.mv_edges.specs.Edges.{here, an_edge}
-use Rattle.mv_edges.specs.Sorted.{inserted}
-use Rattle.mv_edges.specs.Origins.{bundle_of, bundles_from}
+use Rattle.mv_edges.proofs.Common.{[], ◌++◌, ◌∙◌, ◌∷◌, ◌≡◌, ap, arith, get_or, length, sym, take, length-take-le, take_more, Glob, Slot, an_edge, here, bundle_of, bundles_from, inserted}
 use Rattle.mv_edges.proofs.Gathering.{bundles_more, a_bundle}
 use Rattle.mv_edges.proofs.composition.made.bundles_of.Goals as goal
 

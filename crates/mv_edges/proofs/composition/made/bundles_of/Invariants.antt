@@ -1,5 +1,4 @@
-use Rattle.std.proofs.Common.{◌≡◌, take}
-use Rattle.mv_edges.specs.Origins.{bundles_from}
+use Rattle.mv_edges.proofs.Common.{◌≡◌, take, bundles_from}
 use Rattle.mv_edges.proofs.composition.made.bundles_of.Given as goal
 
 abbrev pub invariant-loop-place : goal.invariant-loop-place

@@ -1,7 +1,4 @@
-use Rattle.std.proofs.Common.{◌≡◌, ◌+◌, ◌++◌, ◌∷◌, [], take, sym, ap, ◌∙◌, arith}
-use Rattle.std.proofs.lemmas.List.{take_more}
-use Rattle.mv_edges.specs.Sorted.{sorted}
-use Rattle.mv_edges.specs.Origins.{led_into}
+use Rattle.mv_edges.proofs.Common.{[], ◌++◌, ◌+◌, ◌∙◌, ◌∷◌, ◌≡◌, ap, arith, sym, take, take_more, led_into, sorted}
 use Rattle.mv_edges.proofs.Gathering.{sorted_with}
 use Rattle.mv_edges.proofs.composition.made.lead_to_nodes.Goals as goal
 

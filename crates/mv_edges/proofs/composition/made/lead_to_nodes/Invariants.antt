@@ -1,6 +1,4 @@
-use Rattle.std.proofs.Common.{◌≡◌, ◌≤◌, length, take}
-use Rattle.mv_edges.specs.Sorted.{sorted}
-use Rattle.mv_edges.specs.Origins.{led_into}
+use Rattle.mv_edges.proofs.Common.{◌≡◌, ◌≤◌, length, take, led_into, sorted}
 use Rattle.mv_edges.proofs.composition.made.lead_to_nodes.Given as goal
 
 abbrev pub invariant-loop-e : goal.invariant-loop-e

@@ -1,10 +1,5 @@
-use Rattle.std.proofs.Common.{◌≡◌, ◌+◌, ◌++◌, ◌∷◌, [], Some, length, take, flat_map, slice_get, sym, ap, ◌∙◌, arith}
-use Rattle.std.specs.List.{list_all}
-use Rattle.std.proofs.lemmas.List.{take_more, length-append}
-use Rattle.mv_move_types.specs.declared.borrow.Node.TheVariants.{Glob}
-use Rattle.mv_edges.specs.Edges.{an_edge}
-use Rattle.mv_edges.specs.Composition.{is_numbered}
-use Rattle.mv_edges.specs.Origins.{unnumbered}
+use Rattle.mv_edges.proofs.Common.{[], ◌++◌, ◌+◌, ◌∙◌, ◌∷◌, ◌≡◌, Some, ap, arith, flat_map, length, slice_get, sym, take, length-append, take_more, list_all, Glob, is_numbered, an_edge}
+use Rattle.mv_edges.proofs.Common.{unnumbered}
 use Rattle.mv_edges.proofs.Gathering.{unnumbered_more, numbered_more}
 use Rattle.mv_edges.proofs.composition.made.number_sources.Goals as goal
 

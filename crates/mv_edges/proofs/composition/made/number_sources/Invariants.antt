@@ -1,7 +1,4 @@
-use Rattle.std.proofs.Common.{◌≡◌, ◌≤◌, true, length, take, flat_map}
-use Rattle.std.specs.List.{list_all}
-use Rattle.mv_edges.specs.Composition.{is_numbered}
-use Rattle.mv_edges.specs.Origins.{unnumbered}
+use Rattle.mv_edges.proofs.Common.{◌≡◌, ◌≤◌, flat_map, length, take, true, list_all, is_numbered, unnumbered}
 use Rattle.mv_edges.proofs.composition.made.number_sources.Given as goal
 
 abbrev pub invariant-loop-e : goal.invariant-loop-e

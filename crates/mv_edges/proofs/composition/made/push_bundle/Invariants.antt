@@ -1,5 +1,4 @@
-use Rattle.std.proofs.Common.{◌≡◌, ◌++◌, take, flat_map}
-use Rattle.mv_edges.specs.Composition.{strand_edges}
+use Rattle.mv_edges.proofs.Common.{◌++◌, ◌≡◌, flat_map, take, strand_edges}
 use Rattle.mv_edges.proofs.composition.made.push_bundle.Given as goal
 
 abbrev pub invariant-loop-strand : goal.invariant-loop-strand

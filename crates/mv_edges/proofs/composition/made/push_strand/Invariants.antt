@@ -1,5 +1,4 @@
-use Rattle.std.proofs.Common.{◌≡◌, ◌++◌, [], take, flat_map}
-use Rattle.mv_edges.specs.Composition.{numbered, root_edges}
+use Rattle.mv_edges.proofs.Common.{[], ◌++◌, ◌≡◌, flat_map, take, numbered, root_edges}
 use Rattle.mv_edges.proofs.composition.made.push_strand.Given as goal
 
 abbrev pub invariant-loop-root : goal.invariant-loop-root

@@ -1,6 +1,4 @@
-use Rattle.std.proofs.Common.{◌≡◌, ◌++◌, map, take}
-use Rattle.mv_move_types.specs.declared.borrow.Node.TheVariants.{Slot}
-use Rattle.mv_edges.specs.Edges.{an_edge, changed}
+use Rattle.mv_edges.proofs.Common.{◌++◌, ◌≡◌, map, take, Slot, an_edge, changed}
 use Rattle.mv_edges.proofs.composition.taken.push_changed.Given as goal
 
 abbrev pub invariant-loop-e : goal.invariant-loop-e

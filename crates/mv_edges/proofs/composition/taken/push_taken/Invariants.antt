@@ -1,7 +1,4 @@
-use Rattle.std.proofs.Common.{◌≡◌, ◌++◌, map, take}
-use Rattle.mv_move_types.specs.declared.borrow.Node.TheVariants.{Slot}
-use Rattle.mv_edges.specs.Edges.{an_edge, changed}
-use Rattle.mv_edges.specs.Composition.{strands_at}
+use Rattle.mv_edges.proofs.Common.{◌++◌, ◌≡◌, map, take, Slot, strands_at, an_edge, changed}
 use Rattle.mv_edges.proofs.composition.taken.push_taken.Given as goal
 
 abbrev pub invariant-loop-bundle : goal.invariant-loop-bundle

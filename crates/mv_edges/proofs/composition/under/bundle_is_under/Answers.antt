@@ -1,7 +1,4 @@
-use Rattle.std.proofs.Common.{◌≡◌, ◌-◌, [], length, take, drop, get_or, sym, ap, ◌∙◌, arith}
-use Rattle.std.specs.List.{list_all}
-use Rattle.mv_edges.specs.Edges.{edges_leq}
-use Rattle.mv_edges.specs.Composition.{numbered, root_edges, strand_edges}
+use Rattle.mv_edges.proofs.Common.{[], ◌-◌, ◌∙◌, ◌≡◌, ap, arith, drop, get_or, length, sym, take, list_all, numbered, root_edges, strand_edges, edges_leq}
 use Rattle.mv_edges.proofs.Composing.{leq_flat_map, leq_each, run_more, front_fails}
 use Rattle.mv_edges.proofs.composition.under.bundle_is_under.Goals as goal
 

@@ -1,7 +1,4 @@
-use Rattle.std.proofs.Common.{◌≡◌, ◌-◌, ◌≤◌, true, length, take}
-use Rattle.std.specs.List.{list_all}
-use Rattle.mv_edges.specs.Edges.{edges_leq}
-use Rattle.mv_edges.specs.Composition.{strand_edges}
+use Rattle.mv_edges.proofs.Common.{◌-◌, ◌≡◌, ◌≤◌, length, take, true, list_all, strand_edges, edges_leq}
 use Rattle.mv_edges.proofs.composition.under.bundle_is_under.Given as goal
 
 abbrev pub invariant-loop-place : goal.invariant-loop-place

@@ -1,7 +1,4 @@
-use Rattle.std.proofs.Common.{◌≡◌, true, Some, take, drop, ap, ◌∙◌, subst}
-use Rattle.std.specs.List.{list_all}
-use Rattle.mv_edges.specs.Edges.{here, an_edge}
-use Rattle.mv_edges.specs.Ascending.{edge_before}
+use Rattle.mv_edges.proofs.Common.{◌∙◌, ◌≡◌, Some, ap, drop, subst, take, true, list_all, edge_before, an_edge, here}
 use Rattle.mv_edges.proofs.Ranges.{behind_missing, before_found, behind_found}
 use Rattle.mv_edges.proofs.composition.under.first_between.Goals as goal
 

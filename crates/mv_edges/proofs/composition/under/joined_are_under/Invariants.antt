@@ -1,7 +1,4 @@
-use Rattle.std.proofs.Common.{◌≡◌, true, take}
-use Rattle.std.specs.List.{list_all, list_any}
-use Rattle.mv_edges.specs.Edges.{an_edge, edge_leq}
-use Rattle.mv_edges.specs.Composition.{composed}
+use Rattle.mv_edges.proofs.Common.{◌≡◌, take, true, list_all, list_any, composed, an_edge, edge_leq}
 use Rattle.mv_edges.proofs.composition.under.joined_are_under.Given as goal
 
 abbrev pub invariant-loop-strand : goal.invariant-loop-strand

@@ -1,7 +1,4 @@
-use Rattle.std.proofs.Common.{◌≡◌, Some, None, true, sym, ap, ◌∙◌}
-use Rattle.std.specs.List.{list_any}
-use Rattle.mv_edges.specs.Edges.{here, opened, an_edge, edge_leq}
-use Rattle.mv_edges.specs.Composition.{composed, numbered}
+use Rattle.mv_edges.proofs.Common.{◌∙◌, ◌≡◌, None, Some, ap, sym, true, list_any, composed, numbered, an_edge, edge_leq, here, opened}
 use Rattle.mv_edges.proofs.Composing.{gone_under, covered_under}
 use Rattle.mv_edges.proofs.composition.under.root_is_under.Goals as goal
 

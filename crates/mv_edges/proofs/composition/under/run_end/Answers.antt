@@ -1,8 +1,4 @@
-use Rattle.std.proofs.Common.{◌≡◌, ◌+◌, ◌-◌, true, length, take, drop, get_or, refl, sym, ap, ◌∙◌, arith}
-use Rattle.std.specs.List.{list_all}
-use Rattle.std.proofs.lemmas.List.{take_all, length-drop, get_or_default}
-use Rattle.mv_edges.specs.Edges.{same_node}
-use Rattle.mv_edges.specs.Equality.{same_node_decides}
+use Rattle.mv_edges.proofs.Common.{◌+◌, ◌-◌, ◌∙◌, ◌≡◌, ap, arith, drop, get_or, length, refl, sym, take, true, get_or_default, length-drop, take_all, list_all, same_node, same_node_decides}
 use Rattle.mv_edges.proofs.Composing.{run_from}
 use Rattle.mv_edges.proofs.composition.under.run_end.Goals as goal
 

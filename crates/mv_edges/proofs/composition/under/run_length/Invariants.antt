@@ -1,6 +1,4 @@
-use Rattle.std.proofs.Common.{◌≡◌, true, take}
-use Rattle.std.specs.List.{list_all}
-use Rattle.mv_edges.specs.Edges.{same_node}
+use Rattle.mv_edges.proofs.Common.{◌≡◌, take, true, list_all, same_node}
 use Rattle.mv_edges.proofs.composition.under.run_length.Given as goal
 
 abbrev pub invariant-loop-place : goal.invariant-loop-place

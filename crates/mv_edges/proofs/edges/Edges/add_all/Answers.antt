@@ -1,5 +1,4 @@
-use Rattle.std.proofs.Common.{◌≡◌, ◌++◌, true, sym, subst}
-use Rattle.mv_edges.specs.Ascending.{are_ascending}
+use Rattle.mv_edges.proofs.Common.{◌++◌, ◌≡◌, subst, sym, true, are_ascending}
 use Rattle.mv_edges.proofs.Sorting.{ascending-sorted}
 use Rattle.mv_edges.proofs.edges.Edges.add_all.Goals as goal
 

@@ -1,5 +1,4 @@
-use Rattle.std.proofs.Common.{◌≡◌, ◌-◌, true, length, slice_get, Some, sym, ◌∙◌, subst}
-use Rattle.mv_edges.specs.Ascending.{are_ascending}
+use Rattle.mv_edges.proofs.Common.{◌-◌, ◌∙◌, ◌≡◌, Some, length, slice_get, subst, sym, true, are_ascending}
 use Rattle.mv_edges.proofs.Sorting.{ascending-push_some}
 use Rattle.mv_edges.proofs.edges.Edges.ascend_with.Goals as goal
 

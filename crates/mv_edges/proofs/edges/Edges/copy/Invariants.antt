@@ -1,4 +1,4 @@
-use Rattle.std.proofs.Common.{◌≡◌, take}
+use Rattle.mv_edges.proofs.Common.{◌≡◌, take}
 use Rattle.mv_edges.proofs.edges.Edges.copy.Given as goal
 
 abbrev pub invariant-loop-e : goal.invariant-loop-e

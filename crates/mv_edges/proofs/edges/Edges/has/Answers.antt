@@ -1,4 +1,4 @@
-use Rattle.std.proofs.Common.{◌∙◌}
+use Rattle.mv_edges.proofs.Common.{◌∙◌}
 use Rattle.mv_edges.proofs.Searches.{searched}
 use Rattle.mv_edges.proofs.edges.Edges.has.Goals as goal
 

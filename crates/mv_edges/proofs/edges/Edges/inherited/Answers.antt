@@ -1,10 +1,4 @@
-use Rattle.std.proofs.Common.{◌≡◌, true, List, length, take, sym, ap, ◌∙◌, subst, ◌≤◌, ℕ}
-use Rattle.mv_move_types.specs.declared.borrow.Node.{Node}
-use Rattle.mv_edges.specs.Edges.{Edge, same_node, changed, inherited}
-use Rattle.mv_edges.specs.declared.label.Change.{Change}
-use Rattle.mv_edges.specs.declared.label.Change.TheVariants.{Kept}
-use Rattle.mv_edges.specs.Ascending.{are_ascending}
-use Rattle.mv_edges.specs.Sorted.{sorted}
+use Rattle.mv_edges.proofs.Common.{ℕ, ◌∙◌, ◌≡◌, ◌≤◌, List, ap, length, subst, sym, take, true, Node, are_ascending, Edge, changed, inherited, same_node, sorted, Change, Kept}
 use Rattle.mv_edges.proofs.Moved.{inherited_ascend}
 use Rattle.mv_edges.proofs.Passed.{mapped_all}
 use Rattle.mv_edges.proofs.Sorting.{sorted-ascending}

@@ -1,5 +1,4 @@
-use Rattle.std.proofs.Common.{◌≡◌, ◌-◌, ◌≤◌, length, take}
-use Rattle.mv_edges.specs.Edges.{inherited, changed}
+use Rattle.mv_edges.proofs.Common.{◌-◌, ◌≡◌, ◌≤◌, length, take, changed, inherited}
 use Rattle.mv_edges.proofs.edges.Edges.inherited.Given as goal
 
 abbrev pub invariant-loop-place : goal.invariant-loop-place

@@ -1,5 +1,4 @@
-use Rattle.std.proofs.Common.{◌≡◌, true, Contains, sym, ◌∙◌, subst}
-use Rattle.mv_edges.specs.Ascending.{are_ascending}
+use Rattle.mv_edges.proofs.Common.{◌∙◌, ◌≡◌, Contains, subst, sym, true, are_ascending}
 use Rattle.mv_edges.proofs.Searches.{contains_at}
 use Rattle.mv_edges.proofs.Sorting.{inserted_missing, inserted_again, ascending-inserted, sorted_push}
 use Rattle.mv_edges.proofs.edges.Edges.insert.Goals as goal

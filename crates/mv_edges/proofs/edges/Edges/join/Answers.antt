@@ -1,7 +1,4 @@
-use Rattle.std.proofs.Common.{◌≡◌, ◌++◌, true, sym, ap, ◌∙◌, subst}
-use Rattle.mv_edges.specs.Ascending.{are_ascending}
-use Rattle.mv_edges.specs.Sorted.{sorted}
-use Rattle.mv_edges.specs.Joins.{IsJoin}
+use Rattle.mv_edges.proofs.Common.{◌++◌, ◌∙◌, ◌≡◌, ap, subst, sym, true, are_ascending, IsJoin, sorted}
 use Rattle.mv_edges.proofs.Order.{join-sorted}
 use Rattle.mv_edges.proofs.Sorting.{ascending-sorted}
 use Rattle.mv_edges.proofs.edges.Edges.join.Goals as goal

@@ -1,8 +1,5 @@
-use Rattle.std.proofs.Common.{◌≡◌, ◌<◌, true, length, get_or, take, sym, ap, ◌∙◌, subst, arith, rules}
-use Rattle.std.specs.List.{list_all, list_any}
-use Rattle.std.proofs.lemmas.Bool.{and_from}
+use Rattle.mv_edges.proofs.Common.{◌<◌, ◌∙◌, ◌≡◌, ap, arith, get_or, length, rules, subst, sym, take, true, and_from, list_all, list_any, edge_leq, longest}
 use Rattle.std.proofs.lemmas.List.Folds.{list_all_more}
-use Rattle.mv_edges.specs.Edges.{edge_leq, longest}
 use Rattle.mv_edges.proofs.Counting.{within_110, counted_on}
 use Rattle.mv_edges.proofs.edges.Edges.leq_counted.Goals as goal
 

@@ -1,7 +1,5 @@
-use Rattle.std.proofs.Common.{◌≡◌, ◌+◌, ◌*◌, ◌<◌, ◌≤◌, true, length, take}
-use Rattle.std.specs.List.{list_all, list_any}
-use Rattle.mv_edges.specs.Edges.{edge_leq, longest}
-use Rattle.mv_edges.specs.Counts.{counted}
+use Rattle.mv_edges.proofs.Common.{◌+◌, ◌<◌, ◌≡◌, ◌≤◌, length, take, true, list_all, list_any, counted, edge_leq, longest}
+use Rattle.std.proofs.Common.{◌*◌}
 use Rattle.mv_edges.proofs.edges.Edges.leq_counted.Given as goal
 
 abbrev pub invariant-loop-e : goal.invariant-loop-e

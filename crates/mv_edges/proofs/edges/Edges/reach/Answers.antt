@@ -1,6 +1,4 @@
-use Rattle.std.proofs.Common.{sym, ap, ◌∙◌, arith}
-use Rattle.std.specs.List.{list_any}
-use Rattle.mv_edges.specs.Edges.{same_edge}
+use Rattle.mv_edges.proofs.Common.{◌∙◌, ap, arith, sym, list_any, same_edge}
 use Rattle.mv_edges.proofs.Searches.{reached_same, reached_prefix, reached_last}
 use Rattle.mv_edges.proofs.edges.Edges.reach.Goals as goal
 

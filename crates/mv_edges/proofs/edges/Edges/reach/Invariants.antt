@@ -1,7 +1,4 @@
-use Rattle.std.proofs.Common.{◌≡◌, ℕ, ◌+◌, ◌<◌, false, length}
-use Rattle.std.specs.List.{list_any}
-use Rattle.mv_edges.specs.Edges.{same_edge, opened_at}
-use Rattle.mv_edges.specs.Counts.{IsWithin, IsCounted}
+use Rattle.mv_edges.proofs.Common.{ℕ, ◌+◌, ◌<◌, ◌≡◌, false, length, list_any, IsCounted, IsWithin, opened_at, same_edge}
 use Rattle.mv_edges.proofs.edges.Edges.reach.Given as goal
 
 abbrev pub invariant-loop-count : goal.invariant-loop-count

@@ -1,6 +1,4 @@
-use Rattle.std.proofs.Common.{◌≡◌, true, sym, ◌∙◌, ap, subst}
-use Rattle.mv_edges.specs.Edges.{without}
-use Rattle.mv_edges.specs.Ascending.{are_ascending}
+use Rattle.mv_edges.proofs.Common.{◌∙◌, ◌≡◌, ap, subst, sym, true, are_ascending, without}
 use Rattle.mv_edges.proofs.Sorting.{ascending-without, sorted-ascending}
 use Rattle.mv_edges.proofs.edges.Edges.remove_at.Goals as goal
 

@@ -1,6 +1,4 @@
-use Rattle.std.proofs.Common.{◌≡◌, true, sym, ◌∙◌, ap, subst, not}
-use Rattle.mv_edges.specs.Edges.{same_node, but_out_of}
-use Rattle.mv_edges.specs.Ascending.{are_ascending}
+use Rattle.mv_edges.proofs.Common.{◌∙◌, ◌≡◌, ap, not, subst, sym, true, are_ascending, but_out_of, same_node}
 use Rattle.mv_edges.proofs.Sorting.{ascending-filter, sorted-ascending}
 use Rattle.mv_edges.proofs.edges.Edges.remove_out_of.Goals as goal
 

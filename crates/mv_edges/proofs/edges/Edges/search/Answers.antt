@@ -1,6 +1,5 @@
-use Rattle.std.proofs.Common.{subst, take, IfErr, IsTrue}
-use Rattle.std.specs.List.{list_all}
-use Rattle.mv_edges.specs.Ascending.{edge_before}
+use Rattle.mv_edges.proofs.Common.{IfErr, subst, take, list_all, edge_before}
+use Rattle.std.proofs.Common.{IsTrue}
 use Rattle.mv_edges.proofs.edges.Edges.search.Goals as goal
 
 pub returns-clause-before : goal.returns-clause-before

@@ -1,9 +1,4 @@
-use Rattle.std.proofs.Common.{◌∙◌, ap, sym}
-use Rattle.std.specs.List.{list_any}
-use Rattle.mv_edges.specs.Edges.{agrees, out_of}
-use Rattle.mv_edges.specs.Sorted.{sorted}
-use Rattle.mv_edges.specs.Composition.{edges_of}
-use Rattle.mv_edges.specs.Graph.{edges_held}
+use Rattle.mv_edges.proofs.Common.{◌∙◌, ap, sym, list_any, edges_of, agrees, out_of, edges_held, sorted}
 use Rattle.mv_edges.proofs.Held.{held_agreeing}
 use Rattle.mv_edges.proofs.graph.Graph.has_agreeing_out_of.Goals as goal
 

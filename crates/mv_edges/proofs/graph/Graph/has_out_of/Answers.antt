@@ -1,9 +1,4 @@
-use Rattle.std.proofs.Common.{◌∙◌, ap, sym, not, length}
-use Rattle.std.specs.Prelude.{◌==◌}
-use Rattle.mv_edges.specs.Edges.{out_of}
-use Rattle.mv_edges.specs.Sorted.{sorted}
-use Rattle.mv_edges.specs.Composition.{edges_of}
-use Rattle.mv_edges.specs.Graph.{edges_held}
+use Rattle.mv_edges.proofs.Common.{◌==◌, ◌∙◌, ap, length, not, sym, edges_of, out_of, edges_held, sorted}
 use Rattle.mv_edges.proofs.Held.{held_out_of}
 use Rattle.mv_edges.proofs.graph.Graph.has_out_of.Goals as goal
 

@@ -1,9 +1,5 @@
-use Rattle.std.proofs.Common.{◌≡◌, ◌<◌, ◌≤◌, ◌&&◌, ◌||◌, ℕ, Bool, List, true, false, length, take, drop, ◌-◌, sym, ap, ◌∙◌, arith}
-use Rattle.std.specs.Bool.{beq}
-use Rattle.std.specs.Str.{bytes_eq}
-use Rattle.std.proofs.lemmas.List.{take_all, length-drop}
-use Rattle.mv_move_types.specs.Paths.{begins}
-use Rattle.mv_edges.specs.Edges.{label_leq}
+use Rattle.mv_edges.proofs.Common.{ℕ, ◌&&◌, ◌-◌, ◌<◌, ◌||◌, ◌∙◌, ◌≡◌, ◌≤◌, Bool, List, ap, arith, drop, false, length, sym, take, true, length-drop, take_all, beq, bytes_eq, begins}
+use Rattle.mv_edges.proofs.Common.{label_leq}
 use Rattle.mv_edges.proofs.Comparisons.{starts_with_begins}
 use Rattle.mv_edges.proofs.Composing.{leq_short, leq_rest}
 use Rattle.mv_edges.proofs.label.Label.is_below_with.Goals as goal

@@ -1,4 +1,4 @@
-use Rattle.std.proofs.Common.{◌≡◌, take}
+use Rattle.mv_edges.proofs.Common.{◌≡◌, take}
 use Rattle.mv_edges.proofs.path.Few.of_slice.Given as goal
 
 abbrev pub invariant-loop-position : goal.invariant-loop-position

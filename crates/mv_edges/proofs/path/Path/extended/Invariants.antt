@@ -1,4 +1,4 @@
-use Rattle.std.proofs.Common.{◌≡◌, ◌++◌, take}
+use Rattle.mv_edges.proofs.Common.{◌++◌, ◌≡◌, take}
 use Rattle.mv_edges.proofs.path.Path.extended.Given as goal
 
 abbrev pub invariant-loop-position : goal.invariant-loop-position

@@ -1,5 +1,4 @@
-use Rattle.std.proofs.Common.{◌≡◌, length, rules, arith}
-use Rattle.std.proofs.lemmas.List.{nil_from_length}
+use Rattle.mv_ledger.proofs.Common.{◌≡◌, arith, length, rules, nil_from_length}
 use Rattle.mv_ledger.proofs.Shows.Audits.{reading-next}
 use Rattle.mv_ledger.proofs.audit.Counts.next.Goals as goal
 

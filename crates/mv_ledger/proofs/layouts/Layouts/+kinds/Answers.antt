@@ -1,6 +1,6 @@
-use Rattle.mv_ledger.proofs.Common.{Boolean, Part, Leaf}
-use Rattle.mv_ledger.proofs.Saves.LayoutParts.{puts-struct}
-use Rattle.mv_ledger.proofs.Saves.PartKinds.{put-more}
+use Rattle.mv_ledger.proofs.Common.{Boolean, Part}
+use Rattle.mv_linker.specs.declared.shapes.Part.TheVariants.{Leaf}
+use Rattle.mv_ledger.proofs.Saves.LayoutParts.{puts-struct, put-more}
 use Rattle.mv_ledger.proofs.layouts.Layouts.+kinds.Goals as goal
 
 pub put_struct-returns : goal.put_struct-returns

@@ -1,5 +1,5 @@
-use Rattle.std.proofs.Common.{◌+◌, ◌*◌}
-use Rattle.mv_ledger.proofs.Saves.PartKinds.{ArePut}
+use Rattle.mv_ledger.proofs.Common.{◌*◌, ◌+◌}
+use Rattle.mv_ledger.proofs.Saves.LayoutParts.{ArePut}
 use Rattle.mv_ledger.proofs.layouts.Layouts.+kinds.Given as goal
 
 abbrev pub decreases-put_struct : goal.decreases-put_struct

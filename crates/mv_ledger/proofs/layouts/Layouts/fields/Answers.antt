@@ -1,6 +1,4 @@
-use Rattle.std.proofs.Common.{List, option_map, subst}
-use Rattle.mv_move_types.specs.Module.{Module}
-use Rattle.mv_linker.specs.Shapes.{AreFieldsAt}
+use Rattle.mv_ledger.proofs.Common.{List, option_map, subst, Module, AreFieldsAt}
 use Rattle.mv_ledger.proofs.layouts.Layouts.fields.Goals as goal
 
 pub returns : goal.returns

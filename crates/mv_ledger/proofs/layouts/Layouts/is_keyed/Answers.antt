@@ -1,6 +1,4 @@
-use Rattle.std.proofs.Common.{ap, ◌∙◌}
-use Rattle.mv_linker.specs.Link.{tables_in}
-use Rattle.mv_ledger.specs.Layouts.{is_keyed}
+use Rattle.mv_ledger.proofs.Common.{◌∙◌, ap, tables_in, is_keyed}
 use Rattle.mv_ledger.proofs.Saves.LayoutParts.{keyed-same}
 use Rattle.mv_ledger.proofs.layouts.Layouts.is_keyed.Goals as goal
 

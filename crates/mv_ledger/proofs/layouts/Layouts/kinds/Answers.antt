@@ -1,8 +1,5 @@
-use Rattle.std.proofs.Common.{◌≡◌, Bool, true, sym, ◌∙◌, subst}
-use Rattle.mv_ledger.specs.Layouts.{is_keyed}
-use Rattle.mv_ledger.specs.Parts.LayoutParts.{kinds_at, PutsKinds}
-use Rattle.mv_ledger.proofs.Saves.LayoutParts.{keyed-there}
-use Rattle.mv_ledger.proofs.Saves.PartKinds.{puts-nothing}
+use Rattle.mv_ledger.proofs.Common.{◌∙◌, ◌≡◌, Bool, subst, sym, true, is_keyed, PutsKinds, kinds_at}
+use Rattle.mv_ledger.proofs.Saves.LayoutParts.{keyed-there, puts-nothing}
 use Rattle.mv_ledger.proofs.layouts.Layouts.kinds.Goals as goal
 
 pub returns-else-there-clause-there : goal.returns-else-there-clause-there

@@ -1,5 +1,4 @@
-use Rattle.mv_ledger.proofs.Common.{◌<◌, arith, length, length-map, PublishedModule, tables_in}
-use Rattle.mv_linker.proofs.Found.{there_at}
+use Rattle.mv_ledger.proofs.Common.{◌<◌, arith, length, length-map, PublishedModule, there_at, tables_in}
 use Rattle.mv_ledger.proofs.Saves.LayoutParts.{keyed-more}
 use Rattle.mv_ledger.proofs.layouts.Layouts.new.Goals as goal
 

@@ -1,6 +1,4 @@
-use Rattle.std.proofs.Common.{◌≡◌, take}
-use Rattle.mv_linker.specs.Link.{tables_in}
-use Rattle.mv_ledger.specs.SavedText.{keyed_from}
+use Rattle.mv_ledger.proofs.Common.{◌≡◌, take, tables_in, keyed_from}
 use Rattle.mv_ledger.proofs.layouts.Layouts.new.Given as goal
 
 abbrev pub invariant-each : goal.invariant-each

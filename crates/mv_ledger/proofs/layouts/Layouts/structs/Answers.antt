@@ -1,5 +1,4 @@
-use Rattle.std.proofs.Common.{ap, ◌∙◌}
-use Rattle.mv_ledger.specs.Layouts.{structs_at}
+use Rattle.mv_ledger.proofs.Common.{◌∙◌, ap, structs_at}
 use Rattle.mv_ledger.proofs.layouts.Layouts.structs.Goals as goal
 
 pub returns : goal.returns

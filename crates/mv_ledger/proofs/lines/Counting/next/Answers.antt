@@ -1,9 +1,8 @@
-use Rattle.mv_ledger.proofs.Common.{[], ℕ, ◌++◌, ◌+◌, ◌∙◌, ◌∷◌, ◌≡◌, List, ap, ap₂, arith, length, map, refl, sym, Tallied, end_line, audit_from, count_line, counted_in, stored_of}
+use Rattle.mv_ledger.proofs.Common.{[], ◌++◌, ◌+◌, ◌∙◌, ◌∷◌, ◌≡◌, List, ap, ap₂, arith, length, map, refl, sym, ℕ, Tallied, end_line, audit_from, count_line, counted_in, stored_of}
 use Rattle.mv_ledger.proofs.lines.Counting.next.Goals as goal
 
 -- the first line, and those after it
-first : (counts rest : List Tallied) (t : Tallied) (line : List ℕ) (n m : ℕ) → counts ≡ t ∷ rest → line ≡ count_line (stored_of t) t → m ≡ n + 1
-    → audit_from counts n ≡ line ∷ audit_from rest m
+first : (counts rest : List Tallied) (t : Tallied) (line : List ℕ) (n m : ℕ) → counts ≡ t ∷ rest → line ≡ count_line (stored_of t) t → m ≡ n + 1 → audit_from counts n ≡ line ∷ audit_from rest m
 first counts rest t line n m is told more =
     let as_many : n + length (t ∷ rest) ≡ m + length rest = omega arith in
     ap (λ ts. audit_from ts n) is ∙ ap₂ (λ (l : List ℕ) (k : ℕ). l ∷ (map (λ (u : Tallied). count_line (stored_of u) u) rest ++ end_line k ∷ [])) (sym told) as_many

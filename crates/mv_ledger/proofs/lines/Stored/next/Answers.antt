@@ -1,4 +1,4 @@
-use Rattle.mv_ledger.proofs.Common.{[], ℕ, ◌++◌, ◌+◌, ◌∙◌, ◌∷◌, ◌≡◌, List, ap, ap₂, arith, length, map, refl, sym, Module, FlatEntry, storage_of, value_under, end_line, entry_line, tables_in}
+use Rattle.mv_ledger.proofs.Common.{[], ◌++◌, ◌+◌, ◌∙◌, ◌∷◌, ◌≡◌, List, ap, ap₂, arith, length, map, refl, sym, ℕ, Module, FlatEntry, storage_of, value_under, end_line, entry_line, tables_in}
 use Rattle.mv_ledger.proofs.Common.{show_from}
 use Rattle.mv_ledger.proofs.lines.Stored.next.Goals as goal
 

@@ -1,4 +1,4 @@
-use Rattle.std.proofs.Common.{◌+◌, ◌*◌}
+use Rattle.mv_ledger.proofs.Common.{◌*◌, ◌+◌}
 use Rattle.mv_ledger.proofs.Loads.Adding.{AddsFirst}
 use Rattle.mv_ledger.proofs.loading.counts.+inside.Given as goal
 

@@ -1,5 +1,4 @@
-use Rattle.std.proofs.Common.{◌+◌, List, ℕ, take, sym, subst, arith}
-use Rattle.mv_move_types.specs.declared.tables.Definition.{Definition}
+use Rattle.mv_ledger.proofs.Common.{◌+◌, List, arith, subst, sym, take, ℕ, Definition}
 use Rattle.mv_ledger.proofs.Loads.CountedStructs.{IsAdding, add-more, add-none, add-all}
 use Rattle.mv_ledger.proofs.loading.counts.all_counts.Goals as goal
 use Rattle.mv_ledger.proofs.loading.counts.all_counts.Goals.{then-n-gt0, else-n-gt0}

@@ -1,4 +1,4 @@
-use Rattle.std.proofs.Common.{take}
+use Rattle.mv_ledger.proofs.Common.{take}
 use Rattle.mv_ledger.proofs.Loads.CountedStructs.{IsAdding}
 use Rattle.mv_ledger.proofs.loading.counts.all_counts.Given as goal
 

@@ -1,4 +1,4 @@
-use Rattle.mv_machine.specs.Flat.{FlatEntry}
+use Rattle.mv_ledger.proofs.Common.{FlatEntry}
 use Rattle.mv_ledger.proofs.Loads.CountedStructs.{count-more}
 use Rattle.mv_ledger.proofs.loading.counts.stored_counts.Goals as goal
 

@@ -1,4 +1,4 @@
-use Rattle.std.proofs.Common.{length}
+use Rattle.mv_ledger.proofs.Common.{length}
 use Rattle.mv_ledger.proofs.Loads.CountedStructs.{IsCounting}
 use Rattle.mv_ledger.proofs.loading.counts.stored_counts.Given as goal
 

@@ -1,4 +1,4 @@
-use Rattle.std.proofs.Common.{ℕ, ◌+◌, ◌<◌, length, arith, sym, subst}
+use Rattle.mv_ledger.proofs.Common.{◌+◌, ◌<◌, arith, length, subst, sym, ℕ}
 use Rattle.mv_ledger.proofs.Loads.Grouping.{IsGrouping, larger, grouping-ends, grouping-goes-on, grouping-stops}
 use Rattle.mv_ledger.proofs.loading.groups.first_group.Goals as goal
 use Rattle.mv_ledger.proofs.loading.groups.first_group.Goals.{then-needed-at, else-needed-at}

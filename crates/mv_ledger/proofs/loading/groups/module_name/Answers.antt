@@ -1,8 +1,5 @@
-use Rattle.std.proofs.Common.{◌≡◌, ℕ, List, Option, None, Some, slice_get, refl, sym, ap, ◌∙◌}
-use Rattle.std.specs.Slice.{IsItemAt}
-use Rattle.mv_move_types.specs.Names.{ModuleName}
+use Rattle.mv_ledger.proofs.Common.{◌∙◌, ◌≡◌, List, None, Option, Some, ap, refl, sym, ℕ, slice_get, IsItemAt, Module, module_name, ModuleName}
 use Rattle.mv_move_types.specs.declared.tables.ModuleHandle.{ModuleHandle}
-use Rattle.mv_move_types.specs.Module.{Module, module_name}
 use Rattle.mv_linker.proofs.LinkedCode.StoredCodes.{got, got-at}
 use Rattle.mv_ledger.proofs.loading.groups.module_name.Goals as goal
 
@@ -43,12 +40,10 @@ pub returns-in_err-name : goal.returns-in_err-name
 returns-in_err-name c =
     rw c.from_residual-in_err-name.ensures (no_name c.args.m.now c.args.handle c.in_ok-handle.handle.now
     (got-at _ c.module_handles.result.now c.args.handle c.in_ok-handle.handle c.module_handles.ensures c.in_ok-handle.ensures.lookup) c.in_ok-address.address.now
-    (got-at _ c.addresses.result.now c.in_ok-handle.handle.now.address c.in_ok-address.address c.addresses.ensures c.in_ok-address.ensures.lookup)
-    (sym c.in_err-name.ensures))
+    (got-at _ c.addresses.result.now c.in_ok-handle.handle.now.address c.in_ok-address.address c.addresses.ensures c.in_ok-address.ensures.lookup) (sym c.in_err-name.ensures))
 
 pub returns : goal.returns
 returns c =
     named c.args.m.now c.args.handle c.in_ok-handle.handle.now
     (got-at _ c.module_handles.result.now c.args.handle c.in_ok-handle.handle c.module_handles.ensures c.in_ok-handle.ensures.lookup) c.in_ok-address.address.now c.in_ok-name.name.now
-    (got-at _ c.addresses.result.now c.in_ok-handle.handle.now.address c.in_ok-address.address c.addresses.ensures c.in_ok-address.ensures.lookup)
-    (sym c.in_ok-name.ensures)
+    (got-at _ c.addresses.result.now c.in_ok-handle.handle.now.address c.in_ok-address.address c.addresses.ensures c.in_ok-address.ensures.lookup) (sym c.in_ok-name.ensures)

@@ -1,6 +1,4 @@
-use Rattle.std.proofs.Common.{◌<◌, length, arith, sym, ap, subst}
-use Rattle.mv_linker.specs.News.{published_of}
-use Rattle.mv_ledger.specs.Groups.{IsNeeded, HandlesHold}
+use Rattle.mv_ledger.proofs.Common.{◌<◌, ap, arith, length, subst, sym, published_of, HandlesHold, IsNeeded}
 use Rattle.mv_ledger.proofs.Loads.Grouping.{larger, handles-needed, handles-never}
 use Rattle.mv_ledger.proofs.loading.groups.needed_by.Goals as goal
 

@@ -1,6 +1,4 @@
-use Rattle.std.proofs.Common.{◌≤◌, Some, length}
-use Rattle.mv_linker.specs.News.{published_of}
-use Rattle.mv_ledger.specs.Groups.{IsNeeded, HandlesHold}
+use Rattle.mv_ledger.proofs.Common.{◌≤◌, Some, length, published_of, HandlesHold, IsNeeded}
 use Rattle.mv_ledger.proofs.loading.groups.needed_by.Given as goal
 
 abbrev pub invariant-loop-handle : goal.invariant-loop-handle

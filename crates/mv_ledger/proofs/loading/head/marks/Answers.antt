@@ -1,4 +1,4 @@
-use Rattle.mv_ledger.proofs.Common.{ℕ, ◌∙◌, ◌≡◌, Err, List, Ok, Option, Result, ap, err_from_is_err_and, ◌>>=◌, Refusal, mark_from, Marks, marks_from}
+use Rattle.mv_ledger.proofs.Common.{◌∙◌, ◌≡◌, Err, List, Ok, Option, Result, ap, ℕ, err_from_is_err_and, ◌>>=◌, Refusal, mark_from, Marks, marks_from}
 use Rattle.mv_ledger.proofs.loading.head.marks.Goals as goal
 
 -- the third byte, after the first two

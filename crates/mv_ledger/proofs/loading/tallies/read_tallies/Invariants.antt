@@ -1,6 +1,4 @@
-use Rattle.std.proofs.Common.{◌≡◌, length, map, take}
-use Rattle.mv_module_text.proofs.Entries.{ReadsOn}
-use Rattle.mv_ledger.specs.Parts.BodyParts.{form_of, counts_of, struct_of, tally_from}
+use Rattle.mv_ledger.proofs.Common.{◌≡◌, length, map, take, ReadsOn, counts_of, form_of, struct_of, tally_from}
 use Rattle.mv_ledger.proofs.loading.tallies.read_tallies.Given as goal
 
 abbrev pub invariant-each : goal.invariant-each

@@ -1,4 +1,4 @@
-use Rattle.mv_ledger.specs.Parts.BodyParts.{entry_from}
+use Rattle.mv_ledger.proofs.Common.{entry_from}
 use Rattle.mv_ledger.proofs.Loads.BodyReading.{RisingOn}
 use Rattle.mv_ledger.proofs.loading.values.group.Given as goal
 

@@ -1,5 +1,4 @@
-use Rattle.std.proofs.Common.{◌≡◌, map, take}
-use Rattle.mv_ledger.specs.Tallying.{tally_after}
+use Rattle.mv_ledger.proofs.Common.{◌≡◌, map, take, tally_after}
 use Rattle.mv_ledger.proofs.Runs.TalliesByModule.{lists}
 use Rattle.mv_ledger.proofs.tallies.Tallies.add_run.Given as goal
 

@@ -1,9 +1,9 @@
-use Rattle.mv_ledger.proofs.Common.{ℕ, ◌++◌, ◌∙◌, ◌≡◌, List, ap, append-nil, ap₂, length, map, sym, fresh_tally, Tally}
-use Rattle.std.specs.Iterator.Adapters.{skip_source, skip_count}
-use Rattle.std.specs.Slice.Iter.{iter_rest}
+use Rattle.mv_ledger.proofs.Common.{◌++◌, ◌∙◌, ◌≡◌, List, ap, append-nil, ap₂, length, map, sym, ℕ, fresh_tally, Tally}
 use Rattle.std.proofs.lemmas.Iterator.{YieldsList-from_slice}
 use Rattle.std.proofs.lemmas.Iterator.Adapters.{YieldsList-from_skip}
 use Rattle.std.proofs.lemmas.Iterator.Consumers.{YieldsList-end}
+use Rattle.std.specs.Iterator.Adapters.{skip_source, skip_count}
+use Rattle.std.specs.Slice.Iter.{iter_rest}
 use Rattle.mv_ledger.proofs.Bundles.Places.{had}
 use Rattle.mv_ledger.proofs.Bundles.Placing.{extended-more}
 use Rattle.mv_ledger.proofs.tallies.Tallies.extended.Goals as goal

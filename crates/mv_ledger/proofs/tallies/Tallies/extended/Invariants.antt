@@ -1,5 +1,4 @@
-use Rattle.std.proofs.Common.{◌≡◌, ◌++◌, map}
-use Rattle.mv_ledger.specs.Tallying.{fresh_tally}
+use Rattle.mv_ledger.proofs.Common.{◌++◌, ◌≡◌, map, fresh_tally}
 use Rattle.mv_ledger.proofs.tallies.Tallies.extended.Given as goal
 
 abbrev pub invariant-loop-index : goal.invariant-loop-index

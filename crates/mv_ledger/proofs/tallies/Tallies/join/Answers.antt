@@ -1,5 +1,4 @@
-use Rattle.mv_ledger.proofs.Common.{◌∙◌, ◌≡◌, List, ap, arith, length, subst, sym, AreWithin, with_placed, ArePlaced, Tally}
-use Rattle.mv_ledger.specs.declared.tallies.Placed.{Placed}
+use Rattle.mv_ledger.proofs.Common.{◌∙◌, ◌≡◌, List, ap, arith, length, subst, sym, AreWithin, with_placed, ArePlaced, Placed, Tally}
 use Rattle.mv_ledger.proofs.Runs.TalliesByModule.{lists}
 use Rattle.mv_ledger.proofs.Bundles.Placing.{joining-room, joining-next, joining-done}
 use Rattle.mv_ledger.proofs.tallies.Tallies.join.Goals as goal
@@ -25,8 +24,7 @@ pub put-requires : goal.put-requires
 put-requires c = joining-room _ _ _ _ _ _ _ c.loop-one.invariant c.in-Some.ensures.steps.0
 
 pub loop-one-preserved : goal.loop-one-preserved
-loop-one-preserved c =
-    joining-next _ _ _ _ _ _ _ _ _ _ c.loop-one.invariant c.in-Some.ensures.steps.0 c.put.ensures.lists c.put.ensures.len c.put.ensures.capacity
+loop-one-preserved c = joining-next _ _ _ _ _ _ _ _ _ _ c.loop-one.invariant c.in-Some.ensures.steps.0 c.put.ensures.lists c.put.ensures.len c.put.ensures.capacity
 
 pub returns-clause-tallied : goal.returns-clause-tallied
 returns-clause-tallied c =

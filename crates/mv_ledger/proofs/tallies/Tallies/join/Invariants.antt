@@ -1,5 +1,4 @@
-use Rattle.std.specs.Vec.{vec_len, vec_capacity}
-use Rattle.mv_ledger.specs.Tallying.{with_placed}
+use Rattle.mv_ledger.proofs.Common.{vec_capacity, vec_len, with_placed}
 use Rattle.mv_ledger.proofs.Runs.TalliesByModule.{lists}
 use Rattle.mv_ledger.proofs.Bundles.Placing.{IsJoining}
 use Rattle.mv_ledger.proofs.tallies.Tallies.join.Given as goal

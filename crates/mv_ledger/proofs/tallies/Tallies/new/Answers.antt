@@ -1,6 +1,4 @@
-use Rattle.std.proofs.Common.{List, Vec, Global, map, sym, ap, subst}
-use Rattle.mv_ledger.specs.declared.tallies.Tally.{Tally}
-use Rattle.mv_ledger.specs.View.{ArePlaced}
+use Rattle.mv_ledger.proofs.Common.{List, ap, map, subst, sym, Global, Vec, ArePlaced, Tally}
 use Rattle.mv_ledger.proofs.tallies.Tallies.new.Goals as goal
 
 pub invariant_of-result : goal.invariant_of-result

@@ -23,8 +23,7 @@ invariant_of-self-in_err-read_tallies c =
     whole-placed c.self.inside.modules _ c.args.self.now
     (length-set c.each.tallies-items c.each.tallies-index _ ∙ c.each.auto.tallies-items ∙ c.deref_mut-tallies-items.ensures.len)
     (structs-set c.each.tallies-items c.each.tallies-index c.tallies-item.result c.deref_mut.result.now c.read_tallies.new.tallies (omega arith) c.deref_mut.ensures.value c.deref_mut.ensures.len
-    c.in_err-read_tallies.ensures.kept
-    c.args.self.now c.each.invariant.kept)
+    c.in_err-read_tallies.ensures.kept c.args.self.now c.each.invariant.kept)
     (subst (λ (tss : List (List Tally)). ArePlaced 0 tss) c.self.view_is c.self.invariant)
 
 pub returns-in_err-read_tallies-clause-refused : goal.returns-in_err-read_tallies-clause-refused
@@ -39,8 +38,7 @@ returns-in_err-read_tallies-clause-kept c =
     whole-kept c.self.inside.modules _ c.args.self.now
     (length-set c.each.tallies-items c.each.tallies-index _ ∙ c.each.auto.tallies-items ∙ c.deref_mut-tallies-items.ensures.len)
     (structs-set c.each.tallies-items c.each.tallies-index c.tallies-item.result c.deref_mut.result.now c.read_tallies.new.tallies (omega arith) c.deref_mut.ensures.value c.deref_mut.ensures.len
-    c.in_err-read_tallies.ensures.kept
-    c.args.self.now c.each.invariant.kept)
+    c.in_err-read_tallies.ensures.kept c.args.self.now c.each.invariant.kept)
 
 pub each-preserved : goal.each-preserved
 each-preserved c = record {
@@ -48,6 +46,5 @@ each-preserved c = record {
       c.in_ok-read_tallies.ensures.kept
       (tally_from (form_of c.args.form)) _ c.args.reader.now c.each.reader c.read_tallies.new.reader c.in_ok-read_tallies.ensures.ok c.each.invariant.reads;
   kept = structs-set c.each.tallies-items c.each.tallies-index c.tallies-item.result c.deref_mut.result.now c.read_tallies.new.tallies (omega arith) c.deref_mut.ensures.value c.deref_mut.ensures.len
-      c.in_ok-read_tallies.ensures.kept
-      c.args.self.now c.each.invariant.kept;
+      c.in_ok-read_tallies.ensures.kept c.args.self.now c.each.invariant.kept;
 }

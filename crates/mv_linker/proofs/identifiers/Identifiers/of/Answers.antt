@@ -1,5 +1,5 @@
-use Rattle.mv_linker.proofs.Common.{[], ◌++◌, ◌+◌, ◌∙◌, ◌∷◌, ◌≡◌, Some, ap, arith, length, map, refl, slice_get, subst, sym, take, map-append, slice_get_read, StructDefinition}
-use Rattle.mv_linker.specs.Identifiers.{identifier_or_none}
+use Rattle.mv_linker.proofs.Common.{[], ◌++◌, ◌+◌, ◌∙◌, ◌∷◌, ◌≡◌, Some, StructDefinition, ap, arith, identifier_or_none, length, map, map-append, refl, slice_get, slice_get_read, subst}
+use Rattle.mv_linker.proofs.Common.{sym, take}
 use Rattle.mv_linker.proofs.Kept.SpanLemmas.{AreSpanned, spanned-more}
 use Rattle.mv_linker.proofs.LinkedCode.Linkable.{taken-more}
 use Rattle.mv_linker.proofs.identifiers.Identifiers.of.Goals as goal

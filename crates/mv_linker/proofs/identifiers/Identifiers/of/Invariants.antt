@@ -1,5 +1,4 @@
-use Rattle.std.proofs.Common.{◌*◌, ◌≤◌, map, take, vec_len}
-use Rattle.mv_linker.specs.Identifiers.{identifier_or_none}
+use Rattle.mv_linker.proofs.Common.{◌*◌, ◌≤◌, identifier_or_none, map, take, vec_len}
 use Rattle.mv_linker.proofs.Kept.SpanLemmas.{AreSpanned}
 use Rattle.mv_linker.proofs.identifiers.Identifiers.of.Given as goal
 

@@ -1,9 +1,7 @@
-use Rattle.std.proofs.Common.{◌≡◌, ℕ, List, [], Contains, sym, ap₂, ◌∙◌, subst}
-use Rattle.std.specs.BTreeSet.{keys_between}
+use Rattle.mv_linker.proofs.Common.{[], ℕ, ◌∙◌, ◌≡◌, Contains, Included, List, ap₂, keys_between, subst, sym}
 use Rattle.std.specs.Map.Iter.{deref}
-use Rattle.std.proofs.lemmas.Map.Iter.{rest_more, rest_all}
-use Rattle.std.specs.declared.ops.Bound.TheVariants.{Included}
-use Rattle.mv_linker.proofs.Cycles.NamerLemmas.{pair_cmp, finding-next, finding-all, found-stays, found-there, in-range}
+use Rattle.std.proofs.lemmas.Map.Iter.{rest_all, rest_more}
+use Rattle.mv_linker.proofs.Cycles.NamerLemmas.{finding-all, finding-next, found-stays, found-there, in-range, pair_cmp}
 use Rattle.mv_linker.proofs.namers.Namers.find.Goals as goal
 
 pub loop-namer-preserved : goal.loop-namer-preserved

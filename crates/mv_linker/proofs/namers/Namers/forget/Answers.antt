@@ -1,8 +1,7 @@
-use Rattle.std.proofs.Common.{◌≡◌, ℕ, List, slice_index_or, true, false, sym, subst}
-use Rattle.mv_linker.specs.Namers.{AreNamers, NamesAt}
+use Rattle.mv_linker.proofs.Common.{ℕ, ◌≡◌, AreNamers, List, NamesAt, false, slice_index_or, subst, sym, true}
 use Rattle.mv_linker.proofs.Cycles.NamerLemmas.{forget-one}
+use Rattle.mv_linker.proofs.namers.Namers.forget.Goals.{else-not-names_at, then-not-names_at}
 use Rattle.mv_linker.proofs.namers.Namers.forget.Goals as goal
-use Rattle.mv_linker.proofs.namers.Namers.forget.Goals.{then-not-names_at, else-not-names_at}
 
 pub loop-named-preserved : goal.loop-named-preserved
 loop-named-preserved c =

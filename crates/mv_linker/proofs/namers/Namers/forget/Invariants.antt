@@ -1,4 +1,4 @@
-use Rattle.mv_linker.specs.Namers.{AreNamers}
+use Rattle.mv_linker.proofs.Common.{AreNamers}
 use Rattle.mv_linker.proofs.namers.Namers.forget.Given as goal
 
 abbrev pub invariant-loop-named : goal.invariant-loop-named

@@ -1,4 +1,4 @@
-use Rattle.mv_linker.proofs.Common.{ℕ, List, length, refl, subst, slice_get_read, AreNamedBy}
+use Rattle.mv_linker.proofs.Common.{ℕ, AreNamedBy, List, length, refl, slice_get_read, subst}
 use Rattle.mv_linker.proofs.Cycles.NamerLemmas.{PutOf, keeps-of, put-each, put-next}
 use Rattle.mv_linker.proofs.namers.Namers.put_all.Goals as goal
 

@@ -1,4 +1,4 @@
-use Rattle.mv_linker.proofs.Cycles.NamerLemmas.{PutSoFar, PutOf}
+use Rattle.mv_linker.proofs.Cycles.NamerLemmas.{PutOf, PutSoFar}
 use Rattle.mv_linker.proofs.namers.Namers.put_all.Given as goal
 
 abbrev pub invariant-loop-d : goal.invariant-loop-d

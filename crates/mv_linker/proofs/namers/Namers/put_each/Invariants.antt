@@ -1,4 +1,4 @@
-use Rattle.mv_linker.proofs.Cycles.NamerLemmas.{PutSoFar, PutBy}
+use Rattle.mv_linker.proofs.Cycles.NamerLemmas.{PutBy, PutSoFar}
 use Rattle.mv_linker.proofs.namers.Namers.put_each.Given as goal
 
 abbrev pub invariant-loop-named : goal.invariant-loop-named

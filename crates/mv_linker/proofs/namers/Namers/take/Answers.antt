@@ -1,5 +1,4 @@
-use Rattle.std.proofs.Common.{ℕ, List, subst}
-use Rattle.mv_linker.specs.NamerSteps.{HasOthers}
+use Rattle.mv_linker.proofs.Common.{ℕ, HasOthers, List, subst}
 use Rattle.mv_linker.proofs.Cycles.NamerLemmas.{take-leaves}
 use Rattle.mv_linker.proofs.namers.Namers.take.Goals as goal
 

@@ -1,11 +1,10 @@
-use Rattle.mv_linker.proofs.Common.{[], ◌++◌, ◌+◌, ◌∙◌, ◌∷◌, ◌≡◌, ◌≤◌, List, Some, ap, arith, length, map, refl, slice_get, subst, sym, take, map-append, slice_get_read, StructDefinition, parts_by}
-use Rattle.mv_linker.proofs.Common.{Part}
-use Rattle.mv_move_types.specs.declared.tables.Field.{Field}
+use Rattle.mv_linker.proofs.Common.{[], ◌++◌, ◌+◌, ◌∙◌, ◌∷◌, ◌≡◌, ◌≤◌, Field, List, Part, Some, StructDefinition, ap, arith, length, map, map-append, parts_by, refl, slice_get}
+use Rattle.mv_linker.proofs.Common.{slice_get_read, subst, sym, take}
 use Rattle.mv_linker.proofs.LinkedCode.Linkable.{taken-more}
 use Rattle.mv_linker.proofs.Kept.ShapeLemmas.{few-fields}
 use Rattle.mv_linker.proofs.Kept.SpanLemmas.{AreSpanned, spanned-more}
-use Rattle.mv_linker.proofs.shapes.Shapes.of.Goals as goal
 use Rattle.mv_linker.proofs.shapes.Shapes.of.Goals.{After-put_parts}
+use Rattle.mv_linker.proofs.shapes.Shapes.of.Goals as goal
 
 -- the struct that is gone over
 here : (c : After-put_parts) → slice_get c.args.m.now.structs c.loop-d.d-index ≡ Some c.d-item.result

@@ -1,5 +1,4 @@
-use Rattle.std.proofs.Common.{◌*◌, ◌≤◌, map, take, vec_len}
-use Rattle.mv_linker.specs.Shapes.{parts_by}
+use Rattle.mv_linker.proofs.Common.{◌*◌, ◌≤◌, map, parts_by, take, vec_len}
 use Rattle.mv_linker.proofs.Kept.SpanLemmas.{AreSpanned}
 use Rattle.mv_linker.proofs.shapes.Shapes.of.Given as goal
 

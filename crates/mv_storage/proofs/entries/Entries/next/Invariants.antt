@@ -1,6 +1,4 @@
-use Rattle.std.proofs.Common.{◌≡◌, length}
-use Rattle.mv_storage.specs.Slots.{shown}
-use Rattle.mv_storage.specs.declared.slot.Layer.TheVariants.{Committed}
+use Rattle.mv_storage.proofs.Common.{◌≡◌, length, shown, Committed}
 use Rattle.mv_storage.proofs.entries.Entries.next.Given as goal
 
 abbrev pub invariant-loop-key : goal.invariant-loop-key

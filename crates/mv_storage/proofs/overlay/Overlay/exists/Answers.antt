@@ -1,7 +1,5 @@
-use Rattle.std.proofs.Common.{◌≡◌, ap, refl, sym, ◌∙◌, Bor, Option, Some, None, is_some, option_copied, slice_get}
-use Rattle.std.specs.Option.{option_and_then}
-use Rattle.mv_storage.specs.Slots.{slot_at}
-use Rattle.mv_storage.specs.declared.slot.Layer.TheVariants.{Current}
+use Rattle.mv_storage.proofs.Common.{◌∙◌, ◌≡◌, None, Option, Some, ap, is_some, refl, slice_get, sym, option_and_then, slot_at, Current}
+use Rattle.std.proofs.Common.{Bor, option_copied}
 use Rattle.mv_storage.proofs.Steps.{reads, slot-read}
 use Rattle.mv_storage.proofs.overlay.Overlay.exists.Goals as goal
 use Rattle.mv_storage.proofs.overlay.Overlay.exists.Goals.{in-Some, in-None}

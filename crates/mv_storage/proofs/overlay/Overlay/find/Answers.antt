@@ -1,5 +1,4 @@
-use Rattle.std.proofs.Common.{sym, ◌∙◌, Some, None}
-use Rattle.mv_storage.specs.declared.slot.Layer.TheVariants.{Current}
+use Rattle.mv_storage.proofs.Common.{◌∙◌, None, Some, sym, Current}
 use Rattle.mv_storage.proofs.Steps.{reads}
 use Rattle.mv_storage.proofs.overlay.Overlay.find.Goals as goal
 

@@ -1,6 +1,4 @@
-use Rattle.std.proofs.Common.{◌∙◌, sym, ap}
-use Rattle.mv_storage.specs.Slots.{seen}
-use Rattle.mv_storage.specs.declared.slot.Layer.TheVariants.{Committed, Current}
+use Rattle.mv_storage.proofs.Common.{◌∙◌, ap, sym, seen, Committed, Current}
 use Rattle.mv_storage.proofs.Shown.{shown-same, layers-same}
 use Rattle.mv_storage.proofs.Steps.{settled-shows, seen-shown}
 use Rattle.mv_storage.proofs.overlay.Overlay.keep.Goals as goal

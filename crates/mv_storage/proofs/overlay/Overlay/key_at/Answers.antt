@@ -1,7 +1,4 @@
-use Rattle.std.proofs.Common.{◌≡◌, ◌≤◌, sym, None, arith}
-use Rattle.mv_move_types.specs.declared.tables.Key.{Key}
-use Rattle.mv_storage.specs.Slots.{slot_at}
-use Rattle.mv_storage.specs.declared.slot.Layer.TheVariants.{Current}
+use Rattle.mv_storage.proofs.Common.{◌≡◌, ◌≤◌, None, arith, sym, Key, slot_at, Current}
 use Rattle.mv_storage.proofs.Steps.{reads, no_slot}
 use Rattle.mv_storage.proofs.overlay.Overlay.key_at.Goals as goal
 

@@ -1,8 +1,5 @@
-use Rattle.std.proofs.Common.{sym, ap, ◌∙◌, refl, is_some}
+use Rattle.mv_storage.proofs.Common.{◌∙◌, ap, is_some, refl, sym, IfOk-weaker, on_err_weaker, slot_at, Committed, Current}
 use Rattle.std.specs.Prelude.{not}
-use Rattle.std.proofs.lemmas.Result.{on_err_weaker, IfOk-weaker}
-use Rattle.mv_storage.specs.Slots.{slot_at}
-use Rattle.mv_storage.specs.declared.slot.Layer.TheVariants.{Committed, Current}
 use Rattle.mv_storage.proofs.Shown.{shown-same, shown-put}
 use Rattle.mv_storage.proofs.Steps.{reads, layers-equal}
 use Rattle.mv_storage.proofs.overlay.Overlay.put.Goals as goal

@@ -1,5 +1,4 @@
-use Rattle.std.proofs.Common.{◌∙◌, sym, ap}
-use Rattle.mv_storage.specs.Slots.{seen}
+use Rattle.mv_storage.proofs.Common.{◌∙◌, ap, sym, seen}
 use Rattle.mv_storage.proofs.Steps.{settled-shows, seen-shown}
 use Rattle.mv_storage.proofs.overlay.Overlay.settled.Goals as goal
 

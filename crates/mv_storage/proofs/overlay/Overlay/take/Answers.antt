@@ -1,7 +1,4 @@
-use Rattle.std.proofs.Common.{sym, ap, ◌∙◌, refl}
-use Rattle.std.proofs.lemmas.Result.{on_ok_weaker, on_err_weaker, IfOk-weaker}
-use Rattle.mv_storage.specs.Slots.{slot_at}
-use Rattle.mv_storage.specs.declared.slot.Layer.TheVariants.{Committed, Current}
+use Rattle.mv_storage.proofs.Common.{◌∙◌, ap, refl, sym, IfOk-weaker, on_err_weaker, on_ok_weaker, slot_at, Committed, Current}
 use Rattle.mv_storage.proofs.Shown.{shown-same, shown-without}
 use Rattle.mv_storage.proofs.Steps.{reads, layers-equal}
 use Rattle.mv_storage.proofs.overlay.Overlay.take.Goals as goal

@@ -1,5 +1,4 @@
-use Rattle.std.proofs.Common.{sym, ◌∙◌, Some, None}
-use Rattle.mv_storage.specs.declared.slot.Layer.TheVariants.{Committed}
+use Rattle.mv_storage.proofs.Common.{◌∙◌, None, Some, sym, Committed}
 use Rattle.mv_storage.proofs.Steps.{reads}
 use Rattle.mv_storage.proofs.overlay.Storage.get.Goals as goal
 

@@ -1,6 +1,5 @@
-use Rattle.std.proofs.Common.{◌<◌, ◌^◌, List, length, subst, arith}
-use Rattle.mv_machine.specs.Flat.{FlatEntry}
-use Rattle.mv_storage.specs.declared.slot.Layer.TheVariants.{Committed}
+use Rattle.mv_storage.proofs.Common.{◌<◌, List, arith, length, subst, FlatEntry, Committed}
+use Rattle.std.proofs.Common.{◌^◌}
 use Rattle.mv_storage.proofs.Shown.{shown_of, shown-length}
 use Rattle.mv_storage.proofs.overlay.Storage.iter.Goals as goal
 

@@ -1,6 +1,4 @@
-use Rattle.std.proofs.Common.{◌∙◌, subst}
-use Rattle.mv_storage.specs.Map.{Ascends}
-use Rattle.mv_storage.specs.declared.slot.Layer.TheVariants.{Committed, Current}
+use Rattle.mv_storage.proofs.Common.{◌∙◌, subst, Ascends, Committed, Current}
 use Rattle.mv_storage.proofs.Shown.{Ascends-shown, shown-same, layers-same}
 use Rattle.mv_storage.proofs.overlay.Storage.overlay.Goals as goal
 

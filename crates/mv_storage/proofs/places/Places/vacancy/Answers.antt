@@ -1,5 +1,4 @@
-use Rattle.std.proofs.Common.{◌≡◌, refl, ap, ◌∙◌, Some, slice_get}
-use Rattle.mv_storage.specs.declared.slot.Slot.TheVariants.{Vacant}
+use Rattle.mv_storage.proofs.Common.{◌∙◌, ◌≡◌, Some, ap, refl, slice_get, Vacant}
 use Rattle.mv_storage.proofs.PlaceLemmas.{pushed-same, pushed-sound, slice_get-push_last}
 use Rattle.mv_storage.proofs.places.Places.vacancy.Goals as goal
 

@@ -1,6 +1,4 @@
-use Rattle.std.proofs.Common.{◌≡◌, refl, reverse, ap, ◌∙◌}
-use Rattle.std.proofs.lemmas.Result.{err_from_is_err_and}
-use Rattle.mv_move_types.specs.Module.{Module}
+use Rattle.mv_type_states.proofs.Common.{◌∙◌, ◌≡◌, ap, refl, reverse, err_from_is_err_and, Module}
 use Rattle.mv_type_states.proofs.Found.{got, missed, signature_at, takes_refused}
 use Rattle.mv_type_states.proofs.rules.control.call.Goals as goal
 

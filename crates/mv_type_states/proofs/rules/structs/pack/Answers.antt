@@ -1,5 +1,4 @@
-use Rattle.std.proofs.Common.{refl, ap, ◌∙◌}
-use Rattle.mv_move_types.specs.Module.{Module}
+use Rattle.mv_type_states.proofs.Common.{◌∙◌, ap, refl, Module}
 use Rattle.mv_type_states.proofs.Found.{missed}
 use Rattle.mv_type_states.proofs.rules.structs.pack.Goals as goal
 

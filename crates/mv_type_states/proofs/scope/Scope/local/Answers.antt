@@ -1,4 +1,4 @@
-use Rattle.std.proofs.Common.{◌++◌, slice_get, ap, refl, ◌∙◌}
+use Rattle.mv_type_states.proofs.Common.{◌++◌, ◌∙◌, ap, refl, slice_get}
 use Rattle.mv_type_states.proofs.LocalLemmas.{local_type-is}
 use Rattle.mv_type_states.proofs.scope.Scope.local.Goals as goal
 

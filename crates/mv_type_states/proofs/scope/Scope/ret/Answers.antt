@@ -1,7 +1,4 @@
-use Rattle.std.proofs.Common.{◌≡◌, Some, refl, reverse}
-use Rattle.std.proofs.lemmas.Option.{MatchOption-at_some}
-use Rattle.std.proofs.lemmas.Result.{err_from_is_err_and}
-use Rattle.mv_move_types.specs.Module.{FunctionDefinition, result_tokens}
+use Rattle.mv_type_states.proofs.Common.{◌≡◌, Some, refl, reverse, MatchOption-at_some, err_from_is_err_and, FunctionDefinition, result_tokens}
 use Rattle.mv_type_states.proofs.ReturnLemmas.{of_return-results}
 use Rattle.mv_type_states.proofs.Stacks.{alone-refused, alone-left, full_stack}
 use Rattle.mv_type_states.proofs.scope.Scope.ret.Goals as goal

@@ -1,6 +1,4 @@
-use Rattle.std.proofs.Common.{◌≡◌, ◌+◌, ◌++◌, ◌∷◌, [], length, reverse, ap, ◌∙◌, length-append, arith}
-use Rattle.mv_move_types.specs.declared.token.Token.{Token}
-use Rattle.mv_type_states.specs.Stacks.{types_of_each}
+use Rattle.mv_type_states.proofs.Common.{[], ◌++◌, ◌+◌, ◌∙◌, ◌∷◌, ◌≡◌, ap, arith, length, length-append, reverse, Token, types_of_each}
 use Rattle.mv_type_states.proofs.PartLemmas.{types_of_each-add}
 use Rattle.mv_type_states.proofs.stack_types.StackTypes.add.Goals as goal
 

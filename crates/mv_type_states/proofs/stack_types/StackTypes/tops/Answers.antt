@@ -1,4 +1,4 @@
-use Rattle.std.proofs.Common.{ap, ◌++◌, ◌∷◌, [], ◌∙◌}
+use Rattle.mv_type_states.proofs.Common.{[], ◌++◌, ◌∙◌, ◌∷◌, ap}
 use Rattle.mv_type_states.proofs.TopLemmas.{tops_of-push}
 use Rattle.mv_type_states.proofs.stack_types.StackTypes.tops.Goals as goal
 

@@ -1,5 +1,4 @@
-use Rattle.std.proofs.Common.{◌≡◌, take}
-use Rattle.mv_type_states.specs.Tops.{tops_of}
+use Rattle.mv_type_states.proofs.Common.{◌≡◌, take, tops_of}
 use Rattle.mv_type_states.proofs.stack_types.StackTypes.tops.Given as goal
 
 -- the topmost types of the stacks so far

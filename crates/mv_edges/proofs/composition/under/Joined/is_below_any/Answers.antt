@@ -1,4 +1,4 @@
-use Rattle.std.proofs.Common.{take, sym, ◌∙◌, arith}
+use Rattle.mv_edges.proofs.Common.{◌∙◌, arith, sym, take}
 use Rattle.mv_edges.proofs.Ranges.{passed_before, none_from, passed_more, behind_more}
 use Rattle.mv_edges.proofs.composition.under.Joined.is_below_any.Goals as goal
 

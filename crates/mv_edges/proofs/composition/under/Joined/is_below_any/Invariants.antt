@@ -1,7 +1,4 @@
-use Rattle.std.proofs.Common.{◌≡◌, ◌-◌, ◌≤◌, true, false, not, length, take, drop}
-use Rattle.std.specs.List.{list_all, list_any}
-use Rattle.mv_edges.specs.Edges.{here, an_edge, edge_leq}
-use Rattle.mv_edges.specs.Ascending.{list_before, nodes_code}
+use Rattle.mv_edges.proofs.Common.{◌-◌, ◌≡◌, ◌≤◌, drop, false, length, not, take, true, list_all, list_any, list_before, nodes_code, an_edge, edge_leq, here}
 use Rattle.mv_edges.proofs.composition.under.Joined.is_below_any.Given as goal
 
 abbrev pub invariant-loop-place : goal.invariant-loop-place

@@ -1,5 +1,5 @@
-use Rattle.mv_ledger.proofs.Common.{ℕ, ◌+◌, ◌∙◌, ◌≡◌, ◌≤◌, List, ap, ap₂, length, subst, sym, slice_set, Definition, capped, count_at, row_at, with_count}
-use Rattle.mv_ledger.proofs.Loads.Counted.{rows_in, rows-put, rows-past}
+use Rattle.mv_ledger.proofs.Common.{◌+◌, ◌∙◌, ◌≡◌, ◌≤◌, List, ap, ap₂, length, subst, sym, ℕ, slice_set, Definition, capped, count_at, row_at, with_count}
+use Rattle.mv_ledger.proofs.Loads.CountedStructs.{rows_in, rows-put, rows-past}
 use Rattle.mv_ledger.proofs.loading.counts.Counts.add.Goals as goal
 use Rattle.mv_ledger.proofs.loading.counts.Counts.add.Goals.{in-Some, in_default}
 

@@ -1,5 +1,5 @@
-use Rattle.std.proofs.Common.{arith, rules}
-use Rattle.mv_ledger.proofs.Loads.Counted.{rows-more}
+use Rattle.mv_ledger.proofs.Common.{arith, rules}
+use Rattle.mv_ledger.proofs.Loads.CountedStructs.{rows-more}
 use Rattle.mv_ledger.proofs.loading.counts.Counts.new.Goals as goal
 
 pub each-preserved : goal.each-preserved

@@ -1,5 +1,4 @@
-use Rattle.std.proofs.Common.{◌≡◌, map, take}
-use Rattle.mv_ledger.specs.Parts.CountRows.{no_counts}
+use Rattle.mv_ledger.proofs.Common.{◌≡◌, map, take, no_counts}
 use Rattle.mv_ledger.proofs.loading.counts.Counts.new.Given as goal
 
 abbrev pub invariant-each : goal.invariant-each

@@ -45,8 +45,7 @@ returns-clause-joined c = λ before offers joined passed.
     all-behind store ps tallies c.in_ok-placed.placed.items at c.len.result c.deref-2.result.now c.len.ensures.count c.deref-2.ensures.value c.in_ok-linked.ensures.joins
     (sym c.are_behind.ensures ∙ c.if-not-are_behind.false) in
     more-joined before offers store ps tallies c.args.self.now.counters joined passed c.in_ok-placed.placed.items at c.in_ok-placed.ensures.theirs c.in_ok-linked.ensures.joins whole last
-    c.join.new.store c.join.new.self c.placed.new.counters
-    (c.in_ok-join.ensures.ok ∙ ap (with_modules store) c.in_ok-linked.ensures.ok) c.in_ok-join.ensures.tallied c.in_ok-placed.ensures.counts
+    c.join.new.store c.join.new.self c.placed.new.counters (c.in_ok-join.ensures.ok ∙ ap (with_modules store) c.in_ok-linked.ensures.ok) c.in_ok-join.ensures.tallied c.in_ok-placed.ensures.counts
     (subst (AreCountable c.placed.new.counters) (sym c.in_ok-join.ensures.tallied)
     (with-placed-countable c.placed.new.counters tallies c.in_ok-placed.placed.items
     (all-countable-kept c.args.self.now.counters c.placed.new.counters tallies c.in_ok-placed.ensures.kept joined.countable) c.in_ok-placed.ensures.countable))

@@ -1,5 +1,4 @@
-use Rattle.mv_ledger.proofs.Common.{◌++◌, List, arith, subst, sym, take, Offer, AreTexts, HasItsTexts, offers_of, AreNotJoined, IsRefusedAmong}
-use Rattle.std.proofs.lemmas.List.Elements.{All-take}
+use Rattle.mv_ledger.proofs.Common.{◌++◌, List, arith, subst, sym, take, All-take, Offer, AreTexts, HasItsTexts, offers_of, AreNotJoined, IsRefusedAmong}
 use Rattle.mv_ledger.proofs.Loads.LoadedModules.{group-not-passed, group-count, group-within, group-passed, group-long, first-offers}
 use Rattle.mv_ledger.proofs.loading.modules.Joined.join_group.Goals as goal
 
