@@ -13,3 +13,4 @@ pub mod Back
 pub mod Ordered
 pub mod Fitting
 pub mod Takings
+pub mod Held

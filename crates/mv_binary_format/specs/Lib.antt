@@ -5,3 +5,4 @@ pub mod Outcomes
 pub mod Tables
 pub mod Laws
 pub mod Written
+pub mod Held

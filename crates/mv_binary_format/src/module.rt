@@ -1,11 +1,12 @@
 // A module as its tables.
-ghost use Rattle.std.specs.Prelude.{◌≡◌, ◌≤◌, length, slice_get, option_map, Some, IsTrue, nat_le};
+ghost use Rattle.std.specs.Prelude.{◌≡◌, ◌≤◌, length, slice_get, option_map, Some, IsTrue, IfOk, IfErr, nat_le};
 ghost use Rattle.std.specs.List.{list_all};
 ghost use Rattle.mv_move_types.specs.Versions.{version_number};
 ghost use Rattle.mv_move_types.specs.Module.{Module as Tables};
 ghost use Rattle.mv_binary_format.specs.ModuleText.{HasText};
 ghost use Rattle.mv_binary_format.specs.Parsing.{module_from};
 ghost use Rattle.mv_binary_format.specs.Tables.{tables_of};
+ghost use Rattle.mv_binary_format.specs.Held.{tables_of_parts};
 ghost use Rattle.mv_binary_format.specs.Outcomes.{Decides};
 ghost use Rattle.mv_module_text.specs.Fits.{signature_fits, struct_definition_fits, function_definition_fits};
 
@@ -23,10 +24,9 @@ use std::marker::Model;
 // The most functions that a module defines.
 const MOST_FUNCTIONS: usize = 256;
 
-/// A module that `decode` returned. Names and the bytes of constants are slices of its bytes; its model is the record of
-/// its tables, each part of which has a text.
+// What a module has.
 #[derive(Drop)]
-pub struct Module<'a> {
+pub(crate) struct Parts<'a> {
     version: Version,
     module_handles: Vec<ModuleHandle>,
     struct_handles: Vec<StructHandle>,
@@ -41,32 +41,39 @@ pub struct Module<'a> {
     own: u16,
 }
 
+/// A module that `decode` returned. Names and the bytes of constants are slices of its bytes; its model is the record of
+/// its tables, each part of which has a text. Its parts lie in memory of their own, so that it is handed from phase to phase
+/// without them: the one element of a vector, since a box isn't shortened to another lifetime.
+#[derive(Drop)]
+pub struct Module<'a> {
+    parts: Vec<Parts<'a>>,
+}
+
 impl<'a> Model for Module<'a> {
-    ghost use Rattle.mv_move_types.specs.Versions.{version_number};
+    ghost use Rattle.std.specs.Prelude.{◌≡◌, length};
     ghost use Rattle.mv_move_types.specs.Module.{Module as Tables};
     ghost use Rattle.mv_binary_format.specs.ModuleText.{HasText};
+    ghost use Rattle.mv_binary_format.specs.Held.{tables_held};
 
     ghost Value = { Tables };
 
-    ghost view = { λ m. record {
-      version = version_number m.version;
-      module_handles = m.module_handles.items;
-      struct_handles = m.struct_handles.items;
-      function_handles = m.function_handles.items;
-      signatures = m.signatures.items;
-      constants = m.constants.items;
-      identifiers = m.identifiers.items;
-      addresses = m.addresses.items;
-      structs = m.structs.items;
-      functions = m.functions.items;
-      field_handles = m.field_handles.items;
-      own = m.own;
-    } };
+    ghost view = { λ m. tables_held m.parts.items };
 
-    ghost invariant = { λ m. HasText (view m) };
+    ghost invariant = { λ m. length m.parts.items ≡ 1 × HasText (view m) };
 }
 
 impl<'a> Module<'a> {
+    // The module with these parts.
+    fn of(alloc: Global, all: Parts<'a>) -> Result<Self, Refusal>
+        requires { HasText (tables_of_parts all) }
+        ensures ok { IfOk result (λ m. m ≡ tables_of_parts all.entry) }
+        ensures errors { IfErr result (λ e. e ≡ Refusal.Memory) }
+    {
+        let mut parts = Vec::with_capacity(alloc, 1)?;
+        parts.push(all).map_err(|_| Refusal::Memory)?;
+        Ok(Module { parts })
+    }
+
     // Reads the entries of its tables, of which no kind stands twice. The module that they spell has to have a text.
     #[tactic(auto, unfolding(crate::specs::Parsing::module_from))]
     pub(crate) fn read(
@@ -97,55 +104,66 @@ impl<'a> Module<'a> {
         if !tables.is_empty() || functions.len() > MOST_FUNCTIONS {
             return Err(Refusal::Phase(2));
         }
-        Ok(Module {
-            version,
-            module_handles,
-            struct_handles,
-            function_handles,
-            signatures,
-            constants,
-            identifiers,
-            addresses,
-            structs,
-            functions,
-            field_handles,
-            own,
-        })
+        Module::of(
+            alloc,
+            Parts {
+                version,
+                module_handles,
+                struct_handles,
+                function_handles,
+                signatures,
+                constants,
+                identifiers,
+                addresses,
+                structs,
+                functions,
+                field_handles,
+                own,
+            },
+        )
+    }
+
+    // What it has.
+    fn parts(&self) -> &Parts<'a>
+        ensures value { tables_of_parts result.now ≡ self.now }
+        ensures text { HasText self.now }
+    {
+        &self.parts[0]
     }
 
     /// Its version.
     pub fn version(&self) -> Version
         ensures { version_number result ≡ self.now.version }
     {
-        self.version
+        self.parts().version
     }
 
     /// The modules that it names, itself among them.
     pub fn module_handles(&self) -> &[ModuleHandle]
         ensures { result.now ≡ self.now.module_handles }
     {
-        &self.module_handles
+        &self.parts().module_handles
     }
 
     /// The structs that it names.
     pub fn struct_handles(&self) -> &[StructHandle]
         ensures { result.now ≡ self.now.struct_handles }
     {
-        &self.struct_handles
+        &self.parts().struct_handles
     }
 
     /// The functions that it names.
     pub fn function_handles(&self) -> &[FunctionHandle]
         ensures { result.now ≡ self.now.function_handles }
     {
-        &self.function_handles
+        &self.parts().function_handles
     }
 
     /// How many signatures it has.
     pub fn signature_count(&self) -> usize
         ensures { result ≡ length self.now.signatures }
     {
-        self.signatures.len()
+        self.parts().signatures.len()
     }
 
     /// The types of a signature, if it is there.
@@ -153,49 +171,49 @@ impl<'a> Module<'a> {
         ensures value { option_map (λ s. s.now) result ≡ slice_get self.now.signatures index }
         ensures fits { IsTrue (list_all (signature_fits self.now.version) self.now.signatures) }
     {
-        self.signatures.get(index).map(|s| s.tokens())
+        self.parts().signatures.get(index).map(|s| s.tokens())
     }
 
     // Its signatures.
     pub(crate) fn signatures(&self) -> &[Signature]
         ensures { result.now ≡ self.now.signatures }
     {
-        &self.signatures
+        &self.parts().signatures
     }
 
     // Its identifiers.
     pub(crate) fn identifiers(&self) -> &[Identifier<'a>]
         ensures { result.now ≡ self.now.identifiers }
     {
-        &self.identifiers
+        &self.parts().identifiers
     }
 
     /// Its constants.
     pub fn constants(&self) -> &[Constant<'a>]
         ensures { result.now ≡ self.now.constants }
     {
-        &self.constants
+        &self.parts().constants
     }
 
     /// How many identifiers it has.
     pub fn identifier_count(&self) -> usize
         ensures { result ≡ length self.now.identifiers }
     {
-        self.identifiers.len()
+        self.parts().identifiers.len()
     }
 
     /// An identifier, if it is there.
     pub fn identifier(&self, index: usize) -> Option<&'a [u8]>
         ensures { option_map (λ name. name.now) result ≡ slice_get self.now.identifiers index }
     {
-        self.identifiers.get(index).map(|i| i.name())
+        self.parts().identifiers.get(index).map(|i| i.name())
     }
 
     /// The addresses that it names, each as the number that its 16 bytes are, big-endian.
     pub fn addresses(&self) -> &[u128]
         ensures { result.now ≡ self.now.addresses }
     {
-        &self.addresses
+        &self.parts().addresses
     }
 
     /// The structs that it defines, at most 65,536.
@@ -204,7 +222,7 @@ impl<'a> Module<'a> {
         ensures fits { IsTrue (list_all (struct_definition_fits self.now.version) self.now.structs) }
         ensures few { length self.now.structs ≤ 65536 }
     {
-        &self.structs
+        &self.parts().structs
     }
 
     /// The functions that it defines, at most 256.
@@ -213,27 +231,27 @@ impl<'a> Module<'a> {
         ensures fits { IsTrue (list_all (function_definition_fits self.now.version) self.now.functions) }
         ensures few { IsTrue (nat_le (length self.now.functions) 256) }
     {
-        &self.functions
+        &self.parts().functions
     }
 
     /// The fields that its code names.
     pub fn field_handles(&self) -> &[FieldHandle]
         ensures { result.now ≡ self.now.field_handles }
     {
-        &self.field_handles
+        &self.parts().field_handles
     }
 
     /// Each of its parts has a text, and so the whole module has one.
     pub fn has_text(&self)
         ensures { HasText self.now }
     {
-        let _own = &self.own;
+        let _parts = self.parts();
     }
 
     /// The index of its own module handle.
     pub fn own(&self) -> u16
         ensures { result ≡ self.now.own }
     {
-        self.own
+        self.parts().own
     }
 }

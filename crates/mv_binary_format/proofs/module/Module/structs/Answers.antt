@@ -1,6 +1,5 @@
-use Rattle.mv_binary_format.proofs.Common.{subst, HasText}
 use Rattle.mv_binary_format.proofs.Fitting.{few_structs}
 use Rattle.mv_binary_format.proofs.module.Module.structs.Goals as goal
 
 pub returns-clause-few : goal.returns-clause-few
-returns-clause-few c = few_structs c.args.self.now (subst HasText c.self.view_is c.self.invariant)
+returns-clause-few c = few_structs c.args.self.now c.parts.ensures.text
