@@ -6,6 +6,7 @@
 --   Resolving      `struct-of-all`, `function-of-all`: what a handle names, in the module that its module handle leads to
 --   Empty          `store_of_nothing`: no modules are a store
 --   Bundled        `bundle-at`, `old-at`: where the modules of a bundle stand once it joins
+--   Replaced       `replaced-low`, `replaced-none`: the place that a module of a bundle takes tells what it replaces
 --   Compatible     `follow-compatible`, `compatible-follow`: what a bundle replaces, module by module
 --   Upgraded       `struct-stays`, `declared-stays`: what old modules name stays there
 --   StillThere     `structs-still-there`, `function-still-there`: handles of a module that stays lead where they led
@@ -17,6 +18,7 @@ pub mod Scopes
 pub mod Resolving
 pub mod Empty
 pub mod Bundled
+pub mod Replaced
 pub mod Compatible
 pub mod Upgraded
 pub mod StillThere

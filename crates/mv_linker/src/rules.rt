@@ -13,7 +13,6 @@ use crate::entry::Entry;
 use crate::indexed::put_name;
 use crate::scope::Scope;
 use crate::store_rules::Changes;
-use crate::upgrades::all_follow;
 use crate::{New, Store};
 use indexmap::IndexMap;
 use mv_move_types::Refusal;
@@ -42,10 +41,10 @@ pub fn may_join(
     if !differ {
         return Err(Refusal::Phase(13));
     }
-    if !all_follow(s, new)? {
+    let scope = Scope::of(alloc, s, new)?;
+    if !scope.all_follow()? {
         return Err(Refusal::Phase(13));
     }
-    let scope = Scope::of(alloc, s, new)?;
     scope.links(alloc)
 }
 

@@ -1,19 +1,20 @@
 // Rule h of linking: what a module has to keep of the one that it replaces.
-ghost use Rattle.std.specs.Prelude.{◌≡◌, slice_get, IfOk};
+ghost use Rattle.std.specs.Prelude.{◌≡◌, ◌<◌, length, slice_get, Some, IfOk};
 ghost use Rattle.std.specs.List.{list_all};
 ghost use Rattle.std.specs.Str.{bytes_eq};
 ghost use Rattle.mv_move_types.specs.AbilitySets.{same_abilities};
-ghost use Rattle.mv_move_types.specs.Module.{struct_abilities, name_of_struct};
+ghost use Rattle.mv_move_types.specs.Module.{Module as Tables, struct_abilities, name_of_struct};
 ghost use Rattle.mv_linker.specs.TypesByName.{both_there};
 ghost use Rattle.mv_linker.specs.Link.{tables_in, replaced_in, follows, all_follow as each_follows};
 ghost use Rattle.mv_linker.specs.Scope.{offered};
 ghost use Rattle.mv_linker.specs.Upgrades.{same_field as is_one_field, same_fields as are_one, same_struct_definition as is_one_definition};
 ghost use Rattle.mv_linker.specs.Upgrades.{structs_stay as all_stay, function_stays as this_stays, have_one_type, may_replace as may_stand_for};
 
+use crate::Store;
 use crate::handles::{function_handle, is_public};
-use crate::names::{function_name, function_place, name_of, struct_name};
+use crate::names::{function_name, function_place, struct_name};
+use crate::scope::Scope;
 use crate::types::{are_same, same_signature, same_token};
-use crate::{New, Store};
 use mv_binary_format::{FunctionDefinition, Module, StructDefinition};
 use mv_move_types::{Abilities, Field};
 use std::alloc::AllocError;
@@ -179,19 +180,12 @@ fn may_replace(m: &Module<'_>, n: &Module<'_>) -> bool
     structs_stay(m, m.structs(), n, n.structs()) && functions_stay(m, n)
 }
 
-/// The place of the published module that a module has the name of.
-fn replaced(s: &Store, n: &Module<'_>) -> Option<usize>
-    ensures { result ≡ replaced_in (tables_in s.now) n.now }
-{
-    let (address, name) = name_of(n)?;
-    s.find(address, name)
-}
-
-/// Whether a module replaces nothing in a store, or what it may replace.
-fn may_follow(s: &Store, n: &Module<'_>) -> Result<bool, AllocError>
+/// Whether a module may stand where it is to: in the place of a module that it may replace, or of none.
+fn may_follow(s: &Store, replaced: Option<usize>, n: &Module<'_>) -> Result<bool, AllocError>
+    requires { replaced ≡ replaced_in (tables_in s.now) n.now }
     ensures { IfOk result (λ b. b ≡ follows (tables_in s.now) n.now) }
 {
-    match replaced(s, n) {
+    match replaced {
         Some(place) => {
             let old = s.module(place)?;
             Ok(may_replace(&old, n))
@@ -200,17 +194,30 @@ fn may_follow(s: &Store, n: &Module<'_>) -> Result<bool, AllocError>
     }
 }
 
-/// Whether each module of a bundle replaces nothing in a store, or what it may replace.
-pub fn all_follow(s: &Store, new: &[New<'_>]) -> Result<bool, AllocError>
-    ensures { IfOk result (λ b. b ≡ each_follows (tables_in s.now) (offered new.now)) }
-{
-    match new {
-        [] => Ok(true),
-        [n, others @ ..] => {
-            if !may_follow(s, n.module.module())? {
+impl<'a> Scope<'a> {
+    /// The place of the published module whose place one of the bundle takes, if it takes one's.
+    fn replaced(&self, k: usize) -> Option<usize>
+        requires { k < length self.now.new.now }
+        ensures { (n : Tables) → slice_get (offered self.now.new.now) k ≡ Some n → result ≡ replaced_in (tables_in self.now.store.now) n }
+    {
+        let place = self.places[k];
+        if place < self.store.len() {
+            Some(place)
+        } else {
+            None
+        }
+    }
+
+    /// Whether each module of the bundle replaces nothing in the store, or what it may replace.
+    pub fn all_follow(&self) -> Result<bool, AllocError>
+        ensures { IfOk result (λ b. b ≡ each_follows (tables_in self.now.store.now) (offered self.now.new.now)) }
+    {
+        'each: for k in 0..self.new.len() {
+            let n = self.new[k].module.module();
+            if !may_follow(self.store, self.replaced(k), n)? {
                 return Ok(false);
             }
-            all_follow(s, others)
         }
+        Ok(true)
     }
 }

@@ -31,7 +31,7 @@ found_step : (same new first : Bool) (p q r : Option ℕ) (k : ℕ) → (same �
 found_step same new first p q r k agree clash e = grind arith
 
 -- one more module is found at its place, and the others where they were
-find-with_table : (ms : List Module) (n : Module) (own : ModuleName) (name : ModuleName) → own_name n ≡ Some own
+pub find-with_table : (ms : List Module) (n : Module) (own : ModuleName) (name : ModuleName) → own_name n ≡ Some own
     → module_place (with_table ms n) name ≡ cond (is_module name n) (Some (place_for ms n)) (module_place ms name)
 find-with_table [] n own name named = refl
 find-with_table (m ∷ ms) n own name named =
@@ -50,7 +50,7 @@ find-with_table (m ∷ ms) n own name named =
     clash h p q = let one : have_one_name n m ≡ true = have_one_name-from n m name (is_module-is name n p) (is_module-is name m q) in cc
 
 -- a name that is there
-there : (o : Option ModuleName) → is_some o ≡ true → (own : ModuleName) × (o ≡ Some own)
+pub there : (o : Option ModuleName) → is_some o ≡ true → (own : ModuleName) × (o ≡ Some own)
 there None e = absurd cc
 there (Some own) e = (own, refl)
 

@@ -29,7 +29,7 @@ returns-then-not-branch-clause-refused c = (
   λ j.
       let yes : all_follow (tables_in c.args.s.now) (offered c.args.new.now) ≡ true =
       subst (λ (l : List Module). all_follow (tables_in c.args.s.now) l ≡ true) (offered-tables c.args.new.now) (compatible-follow (tables_in c.args.s.now) (tables_in (published_of c.args.new.now)) j.compatible) in
-      let is : c.in_ok-all_follow.field-0 ≡ all_follow (tables_in c.args.s.now) (offered c.args.new.now) = c.in_ok-all_follow.ensures in
+      let is : c.in_ok-all_follow.field-0 ≡ all_follow (tables_in c.args.s.now) (offered c.args.new.now) = rw (c.in_ok-scope.ensures.store, c.in_ok-scope.ensures.new) at c.in_ok-all_follow.ensures in
       let no : c.in_ok-all_follow.field-0 ≡ false = c.if-not-branch.true in
       cc,
 )
@@ -57,7 +57,8 @@ of-requires-clause-once c =
 
 pub links-requires-clause-fits : goal.links-requires-clause-fits
 links-requires-clause-fits c =
-    let follow : all_follow (tables_in c.args.s.now) (offered c.args.new.now) ≡ true = sym c.in_ok-all_follow.ensures ∙ c.if-not-branch.false in
+    let follow : all_follow (tables_in c.args.s.now) (offered c.args.new.now) ≡ true =
+    sym (rw (c.in_ok-scope.ensures.store, c.in_ok-scope.ensures.new) at c.in_ok-all_follow.ensures) ∙ c.if-not-branch.false in
     let fits = follow-compatible (tables_in c.args.s.now) (offered c.args.new.now) c.in_ok-scope.ensures.sound.once follow in
     record {
       store = rw c.in_ok-scope.ensures.store c.in_ok-scope.ensures.sound;
@@ -70,7 +71,8 @@ links-requires-clause-fits c =
 pub returns-clause-ok : goal.returns-clause-ok
 returns-clause-ok c =
     on_ok _ _ _ (λ (links : Links (with_tables (tables_in c.in_ok-scope.scope.store.now) (offered c.in_ok-scope.scope.new.now))).
-    let follow : all_follow (tables_in c.args.s.now) (offered c.args.new.now) ≡ true = sym c.in_ok-all_follow.ensures ∙ c.if-not-branch.false in
+    let follow : all_follow (tables_in c.args.s.now) (offered c.args.new.now) ≡ true =
+    sym (rw (c.in_ok-scope.ensures.store, c.in_ok-scope.ensures.new) at c.in_ok-all_follow.ensures) ∙ c.if-not-branch.false in
     record {
       sent = subst (λ (l : List PublishedModule). AreSentBy c.args.sender (tables_in l)) c.requires.same (c.are_sent_by.ensures.0 c.if-not-are_sent_by.false);
       once = sym (ap (λ (l : List PublishedModule). all_differ have_one_name (tables_in l)) c.requires.same) ∙ sym c.in_ok-differ.ensures ∙ c.if-not-differ.false;
