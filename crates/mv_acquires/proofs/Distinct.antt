@@ -1,12 +1,11 @@
 -- No number stands twice, from the last number to the first.
-use Rattle.std.proofs.Common.{◌≡◌, ℕ, zero, suc, ◌+◌, ◌<◌, ◌==◌, Bool, true, false, not, ◌&&◌, ◌||◌, List, [], ◌∷◌, length, get_or, drop, refl, sym, ap, ◌∙◌, arith}
+use Rattle.std.proofs.Common.{◌≡◌, ℕ, zero, suc, ◌+◌, ◌<◌, ◌==◌, true, false, not, ◌&&◌, List, [], ◌∷◌, length, get_or, drop, refl, sym, ap, ◌∙◌, arith}
 use Rattle.std.specs.List.{list_any}
 use Rattle.std.proofs.Math.Seq.{drop-cons}
 use Rattle.std.proofs.lemmas.Bool.{and_parts, false_from_ne_true, both_ways}
 use Rattle.std.proofs.lemmas.Bool.Decides.{same_from_decides, Decides-eqb}
 use Rattle.mv_bounds.specs.Definitions.{all_differ}
 use Rattle.mv_acquires.specs.Acquires.{has_member}
-use Rattle.mv_acquires.specs.Marks.{is_marked}
 
 turned : (a b : ℕ) → (a == b) ≡ (b == a)
 turned a b = same_from_decides (a == b) (b == a) (Decides-eqb a b) ((λ e. sym ((Decides-eqb b a).0 e)), (λ e. (Decides-eqb b a).1 (sym e)))
@@ -15,33 +14,9 @@ any-turned : (x : ℕ) (xs : List ℕ) → list_any (λ z. x == z) xs ≡ has_me
 any-turned x [] = refl
 any-turned x (z ∷ zs) = rw (turned x z, any-turned x zs) refl
 
-or-turned : (a b : Bool) → (a || b) ≡ (b || a)
-or-turned true true = refl
-or-turned true false = refl
-or-turned false true = refl
-or-turned false false = refl
-
 -- the numbers from one on are it and those after it
 from-one : (xs : List ℕ) (i left : ℕ) → left ≡ i + 1 → i < length xs → drop i xs ≡ get_or xs i 0 ∷ drop left xs
 from-one xs i left e within = let next : left ≡ suc i = omega (arith, e) in rw next (drop-cons xs i 0 within)
-
--- one more that differs from those after it
-pub differ-more : (xs : List ℕ) (i left : ℕ) → left ≡ i + 1 → i < length xs → all_differ ◌==◌ (drop left xs) ≡ true
-    → has_member (drop left xs) (get_or xs i 0) ≡ false → all_differ ◌==◌ (drop i xs) ≡ true
-differ-more xs i left e within before new =
-    ap (all_differ ◌==◌) (from-one xs i left e within)
-    ∙ ap (λ b. not b && all_differ ◌==◌ (drop left xs)) (any-turned (get_or xs i 0) (drop left xs) ∙ new)
-    ∙ before
-
--- the numbers so far, with one more
-pub members-more : (old new : List Bool) (xs : List ℕ) (i left : ℕ) → left ≡ i + 1 → i < length xs
-    → ((y : ℕ) → is_marked old y ≡ has_member (drop left xs) y)
-    → ((y : ℕ) → is_marked new y ≡ (is_marked old y || get_or xs i 0 == y))
-    → (y : ℕ) → is_marked new y ≡ has_member (drop i xs) y
-members-more old new xs i left e within before step y =
-    step y ∙ ap (λ b. b || get_or xs i 0 == y) (before y)
-    ∙ or-turned (has_member (drop left xs) y) (get_or xs i 0 == y)
-    ∙ sym (ap (λ zs. has_member zs y) (from-one xs i left e within))
 
 differ-dropped : (xs : List ℕ) (i : ℕ) → all_differ ◌==◌ xs ≡ true → all_differ ◌==◌ (drop i xs) ≡ true
 differ-dropped xs zero all = all

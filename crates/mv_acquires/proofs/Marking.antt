@@ -1,13 +1,9 @@
 -- What is marked, from what was.
-use Rattle.std.proofs.Common.{◌≡◌, ℕ, zero, suc, ◌+◌, ◌<◌, ◌==◌, Bool, true, false, ◌||◌, List, [], ◌∷◌, ◌++◌, flat_map, length, get_or, set, take, replicate, refl, sym, ap, inl, inr, ◌∙◌, arith}
+use Rattle.std.proofs.Common.{◌≡◌, ℕ, zero, suc, ◌<◌, ◌==◌, Bool, true, false, ◌||◌, List, [], ◌∷◌, ◌++◌, length, set, replicate, refl, sym, ap, inl, inr, ◌∙◌, arith}
 use Rattle.std.specs.List.{list_all}
-use Rattle.std.proofs.lemmas.List.{take_more}
-use Rattle.std.proofs.lemmas.List.Folds.{list_any-append, list_any_more}
-use Rattle.std.proofs.lemmas.Grind.{flat_map-append}
 use Rattle.std.proofs.Math.Dec.{eqb-zero-suc, eqb-suc-zero, eqb-suc-suc}
 use Rattle.mv_acquires.specs.Acquires.{has_member, same_members}
-use Rattle.mv_acquires.specs.Marks.{is_marked, IsWithin, AreFollowed}
-use Rattle.mv_move_types.specs.Module.{Module, own_acquires}
+use Rattle.mv_acquires.specs.Marks.{is_marked, IsWithin}
 use Rattle.std.specs.Bool.{Decides}
 use Rattle.std.proofs.lemmas.Bool.{false≢true, eqb-true, eq-eqb, and_parts, and_from, or_cases, or_left, or_right}
 use Rattle.std.proofs.lemmas.Bool.Decides.{same_from_decides}
@@ -19,10 +15,6 @@ or_true false = refl
 pub or_false : (b : Bool) → (b || false) ≡ b
 or_false true = refl
 or_false false = refl
-
-or_assoc : (a b c : Bool) → ((a || b) || c) ≡ (a || (b || c))
-or_assoc true b c = refl
-or_assoc false b c = refl
 
 none_marked : (k y : ℕ) → is_marked (replicate k false) y ≡ false
 none_marked zero y = refl
@@ -42,30 +34,6 @@ marked-set (b ∷ bs) zero zero h = sym (or_true b)
 marked-set (b ∷ bs) zero (suc y) h = sym (ap (λ e. is_marked bs y || e) (eqb-zero-suc y) ∙ or_false (is_marked bs y))
 marked-set (b ∷ bs) (suc x) zero h = sym (ap (λ e. b || e) (eqb-suc-zero x) ∙ or_false b)
 marked-set (b ∷ bs) (suc x) (suc y) h = marked-set bs x y (omega arith) ∙ sym (ap (λ e. is_marked bs y || e) (eqb-suc-suc x y))
-
--- one number more is marked
-pub marked-more : (old at new : List Bool) (xs : List ℕ) (i : ℕ) → i < length xs
-    → ((y : ℕ) → is_marked at y ≡ (is_marked old y || has_member (take i xs) y))
-    → ((y : ℕ) → is_marked new y ≡ (is_marked at y || get_or xs i 0 == y))
-    → (y : ℕ) → is_marked new y ≡ (is_marked old y || has_member (take (i + 1) xs) y)
-marked-more old at new xs i within before step y =
-    step y ∙ ap (λ b. b || get_or xs i 0 == y) (before y)
-    ∙ or_assoc (is_marked old y) (has_member (take i xs) y) (get_or xs i 0 == y)
-    ∙ ap (λ b. is_marked old y || b) (sym (list_any_more (λ n. n == y) xs i 0 within))
-
-append-nil : (xs : List ℕ) → xs ++ [] ≡ xs
-append-nil [] = refl
-append-nil (x ∷ xs) = ap (λ zs. x ∷ zs) (append-nil xs)
-
--- what one element more has is marked
-pub marked-joined : {A : Type 0} (f : A → List ℕ) (at new : List Bool) (xs : List A) (i : ℕ) (d : A) → i < length xs
-    → ((y : ℕ) → is_marked at y ≡ has_member (flat_map f (take i xs)) y)
-    → ((y : ℕ) → is_marked new y ≡ (is_marked at y || has_member (f (get_or xs i d)) y))
-    → (y : ℕ) → is_marked new y ≡ has_member (flat_map f (take (i + 1) xs)) y
-marked-joined f at new xs i d within before step y =
-    step y ∙ ap (λ b. b || has_member (f (get_or xs i d)) y) (before y)
-    ∙ sym (list_any-append (λ n. n == y) (flat_map f (take i xs)) (f (get_or xs i d)))
-    ∙ sym (ap (λ zs. has_member zs y) (ap (flat_map f) (take_more xs i d within) ∙ flat_map-append f (take i xs) (get_or xs i d ∷ []) ∙ ap (λ zs. flat_map f (take i xs) ++ zs) (append-nil (f (get_or xs i d)))))
 
 all_members : (p : ℕ → Bool) (xs : List ℕ) → ((y : ℕ) → has_member xs y ≡ true → p y ≡ true) → list_all p xs ≡ true
 all_members p [] h = refl
@@ -92,31 +60,3 @@ same_marks marks others xs ys r decides first second =
           (all_members (has_member ys) xs (λ y is. sym (second y) ∙ within.0 y (first y ∙ is)))
           (all_members (has_member xs) ys (λ y is. sym (first y) ∙ within.1 y (second y ∙ is)))),
     )
-
--- a mark more, of whichever kind, takes none away
-pub followed-kept : (m : Module) (called marks new : List Bool) (more : ℕ → Bool) → AreFollowed m called marks
-    → ((y : ℕ) → is_marked new y ≡ (is_marked marks y || more y)) → AreFollowed m called new
-followed-kept m called marks new more followed step h y is has = step y ∙ or_left (is_marked marks y) (more y) (followed h y is has)
-
--- a handle more, with what its list has
-pub followed-more : (m : Module) (called also marks new : List Bool) (handle : ℕ) → AreFollowed m called marks
-    → ((h : ℕ) → is_marked also h ≡ (is_marked called h || handle == h))
-    → ((y : ℕ) → is_marked new y ≡ (is_marked marks y || has_member (own_acquires m handle) y)) → AreFollowed m also new
-followed-more m called also marks new handle followed calls step h y is has = elim (or_cases (is_marked called h) (handle == h) (sym (calls h) ∙ is)) [
-  | inl before ↦ step y ∙ or_left (is_marked marks y) (has_member (own_acquires m handle) y) (followed h y before has)
-  | inr now ↦ step y ∙ or_right (is_marked marks y) (has_member (own_acquires m handle) y) (ap (λ z. has_member (own_acquires m z) y) (eqb-true handle h now) ∙ has)
-]
-
-absorbed : (a b : Bool) → (b ≡ true → a ≡ true) → a ≡ (a || b)
-absorbed true b h = refl
-absorbed false true h = h refl
-absorbed false false h = refl
-
--- a handle that is marked as called adds nothing
-pub followed-again : (m : Module) (called marks : List Bool) (handle : ℕ) → AreFollowed m called marks → is_marked called handle ≡ true
-    → (y : ℕ) → is_marked marks y ≡ (is_marked marks y || has_member (own_acquires m handle) y)
-followed-again m called marks handle followed is y = absorbed (is_marked marks y) (has_member (own_acquires m handle) y) (followed handle y is)
-
--- nothing is called yet
-pub none-followed : (m : Module) (marks : List Bool) → AreFollowed m [] marks
-none-followed m marks h y is has = absurd (false≢true is)

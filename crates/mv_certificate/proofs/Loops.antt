@@ -8,7 +8,7 @@ use Rattle.std.specs.Prelude.{if◌then◌else◌}
 use Rattle.std.proofs.lemmas.List.{drop-map}
 use Rattle.std.proofs.lemmas.Bool.{false_from_ne_true}
 use Rattle.mv_module_text.specs.Parsing.{Read}
-use Rattle.mv_module_text.proofs.Entries.{after, ReadsOn-stops, ReadsOn-end}
+use Rattle.mv_module_text.proofs.Entries.{after, after-nil, after-push, ReadsOn-stops, ReadsOn-end}
 use Rattle.mv_edges.specs.Ascending.{edge_before}
 
 -- an entry that can't be read
@@ -119,20 +119,9 @@ edges-end m d n i bytes start items cur e le g h =
 pub record StatedOn (m : Module) (d : FunctionDefinition) (marks : List Bool) (i : ℕ) (start : List ℕ) (items : Stated) (cur : List ℕ) : Type 0 where
   pub goes : stated_from m d marks start ≡ option_map (after items) (stated_from m d (drop i marks) cur)
 
--- nothing before
-after_nothing : {A : Type 0} (o : Read (List A)) → o ≡ option_map (after []) o
-after_nothing None = refl
-after_nothing (Some r) = refl
-
 -- none are read yet
 pub StatedOn-start : (m : Module) (d : FunctionDefinition) (marks : List Bool) (start : List ℕ) → StatedOn m d marks 0 start [] start
-StatedOn-start m d marks start = record { goes = after_nothing (stated_from m d marks start) }
-
--- one before the others
-after_one : {A : Type 0} (items : List A) (x : A) (o : Read (List A))
-    → option_map (after items) (o >>= λ xs. Some (x ∷ xs.0, xs.1)) ≡ option_map (after (items ++ x ∷ [])) o
-after_one items x None = refl
-after_one items x (Some r) = ap (λ z. Some (z, r.1)) (sym (append_assoc items (x ∷ []) r.0))
+StatedOn-start m d marks start = record { goes = after-nil (stated_from m d marks start) }
 
 -- what reading the next gives
 stated-next : (m : Module) (d : FunctionDefinition) (b : Bool) (marks : List Bool) (cur next : List ℕ) (x : Option Known) → block_from m d b cur ≡ Some (x, next)
@@ -153,7 +142,7 @@ pub StatedOn-next : {A : Type 0} (f : A → Bool) (blocks : List A) (b : A) (m :
 StatedOn-next f blocks b m d i start items cur next x lt is e g = record {
   goes = g.goes ∙ ap (λ z. option_map (after items) (stated_from m d z cur)) (marks_at f blocks i b lt is)
       ∙ ap (option_map (after items)) (stated-next m d (f b) (drop (i + 1) (map f blocks)) cur next x e)
-      ∙ after_one items x (stated_from m d (drop (i + 1) (map f blocks)) next);
+      ∙ after-push items x (stated_from m d (drop (i + 1) (map f blocks)) next);
 }
 
 -- nothing is after the end

@@ -2,7 +2,6 @@
 --   Tiles                  each block begins where the one before it ends
 --   blocks-tile            so do the blocks of code
 --   inside-block           before its last instruction a block goes on
---   next-from_inside       control goes on to the next instruction there
 use Rattle.std.proofs.Common.{◌≡◌, ℕ, ◌+◌, ◌-◌, ◌<◌, ◌≤◌, Bool, true, false, cond, ◌||◌, List, [], ◌∷◌, ◌++◌, length, get_or, slice_get, Some}
 use Rattle.std.proofs.Common.{Contains, refl, sym, ap, ◌∙◌, subst, arith, zero, suc, ⊎_elim, ◌≢◌}
 use Rattle.std.proofs.lemmas.Bool.{cases_eq, cases_lt, false_from_ne_true}

@@ -4,17 +4,8 @@ use Rattle.mv_linker.proofs.Common.{booleans_Decides, cond, eq-eqb, eqb-true, fi
 use Rattle.mv_move_types.specs.declared.token.LeafKind.{LeafKind}
 use Rattle.mv_move_types.specs.Tokens.{kind_code, same_kind}
 use Rattle.mv_move_types.specs.declared.token.Width.TheVariants.{U128, U16, U32, U64, U8}
+use Rattle.mv_type_states.proofs.Tokens.{kinds_equal}
 use Rattle.mv_linker.proofs.NameLemmas.{same_struct-is, same_struct-same}
-
--- the kind of a leaf, by its number
-abbrev kind_of : ℕ → LeafKind
-kind_of n = cond (n == 0) Boolean (cond (n == 1) Address (cond (n == 2) Signer (cond (n == 8) (Number U8) (cond (n == 16) (Number U16) (cond (n == 32) (Number U32) (cond (n == 64) (Number U64) (Number U128)))))))
-
-kind_of-code : (k : LeafKind) → kind_of (kind_code k) ≡ k
-kind_of-code k = grind arith
-
-kinds_equal : (j k : LeafKind) → same_kind j k ≡ true → j ≡ k
-kinds_equal j k e = sym (kind_of-code j) ∙ ap kind_of (eqb-true (kind_code j) (kind_code k) e) ∙ kind_of-code k
 
 pub same_tag-is : (a b : Tag) → same_tag a b ≡ true → a ≡ b
 same_tag-is (LeafTag j) (LeafTag k) e = ap LeafTag (kinds_equal j k e)

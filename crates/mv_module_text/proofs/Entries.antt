@@ -19,7 +19,7 @@ pub record ReadsOn {A : Type 0} (each : List ℕ → Read A) (n i : ℕ) (start 
   pub goes : entries_from each n start ≡ option_map (after items) (entries_from each (n - i) cur)
 
 -- nothing before
-after-nil : {A : Type 0} (o : Read (List A)) → o ≡ option_map (after []) o
+pub after-nil : {A : Type 0} (o : Read (List A)) → o ≡ option_map (after []) o
 after-nil None = refl
 after-nil (Some r) = refl
 
@@ -28,7 +28,7 @@ pub ReadsOn-start : {A : Type 0} (each : List ℕ → Read A) (n : ℕ) (start :
 ReadsOn-start each n start = let z : n - 0 ≡ n = omega arith in record { goes = rw z (after-nil (entries_from each n start)) }
 
 -- one before the others
-after-push : {A : Type 0} (items : List A) (x : A) (o : Read (List A))
+pub after-push : {A : Type 0} (items : List A) (x : A) (o : Read (List A))
     → option_map (after items) (o >>= λ xs. Some (x ∷ xs.0, xs.1)) ≡ option_map (after (items ++ x ∷ [])) o
 after-push items x None = refl
 after-push items x (Some r) = ap (λ z. Some (z, r.1)) (sym (append_assoc items (x ∷ []) r.0))

@@ -16,7 +16,7 @@ kind_of-code : (k : LeafKind) → kind_of (kind_code k) ≡ k
 kind_of-code (Number U8) = refl
 kind_of-code k = refl
 
-kinds_equal : (j k : LeafKind) → same_kind j k ≡ true → j ≡ k
+pub kinds_equal : (j k : LeafKind) → same_kind j k ≡ true → j ≡ k
 kinds_equal j k e = sym (kind_of-code j) ∙ ap kind_of (eqb-true (kind_code j) (kind_code k) e) ∙ kind_of-code k
 
 value_types_equal : (a b : ValueType) → same_value_type a b ≡ true → a ≡ b

@@ -1,5 +1,5 @@
 -- What the store says of the functions that a module's handles name.
-use Rattle.mv_interpreter.proofs.Typing.Common.{◌≡◌, ℕ, true, List, [], length, refl, ap, subst, ◌∙◌, ◌++◌, Option, Some, None, Ok, Bool, false, sym, and_from, eq-eqb, or_right}
+use Rattle.mv_interpreter.proofs.Typing.Common.{◌≡◌, ℕ, true, List, length, refl, ap, subst, ◌∙◌, ◌++◌, Option, Some, None, Ok, Bool, false, sym, and_from, eq-eqb, or_right}
 use Rattle.mv_interpreter.proofs.Typing.Common.{option_and_then_some, first_so, second_so, list_all, option_map_or, ◌==◌, ◌&&◌, slice_get, ok_or, ◌||◌, Module, FunctionDefinition}
 use Rattle.mv_interpreter.proofs.Typing.Common.{own_name, module_place, function_place, module_named, ◌>>=◌, Tag, FunctionHandle, Token, Here, Callee, Faults, LinkageFault, entry, below}
 use Rattle.mv_interpreter.proofs.Typing.Common.{function_in, instruction_in, local_count, ends_well, on_bind, function_definition_fits, instruction_fits, each, there_below, then_found}

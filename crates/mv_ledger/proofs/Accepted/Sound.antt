@@ -1,10 +1,9 @@
 -- No run of a sound ledger meets a fault, and each answered record leaves it sound.
 use Rattle.mv_ledger.proofs.Common.{◌≡◌, Err, IsTrue, List, Ok, Option, Result, Some, refl, subst, sym, ℕ, PublishedModule, with_modules, IsReadByText, address_fits, WhereSome, Answers, Audit, Bad}
 use Rattle.mv_ledger.proofs.Common.{BadRun, LedgerState, Offer, Publish, Request, Run, RunRequest, Show, admitted, attempted, empty_ledger, modules_of, settled, with_bundle, with_returned}
-use Rattle.mv_ledger.proofs.Common.{with_run, RanToAbort, RanOut, Published, Refused, Reply, RanToEnd, AtReturn, Aborted, Exhausted, Faulted, FunctionCall, Returned, RunOutcome, run, Event}
+use Rattle.mv_ledger.proofs.Common.{with_run, Published, Refused, Reply, AtReturn, Aborted, Exhausted, Faulted, FunctionCall, Returned, RunOutcome, run, Event}
 use Rattle.mv_ledger.proofs.Common.{Storage, is_fine_storage, IsStore, tables_in, runs_faultless, Ranged, admitted_typed, fine_storage, typed_is_fine, StorageTyped, IsVetted, IsSoundLedger}
 use Rattle.mv_ledger.proofs.Common.{Conserves, IsFineStorage, IsPublished, Spells}
-use Rattle.mv_machine.specs.Lines.{Rejected, Told}
 use Rattle.mv_linker.proofs.Joining.Empty.{no_modules}
 use Rattle.mv_interpreter.specs.Typing.Watched.{Faultless}
 use Rattle.mv_ledger.proofs.Bundles.Heirs.{Inherits, inherited}

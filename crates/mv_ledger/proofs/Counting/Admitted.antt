@@ -1,7 +1,7 @@
 -- A run that is admitted is of an entry function, with leaves.
 use Rattle.mv_ledger.proofs.Common.{[], ◌^◌, ◌∷◌, ◌≡◌, List, Ok, subst, true, first_so, second_so, AllByRecursion, nat_le, nat_lt, slice_get, parameter_tokens, function_place, module_place, Token}
-use Rattle.mv_ledger.proofs.Common.{MutableReferenceTo, Plain, ReferenceTo, OfLeaf, OfStruct, WhereOk, on_some, on_need, LedgerState, RunRequest, are_arguments, is_argument, modules_of}
-use Rattle.mv_ledger.proofs.Common.{with_signer, FunctionCall, Leaf, Ref, Struct, Value, IsEntryCall, IsLeaf}
+use Rattle.mv_ledger.proofs.Common.{Plain, OfLeaf, WhereOk, on_some, on_need, LedgerState, RunRequest, are_arguments, is_argument, modules_of}
+use Rattle.mv_ledger.proofs.Common.{with_signer, FunctionCall, Leaf, Value, IsEntryCall, IsLeaf}
 use Rattle.mv_machine.specs.Ledger.{admitted}
 
 argument-leaf : (t : Token) (v : Value) → is_argument t v ≡ true → IsLeaf v

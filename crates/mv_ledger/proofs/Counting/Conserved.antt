@@ -1,10 +1,10 @@
 -- Along a run what is held and unmade stays what was stored at first and made; at the return all of it is stored.
-use Rattle.mv_ledger.proofs.Common.{[], ◌++◌, ◌+◌, ◌∙◌, ◌∷◌, ◌≡◌, Bool, IsTrue, List, None, Ok, Some, ap, arith, cond, false, length, map, refl, subst, sym, true, ℕ, eqb-true, sum_by-cons}
-use Rattle.mv_ledger.proofs.Common.{same_Some, AllByRecursion, list_all, option_map_or, ◌&&◌, ◌==◌, ◌||◌, not, replicate, reverse, slice_get, FunctionDefinition, Module, parameter_tokens}
+use Rattle.mv_ledger.proofs.Common.{[], ◌+◌, ◌∙◌, ◌∷◌, ◌≡◌, Bool, IsTrue, List, Ok, Some, ap, arith, cond, false, length, map, refl, subst, sym, true, ℕ, eqb-true, sum_by-cons}
+use Rattle.mv_ledger.proofs.Common.{same_Some, AllByRecursion, list_all, option_map_or, ◌&&◌, ◌==◌, ◌||◌, not, reverse, slice_get, FunctionDefinition, Module, parameter_tokens}
 use Rattle.mv_ledger.proofs.Common.{StructName, same_struct, for_each, Tag, Definition, Token, are_entry_parameters, entry_fits, has_no_results, WhereOk, entry-is, on_some, place-written, Effect}
 use Rattle.mv_ledger.proofs.Common.{Ends, Left, Resumed, Went, Written, arrived, begun, run-keeps, step-stepped, count, AtReturn, FunctionCall, packs, run, unpacks, Event, Frame, State, Storage}
 use Rattle.mv_ledger.proofs.Common.{with_local, with_root, Goes, Here, Returns, Turn, may_drop, with_stack, entry, tag_named, Leaf, Local, Root, Stored, Value, each, Conserves, IsEntryCall}
-use Rattle.mv_ledger.proofs.Common.{IsFineStorage, IsLeaf, Balances, IsAbleStore, IsFine, held, held_in_frames, held_in_locals, held_in_stack, made, unmade, IsScarce, StackIsKept}
+use Rattle.mv_ledger.proofs.Common.{IsFineStorage, IsLeaf, IsAbleStore, IsFine, held, held_in_frames, held_in_locals, held_in_stack, made, unmade, IsScarce, StackIsKept}
 use Rattle.mv_move_types.specs.declared.tables.FunctionHandle.{FunctionHandle}
 use Rattle.mv_machine.specs.StepControl.{signature_tags}
 use Rattle.mv_ledger.proofs.Counting.Counts.{held-entered, held-reverse, kept-entered}

@@ -1,7 +1,7 @@
 -- Counts in values, operands and locals, and what copies and losses do not count.
 use Rattle.mv_ledger.proofs.Common.{[], ◌++◌, ◌+◌, ◌∙◌, ◌∷◌, ◌≡◌, Bool, List, None, Option, Some, ap, arith, cond, false, map, refl, subst, suc, sym, true, zero, ℕ, reverse-append, same_Some}
 use Rattle.mv_ledger.proofs.Common.{option_and_then, replicate, reverse, slice_get, slice_set, unwrap_or, no_abilities, Module, declared, StructName, same_struct, Abilities, map-is, then-is}
-use Rattle.mv_ledger.proofs.Common.{count_in, count_in_fields, abilities_of, Leaf, More, NoMore, Ref, Struct, Value, Values, field, field_of, fields_of, list_of, value_at, with_field}
+use Rattle.mv_ledger.proofs.Common.{count_in, count_in_fields, abilities_of, More, NoMore, Struct, Value, Values, field, field_of, fields_of, list_of, value_at, with_field}
 use Rattle.mv_ledger.proofs.Common.{with_field_of, with_value_at, same_struct-is, held_in_local, held_in_locals, held_in_stack, Allows, AreKept, IsKept, IsScarce, LocalIsKept, LocalsAreKept}
 use Rattle.mv_ledger.proofs.Common.{StackIsKept}
 

@@ -1,7 +1,7 @@
 -- Structs that are declared: the definitions behind them, which stay when a bundle is published, and those that are not.
 use Rattle.mv_ledger.proofs.Common.{[], ◌∙◌, ◌∷◌, ◌≡◌, List, None, Some, ap, arith, cond, option_map, refl, sym, true, ℕ, option_and_then, slice_get, Module, StructDefinition, name_of_struct}
 use Rattle.mv_ledger.proofs.Common.{struct_abilities, declared, declared_in, is_struct, module_named, module_place, StructName, same_struct, find_index, PublishedModule, StructHandle, Abilities}
-use Rattle.mv_ledger.proofs.Common.{on_bind, map-is, count, count_in, count_in_fields, Storage, Leaf, More, NoMore, Ref, Struct, Value, Values, then_found, same_struct-is, IsStore, tables_in}
+use Rattle.mv_ledger.proofs.Common.{on_bind, map-is, count, count_in, count_in_fields, Storage, More, NoMore, Struct, Value, Values, then_found, same_struct-is, IsStore, tables_in}
 use Rattle.mv_ledger.proofs.Common.{AreKept, IsKept, StorageIsKept}
 use Rattle.mv_ledger.proofs.Bundles.Heirs.{Inherits, Stayed, tested, found-passes, on_and_then, stayed}
 use Rattle.mv_ledger.proofs.Counting.Packs.{HandlesDeclared, each-declared, each-get}

@@ -1,6 +1,6 @@
 -- A run that is answered ends as it should, and what is stored is what the tallies leave.
-use Rattle.mv_ledger.proofs.Common.{◌+◌, ◌-◌, ◌≡◌, ◌≤◌, Err, List, Ok, Result, Some, arith, refl, subst, ℕ, slice_get, Module, WhereOk, on_some, steps_taken, turns-bound, count, Answers, Audit}
-use Rattle.mv_ledger.proofs.Common.{Bad, BadRun, LedgerState, Publish, Request, Run, Show, admitted, attempted, modules_of, settled, Reply, Tallied, AtReturn, Aborted, Exhausted, Faulted}
+use Rattle.mv_ledger.proofs.Common.{◌+◌, ◌-◌, ◌≡◌, ◌≤◌, Err, List, Ok, Result, Some, arith, refl, subst, ℕ, slice_get, Module, WhereOk, on_some, steps_taken, turns-bound, count, Answers}
+use Rattle.mv_ledger.proofs.Common.{LedgerState, Request, Run, admitted, attempted, modules_of, settled, Reply, Tallied, AtReturn, Faulted}
 use Rattle.mv_ledger.proofs.Common.{FunctionCall, Returned, RunOutcome, first_state, outcome_from, turns, State, Storage, Aborts, Failure, Faults, CallEndsWell, EndsWell, EveryCountIsTallied}
 use Rattle.mv_ledger.proofs.Common.{IsOwnWork, RunsWell}
 use Rattle.mv_machine.specs.Run.{run}

@@ -1,6 +1,6 @@
 -- Each struct value is made and taken apart by code of the struct's own module.
-use Rattle.mv_ledger.proofs.Common.{◌≡◌, List, Ok, Some, refl, subst, sym, ℕ, Module, place-written, Called, Effect, Ends, Left, MovedFrom, MovedLocal, MovedTo, Packed, Restacked, Resumed}
-use Rattle.mv_ledger.proofs.Common.{StoredLocal, Unpacked, Went, Written, own_struct-own, run-keeps, step-stepped, AtReturn, FunctionCall, run, State, Storage, with_place, with_root, Goes, Here}
+use Rattle.mv_ledger.proofs.Common.{◌≡◌, List, Ok, Some, refl, subst, sym, ℕ, Module, place-written, Effect, Ends, Left, Packed}
+use Rattle.mv_ledger.proofs.Common.{Unpacked, Went, Written, own_struct-own, run-keeps, step-stepped, AtReturn, FunctionCall, run, State, Storage, with_place, with_root, Goes, Here}
 use Rattle.mv_ledger.proofs.Common.{OwnStruct, Returns, Turn, with_stack, Local, Place, Root, Stored, Value, same_module-is, IsOwnWork}
 use Rattle.mv_machine.specs.StepStructs.{own_struct}
 

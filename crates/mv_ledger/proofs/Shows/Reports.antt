@@ -1,7 +1,7 @@
 -- What a show and an audit reply.
 use Rattle.mv_ledger.proofs.Common.{[], ◌*◌, ◌++◌, ◌+◌, ◌-◌, ◌<◌, ◌∷◌, ◌≡◌, ◌≤◌, Bool, List, Some, ap, ap₂, arith, codes, length, length-append, map, refl, sym, zero-add, ℕ, length-map, All-head}
 use Rattle.mv_ledger.proofs.Common.{All-tail, length-enumerate_from, count_by-le-length, length-filter, AllByRecursion, enumerate_from, filter, All, Module, StructDefinition, PublishedModule}
-use Rattle.mv_ledger.proofs.Common.{is_scarce_struct, few_structs, count, Audit, Bad, BadRun, Format, Publish, Run, Show, audited, shown, ToldRefused, Tallied, ToldLines, audit_json, audit_lines}
+use Rattle.mv_ledger.proofs.Common.{is_scarce_struct, few_structs, count, Audit, Bad, BadRun, Format, Show, audited, shown, ToldRefused, Tallied, ToldLines, audit_json, audit_lines}
 use Rattle.mv_ledger.proofs.Common.{end_line, json_line, Storage, IsPublishable, tables_in, IsSoundLedger, Replies, audit_from, count_line, count_object, counts_json, stored_of, IsShapeless}
 use Rattle.mv_ledger.proofs.Common.{format_text, AreScarce, LedgerView, all_of, scarce_indices, state_of, Tally}
 use Rattle.mv_ledger.specs.Formats.{IsNoFormat}

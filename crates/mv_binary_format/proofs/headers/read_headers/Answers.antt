@@ -4,7 +4,7 @@ use Rattle.std.proofs.Common.{Vec, Global}
 use Rattle.std.specs.Result.{is_ok}
 use Rattle.std.proofs.lemmas.Result.{err_from_is_err_and}
 use Rattle.mv_binary_format.specs.declared.headers.Header.{Header as Entry}
-use Rattle.mv_binary_format.proofs.Loops.{ReadsOn, ReadsOn-next, ReadsOn-stops, ReadsOn-end}
+use Rattle.mv_module_text.proofs.Entries.{ReadsOn, ReadsOn-next, ReadsOn-stops, ReadsOn-end}
 use Rattle.mv_binary_format.proofs.Takings.{Takes-refused}
 use Rattle.mv_binary_format.proofs.headers.read_headers.Goals as goal
 

@@ -1,5 +1,5 @@
 use Rattle.mv_binary_format.proofs.Common.{headers_of, header_from}
-use Rattle.mv_binary_format.proofs.Loops.{ReadsOn}
+use Rattle.mv_module_text.proofs.Entries.{ReadsOn}
 use Rattle.mv_binary_format.proofs.headers.read_headers.Given as goal
 
 abbrev pub invariant-reading : goal.invariant-reading

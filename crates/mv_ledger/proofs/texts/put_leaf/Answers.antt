@@ -1,4 +1,4 @@
-use Rattle.mv_ledger.proofs.Common.{◌++◌, ◌∙◌, ◌≡◌, ◌≢◌, ◌⊎◌, Bool, Bor, List, ap, arith, codes, cond, false, inl, inr, refl, sym, true, ℕ, eqb-true, IfOk-equal, ◌==◌, LeafKind, Address, Boolean}
+use Rattle.mv_ledger.proofs.Common.{◌++◌, ◌∙◌, ◌≡◌, ◌≢◌, ◌⊎◌, Bool, Bor, List, ap, arith, codes, cond, false, inl, inr, refl, sym, ℕ, eqb-true, IfOk-equal, ◌==◌, LeafKind, Address, Boolean}
 use Rattle.mv_ledger.proofs.Common.{Signer, leaf_text}
 use Rattle.mv_machine.specs.Lines.{address_text}
 use Rattle.mv_ledger.proofs.Shows.Digits.{put_after}
