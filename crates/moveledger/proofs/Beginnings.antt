@@ -1,6 +1,6 @@
 -- The first bytes of a module and of a certificate's text are enough to say what comes of them.
-use Rattle.std.proofs.Common.{◌≡◌, ℕ, ◌≤◌, ◌<◌, ◌+◌, ◌-◌, ◌==◌, if◌then◌else◌, ◌⊎◌, List, [], ◌++◌, length, take, slice_index, Option, Some, None}
-use Rattle.std.proofs.Common.{Result, Ok, Err, Bool, true, false, IfSome, IfOk, IfErr, OnOk, MatchResult, option_map, inl, inr, arith, refl, sym}
+use Rattle.std.proofs.Common.{◌≡◌, ℕ, ◌≤◌, ◌<◌, ◌+◌, ◌-◌, ◌==◌, if◌then◌else◌, ◌⊎◌, List, length, take, slice_index, Option, Some, None}
+use Rattle.std.proofs.Common.{Result, Ok, Err, Bool, true, false, IfSome, IfOk, IfErr, OnOk, MatchResult, option_map, inl, inr, arith, sym}
 use Rattle.std.proofs.Common.{subst}
 use Rattle.std.proofs.lemmas.Bool.{cases_order}
 use Rattle.std.proofs.lemmas.List.{take_all, length-take-le}

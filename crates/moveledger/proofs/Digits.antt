@@ -1,12 +1,12 @@
 -- What is decoded is the bytes that a text is the hexadecimal of.
-use Rattle.std.proofs.Common.{◌≡◌, ℕ, zero, suc, slice_index, ◌+◌, ◌-◌, ◌*◌, ◌/◌, ◌%◌, ◌<◌, ◌≤◌, ◌==◌, nat_le, Bool, true, false, ◌&&◌, ◌⊎◌, inl, inr}
+use Rattle.std.proofs.Common.{◌≡◌, ℕ, ◌+◌, ◌-◌, ◌*◌, ◌/◌, ◌%◌, ◌<◌, ◌≤◌, ◌==◌, nat_le, Bool, true, false, ◌&&◌, ◌⊎◌, inl, inr}
 use Rattle.std.proofs.Common.{List, [], ◌∷◌, length, map, Option, Some, None, Result, Ok, Err, refl, sym, ap, ◌∙◌, arith, cond}
-use Rattle.std.proofs.lemmas.Bool.{and_parts, cases_lt, eqb-true, leb-true, ltb-true}
+use Rattle.std.proofs.lemmas.Bool.{and_parts, leb-true, ltb-true}
 use Rattle.std.proofs.lemmas.Option.{same_Some}
 use Rattle.std.specs.List.{list_all}
 use Rattle.std.specs.Result.{result_unwrap_or}
 use Rattle.std.specs.Char.{to_ascii_lowercase}
-use Rattle.hex.specs.Hex.{decode_of, decode_pairs, digit_or_error, encode_lower, encode_with, hex_digit_value, lower_digits, pair_value, value_at, ◌>>=◌}
+use Rattle.hex.specs.Hex.{decode_of, decode_pairs, digit_or_error, encode_lower, encode_with, hex_digit_value, pair_value, value_at, ◌>>=◌}
 use Rattle.hex.specs.declared.error.FromHexError.{FromHexError}
 use Rattle.hex.specs.declared.error.FromHexError.TheVariants.{InvalidHexCharacter, InvalidStringLength, OddLength, OutOfMemory}
 use Rattle.hex.proofs.HexLemmas.{decode_of-even, decode_pairs-ok}
@@ -18,6 +18,7 @@ use Rattle.mv_module_text.specs.Laws.{AreBytes}
 use Rattle.mv_binary_format.proofs.Back.{all-are_bytes}
 use Rattle.moveledger.specs.Hexadecimal.{hexadecimal, IsHexadecimal}
 use Rattle.moveledger.specs.Checking.{refusal_of}
+use Rattle.mv_ledger.proofs.Shows.Digits.{digit}
 
 -- a digit in either case has the value of the digit in lower case
 hex_digit_value-lower : (c d : ℕ) → d < 16 → to_ascii_lowercase c ≡ hex_digit d → hex_digit_value c ≡ Some d
@@ -106,29 +107,6 @@ read-lower i (a ∷ b ∷ rest) (x ∷ xs) are h =
       let long = ih.1 in omega (arith, long),
     )
 
--- the test of one digit of the table, which computes
-abbrev is_same : ℕ → Bool
-is_same d = slice_index lower_digits d == hex_digit d
-
--- the test of the first n
-abbrev are_same : ℕ → Bool
-are_same zero = true
-are_same (suc n) = is_same n && are_same n
-
-same-at : (n k : ℕ) → are_same n ≡ true → k < n → is_same k ≡ true
-same-at zero k h lt = absurd (omega arith)
-same-at (suc n) k h lt =
-    let parts = and_parts (is_same n) (are_same n) h in
-    elim (cases_lt k n) [
-      | inl below ↦ same-at n k parts.1 below
-      | inr top ↦
-          let e : k ≡ n = omega arith in
-          rw e parts.0
-    ]
-
-lower_digits-at : (d : ℕ) → d < 16 → slice_index lower_digits d ≡ hex_digit d
-lower_digits-at d lt = eqb-true (slice_index lower_digits d) (hex_digit d) (same-at 16 d refl lt)
-
 -- what is encoded is the bytes' digits
 pub encode_lower-hexadecimal : (bytes : List ℕ) → AreBytes bytes → encode_lower bytes ≡ hexadecimal bytes
 unfolding encode_with
@@ -136,8 +114,8 @@ encode_lower-hexadecimal [] are = refl
 encode_lower-hexadecimal (b ∷ bytes) are =
     let parts = and_parts (is_byte b) (list_all is_byte bytes) are in
     let fits : b < 256 = ltb-true b 256 parts.0 in
-    let high = lower_digits-at (b / 16) (omega arith) in
-    let low = lower_digits-at (b % 16) (omega arith) in
+    let high = digit (b / 16) (omega arith) in
+    let low = digit (b % 16) (omega arith) in
     let others = encode_lower-hexadecimal bytes parts.1 in
     rw (high, low, others) refl
 

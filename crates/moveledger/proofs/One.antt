@@ -1,15 +1,9 @@
 -- An input is one list of records.
-use Rattle.std.proofs.Common.{◌≡◌, ℕ, List, [], ◌∷◌, ◌++◌, length, take, drop, refl, sym, ap, ap₂, ◌∙◌, subst, append_assoc}
+use Rattle.std.proofs.Common.{◌≡◌, ℕ, List, [], ◌∷◌, ◌++◌, length, refl, sym, ap, ap₂, ◌∙◌, subst, append_assoc}
 use Rattle.std.proofs.lemmas.List.{append_cancel_left}
-use Rattle.std.proofs.Math.Seq.{take-append_seam, drop-append_seam}
 use Rattle.mv_uleb.proofs.Spelled.{one_form}
+use Rattle.mv_ledger.proofs.SavedOnce.{bytes-one}
 use Rattle.moveledger.specs.Records.{Record, Whole, Cut, IsText, Begins, AreRecords}
-
-same_split : (p q x y : List ℕ) → length p ≡ length q → p ++ x ≡ q ++ y → (p ≡ q) × (x ≡ y)
-same_split p q x y n e =
-    let fronts : p ≡ q = sym (take-append_seam p x) ∙ ap₂ take n e ∙ take-append_seam q y in
-    let tails : x ≡ y = sym (drop-append_seam p x) ∙ ap₂ drop n e ∙ drop-append_seam q y in
-    (fronts, tails)
 
 text_one : (f g x y : List ℕ) (k l : ℕ) (p q : List ℕ) → IsText f k p → IsText g l q → f ++ x ≡ g ++ y → (k ≡ l) × (p ≡ q) × (x ≡ y)
 text_one f g x y k l p q t u e =
@@ -19,7 +13,7 @@ text_one f g x y k l p q t u e =
     let turned : t.0 ++ (p ++ x) ≡ u.0 ++ (q ++ y) = sym (append_assoc t.0 p x) ∙ rest ∙ append_assoc u.0 q y in
     let lens = one_form t.0 u.0 (p ++ x) (q ++ y) (length p) (length q) t.1 u.1 turned in
     let tails : p ++ x ≡ q ++ y = append_cancel_left u.0 (p ++ x) (q ++ y) (sym (ap (λ z. z ++ (p ++ x)) lens.0) ∙ turned) in
-    let parts = same_split p q x y lens.1 tails in
+    let parts = bytes-one p q x y lens.1 tails in
     (kinds, parts.0, parts.1)
 
 pub begins_one : (input : List ℕ) (r s : Record) (x y : List ℕ) → Begins input r x → Begins input s y → (r ≡ s) × (x ≡ y)

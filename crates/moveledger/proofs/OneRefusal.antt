@@ -1,5 +1,5 @@
 -- A bundle is published with one list of modules, or refused in one phase: the first that it fails.
-use Rattle.std.proofs.Common.{◌≡◌, ℕ, zero, suc, ◌<◌, ◌≤◌, Bool, true, false, List, [], ◌∷◌, ◌++◌, length, refl, sym, ◌∙◌, subst, arith, IsTrue, nat_lt, ltb-true, ltb-false}
+use Rattle.std.proofs.Common.{◌≡◌, ℕ, zero, suc, ◌<◌, ◌≤◌, Bool, true, false, List, [], ◌∷◌, ◌++◌, refl, sym, ◌∙◌, subst, arith, IsTrue, nat_lt, ltb-true, ltb-false}
 use Rattle.std.specs.Prelude.{⊤}
 use Rattle.std.specs.Cmp.{first_so, second_so}
 use Rattle.mv_move_types.specs.Module.{Module}

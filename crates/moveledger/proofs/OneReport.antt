@@ -1,16 +1,16 @@
 -- One input and one ledger allow one report.
-use Rattle.std.proofs.Common.{◌≡◌, ℕ, ◌+◌, ◌-◌, ◌^◌, ◌<◌, ◌≤◌, List, [], ◌∷◌, ◌++◌, length, flat_map, refl, sym, ap, ap₂, ◌∙◌, subst, arith, Some, ◌⊎◌, inl, inr, IsTrue}
+use Rattle.std.proofs.Common.{◌≡◌, ℕ, ◌+◌, ◌-◌, ◌^◌, ◌<◌, ◌≤◌, List, [], ◌∷◌, ◌++◌, length, flat_map, refl, sym, ap, ap₂, ◌∙◌, subst, arith, ◌⊎◌, inl, inr}
 use Rattle.std.proofs.lemmas.Option.{some_pair_parts}
 use Rattle.mv_move_types.specs.Published.{PublishedModule}
 use Rattle.mv_binary_format.specs.Laws.{IsReadByText}
-use Rattle.mv_machine.specs.Lines.{Reply, Published, Refused, Rejected, Returned, Aborted, Exhausted, Told, reply_lines, numbered}
-use Rattle.mv_machine.specs.Ledger.{Offer, LedgerState, Request, Publish, Run, Show, Audit, BadRun, Bad, Answers, with_bundle, attempted, admitted}
+use Rattle.mv_machine.specs.Lines.{Reply, Published, Refused, reply_lines, numbered}
+use Rattle.mv_machine.specs.Ledger.{Offer, LedgerState, Request, Publish, Run, Show, Audit, BadRun, Bad, Answers, with_bundle}
 use Rattle.mv_ledger.specs.RecordText.{Asks, IsShaped}
 use Rattle.mv_ledger.specs.Publishing.{Spells, IsPublished, IsRefusedAt}
 use Rattle.mv_ledger.specs.Exact.{IsAccepted, IsRefused, no_bundle, failing, IsRightly}
 use Rattle.mv_ledger.specs.View.{LedgerView, state_of}
 use Rattle.moveledger.specs.Records.{Record, Whole, Cut, AreRecords}
-use Rattle.moveledger.specs.Headline.{AnswersWhole, Step, Reports, Headline}
+use Rattle.moveledger.specs.Headline.{AnswersWhole, Step, Reports}
 use Rattle.moveledger.specs.OneReport.{OneReport}
 use Rattle.moveledger.proofs.One.{begins_one, nothing_begins}
 use Rattle.moveledger.proofs.OneRequest.{offers_fit, publish-one, asks-one}

@@ -1,5 +1,5 @@
 -- From phases to what the commands answer, and that what is accepted fails none.
-use Rattle.std.proofs.Common.{◌≡◌, ℕ, List, ◌⊎◌, inl, inr, IsTrue, refl, sym, ◌∙◌, subst}
+use Rattle.std.proofs.Common.{◌≡◌, ℕ, List, ◌⊎◌, inl, inr, refl, sym, subst}
 use Rattle.mv_move_types.specs.declared.refusal.Refusal.{Refusal}
 use Rattle.mv_move_types.specs.declared.refusal.Refusal.TheVariants.{Phase, Memory}
 use Rattle.mv_move_types.specs.Module.{Module}

@@ -5,7 +5,7 @@ use Rattle.mv_ledger.proofs.Common.{same_kind, width_bits, Field, LeafKind, Addr
 use Rattle.mv_ledger.proofs.Common.{number_of-whole, Whole, address_text, counted, address_fits, Read, address_from, number_of_from, Offer, are_of_types, is_of_struct, is_of_type, leaf_fits, Leaf}
 use Rattle.mv_ledger.proofs.Common.{More, NoMore, Ref, Struct, Value, Values, same_struct-is, same_kind-is, leaf_bytes, offer_text, sized, leaves_of_fields, leaves_text}
 use Rattle.mv_uleb.specs.Uleb.{uleb}
-use Rattle.mv_ledger.proofs.Bundles.Heirs.{tested}
+use Rattle.mv_linker.proofs.Found.{passing}
 
 -- of two things with the property, whose texts stand at the front of the same bytes, one is the other, and so are the bytes after them
 abbrev pub IsOneOn : {A : Type 0} → (A → Type 0) → (A → List ℕ) → Type 0
@@ -129,8 +129,8 @@ module _ (modules : List Module) where
   defined-one : (s r : StructName) (fs gs : Values) (x y : List ℕ) → s ≡ r → IsTrue (has_fields s fs) → IsTrue (has_fields r gs)
       → ((m : Module) (types : List Field) → are_of_types modules m types fs ≡ true → are_of_types modules m types gs ≡ true → (fs ≡ gs) × (x ≡ y)) → (Struct s fs ≡ Struct r gs) × (x ≡ y)
   defined-one s r fs gs x y same p q go =
-      let d = tested (λ (d : Module × List Field). are_of_types modules d.0 d.1 fs) (definition_of modules s) p in
-      let c = tested (λ (d : Module × List Field). are_of_types modules d.0 d.1 gs) (definition_of modules r) q in
+      let d = passing (λ (d : Module × List Field). are_of_types modules d.0 d.1 fs) (definition_of modules s) p in
+      let c = passing (λ (d : Module × List Field). are_of_types modules d.0 d.1 gs) (definition_of modules r) q in
       let is : d.0 ≡ c.0 = same_Some d.0 c.0 (sym d.1 ∙ ap (definition_of modules) same ∙ c.1) in
       let fields = go d.0.0 d.0.1 d.2 (subst (λ (z : Module × List Field). are_of_types modules z.0 z.1 gs ≡ true) (sym is) c.2) in
       (ap₂ Struct same fields.0, fields.1)
@@ -157,8 +157,8 @@ module _ (modules : List Module) where
         let also : Bool = option_map_or (λ own. same_struct own r) (struct_name m h) false in
         let a = and_parts named (has_fields s fs) p in
         let b = and_parts also (has_fields r gs) q in
-        let c = tested (λ own. same_struct own s) (struct_name m h) a.0 in
-        let d = tested (λ own. same_struct own r) (struct_name m h) b.0 in
+        let c = passing (λ own. same_struct own s) (struct_name m h) a.0 in
+        let d = passing (λ own. same_struct own r) (struct_name m h) b.0 in
         let same : s ≡ r = sym (same_struct-is c.0 s c.2) ∙ same_Some c.0 d.0 (sym c.1 ∙ d.1) ∙ same_struct-is d.0 r d.2 in
         defined-one s r fs gs x y same a.1 b.1 (λ n types f g. fields-one n types fs gs x y f g e)
     typed-one m (Reference t) v w x y p q e = absurd (no_reference m (Reference t) v tt p)

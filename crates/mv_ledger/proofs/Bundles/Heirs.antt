@@ -7,11 +7,7 @@ use Rattle.mv_ledger.proofs.Common.{is_scarce_struct, Field, Abilities, on_bind,
 use Rattle.mv_ledger.proofs.Common.{function_stays, may_replace, same_fields, same_struct_definition, structs_stay, own_of_store, mapped_at, IsOwn, AreScarce, scarce_indices, Tally}
 use Rattle.std.proofs.lemmas.Slice.Eq.{bytes_eq-Decides}
 use Rattle.mv_ledger.proofs.Bundles.Places.{had, one_own}
-
--- a test of an option that passes had something to test
-pub tested : {A : Type 0} (test : A → Bool) (o : Option A) → option_map_or test o false ≡ true → (x : A) × (o ≡ Some x) × (test x ≡ true)
-tested test (Some x) h = (x, refl, h)
-tested test None h = absurd cc
+use Rattle.mv_linker.proofs.Found.{passing}
 
 -- the module itself, or one of its name that may replace it
 abbrev pub IsHeir : Module → Module → Type 0
@@ -60,7 +56,7 @@ joined_place m (n ∷ bundle) ps place q offers at heir =
       where
         has_itself : (k o : Module) → have_one_name k o ≡ true → have_one_name k k ≡ true
         has_itself k o h =
-            let t = tested (λ name. is_module name o) (own_name k) h in
+            let t = passing (λ name. is_module name o) (own_name k) h in
             subst (λ (x : Option ModuleName). option_map_or (λ name. option_map_or (λ own. same_module own name) x false) x false ≡ true) (sym t.1) (same_module-same t.0)
 
 offered : (m : Module) (bundle : List PublishedModule) → list_all (λ n. not (have_one_name m n) || may_replace m n) (tables_in bundle) ≡ true → AllByRecursion (MayFollow m) bundle
@@ -96,14 +92,14 @@ module _ (m : Module) (d : StructDefinition) (n : Module) (e : StructDefinition)
 
   pub abilities-same : struct_abilities m d ≡ struct_abilities n e
   abilities-same =
-      let c = tested (λ (x : Abilities). option_map_or (same_abilities x) (struct_abilities n e) false) (struct_abilities m d) (second_so names_alike abilities_alike front) in
-      let f = tested (same_abilities c.0) (struct_abilities n e) c.2 in
+      let c = passing (λ (x : Abilities). option_map_or (same_abilities x) (struct_abilities n e) false) (struct_abilities m d) (second_so names_alike abilities_alike front) in
+      let f = passing (same_abilities c.0) (struct_abilities n e) c.2 in
       c.1 ∙ ap (λ (x : Abilities). Some x) (same_abilities-is c.0 f.0 f.2) ∙ sym f.1
 
   pub names-same : (a b : StructName) → name_of_struct m d ≡ Some a → name_of_struct n e ≡ Some b → a.name ≡ b.name
   names-same a b a_is b_is =
-      let x = tested (λ (x : StructName). option_map_or (λ (y : StructName). bytes_eq x.name y.name) (name_of_struct n e) false) (name_of_struct m d) (first_so names_alike abilities_alike front) in
-      let y = tested (λ (y : StructName). bytes_eq (x.0).name y.name) (name_of_struct n e) x.2 in
+      let x = passing (λ (x : StructName). option_map_or (λ (y : StructName). bytes_eq x.name y.name) (name_of_struct n e) false) (name_of_struct m d) (first_so names_alike abilities_alike front) in
+      let y = passing (λ (y : StructName). bytes_eq (x.0).name y.name) (name_of_struct n e) x.2 in
       ap (λ (z : StructName). z.name) (same_Some a x.0 (sym a_is ∙ x.1)) ∙ (bytes_eq-Decides (x.0).name (y.0).name).0 y.2 ∙ ap (λ (z : StructName). z.name) (same_Some y.0 b (sym y.1 ∙ b_is))
 
   pub fields-same : same_fields m d.fields n e.fields ≡ true

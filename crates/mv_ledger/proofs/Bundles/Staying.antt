@@ -9,7 +9,8 @@ use Rattle.mv_ledger.proofs.Common.{More, NoMore, Ref, Struct, Value, Values, ea
 use Rattle.mv_ledger.proofs.Common.{same_fields, own_of_store, IsOwn, IsFineWords, IsAcceptedBy}
 use Rattle.mv_linker.specs.TypesByName.{token_named, value_type_named}
 use Rattle.mv_ledger.proofs.Counting.Packs.{there-get}
-use Rattle.mv_ledger.proofs.Bundles.Heirs.{Inherits, inherited, tested, found-passes, on_and_then, stayed, name-stays, Stayed}
+use Rattle.mv_ledger.proofs.Bundles.Heirs.{Inherits, inherited, found-passes, on_and_then, stayed, name-stays, Stayed}
+use Rattle.mv_linker.proofs.Found.{passing}
 
 -- ---- types by their names
 
@@ -28,8 +29,8 @@ alike-fields m [] n [] h = tt
 alike-fields m (f ∷ fs) n (g ∷ gs) h =
     let names = option_map_or (λ a. option_map_or (bytes_eq a) (slice_get n.identifiers g.name) false) (slice_get m.identifiers f.name) false in
     let types = option_map_or (λ a. option_map_or (same_tag a) (token_named n g.token) false) (token_named m f.token) false in
-    let t = tested (λ a. option_map_or (same_tag a) (token_named n g.token) false) (token_named m f.token) (second_so names types (first_so (same_field m f n g) (same_fields m fs n gs) h)) in
-    let u = tested (same_tag t.0) (token_named n g.token) t.2 in
+    let t = passing (λ a. option_map_or (same_tag a) (token_named n g.token) false) (token_named m f.token) (second_so names types (first_so (same_field m f n g) (same_fields m fs n gs) h)) in
+    let u = passing (same_tag t.0) (token_named n g.token) t.2 in
     (t.1 ∙ ap (λ (x : Tag). Some x) (same_tag-is t.0 u.0 u.2) ∙ sym u.1, alike-fields m fs n gs (second_so (same_field m f n g) (same_fields m fs n gs) h))
 alike-fields m _ n _ h = absurd cc
 
@@ -104,8 +105,8 @@ named-there modules m (Plain (OfStruct h)) name all e = on_bind (struct_name m h
     on_bind (slice_get m.struct_handles h) _ own is (λ handle handle_is e1.
     let at : 0 + h ≡ h = omega arith in
     let here : struct_is_there modules m h handle ≡ true = subst (λ (n : ℕ). struct_is_there modules m n handle ≡ true) at (there-get modules m 0 h m.struct_handles handle all handle_is) in
-    let n = tested (λ n. option_map_or (same_abilities handle.abilities) (declared modules n) false) (struct_name m h) here in
-    let a = tested (same_abilities handle.abilities) (declared modules n.0) n.2 in
+    let n = passing (λ n. option_map_or (same_abilities handle.abilities) (declared modules n) false) (struct_name m h) here in
+    let a = passing (same_abilities handle.abilities) (declared modules n.0) n.2 in
     let name_is : n.0 ≡ name = same_Some n.0 own (sym n.1 ∙ is) ∙ same in
     defined-there modules name a.0 (ap (declared modules) (sym name_is) ∙ a.1)))
 named-there modules m (Reference t) name all e = on_bind (value_type_named m t) _ (StructTag name) e (λ tag is e'. absurd cc)
@@ -133,7 +134,7 @@ module _ (old new : List PublishedModule) (old_store : IsStore old) (new_store :
       on_and_then (slice_get (tables_in old)) (module_place (tables_in old) name.home) m m_is (λ place place_is at.
       let made : Module × List Field = (m, x.fields) in
       let same : made ≡ d = same_Some made d e3 in
-      let t = tested (λ own. same_struct own name) (name_of_struct m x) (found-passes (is_struct m name) m.structs i x i_is x_is) in
+      let t = passing (λ own. same_struct own name) (name_of_struct m x) (found-passes (is_struct m name) m.structs i x i_is x_is) in
       let named : name_of_struct m x ≡ Some name = t.1 ∙ ap (λ (n : StructName). Some n) (same_struct-is t.0 name t.2) in
       let n = inherits place m at in
       let s : Stayed m x name n.0 i = stayed old new old_store new_store inherits place i m n.0 x name at n.1 n.2 x_is named in
@@ -210,7 +211,7 @@ module _ (old new : List PublishedModule) (old_store : IsStore old) (new_store :
     tag-stays v (Some (ReferenceTag b t)) h = h
     tag-stays (Struct name fields) (Some (StructTag own)) h =
         let was = option_map_or (λ d. are_of_types (tables_in old) d.0 d.1 fields) (definition_of (tables_in old) name) false in
-        let t = tested (λ d. are_of_types (tables_in old) d.0 d.1 fields) (definition_of (tables_in old) name) (second_so (same_struct own name) was h) in
+        let t = passing (λ d. are_of_types (tables_in old) d.0 d.1 fields) (definition_of (tables_in old) name) (second_so (same_struct own name) was h) in
         let b : BecomesIn name t.0 = becomes name t.0 t.1 in
         and_from (same_struct own name) (option_map_or (λ d. are_of_types (tables_in new) d.0 d.1 fields) (definition_of (tables_in new) name) false) (first_so (same_struct own name) was h)
         (ap (λ (o : Option (Module × List Field)). option_map_or (λ d. are_of_types (tables_in new) d.0 d.1 fields) o false) b.is_new ∙ are-stay fields t.0.0 t.0.1 b.new_one.0 b.new_one.1 b.alike t.2)
@@ -248,7 +249,7 @@ module _ (old new : List PublishedModule) (old_store : IsStore old) (new_store :
   named-part : (k : Key) (v : Value) → is_fine_entry (tables_in old) (record { key = k; value = v }) ≡ true
       → (name : StructName) × (name_at (tables_in old) k.place k.index ≡ Some name) × (is_of_struct (tables_in old) name v ≡ true)
   named-part k v h =
-      tested (λ name. is_of_struct (tables_in old) name v) (name_at (tables_in old) k.place k.index)
+      passing (λ name. is_of_struct (tables_in old) name v) (name_at (tables_in old) k.place k.index)
       (second_so (address_fits k.address) (struct_part (tables_in old) k v) (first_so (front_part (tables_in old) k v) (key_part (tables_in old) k) h))
 
   abilities-stay : (place index : ℕ) (name : StructName) → name_at (tables_in old) place index ≡ Some name → abilities_at (tables_in old) place index ≡ abilities_at (tables_in new) place index
@@ -300,7 +301,7 @@ module _ (old new : List PublishedModule) (old_store : IsStore old) (new_store :
       defined own (Struct name fields) h =
           let is = option_map_or (λ d. are_of_types (tables_in old) d.0 d.1 fields) (definition_of (tables_in old) name) false in
           let same : own ≡ name = same_struct-is own name (first_so (same_struct own name) is h) in
-          let t = tested (λ d. are_of_types (tables_in old) d.0 d.1 fields) (definition_of (tables_in old) name) (second_so (same_struct own name) is h) in
+          let t = passing (λ d. are_of_types (tables_in old) d.0 d.1 fields) (definition_of (tables_in old) name) (second_so (same_struct own name) is h) in
           (t.0, ap (definition_of (tables_in old)) same ∙ t.1)
       defined own _ h = absurd cc
 

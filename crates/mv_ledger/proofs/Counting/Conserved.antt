@@ -10,7 +10,7 @@ use Rattle.mv_machine.specs.StepControl.{signature_tags}
 use Rattle.mv_ledger.proofs.Counting.Counts.{held-entered, held-reverse, kept-entered}
 use Rattle.mv_ledger.proofs.Counting.Keeps.{effect-fine, effect-balances, left-none}
 use Rattle.mv_ledger.proofs.Counting.Packs.{each-get}
-use Rattle.mv_ledger.proofs.Bundles.Heirs.{tested}
+use Rattle.mv_linker.proofs.Found.{passing}
 
 -- ---- the function of the first frame
 
@@ -122,9 +122,9 @@ no_results-tags : (modules : List Module) (m : Module) (d : FunctionDefinition) 
     → entry m.function_handles d.handle ≡ Ok handle → signature_tags modules m handle.results ≡ Ok tags → length tags ≡ 0
 unfolding signature_tags
 no_results-tags modules m d handle tags none handle_is tags_are =
-    let named = tested (λ (h : FunctionHandle). option_map_or (λ ts. length ts == 0) (slice_get m.signatures h.results) false) (slice_get m.function_handles d.handle) none in
+    let named = passing (λ (h : FunctionHandle). option_map_or (λ ts. length ts == 0) (slice_get m.signatures h.results) false) (slice_get m.function_handles d.handle) none in
     let same : named.0 ≡ handle = same_Some named.0 handle (sym named.1 ∙ entry-is m.function_handles d.handle handle handle_is) in
-    let listed = tested (λ (ts : List Token). length ts == 0) (slice_get m.signatures (named.0).results) named.2 in
+    let listed = passing (λ (ts : List Token). length ts == 0) (slice_get m.signatures (named.0).results) named.2 in
     on_some (slice_get m.signatures handle.results) _ _ tags tags_are (λ ts ts_are e1.
     let one : listed.0 ≡ ts = same_Some listed.0 ts (sym listed.1 ∙ (ap (λ (h : FunctionHandle). slice_get m.signatures h.results) same ∙ ts_are)) in
     for_each-none modules m ts tags (subst (λ (x : List Token). length x ≡ 0) one (eqb-true (length listed.0) 0 listed.2)) e1)

@@ -3,8 +3,9 @@ use Rattle.mv_ledger.proofs.Common.{[], ◌∙◌, ◌∷◌, ◌≡◌, List, N
 use Rattle.mv_ledger.proofs.Common.{struct_abilities, declared, declared_in, is_struct, module_named, module_place, StructName, same_struct, find_index, PublishedModule, StructHandle, Abilities}
 use Rattle.mv_ledger.proofs.Common.{on_bind, map-is, count, count_in, count_in_fields, Storage, More, NoMore, Struct, Value, Values, then_found, same_struct-is, IsStore, tables_in}
 use Rattle.mv_ledger.proofs.Common.{AreKept, IsKept, StorageIsKept}
-use Rattle.mv_ledger.proofs.Bundles.Heirs.{Inherits, Stayed, tested, found-passes, on_and_then, stayed}
+use Rattle.mv_ledger.proofs.Bundles.Heirs.{Inherits, Stayed, found-passes, on_and_then, stayed}
 use Rattle.mv_ledger.proofs.Counting.Packs.{HandlesDeclared, each-declared, each-get}
+use Rattle.mv_linker.proofs.Found.{passing}
 
 -- the module and the definition that declare a struct
 pub record DeclaredBy (modules : List Module) (name : StructName) (a : Abilities) : Type 0 where
@@ -25,7 +26,7 @@ declared-by modules name a e =
     (find_index (is_struct m name) m.structs) a e1 (λ i i_is e2.
     on_and_then (λ (d : StructDefinition). option_map (λ (h : StructHandle). h.abilities) (slice_get m.struct_handles d.handle)) (slice_get m.structs i) a e2 (λ d d_is e3.
     let handle = map-is (λ (h : StructHandle). h.abilities) (slice_get m.struct_handles d.handle) a e3 in
-    let named = tested (λ own. same_struct own name) (name_of_struct m d) (found-passes (is_struct m name) m.structs i d i_is d_is) in
+    let named = passing (λ own. same_struct own name) (name_of_struct m d) (found-passes (is_struct m name) m.structs i d i_is d_is) in
     record {
       place = place;
       home = m;

@@ -7,7 +7,7 @@ use Rattle.mv_ledger.proofs.Common.{value_type_abilities, WhereOk, map-is, on_so
 use Rattle.mv_ledger.proofs.Common.{tag_of, value_type_tag, Leaf, Ref, Struct, Value, fields_of, each, same_abilities-is, same_tag-is, struct_is_there, structs_are_there, on_found, IsAbleStore}
 use Rattle.mv_ledger.proofs.Common.{Allows, AreKept, IsKept, StackIsKept}
 use Rattle.mv_machine.specs.StepStructs.{own_struct}
-use Rattle.mv_ledger.proofs.Bundles.Heirs.{tested}
+use Rattle.mv_linker.proofs.Found.{passing}
 
 -- ---- the abilities that a tag stands for
 
@@ -78,8 +78,8 @@ pub handles-declared : (modules : List Module) (m : Module) → structs_are_ther
 handles-declared modules m all j handle name handle_is name_is =
     let at : 0 + j ≡ j = omega arith in
     let here : struct_is_there modules m j handle ≡ true = subst (λ n. struct_is_there modules m n handle ≡ true) at (there-get modules m 0 j m.struct_handles handle all handle_is) in
-    let named = tested (λ n. option_map_or (same_abilities handle.abilities) (declared modules n) false) (struct_name m j) here in
-    let found = tested (same_abilities handle.abilities) (declared modules named.0) named.2 in
+    let named = passing (λ n. option_map_or (same_abilities handle.abilities) (declared modules n) false) (struct_name m j) here in
+    let found = passing (same_abilities handle.abilities) (declared modules named.0) named.2 in
     let one : named.0 ≡ name = same_Some named.0 name (sym named.1 ∙ name_is) in
     let same : found.0 ≡ handle.abilities = sym (same_abilities-is handle.abilities found.0 found.2) in
     sym (ap (declared modules) one) ∙ (found.1 ∙ ap (λ (a : Abilities). Some a) same)
@@ -109,7 +109,7 @@ own_struct-owned h place i s store home_is e =
     on_some (own_name h.home) _ _ s e3 (λ own own_is e4.
     on_need (same_module name.home own) _ _ s e4 (λ met e5.
     let able : struct_is_able h.home d ≡ true = each (struct_is_able h.home) h.home.structs i d (each-get AbilitiesHold h.modules place h.home store.able home_is) d_is in
-    let had = tested (λ a. list_all (field_is_able h.home a) d.fields) (struct_abilities h.home d) able in
+    let had = passing (λ a. list_all (field_is_able h.home a) d.fields) (struct_abilities h.home d) able in
     let has : struct_abilities h.home d ≡ Some handle.abilities = ap (λ (o : Option StructHandle). o >>= λ x. Some x.abilities) handle_is in
     let one : had.0 ≡ handle.abilities = same_Some had.0 handle.abilities (sym had.1 ∙ has) in
     subst (WhereOk (Owned h.modules h.home)) e5 (record {
@@ -125,7 +125,7 @@ implied false b h e = absurd cc
 field-allows : (modules : List Module) (m : Module) (s : State) (outer : Abilities) (f : Field) (tag : Tag) (v : Value) → field_is_able m outer f ≡ true → tag_named modules m f.token ≡ Ok tag
     → has_tag s v tag ≡ true → Allows outer (abilities_of modules v)
 field-allows modules m s outer f tag v able named typed =
-    let had = tested (λ a. implies outer.copy a.copy && implies outer.drop a.drop && implies (outer.store || outer.key) a.store) (token_abilities m f.token) able in
+    let had = passing (λ a. implies outer.copy a.copy && implies outer.drop a.drop && implies (outer.store || outer.key) a.store) (token_abilities m f.token) able in
     let front : (implies outer.copy (had.0).copy && implies outer.drop (had.0).drop) ≡ true = first_so (implies outer.copy (had.0).copy && implies outer.drop (had.0).drop)
     (implies (outer.store || outer.key) (had.0).store) had.2 in
     let same : had.0 ≡ abilities_of modules v = tag_named-abilities modules m f.token tag had.0 named had.1 ∙ sym (has_tag-abilities modules s v tag typed) in

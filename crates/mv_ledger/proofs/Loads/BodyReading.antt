@@ -1,7 +1,7 @@
 -- Reading what stands after the modules of a saved ledger: how far it has come.
 use Rattle.mv_ledger.proofs.Common.{[], ◌++◌, ◌+◌, ◌-◌, ◌<◌, ◌∙◌, ◌∷◌, ◌≡◌, ◌≤◌, Bool, Err, List, None, Ok, Option, Result, Some, ap, append-nil, append_assoc, arith, cond, drop, false, get_or}
 use Rattle.mv_ledger.proofs.Common.{length, map, option_map, refl, suc, sym, take, true, ℕ, map-set_same, drop_all, drop_more, map-append, take_more_set, OnErr, is_some, not, slice_set, Module}
-use Rattle.mv_ledger.proofs.Common.{◌>>=◌, Definition, Key, LeafKind, number_from, ReadsOn, after, Read, entries_from, FlatStorage, with_words, words_under, FlatEntry, counts_of, entry_from}
+use Rattle.mv_ledger.proofs.Common.{◌>>=◌, Definition, Key, LeafKind, number_from, after, Read, FlatStorage, with_words, words_under, FlatEntry, counts_of, entry_from}
 use Rattle.mv_ledger.proofs.Common.{group_into, groups_into, is_after, leaves_from, rising_into, struct_of, with_entry, leaf_from, Tally}
 
 -- what holds anyway holds of an error
@@ -45,18 +45,6 @@ LeavesOn-stops kinds i start words cur k lt is e g =
 -- all are read
 pub LeavesOn-end : (kinds : List LeafKind) (i : ℕ) (start words cur : List ℕ) → length kinds ≤ i → LeavesOn kinds i start words cur → leaves_from kinds start ≡ Some (words, cur)
 LeavesOn-end kinds i start words cur le g = g.goes ∙ rw (drop_all i kinds le) (ap (λ z. Some (z, cur)) (append-nil words))
-
--- ---- entries
-
--- the next can't be read
-pub entries-stop : {A : Type 0} (each : List ℕ → Read A) (n i : ℕ) (start : List ℕ) (items : List A) (cur : List ℕ) → i < n → each cur ≡ None
-    → ReadsOn each n i start items cur → entries_from each n start ≡ None
-entries-stop {A} each n i start items cur lt none g = let k : n - i ≡ suc (n - (i + 1)) = omega arith in g.goes ∙ rw (k, none) refl
-
--- all are read
-pub entries-end : {A : Type 0} (each : List ℕ → Read A) (n i : ℕ) (start : List ℕ) (items : List A) (cur : List ℕ) → n ≤ i
-    → ReadsOn each n i start items cur → entries_from each n start ≡ Some (items, cur)
-entries-end each n i start items cur le g = let k : n - i ≡ 0 = omega arith in g.goes ∙ rw k (ap (λ z. Some (z, cur)) (append-nil items))
 
 -- ---- tallies
 

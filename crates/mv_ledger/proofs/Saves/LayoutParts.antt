@@ -31,7 +31,7 @@ put-true : (o : Option (List LeafKind)) (old new : List LeafKind) → PutsKinds 
 put-true None old new h = cc
 put-true (Some ks) old new h = (ks, refl, h.1)
 
-put-false : (o : Option (List LeafKind)) (old new : List LeafKind) → PutsKinds o false old new → o ≡ None
+pub put-false : (o : Option (List LeafKind)) (old new : List LeafKind) → PutsKinds o false old new → o ≡ None
 put-false None old new h = refl
 put-false (Some ks) old new h = cc
 
@@ -79,9 +79,6 @@ module _ (modules : List Module) (depth : ℕ) (parts : List Part) where
 -- a list of kinds, or none
 pub puts-some : (o : Option (List LeafKind)) (new : List LeafKind) → PutsKinds o true [] new → o ≡ Some new
 puts-some o new h = let one = put-true o [] new h in one.1 ∙ ap (λ ks. Some ks) (sym one.2)
-
-pub puts-nothing : (o : Option (List LeafKind)) (old new : List LeafKind) → PutsKinds o false old new → o ≡ None
-puts-nothing = put-false
 
 -- ---- of what a field is made
 

@@ -4,10 +4,10 @@ use Rattle.mv_ledger.proofs.Common.{zero, ℕ, and_from, and_parts, both_ways, e
 use Rattle.mv_ledger.proofs.Common.{Module, StructDefinition, name_at, struct_abilities, StructName, ◌>>=◌, Definition, Key, Abilities, uleb, address-whole, on_bind, address_text, counted}
 use Rattle.mv_ledger.proofs.Common.{address_fits, address_from, keys_compare, same_key-to, Entry, Storage, key_before, same_key, abilities_at, is_fine_entry, is_fine_storage, is_of_struct}
 use Rattle.mv_ledger.proofs.Common.{on_found, AreAbove, IsAscending, is_keyed, addressed_text, has_key, is_under, keyed_from, keyed_indices, leaves_text, stored_text, struct_text}
-use Rattle.mv_ledger.proofs.Bundles.Heirs.{tested}
 use Rattle.mv_ledger.proofs.Counting.Stored.{above-below, before-clash}
 use Rattle.mv_ledger.proofs.SavedOnce.{IsOneOn, in_parts, whole-one, uleb-one, counted-one, of_struct-one}
 use Rattle.mv_ledger.proofs.Lists.{all-front, all-back}
+use Rattle.mv_linker.proofs.Found.{passing}
 
 -- ---- lists
 
@@ -78,7 +78,7 @@ module _ (modules : List Module) where
   entry_named : (e : Entry) → is_fine_entry modules e ≡ true → (name : StructName) × (name_at modules e.key.place e.key.index ≡ Some name) × (is_of_struct modules name e.value ≡ true)
   entry_named e h =
       let of_struct : Bool = option_map_or (λ name. is_of_struct modules name e.value) (name_at modules e.key.place e.key.index) false in
-      tested (λ name. is_of_struct modules name e.value) (name_at modules e.key.place e.key.index)
+      passing (λ name. is_of_struct modules name e.value) (name_at modules e.key.place e.key.index)
       (second_so (address_fits e.key.address) of_struct (first_so (address_fits e.key.address && of_struct) (is_keyed modules (struct_of e)) h))
 
   -- its address is in its range

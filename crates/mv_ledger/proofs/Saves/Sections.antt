@@ -1,18 +1,11 @@
 -- Sections of structs: empty ones, and one with one value more.
-use Rattle.mv_ledger.proofs.Common.{[], ◌++◌, ◌+◌, ◌<◌, ◌∙◌, ◌∷◌, ◌≡◌, ◌≤◌, ◌⊎◌, Err, List, Ok, Result, Some, ap, arith, eq-eqb, get_or, inl, inr, length, length-append, option_map, refl, subst}
-use Rattle.mv_ledger.proofs.Common.{suc, sym, true, zero, ℕ, and_from, cases_eq, length-map, map-set, get_or_from_slice_get, none-some, same_Some, slice_get-map, slice_get_read, slice_get_within}
+use Rattle.mv_ledger.proofs.Common.{[], ◌++◌, ◌+◌, ◌<◌, ◌∙◌, ◌∷◌, ◌≡◌, ◌≤◌, Err, List, Ok, Result, Some, ap, arith, eq-eqb, get_or, inl, inr, length, length-append, option_map, refl, subst}
+use Rattle.mv_ledger.proofs.Common.{sym, true, ℕ, and_from, cases_eq, length-map, map-set, get_or_from_slice_get, none-some, same_Some, slice_get-map, slice_get_read, slice_get_within}
 use Rattle.mv_ledger.proofs.Common.{option_map_or, All, IsSome, OnOk, slice_get, slice_set, Global, Vec, Module, ◌>>=◌, Definition, Key, LeafKind, on_bind, address_text, some-of, then_found}
 use Rattle.mv_ledger.proofs.Common.{there_at, coded, kinds_under, structs_at, AddsValue, AreSections, HasOneMore, IsAdded, IsEmpty, definition_at, same_definition, section_at, sections_of, Section}
 use Rattle.mv_ledger.specs.Parts.Saving.{struct_of}
+use Rattle.mv_linker.proofs.Found.{last_or_before}
 use Rattle.mv_storage.proofs.PlaceLemmas.{slice_get-set_same, slice_get-set_other}
-
--- ---- one more element
-
-at-push : {A : Type 0} (xs : List A) (y : A) (k : ℕ) (x : A) → slice_get (xs ++ y ∷ []) k ≡ Some x → (slice_get xs k ≡ Some x) ⊎ ((k ≡ length xs) × (y ≡ x))
-at-push [] y zero x e = inr (refl, same_Some y x e)
-at-push [] y (suc k) x e = absurd (none-some x e)
-at-push (z ∷ xs) y zero x e = inl e
-at-push (z ∷ xs) y (suc k) x e = elim (at-push xs y k x e) [ inl h ↦ inl h | inr h ↦ inr (ap suc h.0, h.1) ]
 
 -- ---- empty sections
 
@@ -29,7 +22,7 @@ module _ (modules : List Module) where
       (rows ++ row ∷ [])
   empty-more n rows row h long empty = record {
     len = omega (arith, length-append rows (row ∷ []), h.len);
-    each = λ k r e. elim (at-push rows row k r e) [
+    each = λ k r e. elim (last_or_before rows row k r e) [
       | inl at ↦ h.each k r at
       | inr here ↦ (subst (λ (x : List Section). (length x ≡ structs_at modules k) × All IsEmpty x) here.1 (long ∙ ap (structs_at modules) (sym (here.0 ∙ h.len)), empty))
     ];

@@ -25,7 +25,7 @@ same_at (suc n) k h lt =
           rw e parts.0
     ]
 
-digit : (d : ℕ) → d < 16 → slice_index lower_digits d ≡ hex_digit d
+pub digit : (d : ℕ) → d < 16 → slice_index lower_digits d ≡ hex_digit d
 digit d lt = eqb-true (slice_index lower_digits d) (hex_digit d) (same_at 16 d refl lt)
 
 pub byte_at-lt : (k n : ℕ) → byte_at k n < 256

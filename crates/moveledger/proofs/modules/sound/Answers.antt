@@ -1,4 +1,4 @@
-use Rattle.std.proofs.Common.{Err, sym, ap, ◌∙◌, subst}
+use Rattle.std.proofs.Common.{Err, sym, ap, subst}
 use Rattle.std.proofs.lemmas.Result.{err_from_is_err_and}
 use Rattle.mv_ledger.specs.Publishing.{Spells}
 use Rattle.moveledger.specs.Checking.{offer_of}

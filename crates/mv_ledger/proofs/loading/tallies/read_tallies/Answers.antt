@@ -1,11 +1,12 @@
 use Rattle.mv_ledger.proofs.Common.{◌+◌, ◌<◌, arith, length, map, subst, sym, take, ReadsOn, ReadsOn-next, counts_of, form_of, tally_from}
-use Rattle.mv_ledger.proofs.Loads.BodyReading.{OnErr-any, entries-stop, structs-kept, counts-more}
+use Rattle.mv_ledger.proofs.Loads.BodyReading.{OnErr-any, structs-kept, counts-more}
+use Rattle.mv_certificate.proofs.Loops.{ReadsOn-breaks}
 use Rattle.mv_ledger.proofs.loading.tallies.read_tallies.Goals as goal
 
 pub returns-in_err-read_tally-clause-refused : goal.returns-in_err-read_tally-clause-refused
 returns-in_err-read_tally-clause-refused c =
     OnErr-any c.from_residual.result _ (
-    entries-stop (tally_from (form_of c.args.form)) (length c.args.tallies.now) c.each.tally-index c.args.reader.now (map counts_of (take c.each.tally-index c.each.tallies)) c.each.reader
+    ReadsOn-breaks (tally_from (form_of c.args.form)) (length c.args.tallies.now) c.each.tally-index c.args.reader.now (map counts_of (take c.each.tally-index c.each.tallies)) c.each.reader
     (omega arith) c.in_err-read_tally.ensures.refused c.each.invariant.reads)
 
 pub returns-in_err-read_tally-clause-kept : goal.returns-in_err-read_tally-clause-kept
